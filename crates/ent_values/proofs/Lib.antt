@@ -1,0 +1,7 @@
+pub mod Dates
+pub mod Numerals
+pub mod Orders
+pub mod Periods
+pub mod ReadBack
+pub mod Texts
+pub mod Values

@@ -1,0 +1,28 @@
+-- Days of the Gregorian calendar.
+use Rattle.std.specs.Prelude.{ℕ, Bool, ◌%◌, ◌==◌, ◌||◌, ◌&&◌, not, nat_le, if◌then◌else◌, Option, Some, None}
+
+-- a year, a month of it from 1 to 12, and a day of that month
+pub record Day : Type 0 where
+  pub year : ℕ
+  pub month : ℕ
+  pub day : ℕ
+
+-- a leap year: a multiple of 4 that is no multiple of 100, or a multiple of 400
+abbrev pub is_leap_year : ℕ → Bool
+is_leap_year year = (year % 4 == 0) && (not (year % 100 == 0) || (year % 400 == 0))
+
+-- how many days a month has: April, June, September and November 30, February 28 or 29, the others 31
+abbrev pub days_of_month : ℕ → ℕ → ℕ
+days_of_month year month =
+    if month == 2 then (if is_leap_year year then 29 else 28)
+    else (if (month == 4) || (month == 6) || (month == 9) || (month == 11) then 30 else 31)
+
+-- the calendar has that day, in the years 1 to 9999
+abbrev pub is_date : ℕ → ℕ → ℕ → Bool
+is_date year month day =
+    nat_le 1 year && nat_le year 9999 && nat_le 1 month && nat_le month 12 && nat_le 1 day
+    && nat_le day (days_of_month year month)
+
+-- the day of a year, a month and a day of it, if the calendar has it
+abbrev pub day_of : ℕ → ℕ → ℕ → Option Day
+day_of year month day = if is_date year month day then Some (record { year = year; month = month; day = day }) else None

@@ -1,0 +1,10 @@
+pub mod Bags
+pub mod Calendar
+pub mod Durations
+pub mod Order
+pub mod ReadBack
+pub mod Reading
+pub mod Same
+pub mod Types
+pub mod Writing
+pub mod formers

@@ -1,0 +1,32 @@
+-- Whether two values, lists or bags are the same, and that this test decides it.
+use Rattle.std.specs.Prelude.{◌≡◌, Bool, List}
+use Rattle.std.specs.Bool.{Decides}
+use Rattle.std.specs.Cmp.Lexicographic.{pointwise}
+use Rattle.ent_values.specs.Bags.{Contents}
+use Rattle.ent_values.specs.declared.value.Value.{Value}
+use Rattle.ent_values.specs.contracts.bag.BagPartialEq.TheImpl as bags
+use Rattle.ent_values.specs.contracts.value.ValuePartialEq.TheImpl as comparison
+
+-- what `==` of two values answers
+abbrev pub same_value : Value → Value → Bool
+same_value = (comparison.ghosts).eq
+
+-- what `==` of two lists of values answers
+abbrev pub same_values : List Value → List Value → Bool
+same_values = pointwise same_value
+
+-- what `==` of two bags answers
+abbrev pub same_bag : Contents → Contents → Bool
+same_bag = (bags.ghosts).eq
+
+-- it answers whether they are equal
+abbrev pub SameIsEqual : Type 0
+SameIsEqual = (a b : Value) → Decides (same_value a b) (a ≡ b)
+
+-- the same of lists
+abbrev pub SameListsAreEqual : Type 0
+SameListsAreEqual = (a b : List Value) → Decides (same_values a b) (a ≡ b)
+
+-- the same of bags
+abbrev pub SameBagsAreEqual : Type 0
+SameBagsAreEqual = (a b : Contents) → Decides (same_bag a b) (a ≡ b)

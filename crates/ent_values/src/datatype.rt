@@ -1,0 +1,71 @@
+//! Data types of values.
+
+ghost use Rattle.std.specs.Prelude.{◌≡◌};
+ghost use Rattle.ent_values.specs.Types.{short_name_of, type_of, uri_of};
+
+/// The data type of a value (appendix A.2, its URI by appendix B.3).
+#[derive(Clone, Copy, Debug, PartialEq, Eq, PartialOrd, Ord)]
+pub enum DataType {
+    /// `http://www.w3.org/2001/XMLSchema#string`
+    Text,
+    /// `http://www.w3.org/2001/XMLSchema#boolean`
+    Boolean,
+    /// `http://www.w3.org/2001/XMLSchema#integer`, within signed 64 bits
+    Integer,
+    /// `http://www.w3.org/2001/XMLSchema#date`, in the years 1 to 9999
+    Date,
+    /// `http://www.w3.org/2001/XMLSchema#anyURI`
+    AnyUri,
+    /// `http://www.w3.org/2001/XMLSchema#yearMonthDuration`
+    YearMonth,
+}
+
+impl DataType {
+    /// The type of that name: a full URI, or the short name of this profile, its last word. None if there is no such type.
+    #[tactic(auto, unfolding(crate::specs::Types::type_of))]
+    pub fn from_name(name: &str) -> Option<DataType>
+        ensures { result ≡ type_of name.now }
+    {
+        [
+            DataType::Text,
+            DataType::Boolean,
+            DataType::Integer,
+            DataType::Date,
+            DataType::AnyUri,
+            DataType::YearMonth,
+        ]
+        .iter()
+        .copied()
+        .find(|datatype| name == datatype.uri() || name == datatype.short_name())
+    }
+
+    /// The full URI of the type.
+    #[tactic(auto, unfolding(crate::specs::Types::uri_of))]
+    pub fn uri(self) -> &'static str
+        ensures { result.now ≡ uri_of self }
+    {
+        match self {
+            DataType::Text => "http://www.w3.org/2001/XMLSchema#string",
+            DataType::Boolean => "http://www.w3.org/2001/XMLSchema#boolean",
+            DataType::Integer => "http://www.w3.org/2001/XMLSchema#integer",
+            DataType::Date => "http://www.w3.org/2001/XMLSchema#date",
+            DataType::AnyUri => "http://www.w3.org/2001/XMLSchema#anyURI",
+            DataType::YearMonth => "http://www.w3.org/2001/XMLSchema#yearMonthDuration",
+        }
+    }
+
+    /// The short name of the type, the last word of its URI.
+    #[tactic(auto, unfolding(crate::specs::Types::short_name_of))]
+    pub fn short_name(self) -> &'static str
+        ensures { result.now ≡ short_name_of self }
+    {
+        match self {
+            DataType::Text => "string",
+            DataType::Boolean => "boolean",
+            DataType::Integer => "integer",
+            DataType::Date => "date",
+            DataType::AnyUri => "anyURI",
+            DataType::YearMonth => "yearMonthDuration",
+        }
+    }
+}

@@ -1,0 +1,25 @@
+//! Data types, values and bags of values of attributes, and the small types that contracts see as lists.
+#![tactic(auto)]
+
+mod bag;
+mod datatype;
+mod date;
+mod duration;
+mod fault;
+mod items;
+mod reading;
+mod text;
+mod value;
+mod writing;
+
+pub use bag::Bag;
+pub use datatype::DataType;
+pub use date::Date;
+pub use duration::YearMonth;
+pub use fault::ValueFault;
+pub use items::Items;
+pub use text::Text;
+pub use value::{Value, order_is_by_type_and_value, same_is_equal, texts_read_back};
+
+#[cfg(test)]
+mod tests;

@@ -1,0 +1,79 @@
+//! Values of attributes.
+
+ghost use Rattle.std.specs.Prelude.{◌≡◌, IfOk};
+ghost use Rattle.ent_values.specs.Order.{OrderIsByTypeAndValue};
+ghost use Rattle.ent_values.specs.ReadBack.{TextsReadBack};
+ghost use Rattle.ent_values.specs.Same.{SameBagsAreEqual, SameIsEqual, SameListsAreEqual};
+ghost use Rattle.ent_values.specs.Types.{datatype_of};
+
+use crate::datatype::DataType;
+use crate::date::Date;
+use crate::duration::YearMonth;
+use crate::text::Text;
+use std::alloc::{AllocError, Global};
+
+/// One value of a data type (appendix A.2). Values are equal if type and value are. They order by type, then by value: texts by their
+/// UTF-8 bytes, false before true, dates and durations by time.
+#[derive(Debug, PartialEq, Eq, PartialOrd, Ord, Drop)]
+pub enum Value {
+    /// A string.
+    Text(Text),
+    /// True or false.
+    Boolean(bool),
+    /// An integer within signed 64 bits.
+    Integer(i64),
+    /// A date.
+    Date(Date),
+    /// A URI, which may be any text.
+    AnyUri(Text),
+    /// A duration of years and months.
+    YearMonth(YearMonth),
+}
+
+impl Value {
+    /// The type of the value.
+    pub fn datatype(&self) -> DataType
+        ensures { result ≡ datatype_of self.now }
+    {
+        match self {
+            Value::Text(_) => DataType::Text,
+            Value::Boolean(_) => DataType::Boolean,
+            Value::Integer(_) => DataType::Integer,
+            Value::Date(_) => DataType::Date,
+            Value::AnyUri(_) => DataType::AnyUri,
+            Value::YearMonth(_) => DataType::YearMonth,
+        }
+    }
+
+    /// An equal value.
+    pub fn copy(&self, alloc: Global) -> Result<Value, AllocError>
+        ensures { IfOk result (λ v. v ≡ self.now) }
+    {
+        match self {
+            Value::Text(text) => Ok(Value::Text(text.copy(alloc)?)),
+            Value::Boolean(boolean) => Ok(Value::Boolean(*boolean)),
+            Value::Integer(integer) => Ok(Value::Integer(*integer)),
+            Value::Date(date) => Ok(Value::Date(*date)),
+            Value::AnyUri(uri) => Ok(Value::AnyUri(uri.copy(alloc)?)),
+            Value::YearMonth(duration) => Ok(Value::YearMonth(*duration)),
+        }
+    }
+}
+
+/// A law, with nothing to run: `==` of two values, of two lists of values and of two bags says whether they are equal.
+pub fn same_is_equal()
+    ensures values { SameIsEqual }
+    ensures lists { SameListsAreEqual }
+    ensures bags { SameBagsAreEqual }
+{}
+
+/// A law, with nothing to run: the written text of a value reads as that value again, where a duration has at most 999,999,999
+/// whole years.
+pub fn texts_read_back()
+    ensures { TextsReadBack }
+{}
+
+/// A law, with nothing to run: values order by type, then by value.
+pub fn order_is_by_type_and_value()
+    ensures { OrderIsByTypeAndValue }
+{}

@@ -1,0 +1,56 @@
+//! Written texts of values.
+
+ghost use Rattle.std.specs.Prelude.{◌≡◌, IfOk, string_bytes};
+ghost use Rattle.ent_values.specs.Writing.{date_text, duration_text, sign_text, text_of};
+
+use crate::date::Date;
+use crate::duration::YearMonth;
+use crate::text::Text;
+use crate::value::Value;
+use std::alloc::{AllocError, Global};
+
+impl Value {
+    /// The written text of the value: an integer without `+` and leading zeros, a boolean as `true` or `false`, a date as
+    /// `YYYY-MM-DD` without `Z`, a duration as `P` with its years and the months left over, where a part of zero is left out and
+    /// no months at all are `P0M`, with `-` in front of a negative one. A string and a URI are written as they are.
+    #[tactic(auto, unfolding(crate::specs::Writing::text_of))]
+    pub fn text(&self, alloc: Global) -> Result<Text, AllocError>
+        ensures { IfOk result (λ t. t ≡ text_of self.now) }
+    {
+        match self {
+            Value::Text(text) => text.copy(alloc),
+            Value::Boolean(true) => Text::from_str(alloc, "true"),
+            Value::Boolean(false) => Text::from_str(alloc, "false"),
+            Value::Integer(integer) => Ok(Text::new(integer.to_string(alloc)?)),
+            Value::Date(date) => Ok(Text::new(written_date(alloc, *date)?)),
+            Value::AnyUri(uri) => uri.copy(alloc),
+            Value::YearMonth(duration) => Ok(Text::new(written_duration(alloc, *duration)?)),
+        }
+    }
+}
+
+#[tactic(auto, unfolding(crate::specs::Writing::date_text))]
+fn written_date(alloc: Global, date: Date) -> Result<String, AllocError>
+    ensures { IfOk result (λ s. string_bytes s ≡ date_text date) }
+{
+    let (year, month, day) = (date.year(), date.month(), date.day());
+    format!(in alloc; "{year:04}-{month:02}-{day:02}")
+}
+
+fn written_duration(alloc: Global, duration: YearMonth) -> Result<String, AllocError>
+    ensures { IfOk result (λ s. string_bytes s ≡ duration_text duration) }
+{
+    let sign = sign(duration.months());
+    let months = duration.months().unsigned_abs();
+    match (months / 12, months % 12) {
+        (0, months) => format!(in alloc; "{sign}P{months}M"),
+        (years, 0) => format!(in alloc; "{sign}P{years}Y"),
+        (years, months) => format!(in alloc; "{sign}P{years}Y{months}M"),
+    }
+}
+
+fn sign(months: i64) -> &'static str
+    ensures { result.now ≡ sign_text months }
+{
+    if months < 0 { "-" } else { "" }
+}
