@@ -1,0 +1,7 @@
+pub mod Choose
+pub mod Chosen
+pub mod Combine
+pub mod Identifiers
+pub mod Seen
+pub mod Taken
+pub mod Under
