@@ -1,0 +1,16 @@
+pub mod Answered
+pub mod Comparing
+pub mod EachOnce
+pub mod Held
+pub mod Inner
+pub mod Joining
+pub mod Months
+pub mod Naming
+pub mod NoFault
+pub mod Numbers
+pub mod Parts
+pub mod Taken
+pub mod Taking
+pub mod TypedResults
+pub mod TypesSeen
+pub mod Walks

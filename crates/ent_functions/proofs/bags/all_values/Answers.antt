@@ -1,0 +1,14 @@
+use Rattle.std.proofs.Common.{◌++◌, take, sym, ap, ◌∙◌}
+use Rattle.ent_functions.specs.Arguments.{values_of}
+use Rattle.ent_functions.proofs.Held.{held_more, values_more}
+use Rattle.ent_functions.proofs.bags.all_values.Goals as goal
+
+pub loop-argument-preserved : goal.loop-argument-preserved
+loop-argument-preserved c = record {
+  value = c.in_ok-push_all.ensures
+      ∙ ap (λ values. values ++ c.values_of.result.now) c.loop-argument.invariant.value
+      ∙ ap (λ values. values_of (take c.loop-argument.argument-index c.args.arguments.now) ++ values) c.values_of.ensures.value
+      ∙ sym (values_more c.args.arguments.now c.loop-argument.argument-index c.argument-item.result c.loop-argument-test.true c.argument-item.is);
+  held = held_more c.args.arguments.now c.loop-argument.argument-index c.argument-item.result c.loop-argument-test.true c.argument-item.is
+      c.loop-argument.invariant.held c.values_of.ensures.held;
+}

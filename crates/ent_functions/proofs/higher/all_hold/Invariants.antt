@@ -1,0 +1,10 @@
+use Rattle.std.proofs.Common.{◌≡◌, drop}
+use Rattle.std.specs.List.{list_all}
+use Rattle.ent_functions.specs.Applied.{comes_true_with}
+use Rattle.ent_functions.specs.Higher.{bag_values_in}
+use Rattle.ent_functions.proofs.higher.all_hold.Given as goal
+
+abbrev pub invariant-loop-argument : goal.invariant-loop-argument
+invariant-loop-argument l =
+    list_all (λ argument. list_all (comes_true_with l.function l.arguments) (bag_values_in argument)) (drop l.argument-index l.arguments)
+    ≡ list_all (λ argument. list_all (comes_true_with l.function l.arguments) (bag_values_in argument)) l.arguments

@@ -1,0 +1,8 @@
+use Rattle.ent_functions.specs.Types.{element_type}
+use Rattle.ent_functions.proofs.Held.{held_once}
+use Rattle.ent_functions.proofs.sets.union.Goals as goal
+
+pub of-requires : goal.of-requires
+of-requires c =
+    rw (c.datatype.ensures, c.in_ok-values.ensures.value)
+    (held_once (element_type c.args.element) c.args.arguments.now c.requires c.in_ok-values.ensures.held)

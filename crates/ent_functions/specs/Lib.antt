@@ -1,0 +1,11 @@
+pub mod Applied
+pub mod Arguments
+pub mod Dates
+pub mod Higher
+pub mod Identifiers
+pub mod Integers
+pub mod Orders
+pub mod Reading
+pub mod Sets
+pub mod Texts
+pub mod Types

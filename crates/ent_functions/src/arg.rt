@@ -1,0 +1,65 @@
+//! Arguments and results.
+
+ghost use Rattle.std.specs.Prelude.{◌≡◌};
+ghost use Rattle.ent_functions.specs.Arguments.{type_of_arg};
+
+use crate::function::Function;
+use crate::types::ArgType;
+use ent_values::{Bag, Value};
+use std::alloc::AllocError;
+use thiserror::Error;
+
+/// An argument of a function, or its result.
+#[derive(Debug, PartialEq, Eq, Drop)]
+pub enum Arg {
+    /// One value.
+    One(Value),
+    /// A bag of values.
+    Many(Bag),
+    /// A function, as the first argument of `any-of` and `all-of` alone.
+    Fun(Function),
+}
+
+impl Arg {
+    /// The type of the argument.
+    pub fn arg_type(&self) -> ArgType
+        ensures { result ≡ type_of_arg self.now }
+    {
+        match self {
+            Arg::One(value) => ArgType::One(value.datatype()),
+            Arg::Many(bag) => ArgType::Many(bag.datatype()),
+            Arg::Fun(function) => ArgType::Fun(*function),
+        }
+    }
+}
+
+/// Why a function has no result (appendix A.3). All but `Memory` are processing errors of the function.
+#[derive(Clone, Copy, Debug, PartialEq, Eq, Error)]
+pub enum Fault {
+    /// A division by zero, or the rest of one.
+    #[error("division by zero")]
+    DivideByZero,
+    /// An integer outside signed 64 bits.
+    #[error("integer outside 64 bits")]
+    Overflow,
+    /// A bag without a value or with more than one, where one value is wanted.
+    #[error("the bag has not exactly one value")]
+    NotSingle,
+    /// A date outside the years 1 to 9999.
+    #[error("date outside the years 1 to 9999")]
+    DateRange,
+    /// Memory was refused.
+    #[error("out of memory")]
+    Memory,
+}
+
+impl From<AllocError> for Fault {
+    ghost use Rattle.std.specs.Prelude.{◌≡◌};
+    ghost use Rattle.ent_functions.specs.declared.arg.Fault.TheVariants.{Memory};
+
+    ghost from_gives = { λ _ e. e ≡ Memory };
+
+    fn from(_: AllocError) -> Fault {
+        Fault::Memory
+    }
+}

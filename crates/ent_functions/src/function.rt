@@ -1,0 +1,101 @@
+//! The functions by name.
+
+/// A type at which there are the functions on equality, bags and sets.
+#[derive(Clone, Copy, Debug, PartialEq, Eq)]
+pub enum Element {
+    /// `string`
+    Text,
+    /// `boolean`
+    Boolean,
+    /// `integer`
+    Integer,
+    /// `date`
+    Date,
+    /// `anyURI`
+    AnyUri,
+}
+
+/// A type whose values can be compared by order.
+#[derive(Clone, Copy, Debug, PartialEq, Eq)]
+pub enum Ordered {
+    /// `integer`
+    Integer,
+    /// `string`
+    Text,
+    /// `date`
+    Date,
+}
+
+/// How two values are compared: the first against the second.
+#[derive(Clone, Copy, Debug, PartialEq, Eq)]
+pub enum Comparison {
+    /// `greater-than`
+    GreaterThan,
+    /// `greater-than-or-equal`
+    GreaterThanOrEqual,
+    /// `less-than`
+    LessThan,
+    /// `less-than-or-equal`
+    LessThanOrEqual,
+}
+
+/// A function (appendix A.3).
+#[derive(Clone, Copy, Debug, PartialEq, Eq)]
+pub enum Function {
+    /// `T-equal`
+    Equal(Element),
+    /// `T-greater-than` and its kin
+    Compare(Comparison, Ordered),
+    /// `integer-add`
+    Add,
+    /// `integer-subtract`
+    Subtract,
+    /// `integer-multiply`
+    Multiply,
+    /// `integer-divide`
+    Divide,
+    /// `integer-mod`
+    Mod,
+    /// `integer-abs`
+    Abs,
+    /// `or`
+    Or,
+    /// `and`
+    And,
+    /// `not`
+    Not,
+    /// `T-one-and-only`
+    OneAndOnly(Element),
+    /// `T-bag-size`
+    BagSize(Element),
+    /// `T-is-in`
+    IsIn(Element),
+    /// `T-bag`
+    Bag(Element),
+    /// `T-intersection`
+    Intersection(Element),
+    /// `T-union`
+    Union(Element),
+    /// `T-at-least-one-member-of`
+    AtLeastOneMemberOf(Element),
+    /// `T-subset`
+    Subset(Element),
+    /// `T-set-equals`
+    SetEquals(Element),
+    /// `string-concatenate`
+    Concatenate,
+    /// `string-starts-with`
+    StartsWith,
+    /// `string-ends-with`
+    EndsWith,
+    /// `string-contains`
+    Contains,
+    /// `date-add-yearMonthDuration`
+    DateAdd,
+    /// `date-subtract-yearMonthDuration`
+    DateSubtract,
+    /// `any-of`
+    AnyOf,
+    /// `all-of`
+    AllOf,
+}
