@@ -1,0 +1,17 @@
+pub mod Counts
+pub mod Documents
+pub mod Expressions
+pub mod Filling
+pub mod Greatest
+pub mod Identifiers
+pub mod Ids
+pub mod Lists
+pub mod Members
+pub mod Numbers
+pub mod OnlyTypes
+pub mod OnlyTypesWhole
+pub mod Policies
+pub mod Read
+pub mod References
+pub mod Types
+pub mod Written

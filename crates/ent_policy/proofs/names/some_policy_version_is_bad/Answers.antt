@@ -1,0 +1,13 @@
+use Rattle.std.proofs.Common.{◌≡◌, ◌==◌, not, nat_lt, length, is_some, rules, tests, ◌∙◌, Bor}
+use Rattle.std.specs.List.{list_any}
+use Rattle.std.proofs.lemmas.Iterator.{YieldsList-from_slice}
+use Rattle.std.proofs.lemmas.Iterator.Search.{any_from_yields_List}
+use Rattle.ent_policy.specs.declared.raw.RawPolicy.{RawPolicy}
+use Rattle.ent_policy.specs.Names.{is_bad_version}
+use Rattle.ent_policy.proofs.Lists.{list_any-map}
+use Rattle.ent_policy.proofs.names.some_policy_version_is_bad.Goals as goal
+
+pub returns : goal.returns
+returns c =
+    any_from_yields_List (λ (x : Bor RawPolicy). is_bad_version x.now.version) _ _ _ c.any.ensures.ran (YieldsList-from_slice c.args.policies.now cc) (λ x b q k. search (rules, tests))
+    ∙ list_any-map (λ (x : RawPolicy). is_bad_version x.version) (λ x. x.now) c.args.policies.now

@@ -1,0 +1,19 @@
+-- The name of a document.
+use Rattle.ent_policy.specs.declared.document.Tree.TheOpen.{Tree-F, PolicySet-F}
+use Rattle.ent_policy.specs.declared.document.Tree.{Tree}
+use Rattle.ent_policy.specs.declared.document.Tree.TheFolds.{fold-Tree}
+use Rattle.ent_policy.specs.declared.key.DocKey.{DocKey}
+use Rattle.ent_policy.specs.declared.key.Kind.TheVariants as kind
+
+-- the key of a policy, or that of a set
+abbrev pub tree_key : Tree-F DocKey DocKey → DocKey
+tree_key (Tree-F.Policy policy) = record { kind = kind.Policy; id = policy.id; version = policy.version }
+tree_key (Tree-F.Set set) = set
+
+-- the key of a set
+abbrev pub set_key : PolicySet-F DocKey DocKey → DocKey
+set_key set = record { kind = kind.PolicySet; id = set.id; version = set.version }
+
+-- the kind, id and version of a document
+abbrev pub key_of : Tree → DocKey
+key_of = fold-Tree DocKey DocKey tree_key set_key

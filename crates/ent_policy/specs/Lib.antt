@@ -1,0 +1,14 @@
+pub mod Check
+pub mod Depths
+pub mod Fault
+pub mod Gives
+pub mod Key
+pub mod Names
+pub mod Order
+pub mod Parts
+pub mod Raw
+pub mod Sizes
+pub mod Tables
+pub mod Typing
+pub mod Variables
+pub mod Versions

@@ -1,0 +1,117 @@
+-- The types of expressions, and the documents in which each expression has one.
+use Rattle.std.specs.Prelude.{◌≡◌, ℕ, zero, suc, List, [], ◌∷◌, Bool, true, false, ◌&&◌, Option, Some, None, is_some, option_map, option_and_then, find, bytes_eq, length}
+use Rattle.std.specs.List.{list_all}
+use Rattle.ent_values.specs.declared.datatype.DataType.TheVariants.{Boolean}
+use Rattle.ent_values.specs.Types.{datatype_of}
+use Rattle.ent_functions.specs.declared.types.ArgType.{ArgType}
+use Rattle.ent_functions.specs.declared.types.ArgType.TheVariants.{One, Many, Fun}
+use Rattle.ent_functions.specs.Types.{result_type_of}
+use Rattle.ent_policy.specs.declared.expression.Expression.{Expression}
+use Rattle.ent_policy.specs.declared.expression.Expression.TheOpen.{Expression-F}
+use Rattle.ent_policy.specs.declared.expression.Expression.TheFolds.{fold-Expression}
+use Rattle.ent_policy.specs.declared.expression.VariableDefinition.{VariableDefinition}
+use Rattle.ent_policy.specs.declared.document.Tree.{Tree}
+use Rattle.ent_policy.specs.declared.document.Tree.TheOpen.{Tree-F, PolicySet-F}
+use Rattle.ent_policy.specs.declared.document.Tree.TheFolds.{fold-Tree}
+use Rattle.ent_policy.specs.declared.document.Policy.{Policy}
+use Rattle.ent_policy.specs.declared.document.Rule.{Rule}
+use Rattle.ent_policy.specs.declared.document.Target.{Target}
+use Rattle.ent_policy.specs.declared.document.AnyOf.{AnyOf}
+use Rattle.ent_policy.specs.declared.document.AllOf.{AllOf}
+use Rattle.ent_policy.specs.declared.document.Match.{Match}
+
+-- ---- expressions
+
+-- all types, if each argument has one
+abbrev pub all_typed : List (Option ArgType) → Option (List ArgType)
+all_typed [] = Some []
+all_typed (None ∷ types) = None
+all_typed (Some t ∷ types) = option_map (λ ts. t ∷ ts) (all_typed types)
+
+-- the type of one level, where `refer` gives that of a variable, with each argument already seen as its type
+abbrev pub type_step : (List ℕ → Option ArgType) → Expression-F (Option ArgType) → Option ArgType
+type_step refer (Expression-F.Value value) = Some (One (datatype_of value))
+type_step refer (Expression-F.Designator designator) = Some (Many designator.datatype)
+type_step refer (Expression-F.Variable id) = refer id
+type_step refer (Expression-F.Apply function arguments) = option_and_then (result_type_of function) (all_typed arguments)
+type_step refer (Expression-F.Function function) = Some (Fun function)
+
+-- the type of an expression, where `refer` gives that of a variable
+abbrev pub type_with : (List ℕ → Option ArgType) → Expression → Option ArgType
+type_with refer = fold-Expression (Option ArgType) (type_step refer)
+
+-- a type that a variable may have: a value or a bag, but no function
+abbrev pub held : Option ArgType → Option ArgType
+held None = None
+held (Some (One t)) = Some (One t)
+held (Some (Many t)) = Some (Many t)
+held (Some (Fun f)) = None
+
+-- the definition of that identifier
+abbrev pub definition_of : List VariableDefinition → List ℕ → Option VariableDefinition
+definition_of definitions id = find (λ (d : VariableDefinition). bytes_eq d.id id) definitions
+
+-- the type of a variable through at most this many references
+abbrev pub variable_type : List VariableDefinition → ℕ → List ℕ → Option ArgType
+variable_type definitions zero id = None
+variable_type definitions (suc n) id =
+    option_and_then (λ (d : VariableDefinition). held (type_with (variable_type definitions n) d.expression)) (definition_of definitions id)
+
+-- the type of an expression among the definitions of its policy: none leads through more references than there are definitions
+abbrev pub type_in : List VariableDefinition → Expression → Option ArgType
+type_in definitions e = type_with (variable_type definitions (length definitions)) e
+
+-- ---- targets
+
+-- one boolean
+abbrev pub is_boolean : Option ArgType → Bool
+is_boolean (Some (One Boolean)) = true
+is_boolean _ = false
+
+-- the function gives a boolean for the literal and a value of the attribute (section 7.6)
+unfoldable pub match_is_typed : Match → Bool
+match_is_typed m = is_boolean (result_type_of m.function (One (datatype_of m.literal) ∷ One m.designator.datatype ∷ []))
+
+-- each match of an AllOf
+unfoldable pub all_of_is_typed : AllOf → Bool
+all_of_is_typed a = list_all match_is_typed a.matches
+
+-- each match of an AnyOf
+unfoldable pub any_of_is_typed : AnyOf → Bool
+any_of_is_typed a = list_all all_of_is_typed a.all_of
+
+-- each match of a target
+unfoldable pub target_is_typed : Target → Bool
+target_is_typed t = list_all any_of_is_typed t.any_of
+
+-- ---- policies and sets
+
+-- a definition gives a value or a bag, whether it is used or not
+unfoldable pub definition_is_typed : List VariableDefinition → VariableDefinition → Bool
+definition_is_typed definitions d = is_some (held (type_in definitions d.expression))
+
+-- a condition gives one boolean (section 5.25)
+unfoldable pub condition_is_typed : List VariableDefinition → Option Expression → Bool
+condition_is_typed definitions None = true
+condition_is_typed definitions (Some e) = is_boolean (type_in definitions e)
+
+-- a rule's target and condition
+unfoldable pub rule_is_typed : List VariableDefinition → Rule → Bool
+rule_is_typed definitions r = target_is_typed r.target && condition_is_typed definitions r.condition
+
+-- a policy's target, definitions and rules
+unfoldable pub policy_is_typed : Policy → Bool
+policy_is_typed p = target_is_typed p.target && list_all (definition_is_typed p.variables) p.variables && list_all (rule_is_typed p.variables) p.rules
+
+-- one level of a document, with each child already seen
+abbrev pub tree_step : Tree-F Bool Bool → Bool
+tree_step (Tree-F.Policy policy) = policy_is_typed policy
+tree_step (Tree-F.Set set) = set
+
+-- a set's target and its children
+abbrev pub set_step : PolicySet-F Bool Bool → Bool
+set_step set = target_is_typed set.target && list_all (λ child. child) set.children
+
+-- each expression of the document has its type
+abbrev pub is_typed : Tree → Bool
+is_typed = fold-Tree Bool Bool tree_step set_step

@@ -1,0 +1,159 @@
+//! Policies, their rules and targets.
+
+ghost use Rattle.std.specs.Prelude.{◌≡◌, IfOk};
+ghost use Rattle.ent_policy.specs.Key.{key_of};
+
+use crate::expression::{Expression, VariableDefinition};
+use crate::key::{DocKey, Kind};
+use crate::version::Version;
+use ent_combine::{PolicyAlg, RuleAlg};
+use ent_functions::Function;
+use ent_values::{DataType, Items, Text, Value};
+use std::alloc::{AllocError, Global};
+use std::marker::Model;
+
+/// What a rule gives where it applies (section 5.21).
+#[derive(Clone, Copy, Debug, PartialEq, Eq)]
+pub enum Effect {
+    Permit,
+    Deny,
+}
+
+/// Names the values of an attribute (section 5.29).
+#[derive(Debug, PartialEq, Eq, Drop)]
+pub struct Designator {
+    pub category: Text,
+    pub attribute: Text,
+    pub datatype: DataType,
+    /// The issuer that the values must have; any, if it is `None`.
+    pub issuer: Option<Text>,
+    /// Whether the designator is Indeterminate where there is no value.
+    pub must_be_present: bool,
+}
+
+/// A test of a literal against each value of an attribute (section 5.9).
+#[derive(Debug, PartialEq, Eq, Drop)]
+pub struct Match {
+    pub function: Function,
+    pub literal: Value,
+    pub designator: Designator,
+}
+
+/// Matches all of which must be true (section 5.8).
+#[derive(Debug, PartialEq, Eq, Drop)]
+pub struct AllOf {
+    pub matches: Items<Match>,
+}
+
+/// Alternatives of which one must match (section 5.7).
+#[derive(Debug, PartialEq, Eq, Drop)]
+pub struct AnyOf {
+    pub all_of: Items<AllOf>,
+}
+
+/// The requests that a rule or a policy is meant for (section 5.6). An empty target matches every request.
+#[derive(Debug, PartialEq, Eq, Drop)]
+pub struct Target {
+    pub any_of: Items<AnyOf>,
+}
+
+/// A rule (section 5.21).
+#[derive(Debug, Drop)]
+pub struct Rule {
+    pub id: Text,
+    pub effect: Effect,
+    pub target: Target,
+    /// What must be true for the rule to apply; an absent condition is true (section 5.25).
+    pub condition: Option<Expression>,
+}
+
+/// A policy (section 5.14).
+#[derive(Debug, Drop)]
+pub struct Policy {
+    pub id: Text,
+    pub version: Version,
+    pub algorithm: RuleAlg,
+    pub target: Target,
+    pub variables: Items<VariableDefinition>,
+    pub rules: Items<Rule>,
+}
+
+/// A policy set (section 5.1).
+#[cycle(tree)]
+#[derive(Debug, Drop)]
+pub struct PolicySet {
+    pub id: Text,
+    pub version: Version,
+    pub algorithm: PolicyAlg,
+    pub target: Target,
+    pub children: Items<Tree>,
+}
+
+/// A policy or a policy set.
+#[cycle(tree)]
+#[derive(Debug, Drop)]
+pub enum Tree {
+    Policy(Policy),
+    Set(PolicySet),
+}
+
+/// A document that can be stored and evaluated. Only the checker makes one.
+#[derive(Debug, Drop)]
+pub struct Document {
+    tree: Tree,
+}
+
+impl Model for Document {
+    ghost use Rattle.std.specs.Coded.{codes};
+    ghost use Rattle.ent_policy.specs.contracts.document.Tree as e;
+    ghost use Rattle.ent_policy.specs.declared.document.Tree.{Tree};
+
+    ghost Value = { Tree };
+
+    ghost coded = { Prim.hlevel (codes, e.the_row.coded) };
+
+    ghost use Rattle.std.specs.Prelude.{◌≡◌, true};
+    ghost use Rattle.ent_policy.specs.Typing.{is_typed};
+
+    ghost view = { λ d. d.tree };
+
+    ghost invariant = { λ d. is_typed d.tree ≡ true };
+}
+
+impl Document {
+    ghost use Rattle.std.specs.Prelude.{true};
+    ghost use Rattle.ent_policy.specs.Typing.{is_typed};
+
+    pub(crate) fn new(tree: Tree) -> Document
+        requires typed { is_typed tree ≡ true }
+        ensures { result ≡ tree }
+    {
+        Document { tree }
+    }
+
+    /// The policy or the policy set that the document holds.
+    pub fn tree(&self) -> &Tree
+        ensures same { result.now ≡ self.now }
+        ensures typed { is_typed result.now ≡ true }
+    {
+        &self.tree
+    }
+
+    /// The name under which the document is stored.
+    pub fn key(&self, alloc: Global) -> Result<DocKey, AllocError>
+        ensures { IfOk result (λ k. k ≡ key_of self.now) }
+    {
+        match &self.tree {
+            Tree::Policy(policy) => Ok(DocKey {
+                kind: Kind::Policy,
+                id: policy.id.copy(alloc)?,
+                version: policy.version.copy(),
+            }),
+            Tree::Set(set) => Ok(DocKey {
+                kind: Kind::PolicySet,
+                id: set.id.copy(alloc)?,
+                version: set.version.copy(),
+            }),
+        }
+    }
+}

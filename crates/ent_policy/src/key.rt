@@ -1,0 +1,70 @@
+//! Names of documents, and references to them.
+
+ghost use Rattle.std.specs.Prelude.{◌≡◌, ◌<◌, ◌≤◌, IfOk, IfSome, is_some, length, not};
+
+use crate::version::Version;
+use ent_values::Text;
+use std::alloc::{AllocError, Global};
+
+/// What a document is: a policy or a policy set.
+#[derive(Clone, Copy, Debug, PartialEq, Eq, PartialOrd, Ord)]
+pub enum Kind {
+    Policy,
+    PolicySet,
+}
+
+/// The name under which a document is stored. Keys order by kind, id and version.
+#[derive(Debug, PartialEq, Eq, PartialOrd, Ord, Drop)]
+pub struct DocKey {
+    pub kind: Kind,
+    pub id: Text,
+    pub version: Version,
+}
+
+/// Names a stored document: of that kind and id the most recent version (sections 5.10 and 5.11). The id has 1 to 256 bytes.
+#[derive(Debug, PartialEq, Eq, PartialOrd, Ord, Drop)]
+pub struct Reference {
+    pub kind: Kind,
+    pub id: Text,
+    pub ghost named: { (0 < length id) × (length id ≤ 256) },
+}
+
+impl DocKey {
+    /// An equal key.
+    pub fn copy(&self, alloc: Global) -> Result<DocKey, AllocError>
+        ensures { IfOk result (λ k. k ≡ self.now) }
+    {
+        Ok(DocKey {
+            kind: self.kind,
+            id: self.id.copy(alloc)?,
+            version: self.version.copy(),
+        })
+    }
+}
+
+impl Reference {
+    ghost use Rattle.ent_policy.specs.Names.{is_bad_name};
+
+    /// The reference, unless the id is empty or has more than 256 bytes.
+    pub fn new(kind: Kind, id: Text) -> Option<Reference>
+        ensures given { is_some result ≡ not (is_bad_name id) }
+        ensures kind { IfSome result (λ r. r.kind ≡ kind) }
+        ensures id { IfSome result (λ r. r.id ≡ id) }
+    {
+        let length = id.as_str().len();
+        if length == 0 || length > 256 {
+            return None;
+        }
+        Some(Reference { kind, id })
+    }
+
+    /// An equal reference.
+    pub fn copy(&self, alloc: Global) -> Result<Reference, AllocError>
+        ensures { IfOk result (λ r. r ≡ self.now) }
+    {
+        Ok(Reference {
+            kind: self.kind,
+            id: self.id.copy(alloc)?,
+        })
+    }
+}

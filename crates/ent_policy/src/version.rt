@@ -1,0 +1,159 @@
+//! Versions of policies.
+
+ghost use Rattle.std.specs.Prelude.{◌≡◌, IfOk, Some, nat_eq, refl, string_bytes};
+ghost use Rattle.std.specs.Cmp as Cmp;
+ghost use Rattle.std.specs.Cmp.Lexicographic.{nat_list_cmp_total, nat_list_eq_equiv, pointwise, slice_cmp, texts_po, texts_ties};
+ghost use Rattle.std.specs.Ordering.{nat_cmp};
+ghost use Rattle.std.specs.Char.{is_ascii_digit};
+ghost use Rattle.std.specs.List.{list_all};
+ghost use Rattle.ent_policy.specs.Versions.{dotted, is_number, number_of, version_of, version_text, TextReadsBack};
+
+use ent_values::Text;
+use std::alloc::{AllocError, Global};
+use std::cmp::Ordering;
+use std::marker::Model;
+
+/// The version of a policy or a policy set (section 5.12): at most 8 numbers of at most 9 digits.
+///
+/// Versions compare number by number, and one that another begins with is the earlier of the two.
+#[derive(Debug, Drop)]
+pub struct Version {
+    numbers: [u32; 8],
+    count: usize,
+}
+
+impl Model for Version {
+    ghost use Rattle.std.specs.Prelude.{List, ℕ, take, ◌≤◌};
+
+    ghost Value = { List ℕ };
+
+    ghost view = { λ v. take v.count v.numbers };
+
+    ghost invariant = { λ v. v.count ≤ 8 };
+}
+
+/// Whether each byte is a decimal digit.
+fn are_digits(bytes: &[u8]) -> bool
+    ensures { result ≡ list_all is_ascii_digit bytes.now }
+{
+    bytes.iter().all(|b| b.is_ascii_digit())
+}
+
+/// Whether the text is 1 to 9 decimal digits.
+fn is_number(piece: &str) -> bool
+    ensures { result ≡ is_number piece.now }
+{
+    piece.len() > 0 && piece.len() <= 9 && are_digits(piece.as_bytes())
+}
+
+/// The value of 1 to 9 decimal digits.
+fn number(piece: &str) -> Option<u32>
+    ensures { result ≡ number_of piece.now }
+{
+    if !is_number(piece) {
+        return None;
+    }
+    piece.parse::<u32>().ok()
+}
+
+/// A number in decimal, behind a dot unless it is the first.
+fn dotted(alloc: Global, place: usize, number: u32) -> Result<String, AllocError>
+    ensures { IfOk result (λ s. string_bytes s ≡ dotted place number) }
+{
+    if place == 0 {
+        return format!(in alloc; "{number}");
+    }
+    format!(in alloc; ".{number}")
+}
+
+/// Law: the text of a version reads as that version.
+pub fn text_reads_back()
+    ensures { TextReadsBack }
+{}
+
+impl Version {
+    /// The version that a text writes: 1 to 8 numbers of 1 to 9 digits, with dots between them. Leading zeros are read.
+    #[tactic(auto, unfolding(crate::specs::Versions::version_of))]
+    pub fn parse(text: &str) -> Option<Version>
+        ensures { result ≡ version_of text.now }
+    {
+        let mut numbers = [0u32; 8];
+        let mut count = 0;
+        for piece in text.split('.') {
+            if count == 8 {
+                return None;
+            }
+            numbers[count] = number(piece)?;
+            count += 1;
+        }
+        Some(Version { numbers, count })
+    }
+
+    /// The text of the version: its numbers in decimal, with dots between them.
+    pub fn text(&self, alloc: Global) -> Result<Text, AllocError>
+        ensures { IfOk result (λ t. t ≡ version_text self.now) }
+    {
+        let numbers = self.numbers();
+        let mut text = String::new(alloc);
+        for place in 0..numbers.len() {
+            let piece = dotted(alloc, place, numbers[place])?;
+            text.push_str(piece.as_str())?;
+        }
+        Ok(Text::new(text))
+    }
+
+    /// The numbers of the version, the first of them the most significant.
+    pub fn numbers(&self) -> &[u32]
+        ensures { result.now ≡ self.now }
+    {
+        &self.numbers[..self.count]
+    }
+
+    /// An equal version. It takes no memory.
+    pub fn copy(&self) -> Version
+        ensures { result ≡ self.now }
+    {
+        Version {
+            numbers: self.numbers,
+            count: self.count,
+        }
+    }
+}
+
+impl PartialEq for Version {
+    ghost eq = { pointwise nat_eq };
+
+    ghost laws = { Cmp.partial_equiv_from_equiv nat_list_eq_equiv };
+
+    fn eq(&self, other: &Self) -> bool {
+        self.numbers() == other.numbers()
+    }
+}
+
+impl Eq for Version {
+    ghost laws = { nat_list_eq_equiv };
+}
+
+impl PartialOrd for Version {
+    ghost partial_cmp = { λ x y. Some (slice_cmp nat_cmp x y) };
+
+    ghost laws = { texts_po };
+
+    fn partial_cmp(&self, other: &Self) -> Option<Ordering> {
+        Some(self.cmp(other))
+    }
+}
+
+impl Ord for Version {
+    ghost cmp = { slice_cmp nat_cmp };
+
+    ghost total = { nat_list_cmp_total };
+
+    ghost matches_partial_cmp = { λ x y. refl };
+
+    ghost matches_eq = { texts_ties };
+
+    fn cmp(&self, other: &Self) -> Ordering {
+        self.numbers().cmp(other.numbers())
+    }
+}
