@@ -1,0 +1,219 @@
+//! Documents and their rules, as the form has them.
+
+ghost use Rattle.std.specs.Prelude.{◌≡◌};
+ghost use Rattle.serde_json.specs.View.{items_view, view};
+ghost use Rattle.ent_policy.specs.Gives.{Gives};
+ghost use Rattle.ent_polform.specs.Form.{definition_of, document_of, effect_of, policy_of, raw_by, raw_of, rule_of, set_by};
+ghost use Rattle.ent_polform.specs.Objects.{each_by};
+
+use crate::expression::{condition_at, expression};
+use crate::objects::{has_only, list_at, one_member, required, text_at, text_or_absent};
+use crate::target::target_at;
+use ent_policy::{
+    CheckFault, DocFault, Document, Effect, RawDocument, RawPolicy, RawPolicySet, RawRule,
+    RawVariableDefinition, check,
+};
+use ent_values::Items;
+use serde_json::Value;
+use std::alloc::Global;
+
+/// A VariableDefinition.
+#[tactic(auto, unfolding(crate::specs::Form::definition_of))]
+fn definition(alloc: Global, object: &Value) -> Result<RawVariableDefinition, CheckFault>
+    ensures { Gives result (definition_of (view object.now)) }
+{
+    if !has_only(object, &["Expression", "VariableId"]) {
+        return Err(CheckFault::Doc(DocFault::Form));
+    }
+    let id = required(alloc, object, "VariableId")?;
+    let value = object.get("Expression").ok_or(DocFault::Form)?;
+    let expression = expression(alloc, value)?;
+    Ok(RawVariableDefinition { id, expression })
+}
+
+/// VariableDefinitions, one for each value.
+fn definitions(alloc: Global, values: &[Value]) -> Result<Items<RawVariableDefinition>, CheckFault>
+    ensures { Gives result (each_by definition_of (items_view values.now)) }
+{
+    let mut all = Items::new(alloc);
+    for value in values {
+        all.push(definition(alloc, value)?)?;
+    }
+    Ok(all)
+}
+
+/// The effect of that name.
+fn effect(word: &str) -> Option<Effect>
+    ensures { result ≡ effect_of word.now }
+{
+    if word == "Permit" {
+        return Some(Effect::Permit);
+    }
+    if word == "Deny" {
+        return Some(Effect::Deny);
+    }
+    None
+}
+
+/// A Rule.
+#[tactic(auto, unfolding(crate::specs::Form::rule_of))]
+fn rule(alloc: Global, object: &Value) -> Result<RawRule, CheckFault>
+    ensures { Gives result (rule_of (view object.now)) }
+{
+    let keys = ["Condition", "Description", "Effect", "RuleId", "Target"];
+    if !has_only(object, &keys) || !text_or_absent(object, "Description") {
+        return Err(CheckFault::Doc(DocFault::Form));
+    }
+    let id = required(alloc, object, "RuleId")?;
+    let effect = text_at(object, "Effect")
+        .and_then(effect)
+        .ok_or(DocFault::Form)?;
+    let target = target_at(alloc, object)?;
+    let condition = condition_at(alloc, object)?;
+    Ok(RawRule {
+        id,
+        effect,
+        target,
+        condition,
+    })
+}
+
+/// Rules, one for each value.
+fn rules(alloc: Global, values: &[Value]) -> Result<Items<RawRule>, CheckFault>
+    ensures { Gives result (each_by rule_of (items_view values.now)) }
+{
+    let mut all = Items::new(alloc);
+    for value in values {
+        all.push(rule(alloc, value)?)?;
+    }
+    Ok(all)
+}
+
+/// A Policy.
+#[tactic(auto, unfolding(crate::specs::Form::policy_of))]
+fn policy(alloc: Global, object: &Value) -> Result<RawPolicy, CheckFault>
+    ensures { Gives result (policy_of (view object.now)) }
+{
+    let keys = [
+        "Description",
+        "PolicyId",
+        "Rule",
+        "RuleCombiningAlgId",
+        "Target",
+        "VariableDefinition",
+        "Version",
+    ];
+    if !has_only(object, &keys) || !text_or_absent(object, "Description") {
+        return Err(CheckFault::Doc(DocFault::Form));
+    }
+    let id = required(alloc, object, "PolicyId")?;
+    let version = required(alloc, object, "Version")?;
+    let algorithm = required(alloc, object, "RuleCombiningAlgId")?;
+    let target = target_at(alloc, object)?;
+    let listed = list_at(object, "VariableDefinition").ok_or(DocFault::Form)?;
+    let variables = definitions(alloc, listed)?;
+    let rules = rules(alloc, list_at(object, "Rule").ok_or(DocFault::Form)?)?;
+    Ok(RawPolicy {
+        id,
+        version,
+        algorithm,
+        target,
+        variables,
+        rules,
+    })
+}
+
+/// A PolicySet.
+#[cycle(document)]
+#[tactic(auto, unfolding(crate::specs::Form::set_by))]
+fn set(alloc: Global, object: &Value) -> Result<RawPolicySet, CheckFault>
+    ensures { Gives result (set_by raw_of (view object.now)) }
+{
+    let keys = [
+        "Children",
+        "Description",
+        "PolicyCombiningAlgId",
+        "PolicySetId",
+        "Target",
+        "Version",
+    ];
+    if !has_only(object, &keys) || !text_or_absent(object, "Description") {
+        return Err(CheckFault::Doc(DocFault::Form));
+    }
+    let id = required(alloc, object, "PolicySetId")?;
+    let version = required(alloc, object, "Version")?;
+    let algorithm = required(alloc, object, "PolicyCombiningAlgId")?;
+    let target = target_at(alloc, object)?;
+    let Some(values) = list_at(object, "Children") else {
+        return Err(CheckFault::Doc(DocFault::Form));
+    };
+    let children = documents(alloc, values)?;
+    Ok(RawPolicySet {
+        id,
+        version,
+        algorithm,
+        target,
+        children,
+    })
+}
+
+/// Documents, one for each value.
+#[cycle(document)]
+fn documents(alloc: Global, values: &[Value]) -> Result<Items<RawDocument>, CheckFault>
+    ensures { Gives result (each_by raw_of (items_view values.now)) }
+{
+    let mut all = Items::new(alloc);
+    for value in values {
+        all.push(nested_document(alloc, value)?)?;
+    }
+    Ok(all)
+}
+
+/// One level of a document.
+#[cycle(document)]
+#[tactic(auto, unfolding(crate::specs::Form::raw_named))]
+fn nested_document(alloc: Global, json: &Value) -> Result<RawDocument, CheckFault>
+    ensures { Gives result (raw_by raw_of (view json.now)) }
+{
+    let Some((kind, body)) = one_member(json) else {
+        return Err(CheckFault::Doc(DocFault::Form));
+    };
+    if kind == "Policy" {
+        return Ok(RawDocument::Policy(policy(alloc, body)?));
+    }
+    if kind == "PolicySet" {
+        return Ok(RawDocument::Set(set(alloc, body)?));
+    }
+    Err(CheckFault::Doc(DocFault::Form))
+}
+
+/// The document that a JSON value spells, as read. The only fault that is found here is that of its form.
+pub(crate) fn raw_document(alloc: Global, json: &Value) -> Result<RawDocument, CheckFault>
+    ensures { Gives result (raw_of (view json.now)) }
+{
+    nested_document(alloc, json)
+}
+
+/// The document that a JSON value spells: an object `{"Policy": {..}}` (section 5.14) or `{"PolicySet": {..}}` (section 5.1).
+///
+/// A Policy has the keys PolicyId, Version and RuleCombiningAlgId, and may have Description, Target, VariableDefinition and Rule.
+/// A PolicySet has PolicySetId, Version and PolicyCombiningAlgId, and may have Description, Target and Children, a list of
+/// documents. A Rule has RuleId and Effect, and may have Description, Target and Condition, an expression. A VariableDefinition
+/// has VariableId and Expression. A Target may have AnyOf, a list of objects with AllOf, each a list of objects with Match;
+/// neither AllOf nor Match may be empty. A Match has MatchId, AttributeValue and AttributeDesignator.
+///
+/// An expression is an object with one key: AttributeValue {DataType?, Value}, AttributeDesignator {Category, AttributeId,
+/// DataType, Issuer?, MustBePresent?}, VariableReference {VariableId}, Apply {FunctionId, Arguments?} or Function {FunctionId}.
+/// A Value is a text, a boolean, or a whole number of 64 bits. MustBePresent is false where it is absent. A description is a text
+/// that isn't kept. Each other text is copied once.
+///
+/// # Errors
+///
+/// [`DocFault::Form`] for every other key or kind of value, wherever it stands, before any other fault of the document. Then the
+/// first fault that [`ent_policy::check`] finds. [`CheckFault::Memory`] if memory runs out.
+#[tactic(auto, unfolding(crate::specs::Form::document_of))]
+pub fn read_document(alloc: Global, json: &Value) -> Result<Document, CheckFault>
+    ensures { Gives result (document_of (view json.now)) }
+{
+    check(alloc, raw_document(alloc, json)?)
+}

@@ -1,0 +1,122 @@
+//! Targets and their matches, as the form has them.
+
+ghost use Rattle.std.specs.Prelude.{◌≡◌, codes};
+ghost use Rattle.serde_json.specs.Find.{get};
+ghost use Rattle.serde_json.specs.View.{items_view, view};
+ghost use Rattle.ent_policy.specs.Gives.{Gives};
+ghost use Rattle.ent_polform.specs.Objects.{each_by};
+ghost use Rattle.ent_polform.specs.Targets.{match_of, one_all_of, one_any_of, target_of, target_or_empty};
+
+use crate::expression::{attribute_value, designator};
+use crate::objects::{filled_list_at, has_only, list_at, required};
+use ent_policy::{CheckFault, DocFault, RawAllOf, RawAnyOf, RawMatch, RawTarget};
+use ent_values::Items;
+use serde_json::Value;
+use std::alloc::Global;
+
+/// A Match.
+#[tactic(auto, unfolding(crate::specs::Targets::match_of))]
+fn one_match(alloc: Global, object: &Value) -> Result<RawMatch, CheckFault>
+    ensures { Gives result (match_of (view object.now)) }
+{
+    if !has_only(
+        object,
+        &["AttributeDesignator", "AttributeValue", "MatchId"],
+    ) {
+        return Err(CheckFault::Doc(DocFault::Form));
+    }
+    let function = required(alloc, object, "MatchId")?;
+    let value = object.get("AttributeValue").ok_or(DocFault::Form)?;
+    let literal = attribute_value(alloc, value)?;
+    let named = object.get("AttributeDesignator").ok_or(DocFault::Form)?;
+    let designator = designator(alloc, named)?;
+    Ok(RawMatch {
+        function,
+        literal,
+        designator,
+    })
+}
+
+/// Matches, one for each value.
+fn matches(alloc: Global, values: &[Value]) -> Result<Items<RawMatch>, CheckFault>
+    ensures { Gives result (each_by match_of (items_view values.now)) }
+{
+    let mut all = Items::new(alloc);
+    for value in values {
+        all.push(one_match(alloc, value)?)?;
+    }
+    Ok(all)
+}
+
+/// A member of AllOf.
+#[tactic(auto, unfolding(crate::specs::Targets::one_all_of))]
+fn all_of(alloc: Global, object: &Value) -> Result<RawAllOf, CheckFault>
+    ensures { Gives result (one_all_of (view object.now)) }
+{
+    if !has_only(object, &["Match"]) {
+        return Err(CheckFault::Doc(DocFault::Form));
+    }
+    let values = filled_list_at(object, "Match").ok_or(DocFault::Form)?;
+    let matches = matches(alloc, values)?;
+    Ok(RawAllOf { matches })
+}
+
+/// Members of AllOf, one for each value.
+fn all_of_list(alloc: Global, values: &[Value]) -> Result<Items<RawAllOf>, CheckFault>
+    ensures { Gives result (each_by one_all_of (items_view values.now)) }
+{
+    let mut all = Items::new(alloc);
+    for value in values {
+        all.push(all_of(alloc, value)?)?;
+    }
+    Ok(all)
+}
+
+/// A member of AnyOf.
+#[tactic(auto, unfolding(crate::specs::Targets::one_any_of))]
+fn any_of(alloc: Global, object: &Value) -> Result<RawAnyOf, CheckFault>
+    ensures { Gives result (one_any_of (view object.now)) }
+{
+    if !has_only(object, &["AllOf"]) {
+        return Err(CheckFault::Doc(DocFault::Form));
+    }
+    let values = filled_list_at(object, "AllOf").ok_or(DocFault::Form)?;
+    let all_of = all_of_list(alloc, values)?;
+    Ok(RawAnyOf { all_of })
+}
+
+/// Members of AnyOf, one for each value.
+fn any_of_list(alloc: Global, values: &[Value]) -> Result<Items<RawAnyOf>, CheckFault>
+    ensures { Gives result (each_by one_any_of (items_view values.now)) }
+{
+    let mut all = Items::new(alloc);
+    for value in values {
+        all.push(any_of(alloc, value)?)?;
+    }
+    Ok(all)
+}
+
+/// A Target.
+#[tactic(auto, unfolding(crate::specs::Targets::target_of))]
+fn target(alloc: Global, object: &Value) -> Result<RawTarget, CheckFault>
+    ensures { Gives result (target_of (view object.now)) }
+{
+    if !has_only(object, &["AnyOf"]) {
+        return Err(CheckFault::Doc(DocFault::Form));
+    }
+    let values = list_at(object, "AnyOf").ok_or(DocFault::Form)?;
+    let any_of = any_of_list(alloc, values)?;
+    Ok(RawTarget { any_of })
+}
+
+/// The Target of a rule or a policy, empty where there is none.
+pub(crate) fn target_at(alloc: Global, object: &Value) -> Result<RawTarget, CheckFault>
+    ensures { Gives result (target_or_empty (get (codes "Target") (view object.now))) }
+{
+    match object.get("Target") {
+        None => Ok(RawTarget {
+            any_of: Items::new(alloc),
+        }),
+        Some(value) => target(alloc, value),
+    }
+}
