@@ -1,0 +1,199 @@
+-- What policy sets and answers rest on.
+use Rattle.std.proofs.Common.{◌≡◌, ℕ, zero, suc, Bool, true, false, List, [], ◌∷◌, ◌++◌, length, take, map, get_or, refl, sym, ap, ◌∙◌, subst, Option, Some, None}
+use Rattle.std.specs.Prelude.{if◌then◌else◌, nat_le}
+use Rattle.std.specs.List.{AllByRecursion}
+use Rattle.std.proofs.lemmas.List.{length-map, map-append, take-map}
+use Rattle.ent_combine.specs.Choose.{choose, is_bad}
+use Rattle.ent_combine.specs.Seen.{rest_to_passing}
+use Rattle.ent_combine.specs.declared.chooser.TargetResult.{TargetResult}
+use Rattle.ent_combine.specs.declared.outcome.PolicyAlg.{PolicyAlg}
+use Rattle.ent_combine.specs.declared.outcome.PolicyAlg.TheVariants.{Shared, OnlyOne}
+use Rattle.ent_combine.proofs.Choosing.{seen_targets_enough}
+use Rattle.ent_policy.specs.declared.document.PolicySet.{PolicySet}
+use Rattle.ent_policy.specs.declared.document.Tree.{Tree}
+use Rattle.ent_policy.specs.declared.document.Tree.TheOpen.{Tree-F, PolicySet-F}
+use Rattle.ent_policy.specs.declared.document.Tree.TheFolds.{fold-roll-Tree, fold-roll-PolicySet, ind-Tree, map-Tree, map-PolicySet}
+use Rattle.ent_policy.specs.declared.document.Tree.TheViews.{roll-Tree, roll-PolicySet}
+use Rattle.ent_policy.specs.declared.key.DocKey.{DocKey}
+use Rattle.ent_policy.specs.declared.key.Kind.TheVariants as kind
+use Rattle.ent_policy.specs.declared.key.Reference.{Reference}
+use Rattle.ent_eval.specs.declared.answer.Answer.{Answer}
+use Rattle.ent_eval.specs.declared.chosen.Only.{Only}
+use Rattle.ent_eval.specs.declared.chosen.Only.TheVariants as only
+use Rattle.ent_eval.specs.declared.key.ReadKey.TheVariants.{Root, Ref}
+use Rattle.ent_eval.specs.declared.request.Request.{Request}
+use Rattle.ent_eval.specs.declared.target.Targeted.{Targeted}
+use Rattle.ent_eval.specs.Answer.{answer_part, found_part, looked_up, recorded, root_part}
+use Rattle.ent_eval.specs.Judged.{nothing}
+use Rattle.ent_eval.specs.Law.{EqualLookUpsGiveEqualAnswers, IsSameLook}
+use Rattle.ent_eval.specs.Looks.{Looks}
+use Rattle.ent_eval.specs.Node.{Node, children_part, combined, node_of, set_node_of, set_step, tree_part, tree_step}
+use Rattle.ent_eval.specs.Noted.{noted}
+use Rattle.ent_eval.specs.Only.{child_part, choice_part, choice_within, chosen, only_one, result_of_target, results, seen_choice, spoils, too_many}
+use Rattle.ent_eval.specs.Part.{Part, after_look, known, mapped, reads_of, values}
+use Rattle.ent_eval.proofs.Keys.{all_noted, by_recursion}
+use Rattle.ent_eval.proofs.Rests.{AllRest, Rests, and_then-rests, combined-rests, element-rests, first_looks, later_looks, mapped-rests, policy-rests, rests-by, target-rests}
+use Rattle.ent_eval.proofs.Sets.{map-map}
+use Rattle.ent_eval.proofs.Choices.{values-append}
+
+-- ---- the only child that applies
+
+-- parts up to the first that makes those before it pass are seen alike
+rest-rests : {X A : Type 0} (s t : Looks) (passes : List (Part A) → Bool) (part : Looks → X → Part A) (before : List (Part A)) (xs : List X) → AllRest s t part xs
+    → AllByRecursion (IsSameLook s t) (reads_of (rest_to_passing passes before (map (part s) xs))) → rest_to_passing passes before (map (part t) xs) ≡ rest_to_passing passes before (map (part s) xs)
+rest-rests s t passes part before [] each h = refl
+rest-rests {X} {A} s t passes part before (x ∷ xs) each h = at (passes (before ++ part s x ∷ [])) (part s x) (part t x) refl each.0 (rest-rests s t passes part (before ++ part s x ∷ []) xs each.1) h where
+  at : (b : Bool) (p q : Part A) → passes (before ++ p ∷ []) ≡ b → (AllByRecursion (IsSameLook s t) p.reads → q ≡ p)
+      → (AllByRecursion (IsSameLook s t) (reads_of (rest_to_passing passes (before ++ p ∷ []) (map (part s) xs))) → rest_to_passing passes (before ++ p ∷ []) (map (part t) xs) ≡ rest_to_passing passes (before ++ p ∷ []) (map (part s) xs))
+      → AllByRecursion (IsSameLook s t) (reads_of (if b then p ∷ [] else p ∷ rest_to_passing passes (before ++ p ∷ []) (map (part s) xs)))
+      → (if passes (before ++ q ∷ []) then q ∷ [] else q ∷ rest_to_passing passes (before ++ q ∷ []) (map (part t) xs)) ≡ (if b then p ∷ [] else p ∷ rest_to_passing passes (before ++ p ∷ []) (map (part s) xs))
+  at true p q is same later h = rw (same (first_looks (IsSameLook s t) p.reads [] h), is) refl
+  at false p q is same later h =
+      let rest : List (Part A) = rest_to_passing passes (before ++ p ∷ []) (map (part s) xs) in
+      rw (same (first_looks (IsSameLook s t) p.reads (reads_of rest) h), is) (ap (λ rs. p ∷ rs) (later (later_looks (IsSameLook s t) p.reads (reads_of rest) h)))
+
+-- what is chosen by, of several parts
+abbrev results_of : List (Part Targeted) → List TargetResult
+results_of ps = results (values ps)
+
+results-more : (before : List (Part Targeted)) (p : Part Targeted) → results_of (before ++ p ∷ []) ≡ results_of before ++ result_of_target p.value ∷ []
+results-more before p = ap results (values-append before (p ∷ [])) ∙ map-append result_of_target (values before) (p.value ∷ [])
+
+-- the targets that are seen are those whose results are
+rest-results : (before rest : List (Part Targeted)) → results_of (rest_to_passing spoils before rest) ≡ rest_to_passing (λ us. is_bad (choose us)) (results_of before) (results_of rest)
+rest-results before [] = refl
+rest-results before (p ∷ rest) =
+    at (spoils (before ++ p ∷ [])) (results_of before ++ result_of_target p.value ∷ []) (ap (λ us. is_bad (choose us)) (sym (results-more before p)))
+    (rest-results (before ++ p ∷ []) rest ∙ ap (λ us. rest_to_passing (λ vs. is_bad (choose vs)) us (results_of rest)) (results-more before p)) where
+      at : (b : Bool) (us : List TargetResult) → is_bad (choose us) ≡ b → results_of (rest_to_passing spoils (before ++ p ∷ []) rest) ≡ rest_to_passing (λ vs. is_bad (choose vs)) us (results_of rest)
+          → results_of (if b then p ∷ [] else p ∷ rest_to_passing spoils (before ++ p ∷ []) rest)
+          ≡ (if is_bad (choose us) then result_of_target p.value ∷ [] else result_of_target p.value ∷ rest_to_passing (λ vs. is_bad (choose vs)) us (results_of rest))
+      at true us is later = rw is refl
+      at false us is later = rw is (ap (λ rs. result_of_target p.value ∷ rs) later)
+
+-- a choice by the targets that are seen
+abbrev by_seen : List (Part Targeted) → Part Only
+by_seen ps = record { value = chosen (choose (results_of ps)) (values ps); reads = reads_of ps }
+
+choice-seen : (ps : List (Part Targeted)) → choice_part ps ≡ by_seen (seen_choice ps)
+choice-seen ps =
+    ap (λ c. record { value = chosen c (values (seen_choice ps)); reads = reads_of (seen_choice ps) })
+    (seen_targets_enough (results_of ps) ∙ ap choose (sym (rest-results [] ps)))
+
+choice-rests : {X : Type 0} (s t : Looks) (target : Looks → X → Part Targeted) (xs : List X) → AllRest s t target xs → Rests s t (λ u. choice_part (map (target u) xs))
+choice-rests s t target xs each h =
+    choice-seen (map (target t) xs) ∙ ap by_seen (rest-rests s t spoils target [] xs each h) ∙ sym (choice-seen (map (target s) xs))
+
+taken-rest : {X A : Type 0} (s t : Looks) (part : Looks → X → Part A) (n : ℕ) (xs : List X) → AllRest s t part xs → AllRest s t part (take n xs)
+taken-rest s t part zero xs each = tt
+taken-rest s t part (suc n) [] each = tt
+taken-rest s t part (suc n) (x ∷ xs) each = (each.0, taken-rest s t part n xs each.1)
+
+within-rests : {X : Type 0} (s t : Looks) (target : Looks → X → Part Targeted) (xs : List X) → AllRest s t target xs → Rests s t (λ u. choice_within (map (target u) xs))
+within-rests {X} s t target xs each = most_rests 256 where
+  at : (most : ℕ) (b : Bool) → Rests s t (λ u. if b then choice_part (map (target u) xs) else mapped too_many (choice_part (map (target u) (take most xs))))
+  at most true = choice-rests s t target xs each
+  at most false = mapped-rests s t too_many (λ u. choice_part (map (target u) (take most xs))) (choice-rests s t target (take most xs) (taken-rest s t target most xs each))
+
+  most_rests : (most : ℕ) → Rests s t (λ u. if nat_le (length (map (target u) xs)) most then choice_part (map (target u) xs) else mapped too_many (choice_part (take most (map (target u) xs))))
+  most_rests most =
+      rests-by s t (λ u. if nat_le (length (map (target u) xs)) most then choice_part (map (target u) xs) else mapped too_many (choice_part (take most (map (target u) xs))))
+      (λ u. if nat_le (length xs) most then choice_part (map (target u) xs) else mapped too_many (choice_part (map (target u) (take most xs))))
+      (λ u. rw (length-map xs (target u), take-map (target u) most xs) refl) (at most (nat_le (length xs) most))
+
+place-rests : {X : Type 0} (s t : Looks) (part : Looks → X → Part Answer) (xs : List X) → AllRest s t part xs → (place : ℕ) → Rests s t (λ u. get_or (map (part u) xs) place (known nothing))
+place-rests s t part [] each place = λ h. refl
+place-rests s t part (x ∷ xs) each zero = each.0
+place-rests s t part (x ∷ xs) each (suc place) = place-rests s t part xs each.1 place
+
+child-rests : {X : Type 0} (s t : Looks) (part : Looks → X → Part Answer) (xs : List X) → AllRest s t part xs → (choice : Only) → Rests s t (λ u. child_part (map (part u) xs) choice)
+child-rests s t part xs each only.Nobody = λ h. refl
+child-rests s t part xs each (only.Child place) = place-rests s t part xs each place
+child-rests s t part xs each (only.Bad status) = λ h. refl
+
+only_one-rests : {X : Type 0} (s t : Looks) (target : Looks → X → Part Targeted) (part : Looks → X → Part Answer) (xs : List X) → AllRest s t target xs → AllRest s t part xs
+    → Rests s t (λ u. only_one (map (target u) xs) (map (part u) xs))
+only_one-rests s t target part xs targets answers =
+    and_then-rests s t (λ u. choice_within (map (target u) xs)) (λ u. child_part (map (part u) xs)) (within-rests s t target xs targets) (child-rests s t part xs answers)
+
+-- ---- policies and sets
+
+module _ (s t : Looks) (request : Request) where
+  -- a node rests on its look-ups, by its target alone and as a whole
+  abbrev BothRest : (Looks → Node) → Type 0
+  BothRest node = Rests s t (λ u. (node u).target) × ((path : List DocKey) → Rests s t (λ u. (node u).answer path))
+
+  abbrev NodeRests : Tree → Type 0
+  NodeRests n = BothRest (λ u. node_of u request n)
+
+  abbrev SetRests : PolicySet → Type 0
+  SetRests p = BothRest (λ u. set_node_of u request p)
+
+  both-by : (p q : Looks → Node) → ((u : Looks) → p u ≡ q u) → BothRest q → BothRest p
+  both-by p q e rests = (
+    rests-by s t (λ u. (p u).target) (λ u. (q u).target) (λ u. ap (λ (n : Node). n.target) (e u)) rests.0,
+    λ path. rests-by s t (λ u. (p u).answer path) (λ u. (q u).answer path) (λ u. ap (λ (n : Node). n.answer path) (e u)) (rests.1 path),
+  )
+
+  node_rolls : (x : Tree-F Tree PolicySet) (u : Looks) → node_of u request (roll-Tree x) ≡ tree_step u request (map-Tree Tree PolicySet Node Node (node_of u request) (set_node_of u request) x)
+  node_rolls x u = fold-roll-Tree Node Node (tree_step u request) (set_step u request) x
+
+  set_rolls : (x : PolicySet-F Tree PolicySet) (u : Looks) → set_node_of u request (roll-PolicySet x) ≡ set_step u request (map-PolicySet Tree PolicySet Node Node (node_of u request) (set_node_of u request) x)
+  set_rolls x u = fold-roll-PolicySet Node Node (tree_step u request) (set_step u request) x
+
+  node_layer : (y : Tree-F ((n : Tree) × NodeRests n) ((p : PolicySet) × SetRests p)) → NodeRests (roll-Tree (map-Tree ((n : Tree) × NodeRests n) ((p : PolicySet) × SetRests p) Tree PolicySet (λ e. e.0) (λ e. e.0) y))
+  node_layer (Tree-F.Policy policy) = both-by _ _ (node_rolls (Tree-F.Policy policy)) (target-rests s t request policy.target, λ path. policy-rests s t request path policy)
+  node_layer (Tree-F.Set set) = both-by _ _ (node_rolls (Tree-F.Set set.0)) set.1
+
+  each_target : (ns : List ((n : Tree) × NodeRests n)) → AllRest s t (λ u n. (node_of u request n).target) (map (λ e. e.0) ns)
+  each_target [] = tt
+  each_target (n ∷ ns) = (n.1.0, each_target ns)
+
+  each_child : (here : List DocKey) (ns : List ((n : Tree) × NodeRests n)) → AllRest s t (λ u n. (node_of u request n).answer here) (map (λ e. e.0) ns)
+  each_child here [] = tt
+  each_child here (n ∷ ns) = (n.1.1 here, each_child here ns)
+
+  children-rest : (algorithm : PolicyAlg) (here : List DocKey) (ns : List ((n : Tree) × NodeRests n)) → Rests s t (λ u. children_part algorithm (map (node_of u request) (map (λ e. e.0) ns)) here)
+  children-rest (Shared algorithm) here ns =
+      let children : List Tree = map (λ e. e.0) ns in
+      rests-by s t _ (λ u. combined algorithm (map (λ n. (node_of u request n).answer here) children)) (λ u. ap (combined algorithm) (map-map (node_of u request) (λ (n : Node). n.answer here) children))
+      (combined-rests s t algorithm (λ u n. (node_of u request n).answer here) children (each_child here ns))
+  children-rest OnlyOne here ns =
+      let children : List Tree = map (λ e. e.0) ns in
+      rests-by s t _ (λ u. only_one (map (λ n. (node_of u request n).target) children) (map (λ n. (node_of u request n).answer here) children))
+      (λ u. ap (λ ts. only_one ts (map (λ (n : Node). n.answer here) (map (node_of u request) children))) (map-map (node_of u request) (λ (n : Node). n.target) children)
+      ∙ ap (only_one (map (λ n. (node_of u request n).target) children)) (map-map (node_of u request) (λ (n : Node). n.answer here) children))
+      (only_one-rests s t (λ u n. (node_of u request n).target) (λ u n. (node_of u request n).answer here) children (each_target ns) (each_child here ns))
+
+  set_layer : (y : PolicySet-F ((n : Tree) × NodeRests n) ((p : PolicySet) × SetRests p)) → SetRests (roll-PolicySet (map-PolicySet ((n : Tree) × NodeRests n) ((p : PolicySet) × SetRests p) Tree PolicySet (λ e. e.0) (λ e. e.0) y))
+  set_layer y =
+      both-by _ _ (set_rolls (map-PolicySet ((n : Tree) × NodeRests n) ((p : PolicySet) × SetRests p) Tree PolicySet (λ e. e.0) (λ e. e.0) y)) (
+        target-rests s t request y.target,
+        λ path. element-rests s t request y.target (λ u. children_part y.algorithm (map (node_of u request) (map (λ e. e.0) y.children)) (path ++ record { kind = kind.PolicySet; id = y.id; version = y.version } ∷ []))
+            (children-rest y.algorithm (path ++ record { kind = kind.PolicySet; id = y.id; version = y.version } ∷ []) y.children),
+      )
+
+  node-rests : (n : Tree) → NodeRests n
+  node-rests = ind-Tree NodeRests SetRests (λ x y is. subst (λ z. NodeRests (roll-Tree z)) is (node_layer y)) (λ x y is. subst (λ z. SetRests (roll-PolicySet z)) is (set_layer y))
+
+tree-rests : (s t : Looks) (request : Request) (path : List DocKey) (document : Tree) → Rests s t (λ u. tree_part u request path document)
+tree-rests s t request path document = (node-rests s t request document).1 path
+
+-- ---- the answer
+
+found-rests : (s t : Looks) (request : Request) (o : Option Tree) → Rests s t (λ u. found_part u request o)
+found-rests s t request None h = refl
+found-rests s t request (Some document) h = tree-rests s t request [] document h
+
+root-rests : (s t : Looks) (request : Request) (root : Option Reference) → Rests s t (λ u. root_part u request root)
+root-rests s t request None h = refl
+root-rests s t request (Some r) h =
+    ap (λ o. after_look (Ref r) (found_part t request o)) (sym h.0) ∙ ap (after_look (Ref r)) (found-rests s t request (s.document r) h.1)
+
+answer-rests : (s t : Looks) (request : Request) → Rests s t (λ u. answer_part u request)
+answer-rests s t request h = ap (after_look Root) (ap (root_part t request) (sym h.0) ∙ root-rests s t request s.root h.1)
+
+pub answers-rest : EqualLookUpsGiveEqualAnswers
+answers-rest s t request h =
+    let same : answer_part t request ≡ answer_part s request = answer-rests s t request (all_noted (IsSameLook s t) [] (looked_up s request) (by_recursion (IsSameLook s t) (recorded s request) h)).1 in
+    (ap (λ p. p.value) same, ap (λ p. noted [] p.reads) same)

@@ -1,0 +1,60 @@
+-- What holds of all keys of a set holds of all that were noted in it.
+use Rattle.std.proofs.Common.{◌≡◌, ℕ, ◌<◌, ◌≤◌, length, List, [], ◌∷◌, refl, sym, ap, subst}
+use Rattle.std.specs.List.{All, AllByRecursion}
+use Rattle.std.specs.BTreeSet.{insert_key}
+use Rattle.std.specs.Coded.{×_prop, le_prop}
+use Rattle.std.proofs.lemmas.List.Elements.{All-head, All-tail}
+use Rattle.std.specs.FinMap.{IsAntisymmetric, nat_cmp-IsAntisymmetric, slice_cmp-IsAntisymmetric}
+use Rattle.std.specs.Ordering.{match_ordering, nat_cmp}
+use Rattle.std.specs.Cmp.Lexicographic.{slice_cmp}
+use Rattle.std.specs.declared.cmp.Ordering.{Ordering}
+use Rattle.std.specs.declared.cmp.Ordering.TheVariants.{Less, Equal, Greater}
+use Rattle.ent_policy.specs.declared.key.Kind.{Kind}
+use Rattle.ent_policy.specs.declared.key.Kind.TheVariants.{Policy, PolicySet}
+use Rattle.ent_eval.specs.declared.key.ReadKey.{ReadKey}
+use Rattle.ent_eval.specs.declared.key.ReadKey.TheVariants.{Root, Ref}
+use Rattle.ent_eval.specs.Noted.{noted, read_cmp, with_key}
+
+ids : IsAntisymmetric (slice_cmp nat_cmp)
+ids = slice_cmp-IsAntisymmetric nat_cmp-IsAntisymmetric
+
+-- the id of a reference has 1 to 256 bytes
+abbrev IsName : List ℕ → Type 0
+IsName i = (0 < length i) × (length i ≤ 256)
+
+same_id : (k : Kind) (i j : List ℕ) → i ≡ j → (p : IsName i) (q : IsName j) → Ref (record { kind = k; id = i; named = p }) ≡ Ref (record { kind = k; id = j; named = q })
+same_id k i j e p = subst (λ x. (q : IsName x) → Ref (record { kind = k; id = i; named = p }) ≡ Ref (record { kind = k; id = x; named = q })) e (λ q. ap (λ n. Ref (record { kind = k; id = i; named = n })) (×_prop le_prop le_prop p q))
+
+same_reference : (a b : Kind) (i j : List ℕ) (p : IsName i) (q : IsName j) → read_cmp (Ref (record { kind = a; id = i; named = p })) (Ref (record { kind = b; id = j; named = q })) ≡ Equal
+    → Ref (record { kind = a; id = i; named = p }) ≡ Ref (record { kind = b; id = j; named = q })
+same_reference Policy Policy i j p q e = same_id Policy i j (ids i j e) p q
+same_reference Policy PolicySet i j p q e = absurd (cc)
+same_reference PolicySet Policy i j p q e = absurd (cc)
+same_reference PolicySet PolicySet i j p q e = same_id PolicySet i j (ids i j e) p q
+
+-- keys that tie are equal
+pub read_cmp-IsAntisymmetric : IsAntisymmetric read_cmp
+read_cmp-IsAntisymmetric Root Root e = refl
+read_cmp-IsAntisymmetric Root (Ref b) e = absurd (cc)
+read_cmp-IsAntisymmetric (Ref a) Root e = absurd (cc)
+read_cmp-IsAntisymmetric (Ref a) (Ref b) e = same_reference a.kind b.kind a.id b.id a.named b.named e
+
+pub all_with : {K : Type 0} (cmp : K → K → Ordering) → IsAntisymmetric cmp → (P : K → Type 0) (keys : List K) (key : K) → AllByRecursion P (insert_key cmp keys key) → AllByRecursion P keys × P key
+all_with cmp same P [] key h = (tt, h.0)
+all_with cmp same P (x ∷ xs) key h = at (cmp key x) cmp P x xs key (same key x) (all_with cmp same P xs key) h where
+  at : {K : Type 0} (o : Ordering) (cmp : K → K → Ordering) (P : K → Type 0) (x : K) (xs : List K) (key : K) → (o ≡ Equal → key ≡ x) → (AllByRecursion P (insert_key cmp xs key) → AllByRecursion P xs × P key)
+      → AllByRecursion P (match_ordering o (key ∷ x ∷ xs) (x ∷ xs) (x ∷ insert_key cmp xs key)) → AllByRecursion P (x ∷ xs) × P key
+  at Less cmp P x xs key same later h = (h.1, h.0)
+  at Equal cmp P x xs key same later h = (h, subst P (sym (same refl)) h.0)
+  at Greater cmp P x xs key same later h = let rest = later h.1 in ((h.0, rest.0), rest.1)
+
+pub all_noted : (P : ReadKey → Type 0) (keys more : List ReadKey) → AllByRecursion P (noted keys more) → AllByRecursion P keys × AllByRecursion P more
+all_noted P keys [] h = (h, tt)
+all_noted P keys (k ∷ more) h =
+    let rest = all_noted P (with_key keys k) more h in
+    let first = all_with read_cmp read_cmp-IsAntisymmetric P keys k rest.0 in
+    (first.0, (first.1, rest.1))
+
+pub by_recursion : {X : Type 0} (P : X → Type 0) (xs : List X) → All P xs → AllByRecursion P xs
+by_recursion P [] h = tt
+by_recursion P (x ∷ xs) h = (All-head P x xs h, by_recursion P xs (All-tail P x xs h))

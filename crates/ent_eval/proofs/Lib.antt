@@ -1,0 +1,17 @@
+pub mod AnswersRest
+pub mod Arguments
+pub mod Booleans
+pub mod Children
+pub mod Choices
+pub mod Empty
+pub mod Gathered
+pub mod Keys
+pub mod MostRecent
+pub mod Once
+pub mod Rests
+pub mod Sames
+pub mod Sets
+pub mod Targets
+pub mod Typing
+pub mod Variables
+pub mod Walk

@@ -1,0 +1,227 @@
+-- What the parts of an answer rest on.
+use Rattle.std.proofs.Common.{◌≡◌, ℕ, zero, suc, Bool, true, false, List, [], ◌∷◌, ◌++◌, length, map, refl, sym, ap, ◌∙◌, subst, Option, Some, None}
+use Rattle.std.specs.Prelude.{find, if◌then◌else◌}
+use Rattle.std.specs.List.{AllByRecursion, list_any}
+use Rattle.ent_combine.proofs.Combining.{any_up_to_first, seen_again}
+use Rattle.ent_combine.proofs.Combining as combining
+use Rattle.ent_combine.specs.Seen.{up_to_first}
+use Rattle.ent_combine.specs.declared.outcome.RuleAlg.{RuleAlg}
+use Rattle.ent_policy.specs.declared.document.AllOf.{AllOf}
+use Rattle.ent_policy.specs.declared.document.AnyOf.{AnyOf}
+use Rattle.ent_policy.specs.declared.document.Match.{Match}
+use Rattle.ent_policy.specs.declared.document.Policy.{Policy}
+use Rattle.ent_policy.specs.declared.document.Rule.{Rule}
+use Rattle.ent_policy.specs.declared.document.Target.{Target}
+use Rattle.ent_policy.specs.declared.key.DocKey.{DocKey}
+use Rattle.ent_eval.specs.declared.answer.Answer.{Answer}
+use Rattle.ent_eval.specs.declared.request.Request.{Request}
+use Rattle.ent_eval.specs.declared.target.Targeted.{Targeted}
+use Rattle.ent_eval.specs.declared.target.Targeted.TheVariants as is
+use Rattle.ent_functions.specs.declared.function.Function.{Function}
+use Rattle.ent_policy.specs.Typing.{definition_of}
+use Rattle.ent_policy.specs.declared.expression.Expression.{Expression}
+use Rattle.ent_policy.specs.declared.expression.Expression.TheOpen.{Expression-F}
+use Rattle.ent_policy.specs.declared.expression.Expression.TheFolds.{fold-roll-Expression, ind-Expression, map-Expression}
+use Rattle.ent_policy.specs.declared.expression.Expression.TheViews.{roll-Expression}
+use Rattle.ent_policy.specs.declared.expression.VariableDefinition.{VariableDefinition}
+use Rattle.ent_policy.specs.declared.key.Kind.TheVariants as kind
+use Rattle.ent_eval.specs.declared.evaluated.Evaluated.{Evaluated}
+use Rattle.ent_eval.specs.declared.evaluated.Truth.{Truth}
+use Rattle.ent_eval.specs.Expression.{defined_part, is_result, meaning, meaning_step, meaning_with, result_of, variable_part}
+use Rattle.ent_eval.specs.Gathered.{judged_by}
+use Rattle.ent_eval.specs.Judged.{judgement_of, stops, with_target}
+use Rattle.ent_eval.specs.Law.{IsSameLook}
+use Rattle.ent_eval.specs.Looks.{Looks}
+use Rattle.ent_eval.specs.Node.{children_after, combined, element, policy_part, rules_part}
+use Rattle.ent_eval.specs.Part.{Part, and_then, mapped, reads_of, seen_parts, values, whole}
+use Rattle.ent_eval.specs.Rule.{condition_part, decided, rule_after, rule_part, truth_of}
+use Rattle.ent_eval.specs.Target.{all_match, all_of_part, any_of_part, is_match, is_no_match, match_part, one_matches, target_part}
+use Rattle.ent_eval.proofs.Children.{judged_seen}
+
+-- a part is the same over both where its look-ups are
+abbrev pub Rests : {A : Type 0} → Looks → Looks → (Looks → Part A) → Type 0
+Rests s t part = AllByRecursion (IsSameLook s t) (part s).reads → part t ≡ part s
+
+pub first_looks : {X : Type 0} (P : X → Type 0) (ks ls : List X) → AllByRecursion P (ks ++ ls) → AllByRecursion P ks
+first_looks P [] ls h = tt
+first_looks P (k ∷ ks) ls h = (h.0, first_looks P ks ls h.1)
+
+pub later_looks : {X : Type 0} (P : X → Type 0) (ks ls : List X) → AllByRecursion P (ks ++ ls) → AllByRecursion P ls
+later_looks P [] ls h = h
+later_looks P (k ∷ ks) ls h = later_looks P ks ls h.1
+
+pub and_then-rests : {A B : Type 0} (s t : Looks) (p : Looks → Part A) (f : Looks → A → Part B) → Rests s t p → ((a : A) → Rests s t (λ u. f u a)) → Rests s t (λ u. and_then (p u) (f u))
+and_then-rests s t p f first later h =
+    let one : p t ≡ p s = first (first_looks (IsSameLook s t) (p s).reads (f s (p s).value).reads h) in
+    let two : f t (p s).value ≡ f s (p s).value = later (p s).value (later_looks (IsSameLook s t) (p s).reads (f s (p s).value).reads h) in
+    ap (λ q. and_then q (f t)) one ∙ ap (λ q. record { value = q.value; reads = (p s).reads ++ q.reads }) two
+
+pub mapped-rests : {A B : Type 0} (s t : Looks) (f : A → B) (p : Looks → Part A) → Rests s t p → Rests s t (λ u. mapped f (p u))
+mapped-rests s t f p rests h = ap (mapped f) (rests h)
+
+-- parts that each rest on their look-ups
+abbrev pub AllRest : {X A : Type 0} → Looks → Looks → (Looks → X → Part A) → List X → Type 0
+AllRest s t part [] = Unit {0}
+AllRest s t part (x ∷ xs) = Rests s t (λ u. part u x) × AllRest s t part xs
+
+pub each-rests : {X A : Type 0} (s t : Looks) (part : Looks → X → Part A) → ((x : X) → Rests s t (λ u. part u x)) → (xs : List X) → AllRest s t part xs
+each-rests s t part rests [] = tt
+each-rests s t part rests (x ∷ xs) = (rests x, each-rests s t part rests xs)
+
+seen_at : {A : Type 0} (stop : A → Bool) (b : Bool) (s t : Looks) (p q : Part A) (ps qs : List (Part A)) → stop p.value ≡ b → (AllByRecursion (IsSameLook s t) p.reads → q ≡ p)
+    → (AllByRecursion (IsSameLook s t) (reads_of (seen_parts stop ps)) → seen_parts stop qs ≡ seen_parts stop ps)
+    → AllByRecursion (IsSameLook s t) (reads_of (if b then p ∷ [] else p ∷ seen_parts stop ps)) → seen_parts stop (q ∷ qs) ≡ (if b then p ∷ [] else p ∷ seen_parts stop ps)
+seen_at stop true s t p q ps qs is same later h = rw (same (first_looks (IsSameLook s t) p.reads [] h), is) refl
+seen_at stop false s t p q ps qs is same later h =
+    rw (same (first_looks (IsSameLook s t) p.reads (reads_of (seen_parts stop ps)) h), is) (ap (λ rs. p ∷ rs) (later (later_looks (IsSameLook s t) p.reads (reads_of (seen_parts stop ps)) h)))
+
+-- they are seen alike
+pub seen-rests : {X A : Type 0} (s t : Looks) (stop : A → Bool) (part : Looks → X → Part A) (xs : List X) → AllRest s t part xs
+    → AllByRecursion (IsSameLook s t) (reads_of (seen_parts stop (map (part s) xs))) → seen_parts stop (map (part t) xs) ≡ seen_parts stop (map (part s) xs)
+seen-rests s t stop part [] each h = refl
+seen-rests s t stop part (x ∷ xs) each h = seen_at stop (stop (part s x).value) s t (part s x) (part t x) (map (part s) xs) (map (part t) xs) refl each.0 (seen-rests s t stop part xs each.1) h
+
+pub values-seen : {A : Type 0} (stop : A → Bool) (ps : List (Part A)) → values (seen_parts stop ps) ≡ up_to_first stop (values ps)
+values-seen stop [] = refl
+values-seen stop (p ∷ ps) = values_at (stop p.value) stop p ps (values-seen stop ps) where
+  values_at : {A : Type 0} (b : Bool) (stop : A → Bool) (p : Part A) (ps : List (Part A)) → values (seen_parts stop ps) ≡ up_to_first stop (values ps)
+      → values (if b then p ∷ [] else p ∷ seen_parts stop ps) ≡ (if b then p.value ∷ [] else p.value ∷ up_to_first stop (values ps))
+  values_at true stop p ps later = refl
+  values_at false stop p ps later = ap (λ vs. p.value ∷ vs) later
+
+-- a whole of parts whose value rests on those that are seen alone
+pub whole-rests : {X A B : Type 0} (s t : Looks) (stop : A → Bool) (part : Looks → X → Part A) (come_to : List A → B) → ((vs : List A) → come_to vs ≡ come_to (up_to_first stop vs)) → (xs : List X) → AllRest s t part xs
+    → Rests s t (λ u. whole stop come_to (map (part u) xs))
+whole-rests s t stop part come_to enough xs each h =
+    let same : seen_parts stop (map (part t) xs) ≡ seen_parts stop (map (part s) xs) = seen-rests s t stop part xs each h in
+    let by_seen = λ (u : Looks). enough (values (map (part u) xs)) ∙ ap come_to (sym (values-seen stop (map (part u) xs))) in
+    ap (λ v. record { value = v; reads = reads_of (seen_parts stop (map (part t) xs)) }) (by_seen t)
+    ∙ ap (λ ps. record { value = come_to (values ps); reads = reads_of ps }) same
+    ∙ ap (λ v. record { value = v; reads = reads_of (seen_parts stop (map (part s) xs)) }) (sym (by_seen s))
+
+-- ---- targets
+
+all_match-seen : (ts : List Targeted) → all_match ts ≡ all_match (up_to_first is_no_match ts)
+all_match-seen ts = at (list_any is_no_match ts) refl where
+  at : (b : Bool) → list_any is_no_match ts ≡ b → all_match ts ≡ all_match (up_to_first is_no_match ts)
+  at true is = rw (is, any_up_to_first is_no_match ts, is) refl
+  at false is = sym (ap all_match (combining.whole is_no_match ts is))
+
+one_matches-seen : (ts : List Targeted) → one_matches ts ≡ one_matches (up_to_first is_match ts)
+one_matches-seen ts = at (list_any is_match ts) refl where
+  at : (b : Bool) → list_any is_match ts ≡ b → one_matches ts ≡ one_matches (up_to_first is_match ts)
+  at true is = rw (is, any_up_to_first is_match ts, is) refl
+  at false is = sym (ap one_matches (combining.whole is_match ts is))
+
+match-rests : (s t : Looks) (request : Request) (m : Match) → Rests s t (λ u. match_part u request m)
+match-rests s t request m h = refl
+
+all_of-rests : (s t : Looks) (request : Request) (a : AllOf) → Rests s t (λ u. all_of_part u request a)
+all_of-rests s t request a = whole-rests s t is_no_match (λ u m. match_part u request m) all_match all_match-seen a.matches (each-rests s t (λ u m. match_part u request m) (match-rests s t request) a.matches)
+
+any_of-rests : (s t : Looks) (request : Request) (a : AnyOf) → Rests s t (λ u. any_of_part u request a)
+any_of-rests s t request a = whole-rests s t is_match (λ u m. all_of_part u request m) one_matches one_matches-seen a.all_of (each-rests s t (λ u m. all_of_part u request m) (all_of-rests s t request) a.all_of)
+
+pub target-rests : (s t : Looks) (request : Request) (target : Target) → Rests s t (λ u. target_part u request target)
+target-rests s t request target =
+    whole-rests s t is_no_match (λ u m. any_of_part u request m) all_match all_match-seen target.any_of (each-rests s t (λ u m. any_of_part u request m) (any_of-rests s t request) target.any_of)
+
+-- ---- expressions
+
+find-seen : {A : Type 0} (p : A → Bool) (vs : List A) → find p (up_to_first p vs) ≡ find p vs
+find-seen p [] = refl
+find-seen p (v ∷ vs) = find_at (p v) p v vs refl (find-seen p vs) where
+  find_at : {A : Type 0} (b : Bool) (p : A → Bool) (v : A) (vs : List A) → p v ≡ b → find p (up_to_first p vs) ≡ find p vs → find p (if b then v ∷ [] else v ∷ up_to_first p vs) ≡ (if p v then Some v else find p vs)
+  find_at true p v vs is later = rw is refl
+  find_at false p v vs is later = rw is later
+
+none-whole : {A : Type 0} (p : A → Bool) (vs : List A) → find p vs ≡ None → up_to_first p vs ≡ vs
+none-whole p [] none = refl
+none-whole p (v ∷ vs) none = none_at (p v) p v vs (none-whole p vs) none where
+  none_at : {A : Type 0} (b : Bool) (p : A → Bool) (v : A) (vs : List A) → (find p vs ≡ None → up_to_first p vs ≡ vs) → (if b then Some v else find p vs) ≡ None → (if b then v ∷ [] else v ∷ up_to_first p vs) ≡ v ∷ vs
+  none_at true p v vs later none = absurd (cc)
+  none_at false p v vs later none = ap (λ ws. v ∷ ws) (later none)
+
+found_first : (f : Function) (vs : List Evaluated) → result_of f vs ≡ result_of f (up_to_first (is_result f) vs)
+found_first f vs = found_at (find (is_result f) vs) refl where
+  found_at : (o : Option Evaluated) → find (is_result f) vs ≡ o → result_of f vs ≡ result_of f (up_to_first (is_result f) vs)
+  found_at (Some v) is = rw (is, find-seen (is_result f) vs, is) refl
+  found_at None is = sym (ap (result_of f) (none-whole (is_result f) vs is))
+
+-- a part that is another one rests on its look-ups
+pub rests-by : {A : Type 0} (s t : Looks) (p q : Looks → Part A) → ((u : Looks) → p u ≡ q u) → Rests s t q → Rests s t p
+rests-by s t p q e rests h = e t ∙ rests (subst (λ x. AllByRecursion (IsSameLook s t) x.reads) (e s) h) ∙ sym (e s)
+
+module _ (s t : Looks) (request : Request) (refer : Looks → List ℕ → Part Evaluated) (each : (id : List ℕ) → Rests s t (λ u. refer u id)) where
+  abbrev MeaningRests : Expression → Type 0
+  MeaningRests e = Rests s t (λ u. meaning_with u request (refer u) e)
+
+  all_rest : (es : List ((e : Expression) × MeaningRests e)) → AllRest s t (λ u e. meaning_with u request (refer u) e) (map (λ e. e.0) es)
+  all_rest [] = tt
+  all_rest (e ∷ es) = (e.1, all_rest es)
+
+  meaning_rolls : (x : Expression-F Expression) (u : Looks) → meaning_with u request (refer u) (roll-Expression x) ≡ meaning_step u request (refer u) (map-Expression Expression (Part Evaluated) (meaning_with u request (refer u)) x)
+  meaning_rolls x u = fold-roll-Expression (Part Evaluated) (meaning_step u request (refer u)) x
+
+  layer-rests : (y : Expression-F ((e : Expression) × MeaningRests e)) → MeaningRests (roll-Expression (map-Expression ((e : Expression) × MeaningRests e) Expression (λ e. e.0) y))
+  layer-rests (Expression-F.Value v) = rests-by s t _ _ (meaning_rolls (Expression-F.Value v)) (λ h. refl)
+  layer-rests (Expression-F.Designator d) = rests-by s t _ _ (meaning_rolls (Expression-F.Designator d)) (λ h. refl)
+  layer-rests (Expression-F.Variable id) = rests-by s t _ _ (meaning_rolls (Expression-F.Variable id)) (each id)
+  layer-rests (Expression-F.Apply f arguments) =
+      rests-by s t _ _ (meaning_rolls (Expression-F.Apply f (map (λ e. e.0) arguments)))
+      (whole-rests s t (is_result f) (λ u e. meaning_with u request (refer u) e) (result_of f) (found_first f) (map (λ e. e.0) arguments) (all_rest arguments))
+  layer-rests (Expression-F.Function f) = rests-by s t _ _ (meaning_rolls (Expression-F.Function f)) (λ h. refl)
+
+  pub meaning_with-rests : (e : Expression) → MeaningRests e
+  meaning_with-rests = ind-Expression MeaningRests (λ x y is. subst (λ z. MeaningRests (roll-Expression z)) is (layer-rests y))
+
+defined-rests : (s t : Looks) (part : Looks → Expression → Part Evaluated) → ((e : Expression) → Rests s t (λ u. part u e)) → (o : Option VariableDefinition) → Rests s t (λ u. defined_part (part u) o)
+defined-rests s t part each None h = refl
+defined-rests s t part each (Some d) h = each d.expression h
+
+variable-rests : (s t : Looks) (request : Request) (definitions : List VariableDefinition) (n : ℕ) (id : List ℕ) → Rests s t (λ u. variable_part u request definitions n id)
+variable-rests s t request definitions zero id = λ h. refl
+variable-rests s t request definitions (suc n) id =
+    defined-rests s t (λ u e. meaning u request definitions n e) (meaning_with-rests s t request (λ u. variable_part u request definitions n) (variable-rests s t request definitions n)) (definition_of definitions id)
+
+condition-rests : (s t : Looks) (request : Request) (definitions : List VariableDefinition) (condition : Option Expression) → Rests s t (λ u. condition_part u request definitions condition)
+condition-rests s t request definitions None = λ h. refl
+condition-rests s t request definitions (Some e) =
+    mapped-rests s t truth_of (λ u. meaning u request definitions (length definitions) e)
+    (meaning_with-rests s t request (λ u. variable_part u request definitions (length definitions)) (variable-rests s t request definitions (length definitions)) e)
+
+-- ---- rules
+
+rule_after-rests : (s t : Looks) (condition : Looks → Part Truth) → Rests s t condition → (path : List DocKey) (rule : Rule) (targeted : Targeted) → Rests s t (λ u. rule_after (condition u) path rule targeted)
+rule_after-rests s t condition rests path rule is.Match = mapped-rests s t (decided path rule) condition rests
+rule_after-rests s t condition rests path rule is.NoMatch = λ h. refl
+rule_after-rests s t condition rests path rule (is.Indeterminate status) = λ h. refl
+
+pub rule-rests : (s t : Looks) (request : Request) (definitions : List VariableDefinition) (path : List DocKey) (rule : Rule) → Rests s t (λ u. rule_part u request definitions path rule)
+rule-rests s t request definitions path rule =
+    and_then-rests s t (λ u. target_part u request rule.target) (λ u. rule_after (condition_part u request definitions rule.condition) path rule) (target-rests s t request rule.target)
+    (rule_after-rests s t (λ u. condition_part u request definitions rule.condition) (condition-rests s t request definitions rule.condition) path rule)
+
+-- ---- elements
+
+pub children_seen : (algorithm : RuleAlg) (answers : List Answer) → judgement_of algorithm answers ≡ judgement_of algorithm (up_to_first (stops algorithm) answers)
+children_seen algorithm answers =
+    sym (judged_seen algorithm answers) ∙ ap (judged_by algorithm) (sym (seen_again (stops algorithm) answers)) ∙ judged_seen algorithm (up_to_first (stops algorithm) answers)
+
+pub combined-rests : {X : Type 0} (s t : Looks) (algorithm : RuleAlg) (part : Looks → X → Part Answer) (xs : List X) → AllRest s t part xs → Rests s t (λ u. combined algorithm (map (part u) xs))
+combined-rests s t algorithm part xs each = whole-rests s t (stops algorithm) part (judgement_of algorithm) (children_seen algorithm) xs each
+
+children-rest : (s t : Looks) (children : Looks → Part Answer) → Rests s t children → (targeted : Targeted) → Rests s t (λ u. children_after (children u) targeted)
+children-rest s t children rests is.Match = rests
+children-rest s t children rests is.NoMatch = λ h. refl
+children-rest s t children rests (is.Indeterminate status) = mapped-rests s t (with_target (is.Indeterminate status)) children rests
+
+pub element-rests : (s t : Looks) (request : Request) (target : Target) (children : Looks → Part Answer) → Rests s t children → Rests s t (λ u. element (target_part u request target) (children u))
+element-rests s t request target children rests =
+    and_then-rests s t (λ u. target_part u request target) (λ u. children_after (children u)) (target-rests s t request target) (children-rest s t children rests)
+
+pub policy-rests : (s t : Looks) (request : Request) (path : List DocKey) (policy : Policy) → Rests s t (λ u. policy_part u request path policy)
+policy-rests s t request path policy =
+    let here = path ++ record { kind = kind.Policy; id = policy.id; version = policy.version } ∷ [] in
+    element-rests s t request policy.target (λ u. rules_part u request here policy)
+    (combined-rests s t policy.algorithm (λ u r. rule_part u request policy.variables here r) policy.rules (each-rests s t (λ u r. rule_part u request policy.variables here r) (rule-rests s t request policy.variables here) policy.rules))

@@ -1,0 +1,84 @@
+-- A loop over parts that stops at the first whose value says so.
+use Rattle.std.proofs.Common.{◌≡◌, ℕ, ◌+◌, ◌<◌, Bool, true, false, List, [], ◌∷◌, ◌++◌, length, take, drop, map, get_or, suc, refl, sym, ap, ◌∙◌, add-one, drop-cons, append_assoc}
+use Rattle.std.specs.List.{list_any}
+use Rattle.std.proofs.lemmas.List.Folds.{list_any-append}
+use Rattle.std.proofs.Math.Seq.{take-suc}
+use Rattle.std.proofs.lemmas.List.{append-nil, map-append}
+use Rattle.ent_combine.specs.Seen.{up_to_first}
+use Rattle.ent_eval.specs.declared.key.ReadKey.{ReadKey}
+use Rattle.ent_eval.specs.Noted.{noted, with_key}
+use Rattle.ent_eval.specs.Part.{Part, reads_of, values, seen_parts}
+
+pub noted-append : (keys first more : List ReadKey) → noted keys (first ++ more) ≡ noted (noted keys first) more
+noted-append keys [] more = refl
+noted-append keys (k ∷ first) more = noted-append (with_key keys k) first more
+
+-- keys of two parts, one after the other
+pub noted_both : (keys first more : List ReadKey) → noted (noted keys first) more ≡ noted keys (first ++ more)
+noted_both keys first more = sym (noted-append keys first more)
+
+pub at_item : {A : Type 0} (xs : List A) (i : ℕ) (x : A) → i < length xs → x ≡ get_or xs i x → drop i xs ≡ x ∷ drop (i + 1) xs
+at_item xs i x h is = rw (add-one, drop-cons xs i x h) (ap (λ y. y ∷ drop (suc i) xs) (sym is))
+
+values-append : {A : Type 0} (ps qs : List (Part A)) → values (ps ++ qs) ≡ values ps ++ values qs
+values-append [] qs = refl
+values-append (p ∷ ps) qs = ap (λ vs. p.value ∷ vs) (values-append ps qs)
+
+-- what the first i parts come to
+abbrev pub values_to : {X A : Type 0} → (X → Part A) → List X → ℕ → List A
+values_to part xs i = values (map part (take i xs))
+
+pub values_to-next : {X A : Type 0} (part : X → Part A) (xs : List X) (i : ℕ) (x : X) → i < length xs → x ≡ get_or xs i x → values_to part xs (i + 1) ≡ values_to part xs i ++ (part x).value ∷ []
+values_to-next part xs i x h is =
+    let taken : take (i + 1) xs ≡ take i xs ++ x ∷ [] = rw add-one (take-suc xs i x h ∙ ap (λ y. take i xs ++ y ∷ []) (sym is)) in
+    ap (λ ys. values (map part ys)) taken ∙ ap values (map-append part (take i xs) (x ∷ [])) ∙ values-append (map part (take i xs)) (part x ∷ [])
+
+-- none of the first i parts stops, and those left are looked at as they would be from the start
+pub record IsGoing {X A : Type 0} (stop : A → Bool) (part : X → Part A) (xs : List X) (i : ℕ) (start now : List ReadKey) : Type 0 where
+  pub passed : list_any stop (values_to part xs i) ≡ false
+  pub seen : up_to_first stop (values (map part xs)) ≡ values_to part xs i ++ up_to_first stop (values (map part (drop i xs)))
+  pub all : values (map part xs) ≡ values_to part xs i ++ values (map part (drop i xs))
+  pub reads : noted now (reads_of (seen_parts stop (map part (drop i xs)))) ≡ noted start (reads_of (seen_parts stop (map part xs)))
+
+seen_on : {A : Type 0} (stop : A → Bool) (p : Part A) (ps : List (Part A)) → stop p.value ≡ false → seen_parts stop (p ∷ ps) ≡ p ∷ seen_parts stop ps
+seen_on stop p ps not = rw not refl
+
+seen_off : {A : Type 0} (stop : A → Bool) (p : Part A) (ps : List (Part A)) → stop p.value ≡ true → seen_parts stop (p ∷ ps) ≡ p ∷ []
+seen_off stop p ps is = rw is refl
+
+first_on : {A : Type 0} (stop : A → Bool) (v : A) (vs : List A) → stop v ≡ false → up_to_first stop (v ∷ vs) ≡ v ∷ up_to_first stop vs
+first_on stop v vs not = rw not refl
+
+first_off : {A : Type 0} (stop : A → Bool) (v : A) (vs : List A) → stop v ≡ true → up_to_first stop (v ∷ vs) ≡ v ∷ []
+first_off stop v vs is = rw is refl
+
+pub goes_on : {X A : Type 0} (stop : A → Bool) (part : X → Part A) (xs : List X) (i : ℕ) (x : X) (start now next : List ReadKey)
+    → i < length xs → x ≡ get_or xs i x → IsGoing stop part xs i start now → stop (part x).value ≡ false → next ≡ noted now (part x).reads
+    → IsGoing stop part xs (i + 1) start next
+goes_on stop part xs i x start now next h at so_far not is =
+    let here : drop i xs ≡ x ∷ drop (i + 1) xs = at_item xs i x h at in
+    let left = map part (drop (i + 1) xs) in
+    let to = values_to-next part xs i x h at in
+    record {
+      passed = rw (to, list_any-append stop (values_to part xs i) ((part x).value ∷ []), so_far.passed, not) refl;
+      seen = so_far.seen ∙ ap (λ ys. values_to part xs i ++ up_to_first stop (values (map part ys))) here ∙ ap (λ vs. values_to part xs i ++ vs) (first_on stop (part x).value (values left) not)
+          ∙ sym (append_assoc (values_to part xs i) ((part x).value ∷ []) (up_to_first stop (values left))) ∙ ap (λ vs. vs ++ up_to_first stop (values left)) (sym to);
+      all = so_far.all ∙ ap (λ ys. values_to part xs i ++ values (map part ys)) here ∙ sym (append_assoc (values_to part xs i) ((part x).value ∷ []) (values left)) ∙ ap (λ vs. vs ++ values left) (sym to);
+      reads = rw is (sym (noted-append now (part x).reads (reads_of (seen_parts stop left)))) ∙ ap (λ ps. noted now (reads_of ps)) (sym (seen_on stop (part x) left not)) ∙ ap (λ ys. noted now (reads_of (seen_parts stop (map part ys)))) (sym here) ∙ so_far.reads;
+    }
+
+-- what a loop has that stops at a part
+pub record Stops {X A : Type 0} (stop : A → Bool) (part : X → Part A) (xs : List X) (done : List A) (start now : List ReadKey) : Type 0 where
+  pub seen : up_to_first stop (values (map part xs)) ≡ done
+  pub reads : now ≡ noted start (reads_of (seen_parts stop (map part xs)))
+
+pub stops_at : {X A : Type 0} (stop : A → Bool) (part : X → Part A) (xs : List X) (i : ℕ) (x : X) (start now next : List ReadKey)
+    → i < length xs → x ≡ get_or xs i x → IsGoing stop part xs i start now → stop (part x).value ≡ true → next ≡ noted now (part x).reads
+    → Stops stop part xs (values_to part xs i ++ (part x).value ∷ []) start next
+stops_at stop part xs i x start now next h at so_far fixed is =
+    let here : drop i xs ≡ x ∷ drop (i + 1) xs = at_item xs i x h at in
+    let left = map part (drop (i + 1) xs) in
+    record {
+      seen = so_far.seen ∙ ap (λ ys. values_to part xs i ++ up_to_first stop (values (map part ys))) here ∙ ap (λ vs. values_to part xs i ++ vs) (first_off stop (part x).value (values left) fixed);
+      reads = is ∙ ap (λ ks. noted now ks) (sym (append-nil (part x).reads)) ∙ ap (λ ps. noted now (reads_of ps)) (sym (seen_off stop (part x) left fixed)) ∙ ap (λ ys. noted now (reads_of (seen_parts stop (map part ys)))) (sym here) ∙ so_far.reads;
+    }

@@ -1,0 +1,59 @@
+use Rattle.std.proofs.Common.{◌∙◌, sym, ap, subst, arith}
+use Rattle.std.specs.Prelude.{IsSome}
+use Rattle.std.proofs.lemmas.Result.{IfOk-weaker, on_ok_weaker}
+use Rattle.ent_functions.specs.Applied.{applied}
+use Rattle.ent_eval.specs.Expression.{come_to, meaning}
+use Rattle.ent_eval.specs.LooksOf.{looks_of}
+use Rattle.ent_eval.specs.Noted.{noted}
+use Rattle.ent_eval.specs.Typed.{HasType, type_of}
+use Rattle.ent_eval.proofs.Arguments.{all-value, next_argument, settled-reads, settled-type, settled-value}
+use Rattle.ent_eval.proofs.Variables.{definition_part, definition_type, has_reference, worth-falls}
+use Rattle.ent_eval.proofs.scene.Scene.+expression.Goals as goal
+
+pub application-returns-in-Err-clause-value : goal.application-returns-in-Err-clause-value
+application-returns-in-Err-clause-value g t c =
+    c.in-Err.ensures.0 ∙ settled-value c.args.function (meaning (looks_of g.P.Policies.documents c.args.self.now.pdp.now) c.args.self.now.request.now c.args.definitions.now c.args.references) (type_of c.args.definitions.now c.args.references)
+    c.args.arguments.now c.loop-argument.argument-index c.loop-argument.evaluated c.args.reads.now c.loop-argument.reads c.argument-item.result c.in_ok-value.value
+    c.loop-argument-test.true c.argument-item.is c.loop-argument.invariant c.in_ok-value.ensures.value c.in-Err.ensures.1
+
+pub application-returns-in-Err-clause-reads : goal.application-returns-in-Err-clause-reads
+application-returns-in-Err-clause-reads g t c =
+    settled-reads c.args.function (meaning (looks_of g.P.Policies.documents c.args.self.now.pdp.now) c.args.self.now.request.now c.args.definitions.now c.args.references) (type_of c.args.definitions.now c.args.references)
+    c.args.arguments.now c.loop-argument.argument-index c.loop-argument.evaluated c.args.reads.now c.loop-argument.reads c.argument-item.result c.in_ok-value.value c.expression.new.reads
+    c.loop-argument-test.true c.argument-item.is c.loop-argument.invariant c.in_ok-value.ensures.value c.in-Err.ensures.1 c.in_ok-value.ensures.reads
+
+pub application-returns-in-Err-clause-typed : goal.application-returns-in-Err-clause-typed
+application-returns-in-Err-clause-typed g t c =
+    subst (HasType _) (sym c.in-Err.ensures.0) (settled-type c.args.function c.in_ok-value.value _ c.in-Err.ensures.1 c.requires.typed)
+
+pub application-loop-argument-preserved : goal.application-loop-argument-preserved
+application-loop-argument-preserved g t c =
+    next_argument c.args.function (meaning (looks_of g.P.Policies.documents c.args.self.now.pdp.now) c.args.self.now.request.now c.args.definitions.now c.args.references) (type_of c.args.definitions.now c.args.references)
+    c.args.arguments.now c.loop-argument.argument-index c.loop-argument.evaluated c.args.reads.now c.loop-argument.reads c.argument-item.result c.in_ok-value.value c.in-Ok.argument c.push.new.self c.expression.new.reads
+    c.loop-argument-test.true c.argument-item.is c.loop-argument.invariant c.in_ok-value.ensures.value c.in_ok-value.ensures.reads c.in_ok-value.ensures.typed c.in-Ok.ensures.0 c.in-Ok.ensures.1 c.in_ok-push-in-Ok.ensures.ok
+
+pub application-returns-clause-value : goal.application-returns-clause-value
+application-returns-clause-value g t c =
+    IfOk-weaker c.applied_to.result _ _ (λ v is. is ∙ ap (λ given. come_to (applied c.args.function given)) c.as_slice.ensures
+    ∙ all-value c.args.function (meaning (looks_of g.P.Policies.documents c.args.self.now.pdp.now) c.args.self.now.request.now c.args.definitions.now c.args.references) (type_of c.args.definitions.now c.args.references)
+    c.args.arguments.now c.loop-argument.argument-index c.loop-argument.evaluated c.args.reads.now c.loop-argument.reads (omega (arith, c.loop-argument-test.false)) c.loop-argument.invariant) c.applied_to.ensures.value
+
+pub variable-expression-requires : goal.variable-expression-requires
+variable-expression-requires g t c κs within =
+    let left = has_reference c.args.definitions.now c.args.references c.args.id.now c.requires.typed in
+    let falls = worth-falls c.args.definitions.now c.args.references c.args.id.now c.in-Some.definition.now (sym c.in-Some.ensures) left in
+    (omega (arith, falls), (within, subst IsSome (definition_type c.args.definitions.now c.args.references c.args.id.now c.in-Some.definition.now (sym c.in-Some.ensures) c.requires.typed) c.requires.typed))
+
+pub variable-returns-clause-value : goal.variable-returns-clause-value
+variable-returns-clause-value g t c =
+    IfOk-weaker c.expression.result _ _ (λ v is. is ∙ ap (λ p. p.value) (sym (definition_part c.args.definitions.now c.args.references c.args.id.now c.in-Some.definition.now (sym c.in-Some.ensures)
+    (looks_of g.P.Policies.documents c.args.self.now.pdp.now) c.args.self.now.request.now (has_reference c.args.definitions.now c.args.references c.args.id.now c.requires.typed)))) c.expression.ensures.value
+
+pub variable-returns-clause-reads : goal.variable-returns-clause-reads
+variable-returns-clause-reads g t c =
+    on_ok_weaker c.expression.result (λ is. is ∙ ap (λ p. noted c.args.reads.now p.reads) (sym (definition_part c.args.definitions.now c.args.references c.args.id.now c.in-Some.definition.now (sym c.in-Some.ensures)
+    (looks_of g.P.Policies.documents c.args.self.now.pdp.now) c.args.self.now.request.now (has_reference c.args.definitions.now c.args.references c.args.id.now c.requires.typed)))) c.expression.ensures.reads
+
+pub variable-returns-clause-typed : goal.variable-returns-clause-typed
+variable-returns-clause-typed g t c =
+    IfOk-weaker c.expression.result _ _ (λ v has. subst (λ type. HasType type v) (sym (definition_type c.args.definitions.now c.args.references c.args.id.now c.in-Some.definition.now (sym c.in-Some.ensures) c.requires.typed)) has) c.expression.ensures.typed

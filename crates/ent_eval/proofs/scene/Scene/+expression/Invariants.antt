@@ -1,0 +1,20 @@
+use Rattle.std.proofs.Common.{◌+◌, ◌*◌}
+use Rattle.ent_eval.specs.Expression.{meaning}
+use Rattle.ent_eval.specs.LooksOf.{looks_of}
+use Rattle.ent_eval.specs.Typed.{type_of, worth}
+use Rattle.ent_eval.proofs.Arguments.{AreEvaluated}
+use Rattle.ent_eval.proofs.scene.Scene.+expression.Given as goal
+
+abbrev pub decreases-application : goal.decreases-application
+decreases-application g l = l.references * worth l.definitions.now + 4 * goal.size-application g l + 2
+
+abbrev pub decreases-expression : goal.decreases-expression
+decreases-expression g l = l.references * worth l.definitions.now + 4 * goal.size-expression g l + 1
+
+abbrev pub decreases-variable : goal.decreases-variable
+decreases-variable g l = l.references * worth l.definitions.now
+
+abbrev pub invariant-application-loop-argument : goal.invariant-application-loop-argument
+invariant-application-loop-argument g l =
+    AreEvaluated l.function (meaning (looks_of g.P.Policies.documents l.self.pdp.now) l.self.request.now l.definitions l.references) (type_of l.definitions l.references) l.arguments l.argument-index l.evaluated
+    l.initial.reads l.reads

@@ -1,0 +1,90 @@
+-- What an expression comes to (sections 7.3.5 and 7.8, appendix A.3).
+use Rattle.std.specs.Prelude.{ℕ, zero, suc, List, [], ◌∷◌, Bool, true, false, not, if◌then◌else◌, Option, Some, None, find, unwrap_or}
+use Rattle.ent_values.specs.declared.value.Value.{Value}
+use Rattle.ent_values.specs.declared.value.Value.TheVariants.{Boolean}
+use Rattle.ent_functions.specs.declared.arg.Arg.{Arg}
+use Rattle.ent_functions.specs.declared.arg.Arg.TheVariants.{One, Many, Fun}
+use Rattle.ent_functions.specs.declared.arg.Fault.{Fault}
+use Rattle.ent_functions.specs.declared.function.Function.{Function}
+use Rattle.ent_functions.specs.declared.function.Function.TheVariants.{Or, And}
+use Rattle.ent_functions.specs.Applied.{applied}
+use Rattle.std.specs.Prelude.{Result, Ok, Err}
+use Rattle.ent_policy.specs.declared.document.Designator.{Designator}
+use Rattle.ent_policy.specs.declared.expression.Expression.{Expression}
+use Rattle.ent_policy.specs.declared.expression.Expression.TheOpen.{Expression-F}
+use Rattle.ent_policy.specs.declared.expression.Expression.TheFolds.{fold-Expression}
+use Rattle.ent_policy.specs.declared.expression.VariableDefinition.{VariableDefinition}
+use Rattle.ent_policy.specs.Typing.{definition_of}
+use Rattle.ent_eval.specs.declared.answer.Status.TheVariants.{MissingAttribute, ProcessingError}
+use Rattle.ent_eval.specs.declared.evaluated.Evaluated.{Evaluated}
+use Rattle.ent_eval.specs.declared.evaluated.Evaluated.TheVariants.{Known, Indeterminate}
+use Rattle.ent_eval.specs.declared.request.Request.{Request}
+use Rattle.ent_eval.specs.Looks.{Looks}
+use Rattle.ent_eval.specs.Own.{own_values}
+use Rattle.ent_eval.specs.Part.{Part, known, whole}
+
+-- the bag of a designator, which is Indeterminate if it is empty and a value must be present (section 7.3.5)
+abbrev pub bag_of : Designator → List Value → Evaluated
+bag_of d [] = if d.must_be_present then Indeterminate MissingAttribute else Known (Many (record { datatype = d.datatype; values = [] }))
+bag_of d (v ∷ vs) = Known (Many (record { datatype = d.datatype; values = v ∷ vs }))
+
+-- a designator: the request's own values
+abbrev pub designated : Looks → Request → Designator → Part Evaluated
+designated looks request d = known (bag_of d (own_values d request))
+
+-- whether a boolean is the result whatever the other arguments are: True of `or`, False of `and` (appendix A.3.5)
+abbrev pub decides : Function → Bool → Bool
+decides Or boolean = boolean
+decides And boolean = not boolean
+decides function boolean = false
+
+-- whether an argument is the result whatever the others are
+abbrev pub settles : Function → Arg → Bool
+settles function (One (Boolean boolean)) = decides function boolean
+settles function argument = false
+
+-- the same of what an argument comes to: one that is Indeterminate is the result too
+abbrev pub is_result : Function → Evaluated → Bool
+is_result function (Indeterminate status) = true
+is_result function (Known argument) = settles function argument
+
+-- the arguments of those that aren't Indeterminate
+abbrev pub arguments_of : List Evaluated → List Arg
+arguments_of [] = []
+arguments_of (Known argument ∷ others) = argument ∷ arguments_of others
+arguments_of (Indeterminate status ∷ others) = arguments_of others
+
+-- what a function comes to: a fault is a processing error (section 7.17)
+abbrev pub come_to : Result Arg Fault → Evaluated
+come_to (Ok outcome) = Known outcome
+come_to (Err fault) = Indeterminate ProcessingError
+
+-- a function of arguments: the first that is the result, if there is one, and else the value of the function
+abbrev pub result_of : Function → List Evaluated → Evaluated
+result_of function vs = unwrap_or (find (is_result function) vs) (come_to (applied function (arguments_of vs)))
+
+-- one level, where `refer` gives what a variable comes to, with each argument already seen as what it comes to
+abbrev pub meaning_step : Looks → Request → (List ℕ → Part Evaluated) → Expression-F (Part Evaluated) → Part Evaluated
+meaning_step looks request refer (Expression-F.Value value) = known (Known (One value))
+meaning_step looks request refer (Expression-F.Designator designator) = designated looks request designator
+meaning_step looks request refer (Expression-F.Variable id) = refer id
+meaning_step looks request refer (Expression-F.Apply function arguments) = whole (is_result function) (result_of function) arguments
+meaning_step looks request refer (Expression-F.Function function) = known (Known (Fun function))
+
+-- an expression, where `refer` gives what a variable comes to; arguments are evaluated up to the first that is the result
+abbrev pub meaning_with : Looks → Request → (List ℕ → Part Evaluated) → Expression → Part Evaluated
+meaning_with looks request refer = fold-Expression (Part Evaluated) (meaning_step looks request refer)
+
+-- a definition's expression. No variable of a checked document is without a definition
+abbrev pub defined_part : (Expression → Part Evaluated) → Option VariableDefinition → Part Evaluated
+defined_part meaning None = known (Indeterminate ProcessingError)
+defined_part meaning (Some d) = meaning d.expression
+
+-- a variable, through at most this many references (section 7.8). No chain of a checked document is longer than there are definitions
+abbrev pub variable_part : Looks → Request → List VariableDefinition → ℕ → List ℕ → Part Evaluated
+variable_part looks request definitions zero id = known (Indeterminate ProcessingError)
+variable_part looks request definitions (suc n) id = defined_part (meaning_with looks request (variable_part looks request definitions n)) (definition_of definitions id)
+
+-- an expression among definitions, through at most this many references
+abbrev pub meaning : Looks → Request → List VariableDefinition → ℕ → Expression → Part Evaluated
+meaning looks request definitions n = meaning_with looks request (variable_part looks request definitions n)

@@ -1,0 +1,23 @@
+-- An answer rests on the look-ups that are recorded for it, and on no others, and each is recorded once.
+use Rattle.std.specs.Prelude.{◌≡◌, ◌≢◌, List, ◌∷◌, ◌++◌}
+use Rattle.std.specs.List.{All}
+use Rattle.ent_eval.specs.declared.key.ReadKey.{ReadKey}
+use Rattle.ent_eval.specs.declared.key.ReadKey.TheVariants.{Root, Ref}
+use Rattle.ent_eval.specs.declared.request.Request.{Request}
+use Rattle.ent_eval.specs.Answer.{answer, recorded}
+use Rattle.ent_eval.specs.Looks.{Looks}
+
+-- a look-up gives the same in both
+abbrev pub IsSameLook : Looks → Looks → ReadKey → Type 0
+IsSameLook s t Root = s.root ≡ t.root
+IsSameLook s t (Ref reference) = s.document reference ≡ t.document reference
+
+-- where each recorded look-up gives the same in both, the answers are equal, and so are the recorded keys
+abbrev pub EqualLookUpsGiveEqualAnswers : Type 0
+EqualLookUpsGiveEqualAnswers = (s t : Looks) (request : Request) → All (IsSameLook s t) (recorded s request)
+    → (answer t request ≡ answer s request) × (recorded t request ≡ recorded s request)
+
+-- no key stands twice among those that are recorded for an answer
+abbrev pub EachKeyIsRecordedOnce : Type 0
+EachKeyIsRecordedOnce = (looks : Looks) (request : Request) (before between after : List ReadKey) (key : ReadKey)
+    → recorded looks request ≢ before ++ key ∷ (between ++ key ∷ after)

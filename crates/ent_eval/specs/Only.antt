@@ -1,0 +1,78 @@
+-- The only child that applies (appendix C.9).
+use Rattle.std.specs.Prelude.{Bool, List, [], ◌∷◌, get_or, Option, Some, None, map, unwrap_or, length, take, nat_le, if◌then◌else◌}
+use Rattle.ent_combine.specs.Choose.{choose, is_bad}
+use Rattle.ent_combine.specs.Seen.{up_to_passing}
+use Rattle.ent_combine.specs.declared.chooser.Choice.{Choice}
+use Rattle.ent_combine.specs.declared.chooser.Choice.TheVariants as choice
+use Rattle.ent_combine.specs.declared.chooser.TargetResult.{TargetResult}
+use Rattle.ent_combine.specs.declared.chooser.TargetResult.TheVariants as result
+use Rattle.ent_eval.specs.declared.answer.Answer.{Answer}
+use Rattle.ent_eval.specs.declared.answer.Status.{Status}
+use Rattle.ent_eval.specs.declared.answer.Status.TheVariants.{ProcessingError}
+use Rattle.ent_eval.specs.declared.chosen.Only.{Only}
+use Rattle.ent_eval.specs.declared.chosen.Only.TheVariants as only
+use Rattle.ent_eval.specs.declared.target.Targeted.{Targeted}
+use Rattle.ent_eval.specs.declared.target.Targeted.TheVariants.{Match, NoMatch, Indeterminate}
+use Rattle.ent_eval.specs.Judged.{bad, nothing}
+use Rattle.ent_eval.specs.Part.{Part, known, and_then, mapped, reads_of, values}
+
+-- what is chosen by: the status doesn't matter
+abbrev pub result_of_target : Targeted → TargetResult
+result_of_target Match = result.Match
+result_of_target NoMatch = result.NoMatch
+result_of_target (Indeterminate status) = result.Indeterminate
+
+-- the same of several
+abbrev pub results : List Targeted → List TargetResult
+results ts = map result_of_target ts
+
+-- the status of a target that is Indeterminate; a second match is a processing error
+abbrev pub status_of_target : Targeted → Status
+status_of_target (Indeterminate status) = status
+status_of_target _ = ProcessingError
+
+-- the status of the first target that is Indeterminate
+abbrev pub first_target_status : List Targeted → Option Status
+first_target_status [] = None
+first_target_status (Indeterminate status ∷ ts) = Some status
+first_target_status (_ ∷ ts) = first_target_status ts
+
+-- a choice, with what the targets that were seen tell of it: a second match is a processing error
+abbrev pub chosen : Choice → List Targeted → Only
+chosen choice.Nobody seen = only.Nobody
+chosen (choice.Only place) seen = only.Child place
+chosen choice.Bad seen = only.Bad (unwrap_or (first_target_status seen) ProcessingError)
+
+-- whether the targets make the choice Bad: one is Indeterminate or two match
+abbrev pub spoils : List (Part Targeted) → Bool
+spoils targets = is_bad (choose (results (values targets)))
+
+-- the targets up to the first that is Indeterminate or the second that matches
+abbrev pub seen_choice : List (Part Targeted) → List (Part Targeted)
+seen_choice targets = up_to_passing spoils targets
+
+-- which of several children is the only one whose target matches
+abbrev pub choice_part : List (Part Targeted) → Part Only
+choice_part targets = record {
+  value = chosen (choose (results (values targets))) (values (seen_choice targets));
+  reads = reads_of (seen_choice targets);
+}
+
+-- the chosen child alone is evaluated
+abbrev pub child_part : List (Part Answer) → Only → Part Answer
+child_part answers only.Nobody = known nothing
+child_part answers (only.Child place) = get_or answers place (known nothing)
+child_part answers (only.Bad status) = known (bad status)
+
+-- more children than a set has at most
+abbrev pub too_many : Only → Only
+too_many (only.Bad status) = only.Bad status
+too_many _ = only.Bad ProcessingError
+
+-- which child is chosen, where a set has at most 256. No checked document has a longer list, which would be as a second match
+abbrev pub choice_within : List (Part Targeted) → Part Only
+choice_within targets = if nat_le (length targets) 256 then choice_part targets else mapped too_many (choice_part (take 256 targets))
+
+-- the only one of several children that applies, by their targets
+abbrev pub only_one : List (Part Targeted) → List (Part Answer) → Part Answer
+only_one targets answers = and_then (choice_within targets) (child_part answers)

@@ -1,0 +1,42 @@
+-- The values that a request itself has for a designator (sections 5.29 and 7.3.5).
+use Rattle.std.specs.Prelude.{ℕ, List, [], ◌∷◌, Bool, true, false, ◌&&◌, if◌then◌else◌, Option, Some, None}
+use Rattle.std.specs.List.{flat_map}
+use Rattle.std.specs.Str.{bytes_eq}
+use Rattle.ent_values.specs.declared.datatype.DataType.{DataType}
+use Rattle.ent_values.specs.contracts.datatype.DataTypePartialEq.TheImpl as comparison
+use Rattle.ent_values.specs.declared.value.Value.{Value}
+use Rattle.ent_policy.specs.declared.document.Designator.{Designator}
+use Rattle.ent_eval.specs.declared.request.Attribute.{Attribute}
+use Rattle.ent_eval.specs.declared.request.Category.{Category}
+use Rattle.ent_eval.specs.declared.request.Request.{Request}
+
+-- whether two data types are the same, as `==` answers
+abbrev pub same_type : DataType → DataType → Bool
+same_type = (comparison.ghosts).eq
+
+-- whether an attribute's issuer is the one that a designator names, where it names one
+abbrev pub has_issuer : Option (List ℕ) → Option (List ℕ) → Bool
+has_issuer None issuer = true
+has_issuer (Some wanted) (Some issuer) = bytes_eq issuer wanted
+has_issuer (Some wanted) None = false
+
+-- whether an attribute is one that a designator names
+abbrev pub is_designated : Designator → Attribute → Bool
+is_designated d a = bytes_eq a.id d.attribute && (same_type a.bag.datatype d.datatype && has_issuer d.issuer a.issuer)
+
+-- the values of those of several attributes that a designator names
+abbrev pub values_among : Designator → List Attribute → List Value
+values_among d attributes = flat_map (λ a. if is_designated d a then a.bag.values else []) attributes
+
+-- the values of those attributes of a category that a designator names
+abbrev pub values_in : Designator → Category → List Value
+values_in d c = if bytes_eq c.id d.category then values_among d c.attributes else []
+
+-- the request's own values for a designator
+abbrev pub own_values : Designator → Request → List Value
+own_values d request = flat_map (values_in d) request.categories
+
+-- whether there is no value
+abbrev pub is_empty : List Value → Bool
+is_empty [] = true
+is_empty (v ∷ vs) = false

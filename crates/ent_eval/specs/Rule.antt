@@ -1,0 +1,68 @@
+-- What a rule comes to (sections 7.9 and 7.11).
+use Rattle.std.specs.Prelude.{List, [], ◌∷◌, Option, Some, None, true, false, length}
+use Rattle.ent_values.specs.declared.value.Value.TheVariants.{Boolean}
+use Rattle.ent_functions.specs.declared.arg.Arg.TheVariants.{One}
+use Rattle.ent_combine.specs.declared.outcome.IndKind.{IndKind}
+use Rattle.ent_combine.specs.declared.outcome.IndKind.TheVariants.{P, D}
+use Rattle.ent_combine.specs.declared.outcome.Outcome.{Outcome}
+use Rattle.ent_combine.specs.declared.outcome.Outcome.TheVariants as outcome
+use Rattle.ent_policy.specs.declared.document.Effect.{Effect}
+use Rattle.ent_policy.specs.declared.document.Effect.TheVariants.{Permit, Deny}
+use Rattle.ent_policy.specs.declared.document.Rule.{Rule}
+use Rattle.ent_policy.specs.declared.expression.Expression.{Expression}
+use Rattle.ent_policy.specs.declared.expression.VariableDefinition.{VariableDefinition}
+use Rattle.ent_policy.specs.declared.key.DocKey.{DocKey}
+use Rattle.ent_eval.specs.declared.answer.Answer.{Answer}
+use Rattle.ent_eval.specs.declared.answer.Status.TheVariants.{Okay, ProcessingError}
+use Rattle.ent_eval.specs.declared.evaluated.Evaluated.{Evaluated}
+use Rattle.ent_eval.specs.declared.evaluated.Evaluated.TheVariants as evaluated
+use Rattle.ent_eval.specs.declared.evaluated.Evaluated.TheVariants.{Known}
+use Rattle.ent_eval.specs.declared.evaluated.Truth.{Truth}
+use Rattle.ent_eval.specs.declared.evaluated.Truth.TheVariants as truth
+use Rattle.ent_eval.specs.Expression.{meaning}
+use Rattle.ent_eval.specs.declared.request.Request.{Request}
+use Rattle.ent_eval.specs.declared.target.Targeted.{Targeted}
+use Rattle.ent_eval.specs.declared.target.Targeted.TheVariants.{Match, NoMatch, Indeterminate}
+use Rattle.ent_eval.specs.Judged.{nothing}
+use Rattle.ent_eval.specs.Looks.{Looks}
+use Rattle.ent_eval.specs.Part.{Part, known, and_then, mapped}
+use Rattle.ent_eval.specs.Target.{target_part}
+
+-- the Indeterminate of an effect (section 7.10)
+abbrev pub indeterminate_of : Effect → IndKind
+indeterminate_of Permit = P
+indeterminate_of Deny = D
+
+-- the decision of an effect
+abbrev pub decision_of : Effect → Outcome
+decision_of Permit = outcome.Permit
+decision_of Deny = outcome.Deny
+
+-- what the value of a condition is (section 7.9). A condition of a checked document gives one boolean
+abbrev pub truth_of : Evaluated → Truth
+truth_of (Known (One (Boolean true))) = truth.True
+truth_of (Known (One (Boolean false))) = truth.False
+truth_of (evaluated.Indeterminate status) = truth.Indeterminate status
+truth_of _ = truth.Indeterminate ProcessingError
+
+-- a condition among the definitions of its policy; an absent one is True
+abbrev pub condition_part : Looks → Request → List VariableDefinition → Option Expression → Part Truth
+condition_part looks request definitions None = known truth.True
+condition_part looks request definitions (Some e) = mapped truth_of (meaning looks request definitions (length definitions) e)
+
+-- a rule of the policy at the end of a path, by its condition
+abbrev pub decided : List DocKey → Rule → Truth → Answer
+decided path rule truth.False = nothing
+decided path rule (truth.Indeterminate status) = record { decision = outcome.Ind (indeterminate_of rule.effect); status = status; why = [] }
+decided path rule truth.True = record { decision = decision_of rule.effect; status = Okay; why = record { path = path; rule = Some rule.id } ∷ [] }
+
+-- the same, by its target first: the condition is evaluated under a match alone
+abbrev pub rule_after : Part Truth → List DocKey → Rule → Targeted → Part Answer
+rule_after condition path rule NoMatch = known nothing
+rule_after condition path rule (Indeterminate status) = known (decided path rule (truth.Indeterminate status))
+rule_after condition path rule Match = mapped (decided path rule) condition
+
+-- a rule of the policy at the end of a path, among the policy's definitions
+abbrev pub rule_part : Looks → Request → List VariableDefinition → List DocKey → Rule → Part Answer
+rule_part looks request definitions path rule =
+    and_then (target_part looks request rule.target) (rule_after (condition_part looks request definitions rule.condition) path rule)

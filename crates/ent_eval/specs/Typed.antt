@@ -1,0 +1,43 @@
+-- The types of what expressions come to.
+use Rattle.std.specs.Prelude.{◌≡◌, ℕ, ◌+◌, ◌*◌, max, List, [], ◌∷◌, Bool, true, Option, Some}
+use Rattle.ent_values.specs.declared.datatype.DataType.{DataType}
+use Rattle.ent_values.specs.declared.value.Value.{Value}
+use Rattle.ent_values.specs.Types.{datatype_of}
+use Rattle.ent_functions.specs.Arguments.{type_of_arg}
+use Rattle.ent_functions.specs.Types.{result_type_of}
+use Rattle.ent_functions.specs.declared.function.Function.{Function}
+use Rattle.ent_functions.specs.declared.types.ArgType.{ArgType}
+use Rattle.ent_functions.specs.declared.types.ArgType.TheVariants.{One}
+use Rattle.ent_policy.specs.declared.expression.Expression.{Expression, size-Expression}
+use Rattle.ent_policy.specs.declared.expression.VariableDefinition.{VariableDefinition}
+use Rattle.ent_policy.specs.Typing.{is_boolean, set_step, tree_step, type_with, variable_type}
+use Rattle.ent_policy.specs.declared.document.PolicySet.{PolicySet}
+use Rattle.ent_policy.specs.declared.document.Tree.TheFolds.{fold-PolicySet}
+use Rattle.ent_eval.specs.declared.evaluated.Evaluated.{Evaluated}
+use Rattle.ent_eval.specs.declared.evaluated.Evaluated.TheVariants.{Known, Indeterminate}
+
+-- the type of an expression among definitions, through at most this many references
+abbrev pub type_of : List VariableDefinition → ℕ → Expression → Option ArgType
+type_of definitions n = type_with (variable_type definitions n)
+
+-- it is Indeterminate or has that type
+abbrev pub HasType : Option ArgType → Evaluated → Type 0
+HasType type (Known outcome) = type ≡ Some (type_of_arg outcome)
+HasType type (Indeterminate status) = Unit {0}
+
+-- a function gives one boolean for a literal and a value of that type
+abbrev pub Tests : Function → Value → DataType → Type 0
+Tests function literal datatype = is_boolean (result_type_of function (One (datatype_of literal) ∷ One datatype ∷ [])) ≡ true
+
+-- how deep the deepest of several definitions is
+abbrev pub deepest : List VariableDefinition → ℕ
+deepest [] = 0
+deepest (d ∷ definitions) = max (size-Expression d.expression) (deepest definitions)
+
+-- more than any definition is deep: what one reference more is worth
+abbrev pub worth : List VariableDefinition → ℕ
+worth definitions = 4 * deepest definitions + 8
+
+-- each expression of a set has its type
+abbrev pub set_is_typed : PolicySet → Bool
+set_is_typed = fold-PolicySet Bool Bool tree_step set_step

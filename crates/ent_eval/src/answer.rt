@@ -1,0 +1,128 @@
+//! What a request is answered.
+
+ghost use Rattle.std.specs.Prelude.{◌≡◌, IfOk};
+ghost use Rattle.ent_eval.specs.Judged.{bad, nothing, unresolved};
+
+use ent_combine::{IndKind, Outcome};
+use ent_policy::DocKey;
+use ent_values::{Items, Text};
+use std::alloc::{AllocError, Global};
+
+/// Why a decision is Indeterminate (section 5.55 and appendix B.8), or that nothing went wrong.
+#[derive(Clone, Copy, Debug, PartialEq, Eq)]
+pub enum Status {
+    Okay,
+    /// A value that must be present isn't.
+    MissingAttribute,
+    /// Anything else.
+    ProcessingError,
+}
+
+/// A rule that gave the decision, or an element that gave it by default.
+#[derive(Debug, PartialEq, Eq, Drop)]
+pub struct WhyEntry {
+    /// The policies from the root on to the one in which the rule stands, or to the element.
+    pub path: Items<DocKey>,
+    /// The rule's id, or `None` for a default.
+    pub rule: Option<Text>,
+}
+
+/// What a request is answered, or what one rule or policy comes to.
+#[derive(Debug, PartialEq, Eq, Drop)]
+pub struct Answer {
+    pub decision: Outcome,
+    /// `Okay` unless the decision is Indeterminate.
+    pub status: Status,
+    /// The rules that gave a Permit or a Deny, in document order. It is empty for every other decision.
+    pub why: Items<WhyEntry>,
+}
+
+impl WhyEntry {
+    /// An equal entry.
+    pub fn copy(&self, alloc: Global) -> Result<WhyEntry, AllocError>
+        ensures { IfOk result (λ w. w ≡ self.now) }
+    {
+        Ok(WhyEntry {
+            path: copied_path(alloc, self.path.as_slice())?,
+            rule: copied_text(alloc, &self.rule)?,
+        })
+    }
+}
+
+impl Answer {
+    // What isn't applicable.
+    pub(crate) fn not_applicable(alloc: Global) -> Answer
+        ensures { result ≡ nothing }
+    {
+        Answer {
+            decision: Outcome::NotApplicable,
+            status: Status::Okay,
+            why: Items::new(alloc),
+        }
+    }
+
+    // A root without a document.
+    pub(crate) fn unresolved(alloc: Global) -> Answer
+        ensures { result ≡ unresolved }
+    {
+        Answer {
+            decision: Outcome::Ind(IndKind::DP),
+            status: Status::ProcessingError,
+            why: Items::new(alloc),
+        }
+    }
+
+    // A set of which more than one child applies, or nobody can say.
+    pub(crate) fn bad(alloc: Global, status: Status) -> Answer
+        ensures { result ≡ bad status }
+    {
+        Answer {
+            decision: Outcome::Ind(IndKind::DP),
+            status,
+            why: Items::new(alloc),
+        }
+    }
+
+    /// An equal answer.
+    pub fn copy(&self, alloc: Global) -> Result<Answer, AllocError>
+        ensures { IfOk result (λ a. a ≡ self.now) }
+    {
+        Ok(Answer {
+            decision: self.decision,
+            status: self.status,
+            why: copied_why(alloc, self.why.as_slice())?,
+        })
+    }
+}
+
+/// An equal list of keys.
+pub(crate) fn copied_path(alloc: Global, path: &[DocKey]) -> Result<Items<DocKey>, AllocError>
+    ensures { IfOk result (λ p. p ≡ path.now) }
+{
+    let mut copies = Items::new(alloc);
+    for key in path {
+        copies.push(key.copy(alloc)?)?;
+    }
+    Ok(copies)
+}
+
+// An equal list of entries.
+fn copied_why(alloc: Global, why: &[WhyEntry]) -> Result<Items<WhyEntry>, AllocError>
+    ensures { IfOk result (λ w. w ≡ why.now) }
+{
+    let mut copies = Items::new(alloc);
+    for entry in why {
+        copies.push(entry.copy(alloc)?)?;
+    }
+    Ok(copies)
+}
+
+// An equal optional text.
+fn copied_text(alloc: Global, text: &Option<Text>) -> Result<Option<Text>, AllocError>
+    ensures { IfOk result (λ t. t ≡ text.now) }
+{
+    match text {
+        None => Ok(None),
+        Some(text) => Ok(Some(text.copy(alloc)?)),
+    }
+}

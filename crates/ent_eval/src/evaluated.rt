@@ -1,0 +1,20 @@
+//! What expressions and conditions come to.
+
+use crate::answer::Status;
+use ent_functions::Arg;
+
+/// What an expression comes to.
+#[derive(Debug, Drop)]
+pub(crate) enum Evaluated {
+    /// A value, a bag, or a function as an argument.
+    Known(Arg),
+    Indeterminate(Status),
+}
+
+/// What a condition comes to (section 7.9).
+#[derive(Clone, Copy, Debug)]
+pub(crate) enum Truth {
+    True,
+    False,
+    Indeterminate(Status),
+}

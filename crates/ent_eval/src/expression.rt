@@ -1,0 +1,180 @@
+//! What expressions come to.
+
+ghost use Rattle.std.specs.Prelude.{◌≡◌, IfOk, IsSome, MatchResult, OnOk, Some, map, option_and_then, true, false};
+ghost use Rattle.std.specs.Option.{option_copied};
+ghost use Rattle.ent_functions.specs.Applied.{applied};
+ghost use Rattle.ent_functions.specs.Arguments.{type_of_arg};
+ghost use Rattle.ent_functions.specs.Types.{result_type_of};
+ghost use Rattle.ent_functions.specs.declared.types.ArgType.TheVariants.{Many};
+ghost use Rattle.ent_policy.specs.Typing.{all_typed, definition_of, variable_type};
+ghost use Rattle.ent_eval.specs.Expression.{come_to, designated, is_result, meaning, result_of, settles, variable_part};
+ghost use Rattle.ent_eval.specs.declared.evaluated.Evaluated.TheVariants.{Known};
+ghost use Rattle.ent_eval.specs.LooksOf.{looks_of};
+ghost use Rattle.ent_eval.specs.Noted.{noted};
+ghost use Rattle.ent_eval.specs.Part.{whole};
+ghost use Rattle.ent_eval.specs.Typed.{HasType, type_of};
+
+use crate::answer::Status;
+use crate::evaluated::Evaluated;
+use crate::own::{is_empty, own_bag};
+use crate::policies::Policies;
+use crate::reads::Reads;
+use crate::scene::Scene;
+use ent_functions::{Arg, Fault, Function, apply};
+use ent_policy::{Designator, Expression, VariableDefinition};
+use ent_values::{Items, Text, Value};
+use std::alloc::{AllocError, Global};
+
+impl<P: Policies> Scene<'_, P> {
+    // An expression among the definitions of its policy, through at most so many references. It has its type.
+    #[cycle(expression)]
+    pub(crate) fn expression(
+        &self,
+        reads: &mut Reads,
+        definitions: &[VariableDefinition],
+        references: usize,
+        expression: &Expression,
+    ) -> Result<Evaluated, AllocError>
+        requires typed { IsSome (type_of definitions.now references expression.now) }
+        ensures value { IfOk result (λ v. v ≡ (meaning (looks_of P.documents self.now.pdp.now) self.now.request.now definitions.now references expression.now).value) }
+        ensures reads { OnOk result (reads.new ≡ noted reads.old (meaning (looks_of P.documents self.now.pdp.now) self.now.request.now definitions.now references expression.now).reads) }
+        ensures typed { IfOk result (λ v. HasType (type_of definitions.now references expression.now) v) }
+    {
+        match expression {
+            Expression::Value(value) => Ok(Evaluated::Known(Arg::One(value.copy(self.alloc)?))),
+            Expression::Designator(designator) => self.designator(reads, designator),
+            Expression::Variable(id) => self.variable(reads, definitions, references, id),
+            Expression::Apply(function, arguments) => self.application(
+                reads,
+                definitions,
+                references,
+                *function,
+                arguments.as_slice(),
+            ),
+            Expression::Function(function) => Ok(Evaluated::Known(Arg::Fun(*function))),
+        }
+    }
+
+    // A variable: the expression of its definition, with one reference less.
+    #[cycle(expression)]
+    fn variable(
+        &self,
+        reads: &mut Reads,
+        definitions: &[VariableDefinition],
+        references: usize,
+        id: &Text,
+    ) -> Result<Evaluated, AllocError>
+        requires typed { IsSome (variable_type definitions.now references id.now) }
+        ensures value { IfOk result (λ v. v ≡ (variable_part (looks_of P.documents self.now.pdp.now) self.now.request.now definitions.now references id.now).value) }
+        ensures reads { OnOk result (reads.new ≡ noted reads.old (variable_part (looks_of P.documents self.now.pdp.now) self.now.request.now definitions.now references id.now).reads) }
+        ensures typed { IfOk result (λ v. HasType (variable_type definitions.now references id.now) v) }
+    {
+        match definition_of(definitions, id) {
+            None => unreachable!(),
+            Some(definition) => self.expression(
+                reads,
+                definitions,
+                references - 1,
+                &definition.expression,
+            ),
+        }
+    }
+
+    // A function of its arguments, which are evaluated up to the first that is the result.
+    #[cycle(expression)]
+    fn application(
+        &self,
+        reads: &mut Reads,
+        definitions: &[VariableDefinition],
+        references: usize,
+        function: Function,
+        arguments: &[Expression],
+    ) -> Result<Evaluated, AllocError>
+        requires typed { IsSome (option_and_then (result_type_of function) (all_typed (map (type_of definitions.now references) arguments.now))) }
+        ensures value { IfOk result (λ v. v ≡ (whole (is_result function) (result_of function) (map (meaning (looks_of P.documents self.now.pdp.now) self.now.request.now definitions.now references) arguments.now)).value) }
+        ensures reads { OnOk result (reads.new ≡ noted reads.old (whole (is_result function) (result_of function) (map (meaning (looks_of P.documents self.now.pdp.now) self.now.request.now definitions.now references) arguments.now)).reads) }
+        ensures typed { IfOk result (λ v. HasType (option_and_then (result_type_of function) (all_typed (map (type_of definitions.now references) arguments.now))) v) }
+    {
+        let mut evaluated = Items::new(self.alloc);
+        for argument in arguments {
+            let value = self.expression(reads, definitions, references, argument)?;
+            match argument_of(function, value) {
+                Err(value) => return Ok(value),
+                Ok(argument) => evaluated.push(argument)?,
+            }
+        }
+        applied_to(self.alloc, function, evaluated.as_slice())
+    }
+
+    // A designator. The request's own values are no look-up.
+    fn designator(
+        &self,
+        _reads: &mut Reads,
+        designator: &Designator,
+    ) -> Result<Evaluated, AllocError>
+        ensures value { IfOk result (λ v. v ≡ (designated (looks_of P.documents self.now.pdp.now) self.now.request.now designator.now).value) }
+        ensures reads { OnOk result (_reads.new ≡ noted _reads.old (designated (looks_of P.documents self.now.pdp.now) self.now.request.now designator.now).reads) }
+        ensures typed { IfOk result (λ v. HasType (Some (Many designator.now.datatype)) v) }
+    {
+        let bag = own_bag(self.alloc, self.request, designator)?;
+        if designator.must_be_present && is_empty(&bag) {
+            return Ok(Evaluated::Indeterminate(Status::MissingAttribute));
+        }
+        Ok(Evaluated::Known(Arg::Many(bag)))
+    }
+}
+
+// The definition of that id.
+fn definition_of<'a>(
+    definitions: &'a [VariableDefinition],
+    id: &Text,
+) -> Option<&'a VariableDefinition>
+    ensures { option_copied result ≡ definition_of definitions.now id.now }
+{
+    for definition in definitions {
+        if definition.id == *id {
+            return Some(definition);
+        }
+    }
+    None
+}
+
+// An argument, unless it is the result of the function.
+fn argument_of(function: Function, value: Evaluated) -> Result<Arg, Evaluated>
+    ensures { MatchResult result (λ a. (value ≡ Known a) × (is_result function value ≡ false)) (λ v. (v ≡ value) × (is_result function value ≡ true)) }
+{
+    match value {
+        Evaluated::Indeterminate(_) => Err(value),
+        Evaluated::Known(argument) => {
+            if settles(function, &argument) {
+                Err(Evaluated::Known(argument))
+            } else {
+                Ok(argument)
+            }
+        }
+    }
+}
+
+// Whether an argument is the result whatever the others are.
+fn settles(function: Function, argument: &Arg) -> bool
+    ensures { result ≡ settles function argument.now }
+{
+    match (function, argument) {
+        (Function::Or, Arg::One(Value::Boolean(boolean))) => *boolean,
+        (Function::And, Arg::One(Value::Boolean(boolean))) => !*boolean,
+        _ => false,
+    }
+}
+
+// The value of a function of arguments that it takes. A fault is a processing error.
+fn applied_to(alloc: Global, function: Function, arguments: &[Arg]) -> Result<Evaluated, AllocError>
+    requires { IsSome (result_type_of function (map type_of_arg arguments.now)) }
+    ensures value { IfOk result (λ v. v ≡ come_to (applied function arguments.now)) }
+    ensures typed { IfOk result (λ v. HasType (result_type_of function (map type_of_arg arguments.now)) v) }
+{
+    match apply(alloc, function, arguments) {
+        Ok(outcome) => Ok(Evaluated::Known(outcome)),
+        Err(Fault::Memory) => Err(AllocError),
+        Err(_) => Ok(Evaluated::Indeterminate(Status::ProcessingError)),
+    }
+}

@@ -1,0 +1,95 @@
+//! What is kept of children that were seen.
+
+ghost use Rattle.std.specs.Prelude.{◌≡◌, List, [], ◌∷◌, ◌++◌, IfOk, OnOk};
+ghost use Rattle.ent_combine.specs.Combine.{progress_at};
+ghost use Rattle.ent_eval.specs.Gathered.{HasGathered, judged_by, status_with};
+ghost use Rattle.ent_eval.specs.declared.answer.Answer.{Answer};
+
+use crate::answer::{Answer, Status, WhyEntry};
+use ent_combine::{Combiner, Outcome, Progress, RuleAlg};
+use ent_values::Items;
+use std::alloc::{AllocError, Global};
+
+// The children that were seen: what they come to, the first status that isn't `Okay`, and the Why entries of each decision.
+#[derive(Drop)]
+pub(crate) struct Gathering {
+    pub(crate) combiner: Combiner,
+    pub(crate) status: Option<Status>,
+    pub(crate) permitted: Items<WhyEntry>,
+    pub(crate) denied: Items<WhyEntry>,
+}
+
+// No children.
+pub(crate) fn gather(alloc: Global, algorithm: RuleAlg) -> Gathering
+    ensures { HasGathered algorithm result [] }
+{
+    Gathering {
+        combiner: Combiner::new(algorithm),
+        status: None,
+        permitted: Items::new(alloc),
+        denied: Items::new(alloc),
+    }
+}
+
+impl Gathering {
+    // One more child, and whether it fixes the decision.
+    pub(crate) fn take(&mut self, answer: Answer) -> Result<Progress, AllocError>
+        ensures gathered { OnOk result ((algorithm : _) (answers : List Answer) → HasGathered algorithm self.old answers → HasGathered algorithm self.new (answers ++ answer ∷ [])) }
+        ensures progress { IfOk result (λ p. (algorithm : _) (answers : List Answer) → HasGathered algorithm self.old answers → p ≡ progress_at algorithm answer.decision) }
+    {
+        let Answer {
+            decision,
+            status,
+            why,
+        } = answer;
+        self.status = status_after(self.status, decision, status);
+        let progress = self.combiner.take(decision);
+        match decision {
+            Outcome::Permit => {
+                self.permitted.append(why)?;
+                Ok(progress)
+            }
+            Outcome::Deny => {
+                self.denied.append(why)?;
+                Ok(progress)
+            }
+            _ => Ok(progress),
+        }
+    }
+
+    // What the children come to.
+    pub(crate) fn finish(self, alloc: Global) -> Answer
+        ensures { (algorithm : _) (answers : List Answer) → HasGathered algorithm self answers → result ≡ judged_by algorithm answers }
+    {
+        let decision = self.combiner.finish();
+        match decision {
+            Outcome::Permit => Answer {
+                decision,
+                status: Status::Okay,
+                why: self.permitted,
+            },
+            Outcome::Deny => Answer {
+                decision,
+                status: Status::Okay,
+                why: self.denied,
+            },
+            Outcome::NotApplicable => Answer::not_applicable(alloc),
+            Outcome::Ind(_) => Answer {
+                decision,
+                status: self.status.unwrap_or(Status::ProcessingError),
+                why: Items::new(alloc),
+            },
+        }
+    }
+}
+
+// The status of the first Indeterminate, with one more child.
+fn status_after(so_far: Option<Status>, decision: Outcome, status: Status) -> Option<Status>
+    ensures { result ≡ status_with so_far decision status }
+{
+    match (so_far, decision) {
+        (Some(first), _) => Some(first),
+        (None, Outcome::Ind(_)) => Some(status),
+        (None, _) => None,
+    }
+}

@@ -1,0 +1,27 @@
+//! Keys of look-ups.
+
+ghost use Rattle.std.specs.Prelude.{◌≡◌, IfOk};
+
+use ent_policy::Reference;
+use std::alloc::{AllocError, Global};
+
+/// What a look-up asks for. Keys order by kind of look-up, references by kind and id.
+#[derive(Debug, PartialEq, Eq, PartialOrd, Ord, Drop)]
+pub enum ReadKey {
+    /// Which policy or policy set is the root.
+    Root,
+    /// Which document a reference names.
+    Ref(Reference),
+}
+
+impl ReadKey {
+    /// An equal key.
+    pub fn copy(&self, alloc: Global) -> Result<ReadKey, AllocError>
+        ensures { IfOk result (λ k. k ≡ self.now) }
+    {
+        match self {
+            ReadKey::Root => Ok(ReadKey::Root),
+            ReadKey::Ref(reference) => Ok(ReadKey::Ref(reference.copy(alloc)?)),
+        }
+    }
+}

@@ -1,0 +1,13 @@
+//! Laws of the look-ups that answers rest on.
+
+ghost use Rattle.ent_eval.specs.Law.{EachKeyIsRecordedOnce, EqualLookUpsGiveEqualAnswers};
+
+/// Law: where each look-up that is recorded for an answer gives the same, the answer is the same, and so are the look-ups.
+pub fn equal_look_ups_give_equal_answers()
+    ensures { EqualLookUpsGiveEqualAnswers }
+{}
+
+/// Law: no key stands twice among those that are recorded for an answer.
+pub fn each_key_is_recorded_once()
+    ensures { EachKeyIsRecordedOnce }
+{}

@@ -1,0 +1,133 @@
+//! What a policy comes to.
+
+ghost use Rattle.std.specs.Prelude.{◌≡◌, ◌++◌, ◌∷◌, [], IfOk, OnOk, map, true};
+ghost use Rattle.std.specs.List.{list_all};
+ghost use Rattle.ent_policy.specs.Typing.{policy_is_typed, rule_is_typed};
+ghost use Rattle.ent_eval.specs.Judged.{under_target};
+ghost use Rattle.ent_eval.specs.LooksOf.{looks_of};
+ghost use Rattle.ent_eval.specs.Node.{children_after, combined, policy_part, rules_part};
+ghost use Rattle.ent_eval.specs.Noted.{noted};
+ghost use Rattle.ent_eval.specs.Rule.{rule_part};
+ghost use Rattle.ent_policy.specs.declared.key.Kind.TheVariants as kind;
+
+use crate::answer::{Answer, Status, copied_path};
+use crate::gather::gather;
+use crate::policies::Policies;
+use crate::reads::Reads;
+use crate::scene::Scene;
+use crate::target::Targeted;
+use ent_combine::{Outcome, Progress, RuleAlg, under_indeterminate_target};
+use ent_policy::{DocKey, Kind, Policy, Rule, VariableDefinition};
+use ent_values::Items;
+use std::alloc::{AllocError, Global};
+
+impl<P: Policies> Scene<'_, P> {
+    // A policy, where the path leads from the root to what it stands in.
+    #[tactic(auto, using(crate::proofs::Walk::noted_both, crate::proofs::Typing::both_true), unfolding(ent_policy::specs::Typing::policy_is_typed))]
+    pub(crate) fn policy(
+        &self,
+        reads: &mut Reads,
+        path: &[DocKey],
+        policy: &Policy,
+    ) -> Result<Answer, AllocError>
+        requires { policy_is_typed policy.now ≡ true }
+        ensures value { IfOk result (λ a. a ≡ (policy_part (looks_of P.documents self.now.pdp.now) self.now.request.now path.now policy.now).value) }
+        ensures reads { OnOk result (reads.new ≡ noted reads.old (policy_part (looks_of P.documents self.now.pdp.now) self.now.request.now path.now policy.now).reads) }
+    {
+        let targeted = self.target(reads, &policy.target)?;
+        self.policy_after(reads, path, policy, targeted)
+    }
+
+    // The rules are evaluated unless the target doesn't match.
+    fn policy_after(
+        &self,
+        reads: &mut Reads,
+        path: &[DocKey],
+        policy: &Policy,
+        targeted: Targeted,
+    ) -> Result<Answer, AllocError>
+        requires { list_all (rule_is_typed policy.now.variables) policy.now.rules ≡ true }
+        ensures value { IfOk result (λ a. a ≡ (children_after (rules_part (looks_of P.documents self.now.pdp.now) self.now.request.now (path.now ++ record { kind = kind.Policy; id = policy.now.id; version = policy.now.version } ∷ []) policy.now) targeted).value) }
+        ensures reads { OnOk result (reads.new ≡ noted reads.old (children_after (rules_part (looks_of P.documents self.now.pdp.now) self.now.request.now (path.now ++ record { kind = kind.Policy; id = policy.now.id; version = policy.now.version } ∷ []) policy.now) targeted).reads) }
+    {
+        match targeted {
+            Targeted::NoMatch => Ok(Answer::not_applicable(self.alloc)),
+            Targeted::Match => self.rules_under(reads, path, policy),
+            Targeted::Indeterminate(status) => {
+                let answer = self.rules_under(reads, path, policy)?;
+                Ok(under(self.alloc, status, answer.decision))
+            }
+        }
+    }
+
+    // The rules of a policy.
+    fn rules_under(
+        &self,
+        reads: &mut Reads,
+        path: &[DocKey],
+        policy: &Policy,
+    ) -> Result<Answer, AllocError>
+        requires { list_all (rule_is_typed policy.now.variables) policy.now.rules ≡ true }
+        ensures value { IfOk result (λ a. a ≡ (rules_part (looks_of P.documents self.now.pdp.now) self.now.request.now (path.now ++ record { kind = kind.Policy; id = policy.now.id; version = policy.now.version } ∷ []) policy.now).value) }
+        ensures reads { OnOk result (reads.new ≡ noted reads.old (rules_part (looks_of P.documents self.now.pdp.now) self.now.request.now (path.now ++ record { kind = kind.Policy; id = policy.now.id; version = policy.now.version } ∷ []) policy.now).reads) }
+    {
+        let here = path_to(self.alloc, path, policy)?;
+        self.rules(
+            reads,
+            policy.variables.as_slice(),
+            here.as_slice(),
+            policy.algorithm,
+            policy.rules.as_slice(),
+        )
+    }
+
+    // Rules, up to the first that fixes the decision.
+    fn rules(
+        &self,
+        reads: &mut Reads,
+        definitions: &[VariableDefinition],
+        path: &[DocKey],
+        algorithm: RuleAlg,
+        rules: &[Rule],
+    ) -> Result<Answer, AllocError>
+        requires { list_all (rule_is_typed definitions.now) rules.now ≡ true }
+        ensures value { IfOk result (λ a. a ≡ (combined algorithm (map (rule_part (looks_of P.documents self.now.pdp.now) self.now.request.now definitions.now path.now) rules.now)).value) }
+        ensures reads { OnOk result (reads.new ≡ noted reads.old (combined algorithm (map (rule_part (looks_of P.documents self.now.pdp.now) self.now.request.now definitions.now path.now) rules.now)).reads) }
+    {
+        let mut gathering = gather(self.alloc, algorithm);
+        for rule in rules {
+            let answer = self.rule(reads, definitions, path, rule)?;
+            if let Progress::Stop = gathering.take(answer)? {
+                return Ok(gathering.finish(self.alloc));
+            }
+        }
+        Ok(gathering.finish(self.alloc))
+    }
+}
+
+// The path to a policy, where `path` leads to what it stands in.
+fn path_to(alloc: Global, path: &[DocKey], policy: &Policy) -> Result<Items<DocKey>, AllocError>
+    ensures { IfOk result (λ p. p ≡ path.now ++ record { kind = kind.Policy; id = policy.now.id; version = policy.now.version } ∷ []) }
+{
+    let mut here = copied_path(alloc, path)?;
+    here.push(DocKey {
+        kind: Kind::Policy,
+        id: policy.id.copy(alloc)?,
+        version: policy.version.copy(),
+    })?;
+    Ok(here)
+}
+
+// What an element comes to with a target that is Indeterminate.
+pub(crate) fn under(alloc: Global, status: Status, decision: Outcome) -> Answer
+    ensures { result ≡ under_target status decision }
+{
+    match decision {
+        Outcome::NotApplicable => Answer::not_applicable(alloc),
+        _ => Answer {
+            decision: under_indeterminate_target(decision),
+            status,
+            why: Items::new(alloc),
+        },
+    }
+}

@@ -1,0 +1,58 @@
+//! The look-ups that an evaluation makes.
+
+ghost use Rattle.std.specs.Prelude.{◌≡◌, [], length, OnErr, OnOk};
+ghost use Rattle.ent_eval.specs.Noted.{has_key, with_key};
+
+use crate::key::ReadKey;
+use std::alloc::{AllocError, Global};
+use std::collections::BTreeSet;
+use std::marker::Model;
+
+/// The keys that were looked up, each once, in their order. A key takes time logarithmic in their number.
+#[derive(Debug, Drop)]
+pub struct Reads {
+    keys: BTreeSet<ReadKey>,
+}
+
+impl Model for Reads {
+    ghost use Rattle.std.specs.Prelude.{List};
+    ghost use Rattle.ent_eval.specs.declared.key.ReadKey.{ReadKey};
+
+    ghost Value = { List ReadKey };
+
+    ghost view = { λ r. r.keys.keys };
+}
+
+impl Reads {
+    /// No keys, for which nothing is allocated.
+    pub fn new(alloc: Global) -> Reads
+        ensures { result ≡ [] }
+    {
+        Reads {
+            keys: BTreeSet::new(alloc),
+        }
+    }
+
+    /// How many keys there are.
+    pub fn len(&self) -> usize
+        ensures { result ≡ length self.now }
+    {
+        self.keys.len()
+    }
+
+    /// Whether a key is there.
+    pub fn contains(&self, key: &ReadKey) -> bool
+        ensures { result ≡ has_key self.now key.now }
+    {
+        self.keys.contains(key)
+    }
+
+    /// Notes a key, if it isn't there yet. After a refusal the keys are as before.
+    pub fn note(&mut self, key: ReadKey) -> Result<(), AllocError>
+        ensures ok { OnOk result (self.new ≡ with_key self.old key) }
+        ensures err { OnErr result (self.new ≡ self.old) }
+    {
+        self.keys.insert(key)?;
+        Ok(())
+    }
+}

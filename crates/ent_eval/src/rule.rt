@@ -1,0 +1,142 @@
+//! What a rule comes to.
+
+ghost use Rattle.std.specs.Prelude.{◌≡◌, IfOk, OnOk, Some, true};
+ghost use Rattle.ent_functions.specs.Types.{boolean};
+ghost use Rattle.ent_policy.specs.Typing.{condition_is_typed, rule_is_typed};
+ghost use Rattle.ent_eval.specs.LooksOf.{looks_of};
+ghost use Rattle.ent_eval.specs.Noted.{noted};
+ghost use Rattle.ent_eval.specs.Rule.{condition_part, decided, decision_of, indeterminate_of, rule_after, rule_part, truth_of};
+ghost use Rattle.ent_eval.specs.Typed.{HasType};
+
+use crate::answer::{Answer, Status, WhyEntry, copied_path};
+use crate::evaluated::{Evaluated, Truth};
+use crate::policies::Policies;
+use crate::reads::Reads;
+use crate::scene::Scene;
+use crate::target::Targeted;
+use ent_combine::{IndKind, Outcome};
+use ent_functions::Arg;
+use ent_policy::{DocKey, Effect, Expression, Rule, VariableDefinition};
+use ent_values::{Items, Value};
+use std::alloc::{AllocError, Global};
+
+impl<P: Policies> Scene<'_, P> {
+    // A rule of the policy at the end of the path, among the policy's definitions.
+    #[tactic(auto, using(crate::proofs::Walk::noted_both, crate::proofs::Typing::both_true), unfolding(ent_policy::specs::Typing::rule_is_typed))]
+    pub(crate) fn rule(
+        &self,
+        reads: &mut Reads,
+        definitions: &[VariableDefinition],
+        path: &[DocKey],
+        rule: &Rule,
+    ) -> Result<Answer, AllocError>
+        requires { rule_is_typed definitions.now rule.now ≡ true }
+        ensures value { IfOk result (λ a. a ≡ (rule_part (looks_of P.documents self.now.pdp.now) self.now.request.now definitions.now path.now rule.now).value) }
+        ensures reads { OnOk result (reads.new ≡ noted reads.old (rule_part (looks_of P.documents self.now.pdp.now) self.now.request.now definitions.now path.now rule.now).reads) }
+    {
+        let targeted = self.target(reads, &rule.target)?;
+        self.rule_after(reads, definitions, path, rule, targeted)
+    }
+
+    // The condition is evaluated where the target matches.
+    fn rule_after(
+        &self,
+        reads: &mut Reads,
+        definitions: &[VariableDefinition],
+        path: &[DocKey],
+        rule: &Rule,
+        targeted: Targeted,
+    ) -> Result<Answer, AllocError>
+        requires { condition_is_typed definitions.now rule.now.condition ≡ true }
+        ensures value { IfOk result (λ a. a ≡ (rule_after (condition_part (looks_of P.documents self.now.pdp.now) self.now.request.now definitions.now rule.now.condition) path.now rule.now targeted).value) }
+        ensures reads { OnOk result (reads.new ≡ noted reads.old (rule_after (condition_part (looks_of P.documents self.now.pdp.now) self.now.request.now definitions.now rule.now.condition) path.now rule.now targeted).reads) }
+    {
+        match targeted {
+            Targeted::NoMatch => Ok(Answer::not_applicable(self.alloc)),
+            Targeted::Indeterminate(status) => {
+                decide(self.alloc, path, rule, Truth::Indeterminate(status))
+            }
+            Targeted::Match => {
+                let truth = self.condition(reads, definitions, &rule.condition)?;
+                decide(self.alloc, path, rule, truth)
+            }
+        }
+    }
+
+    // A condition. An absent one is true.
+    #[tactic(auto, unfolding(ent_policy::specs::Typing::condition_is_typed))]
+    fn condition(
+        &self,
+        reads: &mut Reads,
+        definitions: &[VariableDefinition],
+        condition: &Option<Expression>,
+    ) -> Result<Truth, AllocError>
+        requires { condition_is_typed definitions.now condition.now ≡ true }
+        ensures value { IfOk result (λ t. t ≡ (condition_part (looks_of P.documents self.now.pdp.now) self.now.request.now definitions.now condition.now).value) }
+        ensures reads { OnOk result (reads.new ≡ noted reads.old (condition_part (looks_of P.documents self.now.pdp.now) self.now.request.now definitions.now condition.now).reads) }
+    {
+        match condition {
+            None => Ok(Truth::True),
+            Some(expression) => {
+                let evaluated = self.expression(reads, definitions, definitions.len(), expression)?;
+                Ok(truth_of(evaluated))
+            }
+        }
+    }
+}
+
+// What the value of a condition is.
+fn truth_of(evaluated: Evaluated) -> Truth
+    requires { HasType (Some boolean) evaluated }
+    ensures { result ≡ truth_of evaluated }
+{
+    match evaluated {
+        Evaluated::Indeterminate(status) => Truth::Indeterminate(status),
+        Evaluated::Known(Arg::One(Value::Boolean(true))) => Truth::True,
+        Evaluated::Known(Arg::One(Value::Boolean(false))) => Truth::False,
+        Evaluated::Known(_) => unreachable!(),
+    }
+}
+
+// A rule with a target that matches, by its condition.
+fn decide(alloc: Global, path: &[DocKey], rule: &Rule, truth: Truth) -> Result<Answer, AllocError>
+    ensures { IfOk result (λ a. a ≡ decided path.now rule.now truth) }
+{
+    match truth {
+        Truth::False => Ok(Answer::not_applicable(alloc)),
+        Truth::Indeterminate(status) => Ok(Answer {
+            decision: Outcome::Ind(indeterminate_of(rule.effect)),
+            status,
+            why: Items::new(alloc),
+        }),
+        Truth::True => {
+            let entry = WhyEntry {
+                path: copied_path(alloc, path)?,
+                rule: Some(rule.id.copy(alloc)?),
+            };
+            Ok(Answer {
+                decision: decision_of(rule.effect),
+                status: Status::Okay,
+                why: Items::of_one(alloc, entry)?,
+            })
+        }
+    }
+}
+
+fn indeterminate_of(effect: Effect) -> IndKind
+    ensures { result ≡ indeterminate_of effect }
+{
+    match effect {
+        Effect::Permit => IndKind::P,
+        Effect::Deny => IndKind::D,
+    }
+}
+
+fn decision_of(effect: Effect) -> Outcome
+    ensures { result ≡ decision_of effect }
+{
+    match effect {
+        Effect::Permit => Outcome::Permit,
+        Effect::Deny => Outcome::Deny,
+    }
+}
