@@ -1,0 +1,6 @@
+pub mod Changes
+pub mod Counts
+pub mod Fills
+pub mod Places
+pub mod Steps
+pub mod Turns

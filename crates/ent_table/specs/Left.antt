@@ -1,0 +1,33 @@
+-- The cells that an iterator has left.
+use Rattle.std.specs.Prelude.{◌≡◌, ◌⊎◌, ℕ, List, [], ◌∷◌, ◌++◌}
+use Rattle.std.specs.List.{zip}
+use Rattle.ent_eval.specs.declared.answer.Answer.{Answer}
+use Rattle.ent_table.specs.declared.cells.Cells.{Cells}
+use Rattle.std.specs.Borrow.{Bor}
+use Rattle.ent_table.specs.Names.{Triple, triple_of, with_resources, with_actions, all_triples}
+
+-- a person with the first action and the resources that are left of it, and with the later actions and all resources
+abbrev pub actions_left : List ℕ → List (List ℕ) → List (List ℕ) → List (List ℕ) → List Triple
+actions_left person [] left resources = []
+actions_left person (action ∷ actions) left resources = with_resources person action left ++ with_actions person actions resources
+
+-- the first person with what is left of it, and the later people with all
+abbrev pub people_left : List (List ℕ) → List (List ℕ) → List (List ℕ) → List (List ℕ) → List (List ℕ) → List Triple
+people_left [] actions left all_actions resources = []
+people_left (person ∷ people) actions left all_actions resources = actions_left person actions left resources ++ all_triples people all_actions resources
+
+-- the requests that are left, each with its answer
+abbrev pub cells_left : Cells → List (Triple × Answer)
+cells_left c = zip (people_left c.people.now c.actions.now c.resources.now c.all_actions.now c.all_resources.now) c.cells.now
+
+-- an item as a request with its answer
+abbrev pub cell_of : Bor (List ℕ) × Bor (List ℕ) × Bor (List ℕ) × Bor Answer → Triple × Answer
+cell_of item = (triple_of item.0.now item.1.now item.2.now, item.3.now)
+
+-- where no resource is left, no action is, or there are no resources at all
+abbrev pub HasTurnedAction : Cells → Type 0
+HasTurnedAction c = c.resources.now ≡ [] → (c.actions.now ≡ []) ⊎ (c.all_resources.now ≡ [])
+
+-- where no resource or no action is left, nothing is
+abbrev pub HasTurned : Cells → Type 0
+HasTurned c = (c.resources.now ≡ []) ⊎ (c.actions.now ≡ []) → people_left c.people.now c.actions.now c.resources.now c.all_actions.now c.all_resources.now ≡ []

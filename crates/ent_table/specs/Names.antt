@@ -1,0 +1,77 @@
+-- The three lists of names, and the requests that they make.
+use Rattle.std.specs.Prelude.{◌≡◌, ℕ, ◌*◌, List, [], ◌∷◌, ◌++◌, Bool, true, false, ◌&&◌, length, map, nat_eq, slice_get, Option, Some, None}
+use Rattle.std.specs.Cmp.Lexicographic.{pointwise}
+use Rattle.std.specs.List.{flat_map, list_any}
+use Rattle.ent_table.specs.declared.edit.List.{List as Which}
+use Rattle.ent_table.specs.declared.edit.List.TheVariants as which
+
+-- the names of the people, the actions and the resources, in order
+pub record Names : Type 0 where
+  pub people : List (List ℕ)
+  pub actions : List (List ℕ)
+  pub resources : List (List ℕ)
+
+abbrev pub no_names : Names
+no_names = record { people = []; actions = []; resources = [] }
+
+-- one of the three lists
+abbrev pub list_of : Which → Names → List (List ℕ)
+list_of which.People names = names.people
+list_of which.Actions names = names.actions
+list_of which.Resources names = names.resources
+
+-- a list with a name put last
+abbrev pub with_name : Which → List ℕ → Names → Names
+with_name which.People name names = record names { people = names.people ++ name ∷ [] }
+with_name which.Actions name names = record names { actions = names.actions ++ name ∷ [] }
+with_name which.Resources name names = record names { resources = names.resources ++ name ∷ [] }
+
+-- whether a list has a name
+abbrev pub has_name : List ℕ → List (List ℕ) → Bool
+has_name name names = list_any (pointwise nat_eq name) names
+
+-- a request of the table: who, does what, to what
+pub record Triple : Type 0 where
+  pub person : List ℕ
+  pub action : List ℕ
+  pub resource : List ℕ
+
+abbrev pub triple_of : List ℕ → List ℕ → List ℕ → Triple
+triple_of person action resource = record { person = person; action = action; resource = resource }
+
+-- a person and an action with each of the resources
+abbrev pub with_resources : List ℕ → List ℕ → List (List ℕ) → List Triple
+with_resources person action resources = map (triple_of person action) resources
+
+-- a person with each of the actions and each of the resources
+abbrev pub with_actions : List ℕ → List (List ℕ) → List (List ℕ) → List Triple
+with_actions person actions resources = flat_map (λ action. with_resources person action resources) actions
+
+-- every person with every action and every resource
+abbrev pub all_triples : List (List ℕ) → List (List ℕ) → List (List ℕ) → List Triple
+all_triples people actions resources = flat_map (λ person. with_actions person actions resources) people
+
+-- all listed requests in list order, people outermost
+abbrev pub triples : Names → List Triple
+triples names = all_triples names.people names.actions names.resources
+
+-- whether a request is listed
+abbrev pub is_listed : Names → Triple → Bool
+is_listed names t = has_name t.person names.people && (has_name t.action names.actions && has_name t.resource names.resources)
+
+-- how many cells the lists make
+abbrev pub cell_count : Names → ℕ
+cell_count names = length names.people * (length names.actions * length names.resources)
+
+-- the last name of a list is taken away
+abbrev pub TakesLast : Which → Names → Names → Type 0
+TakesLast list old new = (before : Names) (name : List ℕ) → old ≡ with_name list name before → new ≡ before
+
+-- where a request stands in list order, if it is listed
+abbrev pub IsPlace : Names → Triple → Option ℕ → Type 0
+IsPlace names t None = is_listed names t ≡ false
+IsPlace names t (Some place) = (is_listed names t ≡ true) × (slice_get (triples names) place ≡ Some t)
+
+-- how many cells there are with any name more in a list
+abbrev pub CountsWith : Which → Names → ℕ → Type 0
+CountsWith list names count = (name : List ℕ) → count ≡ cell_count (with_name list name names)

@@ -1,0 +1,96 @@
+//! The cells of a table in list order.
+
+ghost use Rattle.std.specs.Prelude.{◌≡◌};
+ghost use Rattle.std.specs.Iterator.{YieldsFirstBy, item_count};
+ghost use Rattle.std.specs.List.{zip};
+ghost use Rattle.ent_table.specs.Left.{HasTurned, HasTurnedAction, cell_of, cells_left};
+ghost use Rattle.ent_table.specs.Names.{all_triples};
+
+use ent_eval::Answer;
+use ent_values::Text;
+
+/// The listed requests with their answers: person, action, resource and answer, people outermost, then actions, then resources.
+#[derive(Drop)]
+pub struct Cells<'a> {
+    // What is left of the first person and its first action, and all lists for those that follow.
+    people: &'a [Text],
+    actions: &'a [Text],
+    resources: &'a [Text],
+    all_actions: &'a [Text],
+    all_resources: &'a [Text],
+    cells: &'a [Answer],
+}
+
+impl<'a> Cells<'a> {
+    pub(crate) fn new(
+        people: &'a [Text],
+        actions: &'a [Text],
+        resources: &'a [Text],
+        cells: &'a [Answer],
+    ) -> Cells<'a>
+        ensures { cells_left result ≡ zip (all_triples people.now actions.now resources.now) cells.now }
+    {
+        Cells {
+            people,
+            actions,
+            resources,
+            all_actions: actions,
+            all_resources: resources,
+            cells,
+        }
+    }
+}
+
+impl<'a> Cells<'a> {
+    /// Turns to the next action, where no resource is left of this one.
+    fn next_action(&mut self)
+        ensures same { cells_left self.new ≡ cells_left self.old }
+        ensures cells { self.new.cells ≡ self.old.cells }
+        ensures turned { HasTurnedAction self.new }
+    {
+        if !self.resources.is_empty() {
+            return;
+        }
+        if let Some((_, actions)) = self.actions.split_first() {
+            self.actions = actions;
+            self.resources = self.all_resources;
+        }
+    }
+
+    /// Turns to the next person, where no action is left of this one.
+    fn next_person(&mut self)
+        requires { HasTurnedAction self.old }
+        ensures same { cells_left self.new ≡ cells_left self.old }
+        ensures cells { self.new.cells ≡ self.old.cells }
+        ensures turned { HasTurned self.new }
+    {
+        if !self.actions.is_empty() {
+            return;
+        }
+        if let Some((_, people)) = self.people.split_first() {
+            self.people = people;
+            self.actions = self.all_actions;
+            self.resources = self.all_resources;
+        }
+    }
+}
+
+impl<'a> Iterator for Cells<'a> {
+    type Item = (&'a Text, &'a Text, &'a Text, &'a Answer);
+
+    ghost next_gives = { YieldsFirstBy cell_of cells_left };
+
+    ghost remaining = { item_count cells_left };
+
+    fn next(&mut self) -> Option<(&'a Text, &'a Text, &'a Text, &'a Answer)> {
+        self.next_action();
+        self.next_person();
+        let (answer, cells) = self.cells.split_first()?;
+        let person = self.people.first()?;
+        let action = self.actions.first()?;
+        let (resource, resources) = self.resources.split_first()?;
+        self.cells = cells;
+        self.resources = resources;
+        Some((person, action, resource, answer))
+    }
+}

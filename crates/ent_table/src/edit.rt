@@ -1,0 +1,52 @@
+//! Edits of what is reviewed, and what they are answered.
+
+use ent_policy::{Document, Reference};
+use ent_values::Text;
+use thiserror::Error;
+
+/// One of the three lists whose names together make the requests of the table.
+#[derive(Clone, Copy, Debug, PartialEq, Eq)]
+pub enum List {
+    People,
+    Actions,
+    Resources,
+}
+
+/// A change of what is reviewed.
+#[derive(Drop)]
+pub enum Edit {
+    /// Stores a document in the module of that number.
+    AddPolicy(usize, Document),
+    /// Puts a name last in a list.
+    AddName(List, Text),
+    /// Sets the policy from which every request is evaluated, or none.
+    SetRoot(Option<Reference>),
+}
+
+/// An edit was made.
+#[derive(Clone, Copy, Debug, PartialEq, Eq)]
+pub struct Accepted {
+    /// How many edits were accepted so far.
+    pub serial: u64,
+    /// How many cells have another answer than before the edit. A cell that wasn't listed had none.
+    pub changes: u64,
+}
+
+/// Why an edit is refused. Of several reasons the first in this order is given, but want of memory may come in place of any.
+#[derive(Clone, Copy, Debug, PartialEq, Eq, Error)]
+pub enum EditFault {
+    #[error("not there")]
+    NotThere,
+    #[error("already there")]
+    AlreadyThere,
+    #[error("a limit is reached")]
+    Limit,
+    #[error("the attribute is reserved")]
+    Reserved,
+    #[error("the value can't be used")]
+    BadValue,
+    #[error("no such module")]
+    UnknownModule,
+    #[error("out of memory")]
+    Memory,
+}

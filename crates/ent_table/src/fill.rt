@@ -1,0 +1,83 @@
+//! The fresh table, evaluated aside.
+
+ghost use Rattle.std.specs.Prelude.{◌≡◌, ◌++◌, map, IfOk, OnOk};
+ghost use Rattle.ent_eval.specs.LooksOf.{looks_of};
+ghost use Rattle.ent_table.specs.Names.{all_triples, with_actions, with_resources};
+ghost use Rattle.ent_table.specs.State.{answer_by};
+
+use ent_eval::{Answer, Pdp, Policies, Request};
+use ent_values::{Items, Text};
+use std::alloc::{AllocError, Global};
+
+/// Appends the answers for a person and an action with each of the resources.
+fn evaluate_resources<P: Policies>(
+    alloc: Global,
+    pdp: &mut Pdp<P>,
+    person: &Text,
+    action: &Text,
+    resources: &[Text],
+    cells: &mut Vec<Answer>,
+) -> Result<(), AllocError>
+    ensures cells { OnOk result (cells.new.items ≡ cells.old.items ++ map (answer_by (looks_of P.documents pdp.old)) (with_resources person.now action.now resources.now)) }
+    ensures rest { pdp.new ≡ record pdp.old { evaluations = pdp.new.evaluations } }
+{
+    for resource in resources {
+        let request = Request::listed(alloc, person.as_str(), action.as_str(), resource.as_str())?;
+        let evaluation = pdp.evaluate(&request)?;
+        cells.push(evaluation.answer)?;
+    }
+    Ok(())
+}
+
+/// Appends the answers for a person with each of the actions and resources.
+fn evaluate_actions<P: Policies>(
+    alloc: Global,
+    pdp: &mut Pdp<P>,
+    person: &Text,
+    actions: &[Text],
+    resources: &[Text],
+    cells: &mut Vec<Answer>,
+) -> Result<(), AllocError>
+    ensures cells { OnOk result (cells.new.items ≡ cells.old.items ++ map (answer_by (looks_of P.documents pdp.old)) (with_actions person.now actions.now resources.now)) }
+    ensures rest { pdp.new ≡ record pdp.old { evaluations = pdp.new.evaluations } }
+{
+    for action in actions {
+        evaluate_resources(alloc, pdp, person, action, resources, cells)?;
+    }
+    Ok(())
+}
+
+/// The answers to all requests of three lists, people outermost. There are `count` of them.
+pub(crate) fn evaluate_all<P: Policies>(
+    alloc: Global,
+    pdp: &mut Pdp<P>,
+    people: &[Text],
+    actions: &[Text],
+    resources: &[Text],
+    count: usize,
+) -> Result<Items<Answer>, AllocError>
+    ensures cells { IfOk result (λ v. v ≡ map (answer_by (looks_of P.documents pdp.old)) (all_triples people.now actions.now resources.now)) }
+    ensures rest { pdp.new ≡ record pdp.old { evaluations = pdp.new.evaluations } }
+{
+    let mut cells = Vec::with_capacity(alloc, count)?;
+    for person in people {
+        evaluate_actions(alloc, pdp, person, actions, resources, &mut cells)?;
+    }
+    Ok(Items::from_vec(cells))
+}
+
+/// The answers for one person with each of the actions and resources.
+pub(crate) fn evaluate_person<P: Policies>(
+    alloc: Global,
+    pdp: &mut Pdp<P>,
+    person: &Text,
+    actions: &[Text],
+    resources: &[Text],
+) -> Result<Items<Answer>, AllocError>
+    ensures cells { IfOk result (λ v. v ≡ map (answer_by (looks_of P.documents pdp.old)) (with_actions person.now actions.now resources.now)) }
+    ensures rest { pdp.new ≡ record pdp.old { evaluations = pdp.new.evaluations } }
+{
+    let mut cells = Vec::new(alloc);
+    evaluate_actions(alloc, pdp, person, actions, resources, &mut cells)?;
+    Ok(Items::from_vec(cells))
+}
