@@ -1,0 +1,89 @@
+-- The JSON of cells.
+use Rattle.std.specs.Prelude.{ℕ, List, [], ◌∷◌, map, Option, Some, None, codes}
+use Rattle.serde_json.specs.Data as json
+use Rattle.serde_json.specs.Data.{Data, Members}
+use Rattle.serde_json.specs.View.{items_of}
+use Rattle.serde_json.specs.Written.{compact_text}
+use Rattle.ent_combine.specs.declared.outcome.IndKind.TheVariants as kind
+use Rattle.ent_combine.specs.declared.outcome.Outcome.{Outcome}
+use Rattle.ent_combine.specs.declared.outcome.Outcome.TheVariants as outcome
+use Rattle.ent_policy.specs.Versions.{version_text}
+use Rattle.ent_policy.specs.declared.key.DocKey.{DocKey}
+use Rattle.ent_policy.specs.declared.key.Kind.{Kind}
+use Rattle.ent_policy.specs.declared.key.Kind.TheVariants as documents
+use Rattle.ent_eval.specs.declared.answer.Answer.{Answer}
+use Rattle.ent_eval.specs.declared.answer.Status.{Status}
+use Rattle.ent_eval.specs.declared.answer.Status.TheVariants as status
+use Rattle.ent_eval.specs.declared.answer.WhyEntry.{WhyEntry}
+use Rattle.ent_table.specs.Names.{Triple}
+
+-- ---- words
+
+-- the word of a decision; what an Indeterminate could have been stands in braces
+abbrev pub decision_text : Outcome → List ℕ
+decision_text outcome.Permit = codes "Permit"
+decision_text outcome.Deny = codes "Deny"
+decision_text outcome.NotApplicable = codes "NotApplicable"
+decision_text (outcome.Ind kind.P) = codes "Indeterminate{P}"
+decision_text (outcome.Ind kind.D) = codes "Indeterminate{D}"
+decision_text (outcome.Ind kind.DP) = codes "Indeterminate{DP}"
+
+-- the last part of the identifier of a status (appendix B.8)
+abbrev pub status_text : Status → List ℕ
+status_text status.Okay = codes "ok"
+status_text status.MissingAttribute = codes "missing-attribute"
+status_text status.ProcessingError = codes "processing-error"
+
+-- the element's name of a document
+abbrev pub kind_text : Kind → List ℕ
+kind_text documents.Policy = codes "Policy"
+kind_text documents.PolicySet = codes "PolicySet"
+
+-- ---- values
+
+-- a document on the path to a rule: its kind, id and version
+abbrev pub key_data : DocKey → Data
+key_data key = json.array (items_of (json.string (kind_text key.kind) ∷ json.string key.id ∷ json.string (version_text key.version) ∷ []))
+
+-- a rule's id, null for a default
+abbrev pub rule_data : Option (List ℕ) → Data
+rule_data None = json.null
+rule_data (Some id) = json.string id
+
+-- a rule that gave the decision, with the path to it
+abbrev pub entry_data : WhyEntry → Data
+entry_data entry = json.object (
+    json.member (codes "path") (json.array (items_of (map key_data entry.path)))
+    (json.member (codes "rule") (rule_data entry.rule)
+    json.no_members))
+
+-- a request of the table with its answer
+abbrev pub cell_data : Triple × Answer → Data
+cell_data c = json.object (
+    json.member (codes "action") (json.string c.0.action)
+    (json.member (codes "advice") (json.array json.no_items)
+    (json.member (codes "decision") (json.string (decision_text c.1.decision))
+    (json.member (codes "obligations") (json.array json.no_items)
+    (json.member (codes "person") (json.string c.0.person)
+    (json.member (codes "resource") (json.string c.0.resource)
+    (json.member (codes "status") (json.string (status_text c.1.status))
+    (json.member (codes "why") (json.array (items_of (map entry_data c.1.why)))
+    json.no_members))))))))
+
+-- the reply to `cell`
+abbrev pub one_cell_data : Triple × Answer → Data
+one_cell_data c = json.object (json.member (codes "cell") (cell_data c) json.no_members)
+
+-- the reply to `table`
+abbrev pub table_data : List (Triple × Answer) → Data
+table_data cells = json.object (json.member (codes "table") (json.array (items_of (map cell_data cells))) json.no_members)
+
+-- ---- texts
+
+-- the text of the reply to `cell`
+unfoldable pub one_cell_text : Triple × Answer → List ℕ
+one_cell_text c = compact_text (one_cell_data c)
+
+-- the text of the reply to `table`
+unfoldable pub table_text : List (Triple × Answer) → List ℕ
+table_text cells = compact_text (table_data cells)

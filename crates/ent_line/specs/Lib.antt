@@ -1,0 +1,12 @@
+pub mod Asked
+pub mod Cells
+pub mod CommandView
+pub mod Lines
+pub mod LongLines
+pub mod Pieces
+pub mod Refusals
+pub mod Replies
+pub mod Runs
+pub mod Serving
+pub mod Step
+pub mod World

@@ -1,0 +1,17 @@
+-- A text and its lines.
+use Rattle.std.specs.Prelude.{◌≡◌, ◌≢◌, ℕ, List, [], ◌∷◌, ◌++◌, All}
+use Rattle.std.specs.List.{flat_map}
+
+-- no byte of these is a newline
+abbrev pub NoNewline : List ℕ → Type 0
+NoNewline bytes = All (λ b. b ≢ 10) bytes
+
+-- a line with its newline
+abbrev pub ended : List ℕ → List ℕ
+ended line = line ++ 10 ∷ []
+
+-- the text is these lines, each with its newline, and then a rest without one
+pub record Splits (text : List ℕ) (lines : List (List ℕ)) (rest : List ℕ) : Type 0 where
+  pub whole : text ≡ flat_map ended lines ++ rest
+  pub each : All NoNewline lines
+  pub open_end : NoNewline rest

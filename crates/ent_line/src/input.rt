@@ -1,0 +1,74 @@
+//! Lines out of a reader, a piece at a time.
+
+ghost use Rattle.std.specs.Prelude.{◌≡◌, ◌≢◌, ◌+◌, ◌<◌, ◌≤◌, length, take, slice_index, vec_len, vec_capacity, Result, List, ℕ};
+ghost use Rattle.ent_line.specs.Lines.{NoNewline, Splits};
+ghost use Rattle.ent_line.specs.Pieces.{TakesPiece};
+
+use crate::fault::ServeFault;
+use memchr::memchr;
+use std::io::{BufRead, ErrorKind};
+
+/// The most bytes that a line may have.
+pub const LINE_LIMIT: usize = 1_048_576;
+
+/// What one look at the reader's buffer gave.
+#[derive(Clone, Copy, Debug, PartialEq, Eq)]
+pub(crate) enum Piece {
+    /// The input is at its end.
+    End,
+    /// A part of a line.
+    Part,
+    /// The last part of a line, with its newline.
+    Line,
+}
+
+/// The index of the first newline, or the length.
+fn newline_at(bytes: &[u8]) -> usize
+    ensures bound { result ≤ length bytes.now }
+    ensures before { NoNewline (take result bytes.now) }
+    ensures at { result < length bytes.now → slice_index bytes.now result ≡ 10 }
+{
+    match memchr(b'\n', bytes) {
+        Some(i) => i,
+        None => bytes.len(),
+    }
+}
+
+/// Takes what the reader's buffer shows, up to and including the first newline, and keeps what fits of the line:
+/// one byte more than a line may have.
+pub(crate) fn take_piece<R: BufRead>(
+    reader: &mut R,
+    line: &mut Vec<u8>,
+) -> Result<Piece, ServeFault>
+    requires room { vec_len line.old ≤ 1048577 }
+    requires taken { 1048577 ≤ vec_capacity line.old }
+    ensures piece { TakesPiece (R.remaining reader.old) (R.remaining reader.new) line.old.items line.new.items result }
+    ensures room { vec_len line.new ≤ 1048577 }
+    ensures taken { vec_capacity line.old ≤ vec_capacity line.new }
+{
+    let available = match reader.fill_buf() {
+        Ok(available) => available,
+        Err(e) if e.kind() == ErrorKind::Interrupted => return Ok(Piece::Part),
+        Err(_) => return Err(ServeFault::Read),
+    };
+    let shown = available.len();
+    if shown == 0 {
+        return Ok(Piece::End);
+    }
+    let end = newline_at(available);
+    let room = LINE_LIMIT + 1 - line.len();
+    let kept = room.min(end);
+    line.extend_from_slice(&available[..kept]).unwrap();
+    if end < shown {
+        reader.consume(end + 1);
+        Ok(Piece::Line)
+    } else {
+        reader.consume(end);
+        Ok(Piece::Part)
+    }
+}
+
+/// A text has one way to be lines and a rest.
+pub fn one_split()
+    ensures { (text : List ℕ) (ls ms : List (List ℕ)) (r s : List ℕ) → Splits text ls r → Splits text ms s → (ls ≡ ms) × (r ≡ s) }
+{}

@@ -1,0 +1,26 @@
+//! The service over bytes: lines out of a reader, and one reply for each into a writer.
+#![tactic(auto)]
+
+mod answering;
+mod cell;
+mod command;
+mod fault;
+mod input;
+mod output;
+mod reading;
+mod refusal;
+mod reply;
+mod service;
+mod serving;
+
+pub use answering::Answering;
+pub use fault::ServeFault;
+pub use input::{LINE_LIMIT, one_split};
+pub use reply::Reply;
+pub use service::Service;
+pub use serving::serve;
+
+#[cfg(test)]
+mod service_tests;
+#[cfg(test)]
+mod tests;

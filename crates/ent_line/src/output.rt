@@ -1,0 +1,44 @@
+//! Bytes into a writer.
+
+ghost use Rattle.std.specs.Prelude.{◌≡◌, Result};
+ghost use Rattle.std.specs.List.{flat_map};
+ghost use Rattle.ent_line.specs.Pieces.{Sends};
+
+use crate::fault::ServeFault;
+use std::io::{ErrorKind, Write};
+
+/// Writes all of the bytes, or a front of them.
+pub(crate) fn send<W: Write>(writer: &mut W, bytes: &[u8]) -> Result<(), ServeFault>
+    ensures { Sends (W.contents writer.old) (W.contents writer.new) bytes.now result }
+{
+    let mut sent = 0;
+    for _ in 0..u64::MAX {
+        if sent == bytes.len() {
+            return Ok(());
+        }
+        match writer.write(&bytes[sent..]) {
+            Ok(n) => {
+                if n == 0 {
+                    return Err(ServeFault::Write);
+                }
+                sent += n;
+            }
+            Err(e) => {
+                if e.kind() != ErrorKind::Interrupted {
+                    return Err(ServeFault::Write);
+                }
+            }
+        }
+    }
+    Err(ServeFault::Write)
+}
+
+/// Writes the parts one after the other, or a front of them.
+pub(crate) fn send_all<W: Write>(writer: &mut W, parts: &[&[u8]]) -> Result<(), ServeFault>
+    ensures { Sends (W.contents writer.old) (W.contents writer.new) (flat_map (λ p. p.now) parts.now) result }
+{
+    for part in parts {
+        send(writer, part)?;
+    }
+    Ok(())
+}

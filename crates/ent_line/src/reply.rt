@@ -1,0 +1,75 @@
+//! Replies, and how they are written.
+
+ghost use Rattle.std.specs.Prelude.{◌≡◌, Result, Some, None};
+ghost use Rattle.ent_line.specs.Pieces.{Sends};
+ghost use Rattle.ent_line.specs.Replies.{accepted, refused, reply_view, line_of};
+
+use crate::fault::ServeFault;
+use crate::output::send_all;
+use ent_table::Accepted;
+use itoa::Buffer;
+use std::io::Write;
+
+/// What a line is answered by. All but `Text` are written without memory.
+#[derive(Debug, Drop)]
+pub enum Reply {
+    /// An edit was accepted, written as `{"changes":n,"serial":n}`.
+    Accepted(Accepted),
+    /// The refusal's number, and for a document its sub-code, written as `{"refused":n}` or `{"refused":n,"sub":n}`.
+    Refused(u8, Option<u8>),
+    /// A JSON text, written as it is.
+    Text(String),
+}
+
+/// Writes the line of an accepted edit.
+fn send_accepted<W: Write>(writer: &mut W, changes: u64, serial: u64) -> Result<(), ServeFault>
+    ensures { Sends (W.contents writer.old) (W.contents writer.new) (line_of (accepted changes serial)) result }
+{
+    let mut first = Buffer::new();
+    let mut second = Buffer::new();
+    let start = "{\"changes\":".as_bytes();
+    let changes_text = first.format(changes).as_bytes();
+    let middle = ",\"serial\":".as_bytes();
+    let serial_text = second.format(serial).as_bytes();
+    let end = "}\n".as_bytes();
+    send_all(writer, &[start, changes_text, middle, serial_text, end])
+}
+
+/// Writes the line of a refusal that has no sub-code.
+fn send_refused<W: Write>(writer: &mut W, code: u8) -> Result<(), ServeFault>
+    ensures { Sends (W.contents writer.old) (W.contents writer.new) (line_of (refused code None)) result }
+{
+    let mut first = Buffer::new();
+    let start = "{\"refused\":".as_bytes();
+    let code_text = first.format(code).as_bytes();
+    let end = "}\n".as_bytes();
+    send_all(writer, &[start, code_text, end])
+}
+
+/// Writes the line of a refused document.
+fn send_sub<W: Write>(writer: &mut W, code: u8, sub: u8) -> Result<(), ServeFault>
+    ensures { Sends (W.contents writer.old) (W.contents writer.new) (line_of (refused code (Some sub))) result }
+{
+    let mut first = Buffer::new();
+    let mut second = Buffer::new();
+    let start = "{\"refused\":".as_bytes();
+    let code_text = first.format(code).as_bytes();
+    let middle = ",\"sub\":".as_bytes();
+    let sub_text = second.format(sub).as_bytes();
+    let end = "}\n".as_bytes();
+    send_all(writer, &[start, code_text, middle, sub_text, end])
+}
+
+/// Writes the reply's line with its newline, or a front of it where the writer fails. Takes no memory.
+pub(crate) fn send_reply<W: Write>(writer: &mut W, reply: &Reply) -> Result<(), ServeFault>
+    ensures { Sends (W.contents writer.old) (W.contents writer.new) (line_of (reply_view reply.now)) result }
+{
+    match reply {
+        Reply::Accepted(accepted) => send_accepted(writer, accepted.changes, accepted.serial),
+        Reply::Refused(code, sub) => match sub {
+            None => send_refused(writer, *code),
+            Some(sub) => send_sub(writer, *code, *sub),
+        },
+        Reply::Text(text) => send_all(writer, &[text.as_bytes(), "\n".as_bytes()]),
+    }
+}

@@ -1,0 +1,77 @@
+//! Lines from a reader, and their replies to a writer.
+
+ghost use Rattle.std.specs.Prelude.{◌≡◌};
+ghost use Rattle.ent_line.specs.Serving.{ServesUntil, AnswersLine};
+
+use crate::answering::Answering;
+use crate::fault::ServeFault;
+use crate::input::{LINE_LIMIT, Piece, take_piece};
+use crate::reply::send_reply;
+use std::alloc::Global;
+use std::io::{BufRead, Write};
+
+/// Handles a line, and writes its reply with one flush, or a front of it.
+fn answer_line<S: Answering, W: Write>(
+    service: &mut S,
+    line: &[u8],
+    writer: &mut W,
+) -> Result<(), ServeFault>
+    requires { S.is_ready service.old }
+    ensures ready { S.is_ready service.new }
+    ensures line { AnswersLine S.answers (S.world service.old) (S.world service.new) line.now (W.contents writer.old) (W.contents writer.new) result }
+{
+    let reply = service.handle(line);
+    send_reply(writer, &reply)?;
+    match writer.flush() {
+        Ok(()) => Ok(()),
+        Err(_) => Err(ServeFault::Write),
+    }
+}
+
+/// Answers each line of the reader by one line into the writer, and gives their number.
+///
+/// A line ends at a newline, or at the end of the input if it has a byte. A line of more than `LINE_LIMIT` bytes is
+/// read to its end and handled as a line that is too long. The writer is flushed after each reply. The line buffer is
+/// taken at the start, and `Memory` comes only there. After 4,294,967,295 looks at the reader's buffer the call ends
+/// with `Read`.
+pub fn serve<S: Answering, R: BufRead, W: Write>(
+    alloc: Global,
+    service: &mut S,
+    reader: &mut R,
+    writer: &mut W,
+) -> Result<u64, ServeFault>
+    requires { S.is_ready service.old }
+    ensures ready { S.is_ready service.new }
+    ensures run { ServesUntil S.answers (record {
+      start = S.world service.old;
+      end = S.world service.new;
+      unread = R.remaining reader.old;
+      left = R.remaining reader.new;
+      wrote = W.contents writer.old;
+      holds = W.contents writer.new;
+    }) result }
+{
+    let Ok(mut line) = Vec::with_capacity(alloc, LINE_LIMIT + 1) else {
+        return Err(ServeFault::Memory);
+    };
+    let mut count = 0;
+    for _ in 0..u32::MAX {
+        let piece = take_piece(reader, &mut line)?;
+        match piece {
+            Piece::End => {
+                if line.is_empty() {
+                    return Ok(count);
+                }
+                answer_line(service, line.as_slice(), writer)?;
+                return Ok(count + 1);
+            }
+            Piece::Part => {}
+            Piece::Line => {
+                answer_line(service, line.as_slice(), writer)?;
+                line.clear();
+                count += 1;
+            }
+        }
+    }
+    Err(ServeFault::Read)
+}
