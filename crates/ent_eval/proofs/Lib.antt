@@ -6,6 +6,7 @@ pub mod Choices
 pub mod Empty
 pub mod Gathered
 pub mod Keys
+pub mod Literals
 pub mod MostRecent
 pub mod Once
 pub mod Rests

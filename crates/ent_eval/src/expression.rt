@@ -20,6 +20,7 @@ use crate::own::{is_empty, own_bag};
 use crate::policies::Policies;
 use crate::reads::Reads;
 use crate::scene::Scene;
+use crate::uncopied::without_copies;
 use ent_functions::{Arg, Fault, Function, apply};
 use ent_policy::{Designator, Expression, VariableDefinition};
 use ent_values::{Items, Text, Value};
@@ -95,6 +96,9 @@ impl<P: Policies> Scene<'_, P> {
         ensures reads { OnOk result (reads.new ≡ noted reads.old (whole (is_result function) (result_of function) (map (meaning (looks_of P.documents self.now.pdp.now) self.now.request.now definitions.now references) arguments.now)).reads) }
         ensures typed { IfOk result (λ v. HasType (option_and_then (result_type_of function) (all_typed (map (type_of definitions.now references) arguments.now))) v) }
     {
+        if let Some(value) = without_copies(self.request, function, arguments) {
+            return Ok(value);
+        }
         let mut evaluated = Items::new(self.alloc);
         for argument in arguments {
             let value = self.expression(reads, definitions, references, argument)?;

@@ -20,6 +20,7 @@ mod same;
 mod scene;
 mod set;
 mod target;
+mod uncopied;
 
 pub use answer::{Answer, Status, WhyEntry};
 pub use key::ReadKey;
@@ -35,5 +36,7 @@ pub use target::Targeted;
 mod tests;
 #[cfg(test)]
 mod tests_of_conditions;
+#[cfg(test)]
+mod tests_of_single_values;
 #[cfg(test)]
 mod tests_of_targets;

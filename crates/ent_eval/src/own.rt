@@ -1,7 +1,8 @@
 //! The values that a request itself has for a designator.
 
-ghost use Rattle.std.specs.Prelude.{◌≡◌, ◌++◌, not, IfOk, OnOk};
+ghost use Rattle.std.specs.Prelude.{◌≡◌, [], ◌∷◌, ◌++◌, not, IfOk, IfSome, OnOk, option_copied, option_to_list};
 ghost use Rattle.std.specs.List.{list_any};
+ghost use Rattle.ent_functions.specs.Sets.{is_among};
 ghost use Rattle.ent_eval.specs.Own.{has_issuer, is_designated, is_empty, own_values, values_among};
 ghost use Rattle.ent_eval.specs.Target.{is_true};
 ghost use Rattle.ent_eval.specs.Typed.{Tests};
@@ -163,6 +164,72 @@ fn has_value_among(attributes: &[Attribute], designator: &Designator) -> bool
         }
     }
     false
+}
+
+// Whether a value is one of the request's own. Nothing is copied to find it.
+pub(crate) fn is_own(request: &Request, designator: &Designator, value: &Value) -> bool
+    ensures { result ≡ is_among value.now (own_values designator.now request.now) }
+{
+    for category in request.categories.as_slice() {
+        if category.id == designator.category
+            && is_own_among(category.attributes.as_slice(), designator, value)
+        {
+            return true;
+        }
+    }
+    false
+}
+
+fn is_own_among(attributes: &[Attribute], designator: &Designator, value: &Value) -> bool
+    ensures { result ≡ is_among value.now (values_among designator.now attributes.now) }
+{
+    for attribute in attributes {
+        if is_designated(designator, attribute) && attribute.bag.values().contains(value) {
+            return true;
+        }
+    }
+    false
+}
+
+// The value of the request's own for a designator, if there is exactly one. Nothing is copied to find it.
+pub(crate) fn only_own<'a>(request: &'a Request, designator: &Designator) -> Option<&'a Value>
+    ensures { IfSome result (λ v. own_values designator.now request.now ≡ v.now ∷ []) }
+{
+    let mut only = None;
+    for category in request.categories.as_slice() {
+        if category.id == designator.category {
+            only = one_among(only, category.attributes.as_slice(), designator)?;
+        }
+    }
+    only
+}
+
+// The value before and the designated ones, if these are at most one together.
+fn one_among<'a>(
+    before: Option<&'a Value>,
+    attributes: &'a [Attribute],
+    designator: &Designator,
+) -> Option<Option<&'a Value>>
+    ensures { IfSome result (λ only. option_to_list (option_copied only) ≡ option_to_list (option_copied before.entry) ++ values_among designator.now attributes.now) }
+{
+    let mut only = before;
+    for attribute in attributes {
+        if is_designated(designator, attribute) {
+            only = at_most_one(only, attribute.bag.values())?;
+        }
+    }
+    Some(only)
+}
+
+// The value before and these, if these are at most one together.
+fn at_most_one<'a>(before: Option<&'a Value>, values: &'a [Value]) -> Option<Option<&'a Value>>
+    ensures { IfSome result (λ only. option_to_list (option_copied only) ≡ option_to_list (option_copied before.entry) ++ values.now) }
+{
+    match (before, values) {
+        (_, []) => Some(before),
+        (None, [value]) => Some(Some(value)),
+        _ => None,
+    }
 }
 
 pub(crate) fn is_empty(bag: &Bag) -> bool

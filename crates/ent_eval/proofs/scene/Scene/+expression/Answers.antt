@@ -57,3 +57,14 @@ variable-returns-clause-reads g t c =
 pub variable-returns-clause-typed : goal.variable-returns-clause-typed
 variable-returns-clause-typed g t c =
     IfOk-weaker c.expression.result _ _ (λ v has. subst (λ type. HasType type v) (sym (definition_type c.args.definitions.now c.args.references c.args.id.now c.in-Some.definition.now (sym c.in-Some.ensures) c.requires.typed)) has) c.expression.ensures.typed
+
+pub application-returns-in-Some-clause-value : goal.application-returns-in-Some-clause-value
+application-returns-in-Some-clause-value g t c =
+    c.in-Some.ensures.value (looks_of g.P.Policies.documents c.args.self.now.pdp.now) c.args.definitions.now c.args.references
+
+pub application-returns-in-Some-clause-reads : goal.application-returns-in-Some-clause-reads
+application-returns-in-Some-clause-reads g t c =
+    ap (noted c.args.reads.now) (sym (c.in-Some.ensures.reads (looks_of g.P.Policies.documents c.args.self.now.pdp.now) c.args.definitions.now c.args.references))
+
+pub application-returns-in-Some-clause-typed : goal.application-returns-in-Some-clause-typed
+application-returns-in-Some-clause-typed g t c = c.in-Some.ensures.typed c.args.definitions.now c.args.references c.requires.typed

@@ -1,0 +1,142 @@
+-- What functions come to for literals and designators.
+use Rattle.std.proofs.Common.{◌≡◌, ℕ, Bool, true, false, List, [], ◌∷◌, map, refl, sym, ap, ◌∙◌, subst, Option, Some, None}
+use Rattle.std.specs.Prelude.{IsSome, option_and_then, if◌then◌else◌}
+use Rattle.std.specs.Cmp.Lexicographic.{pointwise}
+use Rattle.ent_values.specs.Same.{same_value}
+use Rattle.ent_values.specs.declared.value.Value.{Value}
+use Rattle.ent_values.specs.declared.value.Value.TheVariants as value
+use Rattle.ent_functions.specs.Applied.{applied, first_order}
+use Rattle.ent_functions.specs.Sets.{is_among}
+use Rattle.ent_functions.specs.Types.{bag_of as bag_type, boolean, first_order_type, result_type_of, same_type, value_of}
+use Rattle.ent_functions.specs.declared.arg.Arg.TheVariants.{One, Many}
+use Rattle.ent_functions.specs.declared.function.Element.{Element}
+use Rattle.ent_functions.specs.declared.function.Function.{Function}
+use Rattle.ent_functions.specs.declared.function.Function.TheVariants as functions
+use Rattle.ent_functions.specs.declared.types.ArgType.{ArgType}
+use Rattle.ent_policy.specs.declared.document.Designator.{Designator}
+use Rattle.ent_policy.specs.declared.expression.Expression.{Expression}
+use Rattle.ent_policy.specs.declared.expression.Expression.TheVariants as expressions
+use Rattle.ent_policy.specs.declared.expression.Expression.TheOpen.{Expression-F}
+use Rattle.ent_policy.specs.declared.expression.Expression.TheFolds.{fold-roll-Expression}
+use Rattle.ent_policy.specs.declared.expression.VariableDefinition.{VariableDefinition}
+use Rattle.ent_eval.specs.declared.answer.Status.TheVariants.{MissingAttribute}
+use Rattle.ent_eval.specs.declared.evaluated.Evaluated.{Evaluated}
+use Rattle.ent_eval.specs.declared.evaluated.Evaluated.TheVariants.{Known, Indeterminate}
+use Rattle.ent_eval.specs.declared.request.Request.{Request}
+use Rattle.ent_eval.specs.Expression.{bag_of, decides, designated, is_result, meaning, meaning_step, result_of, variable_part}
+use Rattle.ent_eval.specs.Looks.{Looks}
+use Rattle.ent_eval.specs.Own.{own_values}
+use Rattle.ent_eval.specs.Part.{Part, known, reads_of, whole}
+use Rattle.ent_eval.specs.Typed.{HasType}
+
+-- whether a literal is among the values of a designator, which may have to be present
+abbrev pub found_in : Designator → Value → List Value → Evaluated
+found_in d literal [] = if d.must_be_present then Indeterminate MissingAttribute else Known (One (value.Boolean false))
+found_in d literal (v ∷ vs) = Known (One (value.Boolean (is_among literal (v ∷ vs))))
+
+-- a value is no result of a function that no boolean decides
+goes-on : (f : Function) (v : Value) → ((b : Bool) → decides f b ≡ false) → is_result f (Known (One v)) ≡ false
+goes-on f (value.Text t) none = refl
+goes-on f (value.Boolean b) none = none b
+goes-on f (value.Integer t) none = refl
+goes-on f (value.Date t) none = refl
+goes-on f (value.AnyUri t) none = refl
+goes-on f (value.YearMonth t) none = refl
+
+-- that is what is-in comes to
+pub found : (e : Element) (d : Designator) (literal : Value) (vs : List Value) → found_in d literal vs ≡ result_of (functions.IsIn e) (Known (One literal) ∷ bag_of d vs ∷ [])
+unfolding applied first_order
+found e d literal [] = at d.must_be_present where
+  at : (b : Bool) → (if b then Indeterminate MissingAttribute else Known (One (value.Boolean false)))
+      ≡ result_of (functions.IsIn e) (Known (One literal) ∷ (if b then Indeterminate MissingAttribute else Known (Many (record { datatype = d.datatype; values = [] }))) ∷ [])
+  at true = rw (goes-on (functions.IsIn e) literal (λ b. refl)) refl
+  at false = rw (goes-on (functions.IsIn e) literal (λ b. refl)) refl
+found e d literal (v ∷ vs) = rw (goes-on (functions.IsIn e) literal (λ b. refl)) refl
+
+-- what equal comes to
+pub same : (e : Element) (v w : Value) → Known (One (value.Boolean (same_value v w))) ≡ result_of (functions.Equal e) (Known (One v) ∷ Known (One w) ∷ [])
+unfolding applied first_order
+same e v w = rw (goes-on (functions.Equal e) v (λ b. refl), goes-on (functions.Equal e) w (λ b. refl)) refl
+
+module _ (looks : Looks) (request : Request) (definitions : List VariableDefinition) (n : ℕ) where
+  rolled : (f : Function) (given : List Expression)
+      → meaning looks request definitions n (expressions.Apply f given) ≡ whole (is_result f) (result_of f) (map (meaning looks request definitions n) given)
+  unfolding Rattle.ent_policy.specs.declared.expression.Expression.TheViews.roll-Expression denote.Hole.Carrier.roll
+  rolled f given = fold-roll-Expression (Part Evaluated) (meaning_step looks request (variable_part looks request definitions n)) (Expression-F.Apply f given)
+
+  -- a function of arguments
+  pub application-part : (x : Expression) (f : Function) (given seen : List Expression) → x ≡ expressions.Apply f given → seen ≡ given
+      → meaning looks request definitions n x ≡ whole (is_result f) (result_of f) (map (meaning looks request definitions n) seen)
+  application-part x f given seen is given-is =
+      ap (meaning looks request definitions n) is ∙ rolled f given ∙ ap (λ es. whole (is_result f) (result_of f) (map (meaning looks request definitions n) es)) (sym given-is)
+
+  pub designator-part : (d : Designator) → meaning looks request definitions n (expressions.Designator d) ≡ designated looks request d
+  unfolding Rattle.ent_policy.specs.declared.expression.Expression.TheViews.roll-Expression denote.Hole.Carrier.roll
+  designator-part d = fold-roll-Expression (Part Evaluated) (meaning_step looks request (variable_part looks request definitions n)) (Expression-F.Designator d)
+
+  one : (e : Element) (d : Designator) (v : Value) → whole (is_result (functions.OneAndOnly e)) (result_of (functions.OneAndOnly e)) (known (bag_of d (v ∷ [])) ∷ []) ≡ known (Known (One v))
+  unfolding applied first_order
+  one e d v = refl
+
+  -- one-and-only of a designator with one value
+  pub only : (f : Function) (e : Element) (d : Designator) (v : Value) (given : List Expression) → f ≡ functions.OneAndOnly e → given ≡ expressions.Designator d ∷ [] → own_values d request ≡ v ∷ []
+      → whole (is_result f) (result_of f) (map (meaning looks request definitions n) given) ≡ known (Known (One v))
+  only f e d v given f-is is own =
+      ap (λ h. whole (is_result h) (result_of h) (map (meaning looks request definitions n) given)) f-is
+      ∙ ap (whole (is_result (functions.OneAndOnly e)) (result_of (functions.OneAndOnly e))) (ap (map (meaning looks request definitions n)) is ∙ ap (λ p. p ∷ []) (designator-part d))
+      ∙ ap (λ vs. whole (is_result (functions.OneAndOnly e)) (result_of (functions.OneAndOnly e)) (known (bag_of d vs) ∷ [])) own ∙ one e d v
+
+-- two parts for which nothing is looked up
+two_known : {A B : Type 0} (stop : A → Bool) (come : List A → B) (a b : A) → whole stop come (known a ∷ known b ∷ []) ≡ known (come (a ∷ b ∷ []))
+two_known stop come a b = at (stop a) (stop b) where
+  at : (first second : Bool) → record { value = come (a ∷ b ∷ []); reads = reads_of (if first then known a ∷ [] else known a ∷ (if second then known b ∷ [] else known b ∷ [])) } ≡ known (come (a ∷ b ∷ []))
+  at true second = refl
+  at false true = refl
+  at false false = refl
+
+module _ (looks : Looks) (request : Request) (definitions : List VariableDefinition) (n : ℕ) where
+  -- a function of two arguments that are known
+  of_two : (f : Function) (given : List Expression) (x y : Expression) (a b : Evaluated) → given ≡ x ∷ y ∷ []
+      → meaning looks request definitions n x ≡ known a → meaning looks request definitions n y ≡ known b
+      → whole (is_result f) (result_of f) (map (meaning looks request definitions n) given) ≡ known (result_of f (a ∷ b ∷ []))
+  of_two f given x y a b is first second =
+      ap (λ xs. whole (is_result f) (result_of f) (map (meaning looks request definitions n) xs)) is
+      ∙ ap (λ p. whole (is_result f) (result_of f) (p ∷ meaning looks request definitions n y ∷ [])) first
+      ∙ ap (λ p. whole (is_result f) (result_of f) (known a ∷ p ∷ [])) second ∙ two_known (is_result f) (result_of f) a b
+
+  pub is-in-part : (f : Function) (e : Element) (given : List Expression) (x y : Expression) (v : Value) (d : Designator) → f ≡ functions.IsIn e → given ≡ x ∷ y ∷ []
+      → meaning looks request definitions n x ≡ known (Known (One v)) → y ≡ expressions.Designator d
+      → whole (is_result f) (result_of f) (map (meaning looks request definitions n) given) ≡ known (result_of (functions.IsIn e) (Known (One v) ∷ bag_of d (own_values d request) ∷ []))
+  is-in-part f e given x y v d f-is is first second =
+      of_two f given x y (Known (One v)) (bag_of d (own_values d request)) is first (ap (meaning looks request definitions n) second ∙ designator-part looks request definitions n d)
+      ∙ ap (λ g. known (result_of g (Known (One v) ∷ bag_of d (own_values d request) ∷ []))) f-is
+
+  pub equal-part : (f : Function) (e : Element) (given : List Expression) (x y : Expression) (v w : Value) → f ≡ functions.Equal e → given ≡ x ∷ y ∷ []
+      → meaning looks request definitions n x ≡ known (Known (One v)) → meaning looks request definitions n y ≡ known (Known (One w))
+      → whole (is_result f) (result_of f) (map (meaning looks request definitions n) given) ≡ known (result_of (functions.Equal e) (Known (One v) ∷ Known (One w) ∷ []))
+  equal-part f e given x y v w f-is is first second =
+      of_two f given x y (Known (One v)) (Known (One w)) is first second ∙ ap (λ g. known (result_of g (Known (One v) ∷ Known (One w) ∷ []))) f-is
+
+-- ---- types
+
+some_if : (b : Bool) (t : ArgType) → IsSome (if b then Some t else None) → (if b then Some t else None) ≡ Some t
+some_if true t some = refl
+some_if false t some = absurd (cc)
+
+is_in_typed : (e : Element) (types : Option (List ArgType)) → IsSome (option_and_then (result_type_of (functions.IsIn e)) types) → option_and_then (result_type_of (functions.IsIn e)) types ≡ Some boolean
+unfolding result_type_of first_order_type
+is_in_typed e None some = absurd (cc)
+is_in_typed e (Some ts) some = some_if (pointwise same_type ts (value_of e ∷ bag_type e ∷ [])) boolean some
+
+-- what has the type of a boolean has that of is-in
+pub has_type : (e : Element) (types : Option (List ArgType)) (v : Evaluated) → IsSome (option_and_then (result_type_of (functions.IsIn e)) types) → HasType (Some boolean) v → HasType (option_and_then (result_type_of (functions.IsIn e)) types) v
+has_type e types v some has = subst (λ type. HasType type v) (sym (is_in_typed e types some)) has
+
+equal_typed : (e : Element) (types : Option (List ArgType)) → IsSome (option_and_then (result_type_of (functions.Equal e)) types) → option_and_then (result_type_of (functions.Equal e)) types ≡ Some boolean
+unfolding result_type_of first_order_type
+equal_typed e None some = absurd (cc)
+equal_typed e (Some ts) some = some_if (pointwise same_type ts (value_of e ∷ value_of e ∷ [])) boolean some
+
+-- and that of equal
+pub has_type_of_equal : (e : Element) (types : Option (List ArgType)) (v : Evaluated) → IsSome (option_and_then (result_type_of (functions.Equal e)) types) → HasType (Some boolean) v → HasType (option_and_then (result_type_of (functions.Equal e)) types) v
+has_type_of_equal e types v some has = subst (λ type. HasType type v) (sym (equal_typed e types some)) has
