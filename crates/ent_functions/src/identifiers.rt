@@ -1,9 +1,11 @@
 //! The URIs that name the functions.
 
-ghost use Rattle.std.specs.Prelude.{◌≡◌, ◌++◌, ◌∷◌, [], map, find, bytes_eq, flat_map};
+ghost use Rattle.std.specs.Prelude.{◌≡◌, ◌++◌, ◌∷◌, [], IfOk, map, find, bytes_eq, flat_map};
 ghost use Rattle.ent_functions.specs.Identifiers.{element_word, ordered_word, comparison_word, prefix_of, type_word_of, operation_of, id_of, function_of, functions_at, comparisons_at, single_functions, IdsReadBack};
 
 use crate::function::{Comparison, Element, Function, Ordered};
+use ent_values::Text;
+use std::alloc::{AllocError, Global};
 
 impl Element {
     /// The word for the type in the names of its functions.
@@ -118,6 +120,17 @@ impl Function {
             Function::AnyOf => "any-of",
             Function::AllOf => "all-of",
         }
+    }
+
+    /// The URI of the function (appendix A.3).
+    #[tactic(auto, unfolding(crate::specs::Identifiers::id_of))]
+    pub fn id(self, alloc: Global) -> Result<Text, AllocError>
+        ensures { IfOk result (λ t. t ≡ id_of self) }
+    {
+        let mut id = String::from_str(alloc, self.prefix())?;
+        id.push_str(self.type_word())?;
+        id.push_str(self.operation())?;
+        Ok(Text::new(id))
     }
 
     /// Whether that URI is the function's.

@@ -16,6 +16,8 @@ mod serving;
 pub use answering::Answering;
 pub use fault::ServeFault;
 pub use input::{LINE_LIMIT, one_split};
+pub use output::send_all;
+pub use reading::read_json;
 pub use reply::Reply;
 pub use service::Service;
 pub use serving::serve;

@@ -33,8 +33,8 @@ pub(crate) fn send<W: Write>(writer: &mut W, bytes: &[u8]) -> Result<(), ServeFa
     Err(ServeFault::Write)
 }
 
-/// Writes the parts one after the other, or a front of them.
-pub(crate) fn send_all<W: Write>(writer: &mut W, parts: &[&[u8]]) -> Result<(), ServeFault>
+/// Writes the parts one after the other, or a front of them where the writer fails. Takes no memory.
+pub fn send_all<W: Write>(writer: &mut W, parts: &[&[u8]]) -> Result<(), ServeFault>
     ensures { Sends (W.contents writer.old) (W.contents writer.new) (flat_map (λ p. p.now) parts.now) result }
 {
     for part in parts {

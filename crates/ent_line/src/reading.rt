@@ -1,4 +1,4 @@
-//! Reading a line and its parts.
+//! Reading JSON and the parts of commands.
 
 ghost use Rattle.std.specs.Prelude.{◌≡◌, IfOk, option_map};
 ghost use Rattle.serde_json.specs.View.{view};
@@ -10,11 +10,11 @@ use ent_policy::{CheckFault, Reference};
 use serde_json::Value;
 use std::alloc::{AllocError, Global};
 
-/// What `serde_json` reads of a line, if it reads it.
-pub(crate) fn read_line(alloc: Global, line: &[u8]) -> Result<Option<Value>, AllocError>
-    ensures { IfOk result (λ o. option_map view o ≡ data_of line.now) }
+/// What `serde_json` reads of a JSON text in UTF-8, if it reads it.
+pub fn read_json(alloc: Global, text: &[u8]) -> Result<Option<Value>, AllocError>
+    ensures { IfOk result (λ o. option_map view o ≡ data_of text.now) }
 {
-    match Value::from_slice(alloc, line) {
+    match Value::from_slice(alloc, text) {
         Ok(value) => Ok(Some(value)),
         Err(error) => {
             if error.is_memory() {

@@ -16,7 +16,7 @@ use crate::answering::Answering;
 use crate::cell::{one_cell_text, table_text};
 use crate::command::{Command, request};
 use crate::input::LINE_LIMIT;
-use crate::reading::{read_line, read_root};
+use crate::reading::{read_json, read_root};
 use crate::refusal::{NO_MEMORY, NOT_JSON, NOT_THERE, TOO_LONG, refused_document, refused_edit};
 use crate::reply::Reply;
 use ent_eval::{Documents, Pdp, Policies};
@@ -180,7 +180,7 @@ impl<P: Policies> Service<P> {
         ensures ok { IfOk result (λ r. (reply_view r, world_of P.documents self.new) ≡ told (world_of P.documents self.old) (data_of line.now)) }
         ensures err { OnErr result (world_of P.documents self.new ≡ world_of P.documents self.old) }
     {
-        match read_line(self.alloc, line)? {
+        match read_json(self.alloc, line)? {
             Some(value) => self.answer(&value),
             None => Ok(Reply::Refused(NOT_JSON, None)),
         }

@@ -1,6 +1,6 @@
 -- The JSON form of policies and policy sets: which document, as read, a JSON value spells. Every other key or kind of value is a
 -- fault of form.
-use Rattle.std.specs.Prelude.{ℕ, ◌&&◌, List, [], ◌∷◌, Bool, if◌then◌else◌, Option, Some, None, option_and_then, Result, Ok, Err, codes, bytes_eq}
+use Rattle.std.specs.Prelude.{ℕ, ◌&&◌, List, [], ◌∷◌, if◌then◌else◌, Option, Some, None, option_and_then, Result, Ok, Err, codes, bytes_eq}
 use Rattle.serde_json.specs.Data.{Data}
 use Rattle.serde_json.specs.Find.{get}
 use Rattle.ent_policy.specs.declared.document.Effect.{Effect}

@@ -5,3 +5,5 @@ pub mod Targets
 pub mod Form
 pub mod Reference
 pub mod Values
+pub mod Written
+pub mod ReadBack

@@ -1,7 +1,7 @@
 -- JSON objects: which keys they have, and what stands at a key.
 use Rattle.std.specs.Prelude.{ℕ, ◌&&◌, ◌||◌, List, [], ◌∷◌, Bool, true, false, Option, Some, None, option_map, option_and_then, unwrap_or, is_some, Result, Ok, Err, bytes_eq}
 use Rattle.serde_json.specs.Data as json
-use Rattle.serde_json.specs.Data.{Data, Items, Members}
+use Rattle.serde_json.specs.Data.{Data, Items, Members, put}
 use Rattle.serde_json.specs.Find.{get, as_str, as_bool, as_array, as_object}
 
 -- ---- reading in steps
@@ -95,3 +95,10 @@ each_by f (json.item d ds) = f d >>= λ x. each_by f ds >>= λ xs. Ok (x ∷ xs)
 -- each member of a list that has to be there, or else this fault
 abbrev pub list_by : {A F : Type 0} → F → (Data → Result A F) → Option Items → Result (List A) F
 list_by e f o = need e o >>= each_by f
+
+-- ---- writing
+
+-- the members, with a value at the key if there is one
+abbrev pub put_optional : List ℕ → Option Data → Members → Members
+put_optional k None ms = ms
+put_optional k (Some d) ms = put k d ms

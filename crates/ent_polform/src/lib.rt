@@ -1,23 +1,36 @@
-//! The JSON form of policies: which document, or which reference, a JSON value spells.
+//! The JSON form of policies: which document, or which reference, a JSON value spells, and how a document is written.
 #![tactic(auto)]
 
 mod expression;
 mod form;
+mod law;
+mod members;
 mod objects;
 mod reference;
 mod target;
 mod value;
+mod written_documents;
+mod written_expressions;
+mod written_targets;
+mod written_values;
 
 pub use form::read_document;
+pub use law::{documents_read_back, values_read_back};
 pub use objects::{
     filled_list_at, flag_at, has_only, list_at, one_member, text_at, text_or_absent,
 };
 pub use reference::read_reference;
 pub use value::read_value;
+pub use written_documents::write_document;
+pub use written_values::write_value;
 
 #[cfg(test)]
 mod document_tests;
 #[cfg(test)]
 mod fault_tests;
 #[cfg(test)]
+mod policies_tests;
+#[cfg(test)]
 mod tests;
+#[cfg(test)]
+mod write_tests;

@@ -5,11 +5,13 @@ pub mod Filling
 pub mod Greatest
 pub mod Identifiers
 pub mod Ids
+pub mod KeptTypes
 pub mod Lists
 pub mod Members
 pub mod Numbers
 pub mod OnlyTypes
 pub mod OnlyTypesWhole
+pub mod Passed
 pub mod Policies
 pub mod Read
 pub mod References

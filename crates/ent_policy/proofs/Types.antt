@@ -1,5 +1,5 @@
 -- The equations of types.
-use Rattle.std.proofs.Common.{◌≡◌, ℕ, zero, suc, ◌+◌, ◌-◌, ◌*◌, ◌<◌, ◌≤◌, max, List, [], ◌∷◌, ◌++◌, map, Bool, true, false, ◌&&◌, Option, Some, None, option_map, option_and_then, refl, sym, ap, subst, ◌∙◌, arith, suc-mul, bytes_eq}
+use Rattle.std.proofs.Common.{◌≡◌, ℕ, zero, suc, ◌+◌, ◌-◌, ◌*◌, ◌<◌, ◌≤◌, max, List, [], ◌∷◌, ◌++◌, map, Bool, true, false, ◌&&◌, Option, Some, option_map, option_and_then, refl, ap, subst, ◌∙◌, arith, bytes_eq}
 use Rattle.std.specs.Prelude.{if◌then◌else◌}
 use Rattle.std.specs.List.{list_all}
 use Rattle.ent_functions.specs.declared.function.Function.{Function}
@@ -15,7 +15,7 @@ use Rattle.ent_policy.specs.declared.expression.Expression.TheVariants as expres
 use Rattle.ent_policy.specs.declared.expression.Expression.TheOpen.{Expression-F}
 use Rattle.ent_policy.specs.declared.expression.Expression.TheFolds.{fold-roll-Expression}
 use Rattle.ent_policy.specs.declared.expression.VariableDefinition.{VariableDefinition}
-use Rattle.ent_policy.specs.Typing.{all_typed, definition_of, held, is_typed, set_step, target_is_typed, tree_step, type_step, type_with, variable_type}
+use Rattle.ent_policy.specs.Typing.{all_typed, definition_of, is_typed, set_step, target_is_typed, tree_step, type_step, type_with, variable_type}
 
 -- an application has the result type of its arguments' types
 pub type_of_apply : (refer : List ℕ → Option ArgType) (function : Function) (arguments : List Expression) → type_with refer (expressions.Apply function arguments) ≡ option_and_then (result_type_of function) (all_typed (map (type_with refer) arguments))
@@ -53,17 +53,19 @@ within (e ∷ ds) id d h = within_at (bytes_eq e.id id) e ds id d (within ds id 
   within_at true e ds id d later h = let same : e ≡ d = cc in subst (λ x. size-Expression x.expression ≤ max (size-Expression e.expression) (largest ds)) same (omega arith)
   within_at false e ds id d later h = omega (arith, later h)
 
--- a definition is worth less than the reference to it
-pub worth_falls : (ds : List VariableDefinition) (left : ℕ) (id : List ℕ) (d : VariableDefinition) → (left ≡ 0 → ⊥) → definition_of ds id ≡ Some d → (left - 1) * worth ds + 4 * size-Expression d.expression + 1 < left * worth ds
-worth_falls ds zero id d some found = absurd (some refl)
-worth_falls ds (suc n) id d some found =
-    let small = within ds id d found in
-    let e : suc n - 1 ≡ n = omega arith in
-    rw (e, suc-mul n (worth ds)) (omega (arith, small))
+-- what a look-up is worth: more than any definition, and less than one reference more
+abbrev pub look : List VariableDefinition → ℕ
+look ds = 4 * largest ds + 2
 
--- the type of a variable is that of its definition
-pub variable_typed : (ds : List VariableDefinition) (left : ℕ) (id : List ℕ) (d : VariableDefinition) (t r : Option ArgType) → (left ≡ 0 → ⊥) → definition_of ds id ≡ Some d → t ≡ type_with (variable_type ds (left - 1)) d.expression → r ≡ held t → r ≡ variable_type ds left id
-variable_typed ds zero id d t r some found is holds = absurd (some refl)
-variable_typed ds (suc n) id d t r some found is holds =
+-- a definition is worth less than its look-up
+pub definition_falls : (ds : List VariableDefinition) (left : ℕ) (id : List ℕ) (d : VariableDefinition) → definition_of ds id ≡ Some d → left * worth ds + 4 * size-Expression d.expression + 1 < left * worth ds + look ds
+definition_falls ds left id d found = falls (left * worth ds) (size-Expression d.expression) (largest ds) (within ds id d found) where
+  falls : (x a b : ℕ) → a ≤ b → x + 4 * a + 1 < x + (4 * b + 2)
+  falls x a b le = omega (arith, le)
+
+-- with a reference left, the type of a variable is that of its definition
+pub one_left : (ds : List VariableDefinition) (left : ℕ) (id : List ℕ) → (left ≡ 0 → ⊥) → variable_type ds (suc (left - 1)) id ≡ variable_type ds left id
+one_left ds zero id some = absurd (some refl)
+one_left ds (suc n) id some =
     let e : suc n - 1 ≡ n = omega arith in
-    rw found (subst (λ k. r ≡ held (type_with (variable_type ds k) d.expression)) e (holds ∙ ap held is))
+    ap (λ k. variable_type ds (suc k) id) e

@@ -210,6 +210,14 @@ unless_fault (Some fault) read = Err fault
 unfoldable pub checked : RawDocument → Result Tree DocFault
 checked d = unless_fault (fault_of d) (tree_of d >>= if_typed)
 
+-- read of a document that has no fault before its types are looked at
+abbrev pub IsRead : Tree → Type 0
+IsRead t = (d : RawDocument) × (fault_of d ≡ None) × (tree_of d ≡ Ok t)
+
+-- what the checker passes: read of some document that has no fault
+abbrev pub IsChecked : Tree → Type 0
+IsChecked t = (d : RawDocument) × (checked d ≡ Ok t)
+
 -- where each name can be read, a document can't be read only for a type that isn't known or a value that isn't of its type
 abbrev pub OnlyTypesAreLeft : Type 0
 OnlyTypesAreLeft = (d : RawDocument) (fault : DocFault) → name_fault d ≡ None → tree_of d ≡ Err fault → fault ≡ «Type»

@@ -3,6 +3,7 @@ pub mod Depths
 pub mod Fault
 pub mod Gives
 pub mod Key
+pub mod KnownTypes
 pub mod Names
 pub mod Order
 pub mod Parts

@@ -1,7 +1,7 @@
 //! The checker, which makes documents.
 
 ghost use Rattle.std.specs.Prelude.{◌≡◌, IfOk};
-ghost use Rattle.ent_policy.specs.Check.{OnlyTypesAreLeft, checked, fault_of, if_typed};
+ghost use Rattle.ent_policy.specs.Check.{IsRead, OnlyTypesAreLeft, checked, fault_of, if_typed};
 ghost use Rattle.ent_policy.specs.Gives.{Gives};
 
 use crate::depths::exceeds_depth;
@@ -54,8 +54,9 @@ fn first_fault(alloc: Global, raw: &RawDocument) -> Result<Option<DocFault>, All
 }
 
 /// The document, if each expression in it has its type.
-#[tactic(auto, unfolding(crate::specs::Check::if_typed))]
+#[tactic(auto, using(crate::proofs::Passed::is_checked_typed), unfolding(crate::specs::Check::if_typed))]
 fn typed(alloc: Global, tree: Tree) -> Result<Document, CheckFault>
+    requires { IsRead tree }
     ensures { Gives result (if_typed tree) }
 {
     if !is_typed(alloc, &tree)? {

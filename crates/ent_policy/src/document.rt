@@ -112,28 +112,30 @@ impl Model for Document {
 
     ghost coded = { Prim.hlevel (codes, e.the_row.coded) };
 
-    ghost use Rattle.std.specs.Prelude.{◌≡◌, true};
-    ghost use Rattle.ent_policy.specs.Typing.{is_typed};
+    ghost use Rattle.ent_policy.specs.Check.{IsChecked};
 
     ghost view = { λ d. d.tree };
 
-    ghost invariant = { λ d. is_typed d.tree ≡ true };
+    ghost invariant = { λ d. IsChecked d.tree };
 }
 
 impl Document {
     ghost use Rattle.std.specs.Prelude.{true};
+    ghost use Rattle.ent_policy.specs.Check.{IsChecked};
     ghost use Rattle.ent_policy.specs.Typing.{is_typed};
 
     pub(crate) fn new(tree: Tree) -> Document
-        requires typed { is_typed tree ≡ true }
+        requires checked { IsChecked tree }
         ensures { result ≡ tree }
     {
         Document { tree }
     }
 
-    /// The policy or the policy set that the document holds.
+    /// The policy or the policy set that the document holds: what the checker passed, with names and versions that can be read,
+    /// within the limits, each variable defined, and each expression of its type.
     pub fn tree(&self) -> &Tree
         ensures same { result.now ≡ self.now }
+        ensures checked { IsChecked result.now }
         ensures typed { is_typed result.now ≡ true }
     {
         &self.tree

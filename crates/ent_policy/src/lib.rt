@@ -15,6 +15,7 @@ mod reading;
 mod sizes;
 mod tables;
 mod typing;
+mod uses;
 mod variables;
 mod version;
 

@@ -1,14 +1,17 @@
 //! The types of expressions, and whether each expression of a document has one.
 
-ghost use Rattle.std.specs.Prelude.{◌≡◌, ◌&&◌, IfOk, map, option_map, is_some, length};
+ghost use Rattle.std.specs.Prelude.{◌≡◌, ◌&&◌, IfOk, map, option_map, is_some, length, suc};
 ghost use Rattle.std.specs.List.{list_all};
+ghost use Rattle.ent_policy.specs.KnownTypes.{AreTypes, known_type};
 ghost use Rattle.ent_policy.specs.Typing.{all_of_is_typed, all_typed, any_of_is_typed, condition_is_typed, definition_is_typed, definition_of, held, is_boolean, is_typed, match_is_typed, policy_is_typed, rule_is_typed, target_is_typed, type_in, type_with, variable_type};
 
 use crate::document::{AllOf, AnyOf, Match, Policy, PolicySet, Rule, Target, Tree};
 use crate::expression::{Expression, VariableDefinition};
+use crate::uses::used_first;
 use ent_functions::ArgType;
 use ent_values::DataType;
 use std::alloc::{AllocError, Global};
+use std::collections::BTreeMap;
 
 /// Whether it is the type of one boolean.
 fn is_boolean(given: Option<ArgType>) -> bool
@@ -91,23 +94,33 @@ fn definition_of<'a>(
     None
 }
 
+/// The type that the table has for an id.
+fn known_type(table: &BTreeMap<&str, ArgType>, id: &str) -> Option<ArgType>
+    ensures { result ≡ known_type table.now id.now }
+{
+    table.get(id).copied()
+}
+
 /// The type of an expression, with this many references left to follow.
 #[cycle(typing)]
 #[tactic(auto, using(crate::proofs::Types::type_of_apply))]
 fn type_of(
     alloc: Global,
     definitions: &[VariableDefinition],
+    table: &BTreeMap<&str, ArgType>,
     left: usize,
     expression: &Expression,
 ) -> Result<Option<ArgType>, AllocError>
+    requires { AreTypes definitions.now left table.now }
     ensures { IfOk result (λ t. t ≡ type_with (variable_type definitions.now left) expression.now) }
 {
     match expression {
         Expression::Value(value) => Ok(Some(ArgType::One(value.datatype()))),
         Expression::Designator(designator) => Ok(Some(ArgType::Many(designator.datatype))),
-        Expression::Variable(id) => variable_type(alloc, definitions, left, id.as_str()),
+        Expression::Variable(id) => variable_type(alloc, definitions, table, left, id.as_str()),
         Expression::Apply(function, arguments) => {
-            let Some(given) = types_of(alloc, definitions, left, arguments.as_slice())? else {
+            let arguments = arguments.as_slice();
+            let Some(given) = types_of(alloc, definitions, table, left, arguments)? else {
                 return Ok(None);
             };
             Ok(function.result_type(given.as_slice()))
@@ -121,14 +134,16 @@ fn type_of(
 fn types_of(
     alloc: Global,
     definitions: &[VariableDefinition],
+    table: &BTreeMap<&str, ArgType>,
     left: usize,
     arguments: &[Expression],
 ) -> Result<Option<Vec<ArgType>>, AllocError>
+    requires { AreTypes definitions.now left table.now }
     ensures { IfOk result (λ ts. option_map (λ v. v.items) ts ≡ all_typed (map (type_with (variable_type definitions.now left)) arguments.now)) }
 {
-    let mut given = Vec::new(alloc);
+    let mut given = Vec::with_capacity(alloc, arguments.len())?;
     for argument in arguments {
-        match type_of(alloc, definitions, left, argument)? {
+        match type_of(alloc, definitions, table, left, argument)? {
             None => return Ok(None),
             Some(type_of_argument) => given.push(type_of_argument)?,
         }
@@ -136,28 +151,70 @@ fn types_of(
     Ok(Some(given))
 }
 
-/// The type of a variable, with this many references left to follow.
+/// The type of a variable, with this many references left to follow: that of the table, or else of its definition.
 #[cycle(typing)]
 fn variable_type(
     alloc: Global,
     definitions: &[VariableDefinition],
+    table: &BTreeMap<&str, ArgType>,
     left: usize,
     id: &str,
 ) -> Result<Option<ArgType>, AllocError>
+    requires { AreTypes definitions.now left table.now }
     ensures { IfOk result (λ t. t ≡ variable_type definitions.now left id.now) }
 {
+    if let Some(known) = known_type(table, id) {
+        return Ok(Some(known));
+    }
     if left == 0 {
         return Ok(None);
     }
+    defined_type(alloc, definitions, &BTreeMap::new(alloc), left - 1, id)
+}
+
+/// The type of a variable by its definition, with this many references left to follow from there.
+#[cycle(typing)]
+fn defined_type(
+    alloc: Global,
+    definitions: &[VariableDefinition],
+    table: &BTreeMap<&str, ArgType>,
+    left: usize,
+    id: &str,
+) -> Result<Option<ArgType>, AllocError>
+    requires { AreTypes definitions.now left table.now }
+    ensures { IfOk result (λ t. t ≡ variable_type definitions.now (suc left) id.now) }
+{
     match definition_of(definitions, id) {
         None => Ok(None),
         Some(definition) => Ok(held(type_of(
             alloc,
             definitions,
-            left - 1,
+            table,
+            left,
             &definition.expression,
         )?)),
     }
+}
+
+/// The types of variables, up to the first that has none.
+fn type_table(
+    alloc: Global,
+    definitions: &[VariableDefinition],
+) -> Result<BTreeMap<&str, ArgType>, AllocError>
+    ensures { IfOk result (λ table. AreTypes definitions.now (length definitions.now) table) }
+{
+    let ids = used_first(alloc, definitions)?;
+    let mut table = BTreeMap::new(alloc);
+    for left in 0..definitions.len() {
+        let Some(id) = ids.get(left) else {
+            return Ok(table);
+        };
+        let Some(found) = defined_type(alloc, definitions, &table, left, *id)? else {
+            return Ok(table);
+        };
+        table.insert(*id, found)?;
+    }
+    Ok(table)
 }
 
 /// Whether a definition gives a value or a bag.
@@ -165,13 +222,16 @@ fn variable_type(
 fn definition_is_typed(
     alloc: Global,
     definitions: &[VariableDefinition],
+    table: &BTreeMap<&str, ArgType>,
     definition: &VariableDefinition,
 ) -> Result<bool, AllocError>
+    requires { AreTypes definitions.now (length definitions.now) table.now }
     ensures { IfOk result (λ b. b ≡ definition_is_typed definitions.now definition.now) }
 {
     let given = type_of(
         alloc,
         definitions,
+        table,
         definitions.len(),
         &definition.expression,
     )?;
@@ -182,11 +242,13 @@ fn definition_is_typed(
 fn definitions_are_typed(
     alloc: Global,
     definitions: &[VariableDefinition],
+    table: &BTreeMap<&str, ArgType>,
 ) -> Result<bool, AllocError>
+    requires { AreTypes definitions.now (length definitions.now) table.now }
     ensures { IfOk result (λ b. b ≡ list_all (definition_is_typed definitions.now) definitions.now) }
 {
     for definition in definitions {
-        if !definition_is_typed(alloc, definitions, definition)? {
+        if !definition_is_typed(alloc, definitions, table, definition)? {
             return Ok(false);
         }
     }
@@ -198,8 +260,10 @@ fn definitions_are_typed(
 fn condition_is_typed(
     alloc: Global,
     definitions: &[VariableDefinition],
+    table: &BTreeMap<&str, ArgType>,
     condition: &Option<Expression>,
 ) -> Result<bool, AllocError>
+    requires { AreTypes definitions.now (length definitions.now) table.now }
     ensures { IfOk result (λ b. b ≡ condition_is_typed definitions.now condition.now) }
 {
     match condition {
@@ -207,6 +271,7 @@ fn condition_is_typed(
         Some(expression) => Ok(is_boolean(type_of(
             alloc,
             definitions,
+            table,
             definitions.len(),
             expression,
         )?)),
@@ -217,25 +282,29 @@ fn condition_is_typed(
 fn rule_is_typed(
     alloc: Global,
     definitions: &[VariableDefinition],
+    table: &BTreeMap<&str, ArgType>,
     rule: &Rule,
 ) -> Result<bool, AllocError>
+    requires { AreTypes definitions.now (length definitions.now) table.now }
     ensures { IfOk result (λ b. b ≡ rule_is_typed definitions.now rule.now) }
 {
     if !target_is_typed(&rule.target) {
         return Ok(false);
     }
-    condition_is_typed(alloc, definitions, &rule.condition)
+    condition_is_typed(alloc, definitions, table, &rule.condition)
 }
 
 fn rules_are_typed(
     alloc: Global,
     definitions: &[VariableDefinition],
+    table: &BTreeMap<&str, ArgType>,
     rules: &[Rule],
 ) -> Result<bool, AllocError>
+    requires { AreTypes definitions.now (length definitions.now) table.now }
     ensures { IfOk result (λ b. b ≡ list_all (rule_is_typed definitions.now) rules.now) }
 {
     for rule in rules {
-        if !rule_is_typed(alloc, definitions, rule)? {
+        if !rule_is_typed(alloc, definitions, table, rule)? {
             return Ok(false);
         }
     }
@@ -250,10 +319,11 @@ fn policy_is_typed(alloc: Global, policy: &Policy) -> Result<bool, AllocError>
     if !target_is_typed(&policy.target) {
         return Ok(false);
     }
-    if !definitions_are_typed(alloc, definitions)? {
+    let table = type_table(alloc, definitions)?;
+    if !definitions_are_typed(alloc, definitions, &table)? {
         return Ok(false);
     }
-    rules_are_typed(alloc, definitions, policy.rules.as_slice())
+    rules_are_typed(alloc, definitions, &table, policy.rules.as_slice())
 }
 
 /// Whether each expression of a document has its type.

@@ -1,6 +1,6 @@
 //! Identifiers, types and printed faults.
 
-use crate::{ArgType, Fault, Function};
+use crate::{ArgType, Element, Fault, Function};
 use std::test::Fail;
 
 #[test]
@@ -30,6 +30,16 @@ fn names_and_types(rt: HostRuntime) {
         Function::AnyOf.result_type(&[ArgType::Fun(Function::Not), booleans, booleans]),
         None
     );
+}
+
+#[test]
+fn identifiers_are_written(rt: HostRuntime) -> Result<(), Fail> {
+    let id = Function::BagSize(Element::AnyUri).id(rt.alloc())?;
+    assert_eq!(rt;
+        id.as_str(),
+        "urn:oasis:names:tc:xacml:1.0:function:anyURI-bag-size"
+    );
+    Ok(())
 }
 
 #[test]

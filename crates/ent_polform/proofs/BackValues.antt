@@ -1,0 +1,91 @@
+-- Values and designators that are written read back.
+use Rattle.std.proofs.Common.{◌≡◌, ℕ, pos, negsuc, List, Bool, Option, Some, None, Ok, refl}
+use Rattle.ent_values.proofs.ReadBack.{read_back}
+use Rattle.ent_values.specs.ReadBack.{IsReadable}
+use Rattle.ent_values.specs.Types.{datatype_of, short_name_of, type_of, uri_of}
+use Rattle.ent_values.specs.Writing.{text_of}
+use Rattle.ent_values.specs.declared.datatype.DataType.{DataType}
+use Rattle.ent_values.specs.declared.datatype.DataType.TheVariants as types
+use Rattle.ent_values.specs.declared.value.Value.{Value}
+use Rattle.ent_values.specs.declared.value.Value.TheVariants as values
+use Rattle.ent_policy.specs.Check as check
+use Rattle.ent_policy.specs.declared.document.Designator.{Designator}
+use Rattle.ent_policy.specs.declared.raw.RawDesignator.{RawDesignator}
+use Rattle.ent_policy.specs.declared.raw.RawLiteral.{RawLiteral}
+use Rattle.ent_policy.specs.declared.raw.RawLiteral.TheVariants as literals
+use Rattle.ent_policy.specs.declared.raw.RawValue.{RawValue}
+use Rattle.ent_polform.specs.Expressions.{designator_of, value_of}
+use Rattle.ent_polform.specs.ReadBack.{ValuesReadBack}
+use Rattle.ent_polform.specs.Values.{value_in}
+use Rattle.ent_polform.specs.Written.{designator_written, literal_written, value_written}
+
+pub values_back : ValuesReadBack
+unfolding value_in value_written
+values_back (values.Text text) h = read_back (values.Text text) h
+values_back (values.Boolean boolean) h = refl
+values_back (values.Integer (pos n)) h = rw h refl
+values_back (values.Integer (negsuc n)) h = refl
+values_back (values.Date date) h = read_back (values.Date date) h
+values_back (values.AnyUri uri) h = read_back (values.AnyUri uri) h
+values_back (values.YearMonth months) h = read_back (values.YearMonth months) h
+
+-- ---- as read, before the check
+
+abbrev pub raw_literal : Value → RawLiteral
+raw_literal (values.Text text) = literals.Text (text_of (values.Text text))
+raw_literal (values.Boolean boolean) = literals.Boolean boolean
+raw_literal (values.Integer integer) = literals.Integer integer
+raw_literal (values.Date date) = literals.Text (text_of (values.Date date))
+raw_literal (values.AnyUri uri) = literals.Text (text_of (values.AnyUri uri))
+raw_literal (values.YearMonth months) = literals.Text (text_of (values.YearMonth months))
+
+abbrev pub raw_value : Value → RawValue
+raw_value value = record { datatype = Some (uri_of (datatype_of value)); literal = raw_literal value }
+
+abbrev pub raw_designator : Designator → RawDesignator
+raw_designator d = record { category = d.category; attribute = d.attribute; datatype = uri_of d.datatype; issuer = d.issuer; must_be_present = d.must_be_present }
+
+type_back : (datatype : DataType) → type_of (uri_of datatype) ≡ Some datatype
+unfolding type_of uri_of short_name_of
+type_back types.Text = refl
+type_back types.Boolean = refl
+type_back types.Integer = refl
+type_back types.Date = refl
+type_back types.AnyUri = refl
+type_back types.YearMonth = refl
+
+pub value_form : (value : Value) → IsReadable value → value_of (literal_written value) ≡ Ok (raw_value value)
+unfolding value_of literal_written value_written
+value_form (values.Text text) h = refl
+value_form (values.Boolean boolean) h = refl
+value_form (values.Integer (pos n)) h = rw h refl
+value_form (values.Integer (negsuc n)) h = refl
+value_form (values.Date date) h = refl
+value_form (values.AnyUri uri) h = refl
+value_form (values.YearMonth months) h = refl
+
+literal_holds : (value : Value) → IsReadable value → check.literal_as (raw_literal value) (datatype_of value) ≡ Ok value
+unfolding check.literal_as
+literal_holds (values.Text text) h = rw (read_back (values.Text text) h) refl
+literal_holds (values.Boolean boolean) h = refl
+literal_holds (values.Integer integer) h = refl
+literal_holds (values.Date date) h = rw (read_back (values.Date date) h) refl
+literal_holds (values.AnyUri uri) h = rw (read_back (values.AnyUri uri) h) refl
+literal_holds (values.YearMonth months) h = rw (read_back (values.YearMonth months) h) refl
+
+pub value_holds : (value : Value) → IsReadable value → check.value_read (raw_value value) ≡ Ok value
+unfolding check.value_read
+value_holds value h = rw (type_back (datatype_of value)) (literal_holds value h)
+
+designator_fields : (category attribute : List ℕ) (datatype : DataType) (issuer : Option (List ℕ)) (must_be_present : Bool) (d : Designator) → d ≡ record { category = category; attribute = attribute; datatype = datatype; issuer = issuer; must_be_present = must_be_present }
+    → designator_of (designator_written d) ≡ Ok (raw_designator d)
+unfolding designator_of designator_written
+designator_fields category attribute datatype None must_be_present d same = rw same refl
+designator_fields category attribute datatype (Some issuer) must_be_present d same = rw same refl
+
+pub designator_form : (d : Designator) → designator_of (designator_written d) ≡ Ok (raw_designator d)
+designator_form d = designator_fields d.category d.attribute d.datatype d.issuer d.must_be_present d refl
+
+pub designator_holds : (d : Designator) → check.designator_of (raw_designator d) ≡ Ok d
+unfolding check.designator_of
+designator_holds d = rw (type_back d.datatype) refl

@@ -1,0 +1,92 @@
+-- That what is written reads back.
+use Rattle.std.specs.Prelude.{◌≡◌, List, [], ◌∷◌, ◌++◌, Some, Ok}
+use Rattle.std.specs.List.{AllByRecursion, flat_map}
+use Rattle.serde_json.specs.Data.{Data}
+use Rattle.ent_values.specs.ReadBack.{IsReadable}
+use Rattle.ent_values.specs.Types.{datatype_of}
+use Rattle.ent_values.specs.declared.value.Value.{Value}
+use Rattle.ent_policy.specs.Check.{IsChecked}
+use Rattle.ent_policy.specs.Raw.{if_there, joined}
+use Rattle.ent_policy.specs.declared.document.AllOf.{AllOf}
+use Rattle.ent_policy.specs.declared.document.AnyOf.{AnyOf}
+use Rattle.ent_policy.specs.declared.document.Match.{Match}
+use Rattle.ent_policy.specs.declared.document.Policy.{Policy}
+use Rattle.ent_policy.specs.declared.document.Rule.{Rule}
+use Rattle.ent_policy.specs.declared.document.Target.{Target}
+use Rattle.ent_policy.specs.declared.document.Tree.{Tree}
+use Rattle.ent_policy.specs.declared.document.Tree.TheOpen.{Tree-F, PolicySet-F}
+use Rattle.ent_policy.specs.declared.document.Tree.TheFolds.{fold-Tree}
+use Rattle.ent_policy.specs.declared.expression.Expression.{Expression}
+use Rattle.ent_policy.specs.declared.expression.Expression.TheOpen.{Expression-F}
+use Rattle.ent_policy.specs.declared.expression.Expression.TheFolds.{fold-Expression}
+use Rattle.ent_policy.specs.declared.expression.VariableDefinition.{VariableDefinition}
+use Rattle.ent_polform.specs.Form.{document_of}
+use Rattle.ent_polform.specs.Values.{value_in}
+use Rattle.ent_polform.specs.Written.{value_written, written}
+
+-- a value that is written reads as that value, where a duration has at most 999,999,999 whole years
+abbrev pub ValuesReadBack : Type 0
+ValuesReadBack = (value : Value) → IsReadable value → value_in (datatype_of value) (value_written value) ≡ Some value
+
+-- ---- the values of a document
+
+-- the values in one level of an expression, with those of each argument already seen
+abbrev pub values_here : Expression-F (List Value) → List Value
+values_here (Expression-F.Value value) = value ∷ []
+values_here (Expression-F.Designator designator) = []
+values_here (Expression-F.Variable id) = []
+values_here (Expression-F.Apply function arguments) = joined arguments
+values_here (Expression-F.Function function) = []
+
+-- the values in an expression
+abbrev pub expression_values : Expression → List Value
+expression_values = fold-Expression (List Value) values_here
+
+-- the value in a match
+abbrev pub match_values : Match → List Value
+match_values m = m.literal ∷ []
+
+-- the values in an AllOf
+abbrev pub all_of_values : AllOf → List Value
+all_of_values a = flat_map match_values a.matches
+
+-- the values in an AnyOf
+abbrev pub any_of_values : AnyOf → List Value
+any_of_values a = flat_map all_of_values a.all_of
+
+-- the values in a target
+abbrev pub target_values : Target → List Value
+target_values t = flat_map any_of_values t.any_of
+
+-- the values in a variable's definition
+abbrev pub definition_values : VariableDefinition → List Value
+definition_values d = expression_values d.expression
+
+-- the values in a rule
+abbrev pub rule_values : Rule → List Value
+rule_values r = target_values r.target ++ flat_map expression_values (if_there r.condition)
+
+-- the values in a policy
+abbrev pub policy_values : Policy → List Value
+policy_values p = target_values p.target ++ (flat_map definition_values p.variables ++ flat_map rule_values p.rules)
+
+-- the values in one level of a document, with those of a set already seen
+abbrev pub values_in_level : Tree-F (List Value) (List Value) → List Value
+values_in_level (Tree-F.Policy policy) = policy_values policy
+values_in_level (Tree-F.Set set) = set
+
+-- the values in a set
+abbrev pub values_in_set : PolicySet-F (List Value) (List Value) → List Value
+values_in_set set = target_values set.target ++ joined set.children
+
+-- every value of a document
+abbrev pub document_values : Tree → List Value
+document_values = fold-Tree (List Value) (List Value) values_in_level values_in_set
+
+-- this JSON is read as that document, where no duration in it has more than 999,999,999 whole years
+abbrev pub ReadsBack : Tree → Data → Type 0
+ReadsBack document d = AllByRecursion IsReadable (document_values document) → document_of d ≡ Ok document
+
+-- what is written of a document that the checker passes is read as that document
+abbrev pub DocumentsReadBack : Type 0
+DocumentsReadBack = (document : Tree) → IsChecked document → ReadsBack document (written document)

@@ -1,0 +1,178 @@
+-- The JSON that a document is written as. Absent parts and empty lists are left out; a data type is written as its full URI, that of
+-- a value too; MustBePresent is always written. The keys of an object stand in byte order.
+use Rattle.std.specs.Prelude.{ℕ, List, [], ◌∷◌, map, Option, Some, None, option_map, codes}
+use Rattle.serde_json.specs.Data as json
+use Rattle.serde_json.specs.Data.{Data, Members}
+use Rattle.serde_json.specs.Find.{of_integer}
+use Rattle.serde_json.specs.View.{items_of}
+use Rattle.ent_values.specs.Types.{datatype_of, uri_of}
+use Rattle.ent_values.specs.Writing.{text_of}
+use Rattle.ent_values.specs.declared.value.Value.{Value}
+use Rattle.ent_values.specs.declared.value.Value.TheVariants as values
+use Rattle.ent_combine.specs.Identifiers.{rule_id_of, policy_id_of}
+use Rattle.ent_functions.specs.Identifiers.{id_of}
+use Rattle.ent_functions.specs.declared.function.Function.{Function}
+use Rattle.ent_policy.specs.Versions.{version_text}
+use Rattle.ent_policy.specs.declared.document.AllOf.{AllOf}
+use Rattle.ent_policy.specs.declared.document.AnyOf.{AnyOf}
+use Rattle.ent_policy.specs.declared.document.Designator.{Designator}
+use Rattle.ent_policy.specs.declared.document.Effect.{Effect}
+use Rattle.ent_policy.specs.declared.document.Effect.TheVariants.{Permit, Deny}
+use Rattle.ent_policy.specs.declared.document.Match.{Match}
+use Rattle.ent_policy.specs.declared.document.Policy.{Policy}
+use Rattle.ent_policy.specs.declared.document.PolicySet.{PolicySet}
+use Rattle.ent_policy.specs.declared.document.Rule.{Rule}
+use Rattle.ent_policy.specs.declared.document.Target.{Target}
+use Rattle.ent_policy.specs.declared.document.Tree.{Tree}
+use Rattle.ent_policy.specs.declared.document.Tree.TheOpen.{Tree-F, PolicySet-F}
+use Rattle.ent_policy.specs.declared.document.Tree.TheFolds.{fold-Tree}
+use Rattle.ent_policy.specs.declared.expression.Expression.{Expression}
+use Rattle.ent_policy.specs.declared.expression.Expression.TheOpen.{Expression-F}
+use Rattle.ent_policy.specs.declared.expression.Expression.TheFolds.{fold-Expression}
+use Rattle.ent_policy.specs.declared.expression.VariableDefinition.{VariableDefinition}
+
+-- ---- members
+
+-- an object that has one member
+abbrev pub only_member : List ℕ → Data → Data
+only_member key d = json.object (json.member key d json.no_members)
+
+-- a member that may be absent, in front of the others
+abbrev pub optional : List ℕ → Option Data → Members → Members
+optional key None members = members
+optional key (Some d) members = json.member key d members
+
+-- a list, which is left out where it has no member
+abbrev pub filled_list : List Data → Option Data
+filled_list [] = None
+filled_list (d ∷ ds) = Some (json.array (items_of (d ∷ ds)))
+
+-- ---- values and attributes
+
+-- a value: an integer as a number, a boolean as a boolean, every other value as its written text
+unfoldable pub value_written : Value → Data
+value_written (values.Text text) = json.string (text_of (values.Text text))
+value_written (values.Boolean boolean) = json.boolean boolean
+value_written (values.Integer integer) = json.number (of_integer integer)
+value_written (values.Date date) = json.string (text_of (values.Date date))
+value_written (values.AnyUri uri) = json.string (text_of (values.AnyUri uri))
+value_written (values.YearMonth duration) = json.string (text_of (values.YearMonth duration))
+
+-- an AttributeValue (section 5.31)
+unfoldable pub literal_written : Value → Data
+literal_written value = json.object (
+    json.member (codes "DataType") (json.string (uri_of (datatype_of value)))
+    (json.member (codes "Value") (value_written value)
+    json.no_members))
+
+-- an AttributeDesignator (section 5.29)
+unfoldable pub designator_written : Designator → Data
+designator_written d = json.object (
+    json.member (codes "AttributeId") (json.string d.attribute)
+    (json.member (codes "Category") (json.string d.category)
+    (json.member (codes "DataType") (json.string (uri_of d.datatype))
+    (optional (codes "Issuer") (option_map json.string d.issuer)
+    (json.member (codes "MustBePresent") (json.boolean d.must_be_present)
+    json.no_members)))))
+
+-- ---- expressions
+
+-- an Apply (section 5.27) of arguments as they are written
+abbrev pub apply_written : Function → List Data → Data
+apply_written function arguments = json.object (
+    optional (codes "Arguments") (filled_list arguments)
+    (json.member (codes "FunctionId") (json.string (id_of function))
+    json.no_members))
+
+-- one level of an expression (section 5.25), with each argument as it is written
+abbrev pub expression_step : Expression-F Data → Data
+expression_step (Expression-F.Value value) = only_member (codes "AttributeValue") (literal_written value)
+expression_step (Expression-F.Designator designator) = only_member (codes "AttributeDesignator") (designator_written designator)
+expression_step (Expression-F.Variable id) = only_member (codes "VariableReference") (only_member (codes "VariableId") (json.string id))
+expression_step (Expression-F.Apply function arguments) = only_member (codes "Apply") (apply_written function arguments)
+expression_step (Expression-F.Function function) = only_member (codes "Function") (only_member (codes "FunctionId") (json.string (id_of function)))
+
+-- an expression
+abbrev pub expression_written : Expression → Data
+expression_written = fold-Expression Data expression_step
+
+-- ---- targets
+
+-- a Match (section 5.9)
+unfoldable pub match_written : Match → Data
+match_written m = json.object (
+    json.member (codes "AttributeDesignator") (designator_written m.designator)
+    (json.member (codes "AttributeValue") (literal_written m.literal)
+    (json.member (codes "MatchId") (json.string (id_of m.function))
+    json.no_members)))
+
+-- a member of AllOf (section 5.8)
+unfoldable pub all_of_written : AllOf → Data
+all_of_written a = only_member (codes "Match") (json.array (items_of (map match_written a.matches)))
+
+-- a member of AnyOf (section 5.7)
+unfoldable pub any_of_written : AnyOf → Data
+any_of_written a = only_member (codes "AllOf") (json.array (items_of (map all_of_written a.all_of)))
+
+-- a Target (section 5.6), which is left out where it has no AnyOf
+unfoldable pub target_written : Target → Option Data
+target_written t = option_map (only_member (codes "AnyOf")) (filled_list (map any_of_written t.any_of))
+
+-- ---- rules and policies
+
+-- a VariableDefinition (section 5.23)
+unfoldable pub definition_written : VariableDefinition → Data
+definition_written d = json.object (
+    json.member (codes "Expression") (expression_written d.expression)
+    (json.member (codes "VariableId") (json.string d.id)
+    json.no_members))
+
+-- the word of an Effect (section 5.22)
+abbrev pub effect_word : Effect → List ℕ
+effect_word Permit = codes "Permit"
+effect_word Deny = codes "Deny"
+
+-- a Rule (section 5.21)
+unfoldable pub rule_written : Rule → Data
+rule_written r = json.object (
+    optional (codes "Condition") (option_map expression_written r.condition)
+    (json.member (codes "Effect") (json.string (effect_word r.effect))
+    (json.member (codes "RuleId") (json.string r.id)
+    (optional (codes "Target") (target_written r.target)
+    json.no_members))))
+
+-- a Policy (section 5.14)
+unfoldable pub policy_written : Policy → Data
+policy_written p = json.object (
+    json.member (codes "PolicyId") (json.string p.id)
+    (optional (codes "Rule") (filled_list (map rule_written p.rules))
+    (json.member (codes "RuleCombiningAlgId") (json.string (rule_id_of p.algorithm))
+    (optional (codes "Target") (target_written p.target)
+    (optional (codes "VariableDefinition") (filled_list (map definition_written p.variables))
+    (json.member (codes "Version") (json.string (version_text p.version))
+    json.no_members))))))
+
+-- ---- policy sets and documents
+
+-- a PolicySet (section 5.1), with its children as they are written
+abbrev pub set_with : PolicySet-F Data Data → Data
+set_with s = json.object (
+    optional (codes "Children") (filled_list s.children)
+    (json.member (codes "PolicyCombiningAlgId") (json.string (policy_id_of s.algorithm))
+    (json.member (codes "PolicySetId") (json.string s.id)
+    (optional (codes "Target") (target_written s.target)
+    (json.member (codes "Version") (json.string (version_text s.version))
+    json.no_members)))))
+
+-- one level of a document, with a set as it is written
+abbrev pub document_step : Tree-F Data Data → Data
+document_step (Tree-F.Policy policy) = only_member (codes "Policy") (policy_written policy)
+document_step (Tree-F.Set set) = only_member (codes "PolicySet") set
+
+-- the JSON that a document is written as
+abbrev pub written : Tree → Data
+written = fold-Tree Data Data document_step set_with
+
+-- a PolicySet
+unfoldable pub set_written : PolicySet → Data
+set_written s = set_with (record { id = s.id; version = s.version; algorithm = s.algorithm; target = s.target; children = map written s.children })

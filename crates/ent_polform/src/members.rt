@@ -1,0 +1,57 @@
+//! Members of JSON objects that are written, of which some may be absent.
+
+ghost use Rattle.std.specs.Prelude.{◌≡◌, IfOk, OnOk, map, option_map};
+ghost use Rattle.serde_json.specs.Data.{put, string};
+ghost use Rattle.serde_json.specs.View.{members_view, view};
+ghost use Rattle.ent_polform.specs.Objects.{put_optional};
+ghost use Rattle.ent_polform.specs.Written.{filled_list, only_member};
+
+use serde_json::{Map, Value, put};
+use std::alloc::{AllocError, Global};
+
+/// An object that has one member.
+pub(crate) fn only_member(alloc: Global, key: &str, value: Value) -> Result<Value, AllocError>
+    ensures { IfOk result (λ v. view v ≡ only_member key.now (view value)) }
+{
+    let mut members = Map::new(alloc);
+    put(&mut members, alloc, key, value)?;
+    Ok(Value::Object(members))
+}
+
+/// Puts a text at the key.
+pub(crate) fn put_text(
+    alloc: Global,
+    members: &mut Map<String, Value>,
+    key: &str,
+    text: &str,
+) -> Result<(), AllocError>
+    ensures { OnOk result (members_view members.new.entries ≡ put key.now (string text.now) (members_view members.old.entries)) }
+{
+    let value = Value::try_from_str(alloc, text)?;
+    put(members, alloc, key, value)
+}
+
+/// Puts the value at the key, if there is one.
+pub(crate) fn put_optional(
+    alloc: Global,
+    members: &mut Map<String, Value>,
+    key: &str,
+    value: Option<Value>,
+) -> Result<(), AllocError>
+    ensures { OnOk result (members_view members.new.entries ≡ put_optional key.now (option_map view value) (members_view members.old.entries)) }
+{
+    match value {
+        None => Ok(()),
+        Some(value) => put(members, alloc, key, value),
+    }
+}
+
+/// The list, if it has a member.
+pub(crate) fn filled(values: Vec<Value>) -> Option<Value>
+    ensures { option_map view result ≡ filled_list (map view values.items) }
+{
+    if values.is_empty() {
+        return None;
+    }
+    Some(Value::Array(values))
+}
