@@ -1,4 +1,5 @@
 use crate::{read_document, read_value, write_document, write_value};
+use ent_policy::{CheckFault, DocFault};
 use ent_values::DataType;
 use serde_json::Value as Json;
 use std::alloc::Global;
@@ -37,6 +38,24 @@ fn value_again(alloc: Global, datatype: DataType, text: &str) -> Result<String, 
 fn policy_is_written(rt: HostRuntime) -> Result<(), Fail> {
     let text = written_again(rt.alloc(), SMALL)?;
     assert_eq!(rt; text.as_str(), SMALL_WRITTEN);
+    Ok(())
+}
+
+#[test]
+fn descriptions_are_not_kept(rt: HostRuntime) -> Result<(), Fail> {
+    let described = SMALL_WRITTEN.replace(
+        rt.alloc(),
+        "\"Effect\"",
+        "\"Description\":\"x\",\"Effect\"",
+    )?;
+    let text = written_again(rt.alloc(), described.as_str())?;
+    assert_eq!(rt; text.as_str(), SMALL_WRITTEN);
+    let noted = SMALL_WRITTEN.replace(rt.alloc(), "\"Effect\"", "\"Note\":\"x\",\"Effect\"")?;
+    let json = Json::from_str(rt.alloc(), noted.as_str())?;
+    assert_eq!(rt;
+        read_document(rt.alloc(), &json).err(),
+        Some(CheckFault::Doc(DocFault::Form))
+    );
     Ok(())
 }
 
