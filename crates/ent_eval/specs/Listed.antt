@@ -1,5 +1,5 @@
 -- The request of a cell of the table (sections 5.42, 5.44 and 5.46).
-use Rattle.std.specs.Prelude.{ℕ, List, [], ◌∷◌, None, false, codes}
+use Rattle.std.specs.Prelude.{ℕ, List, [], ◌∷◌, ◌++◌, None, codes, false, take}
 use Rattle.ent_values.specs.declared.datatype.DataType.TheVariants as types
 use Rattle.ent_values.specs.declared.value.Value.TheVariants as value
 use Rattle.ent_eval.specs.declared.request.Category.{Category}
@@ -12,12 +12,21 @@ named category attribute text = record {
   attributes = record { id = attribute; issuer = None; bag = record { datatype = types.Text; values = value.Text text ∷ [] }; included = false } ∷ [];
 }
 
+-- a resource by its id (appendix B.6)
+abbrev pub about : List ℕ → Category
+about resource =
+    named (codes "urn:oasis:names:tc:xacml:3.0:attribute-category:resource") (codes "urn:oasis:names:tc:xacml:1.0:resource:resource-id") resource
+
 -- a person, an action and a resource by their ids (appendix B.2 and B.4 to B.6)
 abbrev pub listed : List ℕ → List ℕ → List ℕ → Request
 listed person action resource = record {
   categories =
       named (codes "urn:oasis:names:tc:xacml:1.0:subject-category:access-subject") (codes "urn:oasis:names:tc:xacml:1.0:subject:subject-id") person
       ∷ named (codes "urn:oasis:names:tc:xacml:3.0:attribute-category:action") (codes "urn:oasis:names:tc:xacml:1.0:action:action-id") action
-      ∷ named (codes "urn:oasis:names:tc:xacml:3.0:attribute-category:resource") (codes "urn:oasis:names:tc:xacml:1.0:resource:resource-id") resource
+      ∷ about resource
       ∷ [];
 }
+
+-- the same of another resource, which takes the place of the third category and of all behind it
+abbrev pub asked_of : List ℕ → Request → Request
+asked_of resource request = record { categories = take 2 request.categories ++ about resource ∷ [] }

@@ -1,6 +1,6 @@
 //! What a request is answered.
 
-ghost use Rattle.std.specs.Prelude.{◌≡◌, IfOk};
+ghost use Rattle.std.specs.Prelude.{◌≡◌, [], ◌∷◌, ◌++◌, IfOk, OnOk};
 ghost use Rattle.ent_eval.specs.Judged.{bad, nothing, unresolved};
 
 use ent_combine::{IndKind, Outcome};
@@ -99,18 +99,40 @@ impl Answer {
 pub(crate) fn copied_path(alloc: Global, path: &[DocKey]) -> Result<Items<DocKey>, AllocError>
     ensures { IfOk result (λ p. p ≡ path.now) }
 {
-    let mut copies = Items::new(alloc);
+    let mut copies = Items::with_capacity(alloc, path.len())?;
+    add_copies(alloc, &mut copies, path)?;
+    Ok(copies)
+}
+
+/// The path to what stands in the element that `path` leads to.
+pub(crate) fn path_to(
+    alloc: Global,
+    path: &[DocKey],
+    last: DocKey,
+) -> Result<Items<DocKey>, AllocError>
+    ensures { IfOk result (λ p. p ≡ path.now ++ last ∷ []) }
+{
+    let mut here = Items::with_capacity(alloc, path.len() + 1)?;
+    add_copies(alloc, &mut here, path)?;
+    here.push(last)?;
+    Ok(here)
+}
+
+// Puts equal keys last.
+fn add_copies(alloc: Global, copies: &mut Items<DocKey>, path: &[DocKey]) -> Result<(), AllocError>
+    ensures { OnOk result (copies.new ≡ copies.old ++ path.now) }
+{
     for key in path {
         copies.push(key.copy(alloc)?)?;
     }
-    Ok(copies)
+    Ok(())
 }
 
 // An equal list of entries.
 fn copied_why(alloc: Global, why: &[WhyEntry]) -> Result<Items<WhyEntry>, AllocError>
     ensures { IfOk result (λ w. w ≡ why.now) }
 {
-    let mut copies = Items::new(alloc);
+    let mut copies = Items::with_capacity(alloc, why.len())?;
     for entry in why {
         copies.push(entry.copy(alloc)?)?;
     }

@@ -10,7 +10,7 @@ ghost use Rattle.ent_eval.specs.Noted.{noted};
 ghost use Rattle.ent_eval.specs.Rule.{rule_part};
 ghost use Rattle.ent_policy.specs.declared.key.Kind.TheVariants as kind;
 
-use crate::answer::{Answer, Status, copied_path};
+use crate::answer::{Answer, Status, path_to};
 use crate::gather::gather;
 use crate::policies::Policies;
 use crate::reads::Reads;
@@ -71,7 +71,7 @@ impl<P: Policies> Scene<'_, P> {
         ensures value { IfOk result (λ a. a ≡ (rules_part (looks_of P.documents self.now.pdp.now) self.now.request.now (path.now ++ record { kind = kind.Policy; id = policy.now.id; version = policy.now.version } ∷ []) policy.now).value) }
         ensures reads { OnOk result (reads.new ≡ noted reads.old (rules_part (looks_of P.documents self.now.pdp.now) self.now.request.now (path.now ++ record { kind = kind.Policy; id = policy.now.id; version = policy.now.version } ∷ []) policy.now).reads) }
     {
-        let here = path_to(self.alloc, path, policy)?;
+        let here = path_to_policy(self.alloc, path, policy)?;
         self.rules(
             reads,
             policy.variables.as_slice(),
@@ -106,16 +106,19 @@ impl<P: Policies> Scene<'_, P> {
 }
 
 // The path to a policy, where `path` leads to what it stands in.
-fn path_to(alloc: Global, path: &[DocKey], policy: &Policy) -> Result<Items<DocKey>, AllocError>
+fn path_to_policy(
+    alloc: Global,
+    path: &[DocKey],
+    policy: &Policy,
+) -> Result<Items<DocKey>, AllocError>
     ensures { IfOk result (λ p. p ≡ path.now ++ record { kind = kind.Policy; id = policy.now.id; version = policy.now.version } ∷ []) }
 {
-    let mut here = copied_path(alloc, path)?;
-    here.push(DocKey {
+    let key = DocKey {
         kind: Kind::Policy,
         id: policy.id.copy(alloc)?,
         version: policy.version.copy(),
-    })?;
-    Ok(here)
+    };
+    path_to(alloc, path, key)
 }
 
 // What an element comes to with a target that is Indeterminate.

@@ -1,7 +1,7 @@
 //! Requests.
 
-ghost use Rattle.std.specs.Prelude.{◌≡◌, IfOk, codes};
-ghost use Rattle.ent_eval.specs.Listed.{listed, named};
+ghost use Rattle.std.specs.Prelude.{◌≡◌, IfOk, OnOk, codes};
+ghost use Rattle.ent_eval.specs.Listed.{about, asked_of, listed, named};
 
 use ent_values::{Bag, Items, Text, Value};
 use std::alloc::{AllocError, Global};
@@ -41,29 +41,43 @@ impl Request {
     ) -> Result<Request, AllocError>
         ensures { IfOk result (λ q. q ≡ listed person.now action.now resource.now) }
     {
-        let mut categories = Items::of_one(
+        let mut categories = Items::with_capacity(alloc, 3)?;
+        categories.push(named(
             alloc,
-            named(
-                alloc,
-                "urn:oasis:names:tc:xacml:1.0:subject-category:access-subject",
-                "urn:oasis:names:tc:xacml:1.0:subject:subject-id",
-                person,
-            )?,
-        )?;
+            "urn:oasis:names:tc:xacml:1.0:subject-category:access-subject",
+            "urn:oasis:names:tc:xacml:1.0:subject:subject-id",
+            person,
+        )?)?;
         categories.push(named(
             alloc,
             "urn:oasis:names:tc:xacml:3.0:attribute-category:action",
             "urn:oasis:names:tc:xacml:1.0:action:action-id",
             action,
         )?)?;
-        categories.push(named(
-            alloc,
-            "urn:oasis:names:tc:xacml:3.0:attribute-category:resource",
-            "urn:oasis:names:tc:xacml:1.0:resource:resource-id",
-            resource,
-        )?)?;
+        categories.push(about(alloc, resource)?)?;
         Ok(Request { categories })
     }
+
+    /// Asks the same of another resource, which takes the place of the third category and of all behind it. What was listed for one
+    /// resource is then listed for the other. After a refusal no resource is asked of.
+    pub fn ask_of(&mut self, alloc: Global, resource: &str) -> Result<(), AllocError>
+        ensures { OnOk result (self.new ≡ asked_of resource.now self.old) }
+    {
+        self.categories.truncate(2);
+        self.categories.push(about(alloc, resource)?)
+    }
+}
+
+// The category of a resource.
+fn about(alloc: Global, resource: &str) -> Result<Category, AllocError>
+    ensures { IfOk result (λ c. c ≡ about resource.now) }
+{
+    named(
+        alloc,
+        "urn:oasis:names:tc:xacml:3.0:attribute-category:resource",
+        "urn:oasis:names:tc:xacml:1.0:resource:resource-id",
+        resource,
+    )
 }
 
 // A category with one attribute of one text.

@@ -10,7 +10,7 @@ ghost use Rattle.ent_eval.specs.Node.{children_after, children_part, combined, s
 ghost use Rattle.ent_eval.specs.Noted.{noted};
 ghost use Rattle.ent_eval.specs.Only.{child_part, only_one};
 
-use crate::answer::{Answer, copied_path};
+use crate::answer::{Answer, path_to};
 use crate::chosen::Only;
 use crate::gather::gather;
 use crate::node::under;
@@ -165,11 +165,10 @@ impl<P: Policies> Scene<'_, P> {
 fn path_to_set(alloc: Global, path: &[DocKey], set: &PolicySet) -> Result<Items<DocKey>, AllocError>
     ensures { IfOk result (λ p. p ≡ path.now ++ record { kind = kind.PolicySet; id = set.now.id; version = set.now.version } ∷ []) }
 {
-    let mut here = copied_path(alloc, path)?;
-    here.push(DocKey {
+    let key = DocKey {
         kind: Kind::PolicySet,
         id: set.id.copy(alloc)?,
         version: set.version.copy(),
-    })?;
-    Ok(here)
+    };
+    path_to(alloc, path, key)
 }

@@ -223,7 +223,9 @@ fn look_ups_of_reading(rt: HostRuntime) -> Result<(), Fail> {
 fn writing_is_not_applicable(rt: HostRuntime) -> Result<(), Fail> {
     let alloc = rt.alloc();
     let mut pdp = pdp(alloc)?;
-    let request = Request::listed(alloc, "ann", "write", "read")?;
+    let mut request = Request::listed(alloc, "ann", "write", "plan")?;
+    request.ask_of(alloc, "read")?;
+    assert!(rt; request == Request::listed(alloc, "ann", "write", "read")?);
     let answer = pdp.evaluate(&request)?.answer;
     assert_eq!(rt; told(&answer), (Outcome::NotApplicable, Status::Okay, 0));
     assert_eq!(rt; pdp.evaluations(), 1);

@@ -9,7 +9,7 @@ use ent_eval::{Answer, Pdp, Policies, Request};
 use ent_values::{Items, Text};
 use std::alloc::{AllocError, Global};
 
-/// Appends the answers for a person and an action with each of the resources.
+/// Appends the answers for a person and an action with each of the resources. One request serves for all of them.
 fn evaluate_resources<P: Policies>(
     alloc: Global,
     pdp: &mut Pdp<P>,
@@ -21,8 +21,9 @@ fn evaluate_resources<P: Policies>(
     ensures cells { OnOk result (cells.new.items ≡ cells.old.items ++ map (answer_by (looks_of P.documents pdp.old)) (with_resources person.now action.now resources.now)) }
     ensures rest { pdp.new ≡ record pdp.old { evaluations = pdp.new.evaluations } }
 {
+    let mut request = Request::listed(alloc, person.as_str(), action.as_str(), "")?;
     for resource in resources {
-        let request = Request::listed(alloc, person.as_str(), action.as_str(), resource.as_str())?;
+        request.ask_of(alloc, resource.as_str())?;
         let evaluation = pdp.evaluate(&request)?;
         cells.push(evaluation.answer)?;
     }

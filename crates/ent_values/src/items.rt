@@ -1,6 +1,6 @@
 //! Lists that contracts see as their elements.
 
-ghost use Rattle.std.specs.Prelude.{◌≡◌, [], ◌∷◌, ◌++◌, ◌↔◌, IfOk, IsTrue, MatchOption, OnErr, OnOk, length};
+ghost use Rattle.std.specs.Prelude.{◌≡◌, [], ◌∷◌, ◌++◌, ◌↔◌, IfOk, IsTrue, MatchOption, OnErr, OnOk, length, take};
 
 use std::alloc::{AllocError, Global};
 use std::marker::Model;
@@ -32,6 +32,15 @@ impl<T> Items<T> {
         Items {
             items: Vec::new(alloc),
         }
+    }
+
+    /// The empty list with room for that many elements, for which at most one allocation is made.
+    pub fn with_capacity(alloc: Global, capacity: usize) -> Result<Items<T>, AllocError>
+        ensures { IfOk result (λ l. l ≡ []) }
+    {
+        Ok(Items {
+            items: Vec::with_capacity(alloc, capacity)?,
+        })
     }
 
     /// The list of a `Vec`, which is moved and not copied.
@@ -79,13 +88,20 @@ impl<T> Items<T> {
 }
 
 impl<T: Drop> Items<T> {
-    /// The list of one element.
+    /// The list of one element, with room for it alone.
     pub fn of_one(alloc: Global, item: T) -> Result<Items<T>, AllocError>
         ensures { IfOk result (λ l. l ≡ item ∷ []) }
     {
-        let mut items = Items::new(alloc);
+        let mut items = Items::with_capacity(alloc, 1)?;
         items.push(item)?;
         Ok(items)
+    }
+
+    /// Keeps the first elements, that many at most, and lets go of those behind them.
+    pub fn truncate(&mut self, count: usize)
+        ensures { self.new ≡ take count self.old }
+    {
+        self.items.truncate(count);
     }
 
     /// Puts an element last. After a refusal the list is as before.
@@ -97,12 +113,16 @@ impl<T: Drop> Items<T> {
         Ok(())
     }
 
-    /// Moves the elements of `more` to the end. After a refusal the list is as before.
+    /// Moves the elements of `more` to the end. After a refusal the list is as before. An empty list takes `more` over as it is.
     pub fn append(&mut self, more: Items<T>) -> Result<(), AllocError>
         ensures ok { OnOk result (self.new ≡ self.old ++ more) }
         ensures err { OnErr result (self.new ≡ self.old) }
     {
         let Items { mut items } = more;
+        if self.is_empty() {
+            self.items = items;
+            return Ok(());
+        }
         self.items.append(&mut items)
     }
 }

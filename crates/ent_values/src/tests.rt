@@ -14,9 +14,12 @@ fn texts_and_lists(rt: HostRuntime) -> Result<(), Fail> {
     list.push(more)?;
     list.append(Items::new(alloc))?;
     assert_eq!(rt; list.len(), 2);
-    assert!(rt; !list.is_empty());
-    assert!(rt; list.pop().is_some());
-    assert_eq!(rt; Items::from_vec(list.into_vec()).len(), 1);
+    let mut all = Items::with_capacity(alloc, 2)?;
+    all.append(list)?;
+    all.truncate(1);
+    assert!(rt; all.pop().is_some());
+    assert!(rt; all.is_empty());
+    assert_eq!(rt; Items::from_vec(all.into_vec()).len(), 0);
     Ok(())
 }
 
