@@ -192,9 +192,14 @@ pub(crate) fn set(alloc: Global, child: RawPolicy) -> Result<RawPolicySet, Alloc
     })
 }
 
-/// The fault of a policy, by itself and within a set.
+/// What the checker says of a document, where it doesn't pass.
+pub(crate) fn refusal(alloc: Global, raw: RawDocument) -> Option<CheckFault> {
+    check(alloc, raw).err()
+}
+
+/// The fault of a policy within a set.
 pub(crate) fn fault(alloc: Global, raw: RawPolicy) -> Result<Option<CheckFault>, AllocError> {
-    Ok(check(alloc, RawDocument::Set(set(alloc, raw)?)).err())
+    Ok(refusal(alloc, RawDocument::Set(set(alloc, raw)?)))
 }
 
 /// The fault of a policy with one more rule of that condition.
@@ -310,7 +315,7 @@ fn of_each(
     let mut outer = set(alloc, spoiled(alloc, first)?)?;
     let behind = RawDocument::Policy(spoiled(alloc, second)?);
     outer.children.push(behind)?;
-    Ok(check(alloc, RawDocument::Set(outer)).err())
+    Ok(refusal(alloc, RawDocument::Set(outer)))
 }
 
 /// Of two faults the earlier one is told, also where the other stands in front of it.

@@ -2,11 +2,11 @@
 
 use crate::tests::{
     ADD, AND, ANY_OF, EQUAL, NOT, OF_POLICIES, OF_RULES, apply, define, designator, fault,
-    fault_of_condition, one_match, policy, rule, set, target, text, truth, value,
+    fault_of_condition, one_match, policy, refusal, rule, set, target, text, truth, value,
 };
 use crate::{
     CheckFault, DocFault, Kind, RawAnyOf, RawDesignator, RawDocument, RawExpression, RawLiteral,
-    RawMatch, RawTarget, RawValue, Reference, check,
+    RawMatch, RawTarget, RawValue, Reference,
 };
 use ent_values::{Items, Text};
 use std::alloc::{AllocError, Global};
@@ -123,7 +123,7 @@ fn of_set(
     outer.id = text(alloc, id)?;
     outer.version = text(alloc, version)?;
     outer.algorithm = text(alloc, algorithm)?;
-    Ok(check(alloc, RawDocument::Set(outer)).err())
+    Ok(refusal(alloc, RawDocument::Set(outer)))
 }
 
 /// The fault where a rule's target has an AllOf without a match.
@@ -144,7 +144,7 @@ fn with_empty_any_of(alloc: Global) -> Result<Option<CheckFault>, AllocError> {
     outer.target = RawTarget {
         any_of: Items::of_one(alloc, any_of)?,
     };
-    Ok(check(alloc, RawDocument::Set(outer)).err())
+    Ok(refusal(alloc, RawDocument::Set(outer)))
 }
 
 #[test]
@@ -172,7 +172,7 @@ fn equal_rules_of_two_policies(rt: HostRuntime) -> Result<(), Fail> {
     let alloc = rt.alloc();
     let mut outer = set(alloc, policy(alloc)?)?;
     outer.children.push(RawDocument::Policy(policy(alloc)?))?;
-    assert_eq!(rt; check(alloc, RawDocument::Set(outer)).err(), None);
+    assert_eq!(rt; refusal(alloc, RawDocument::Set(outer)), None);
     Ok(())
 }
 

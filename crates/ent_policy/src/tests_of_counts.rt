@@ -1,9 +1,9 @@
 //! Variables, sizes and depths of documents as the checker judges them.
 
-use crate::tests::{EQUAL, NOT, OF_POLICIES, OF_RULES, one_match, target, text, truth};
+use crate::tests::{EQUAL, NOT, OF_POLICIES, OF_RULES, one_match, refusal, target, text, truth};
 use crate::{
     CheckFault, DocFault, Effect, RawAllOf, RawAnyOf, RawDocument, RawExpression, RawPolicy,
-    RawPolicySet, RawRule, RawTarget, RawVariableDefinition, check,
+    RawPolicySet, RawRule, RawTarget, RawVariableDefinition,
 };
 use ent_values::{Items, Text};
 use std::alloc::{AllocError, Global};
@@ -285,7 +285,7 @@ fn targets(
 /// What the checker says: no fault, the first fault, or want of memory.
 fn fault(alloc: Global, document: Result<RawDocument, AllocError>) -> Option<CheckFault> {
     match document {
-        Ok(raw) => check(alloc, raw).err(),
+        Ok(raw) => refusal(alloc, raw),
         Err(_) => Some(CheckFault::Memory),
     }
 }
