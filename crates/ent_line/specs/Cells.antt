@@ -7,10 +7,9 @@ use Rattle.serde_json.specs.Written.{compact_text}
 use Rattle.ent_combine.specs.declared.outcome.IndKind.TheVariants as kind
 use Rattle.ent_combine.specs.declared.outcome.Outcome.{Outcome}
 use Rattle.ent_combine.specs.declared.outcome.Outcome.TheVariants as outcome
+use Rattle.ent_policy.specs.Key.{kind_word}
 use Rattle.ent_policy.specs.Versions.{version_text}
 use Rattle.ent_policy.specs.declared.key.DocKey.{DocKey}
-use Rattle.ent_policy.specs.declared.key.Kind.{Kind}
-use Rattle.ent_policy.specs.declared.key.Kind.TheVariants as documents
 use Rattle.ent_eval.specs.declared.answer.Answer.{Answer}
 use Rattle.ent_eval.specs.declared.answer.Status.{Status}
 use Rattle.ent_eval.specs.declared.answer.Status.TheVariants as status
@@ -34,16 +33,11 @@ status_text status.Okay = codes "ok"
 status_text status.MissingAttribute = codes "missing-attribute"
 status_text status.ProcessingError = codes "processing-error"
 
--- the element's name of a document
-abbrev pub kind_text : Kind → List ℕ
-kind_text documents.Policy = codes "Policy"
-kind_text documents.PolicySet = codes "PolicySet"
-
 -- ---- values
 
 -- a document on the path to a rule: its kind, id and version
 abbrev pub key_data : DocKey → Data
-key_data key = json.array (items_of (json.string (kind_text key.kind) ∷ json.string key.id ∷ json.string (version_text key.version) ∷ []))
+key_data key = json.array (items_of (json.string (kind_word key.kind) ∷ json.string key.id ∷ json.string (version_text key.version) ∷ []))
 
 -- a rule's id, null for a default
 abbrev pub rule_data : Option (List ℕ) → Data

@@ -6,11 +6,11 @@ ghost use Rattle.serde_json.specs.View.{items_view, view};
 ghost use Rattle.serde_json.specs.Written.{compact_text, has_float};
 ghost use Rattle.ent_table.specs.Left.{cells_left};
 ghost use Rattle.ent_table.specs.Names.{triple_of};
-ghost use Rattle.ent_line.specs.Cells.{cell_data, decision_text, entry_data, key_data, kind_text, one_cell_data, one_cell_text, rule_data, status_text, table_data, table_text};
+ghost use Rattle.ent_line.specs.Cells.{cell_data, decision_text, entry_data, key_data, one_cell_data, one_cell_text, rule_data, status_text, table_data, table_text};
 
 use ent_combine::{IndKind, Outcome};
 use ent_eval::{Answer, Status, WhyEntry};
-use ent_policy::{DocKey, Kind};
+use ent_policy::DocKey;
 use ent_table::Cells;
 use ent_values::Text;
 use serde_json::{Value, json};
@@ -41,22 +41,12 @@ fn status_text(status: Status) -> &'static str
     }
 }
 
-/// The word of a kind of document.
-fn kind_text(kind: Kind) -> &'static str
-    ensures { result.now ≡ kind_text kind }
-{
-    match kind {
-        Kind::Policy => "Policy",
-        Kind::PolicySet => "PolicySet",
-    }
-}
-
 /// A document on a path.
 fn key_value(alloc: Global, key: &DocKey) -> Result<Value, AllocError>
     ensures { IfOk result (λ v. view v ≡ key_data key.now) }
 {
     let version = key.version.text(alloc)?;
-    json!(in alloc; [kind_text(key.kind), key.id.as_str(), version.into_string()])
+    json!(in alloc; [key.kind.word(), key.id.as_str(), version.into_string()])
 }
 
 /// The documents on a path.

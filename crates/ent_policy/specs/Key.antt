@@ -1,9 +1,16 @@
 -- The name of a document.
+use Rattle.std.specs.Prelude.{ℕ, List, codes}
 use Rattle.ent_policy.specs.declared.document.Tree.TheOpen.{Tree-F, PolicySet-F}
 use Rattle.ent_policy.specs.declared.document.Tree.{Tree}
 use Rattle.ent_policy.specs.declared.document.Tree.TheFolds.{fold-Tree}
 use Rattle.ent_policy.specs.declared.key.DocKey.{DocKey}
+use Rattle.ent_policy.specs.declared.key.Kind.{Kind}
 use Rattle.ent_policy.specs.declared.key.Kind.TheVariants as kind
+
+-- the element's name of a document (sections 5.1 and 5.14)
+abbrev pub kind_word : Kind → List ℕ
+kind_word kind.Policy = codes "Policy"
+kind_word kind.PolicySet = codes "PolicySet"
 
 -- the key of a policy, or that of a set
 abbrev pub tree_key : Tree-F DocKey DocKey → DocKey

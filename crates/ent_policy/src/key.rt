@@ -13,6 +13,20 @@ pub enum Kind {
     PolicySet,
 }
 
+impl Kind {
+    ghost use Rattle.ent_policy.specs.Key.{kind_word};
+
+    /// The element's name of such a document, as reports show it (sections 5.1 and 5.14).
+    pub fn word<'v>(self) -> &'v str
+        ensures { result.now ≡ kind_word self }
+    {
+        match self {
+            Kind::Policy => "Policy",
+            Kind::PolicySet => "PolicySet",
+        }
+    }
+}
+
 /// The name under which a document is stored. Keys order by kind, id and version.
 #[derive(Debug, PartialEq, Eq, PartialOrd, Ord, Drop)]
 pub struct DocKey {

@@ -3,12 +3,10 @@ use Rattle.std.specs.Prelude.{◌≡◌, ℕ, List, [], ◌++◌, length, nat_lt
 use Rattle.std.specs.Io.KnownBytes.{Appends}
 use Rattle.serde_json.specs.Data.{Data}
 use Rattle.ent_policy.specs.Fault.{sub_code}
-use Rattle.ent_policy.specs.Key.{key_of}
+use Rattle.ent_policy.specs.Key.{key_of, kind_word}
 use Rattle.ent_policy.specs.Versions.{version_text}
 use Rattle.ent_policy.specs.declared.document.Tree.{Tree}
 use Rattle.ent_policy.specs.declared.fault.DocFault.{DocFault}
-use Rattle.ent_policy.specs.declared.key.Kind.{Kind}
-use Rattle.ent_policy.specs.declared.key.Kind.TheVariants as kind
 use Rattle.ent_polform.specs.Form.{document_of}
 use Rattle.ent_line.specs.Step.{data_of}
 use Rattle.ent_line.specs.declared.fault.ServeFault.{ServeFault}
@@ -38,11 +36,6 @@ verdict_of bytes = if nat_lt 1048576 (length bytes) then Refused 1 None else dat
 abbrev pub is_passed : Verdict → Bool
 is_passed (Passed kind id version) = true
 is_passed (Refused code sub) = false
-
--- the word for a kind of document
-abbrev pub kind_word : Kind → List ℕ
-kind_word kind.Policy = codes "Policy"
-kind_word kind.PolicySet = codes "PolicySet"
 
 -- the line of a verdict, its newline included
 abbrev pub line_of : Verdict → List ℕ

@@ -3,7 +3,7 @@
 ghost use Rattle.std.specs.Prelude.{◌≡◌, Result, Some, None, IfErr, IfOk, IfSome, take, ◌≢◌};
 ghost use Rattle.ent_line.specs.Pieces.{Sends};
 ghost use Rattle.ent_line.specs.declared.fault.ServeFault.TheVariants.{Write};
-ghost use Rattle.review.specs.Checking.{Checks, is_passed, kind_word, line_of, passed_of, verdict_of};
+ghost use Rattle.review.specs.Checking.{Checks, is_passed, line_of, passed_of, verdict_of};
 ghost use Rattle.review.specs.declared.checking.Verdict.TheVariants.{Passed, Refused};
 
 use ent_line::{ServeFault, read_json, send_all};
@@ -46,16 +46,6 @@ fn read_front<R: Read>(alloc: Global, reader: &mut R) -> Result<Vec<u8>, ServeFa
         Ok(_) => Ok(bytes),
         Err(e) if e.kind() == ErrorKind::OutOfMemory => Err(ServeFault::Memory),
         Err(_) => Err(ServeFault::Read),
-    }
-}
-
-/// The word for a kind of document.
-fn kind_word<'v>(kind: Kind) -> &'v str
-    ensures { result.now ≡ kind_word kind }
-{
-    match kind {
-        Kind::Policy => "Policy",
-        Kind::PolicySet => "PolicySet",
     }
 }
 
@@ -106,7 +96,7 @@ fn send_passed<'v, W: Write>(
     ensures { Sends (W.contents writer.old) (W.contents writer.new) (line_of (Passed kind id.now version.now)) result }
 {
     let start = "ok ".as_bytes();
-    let word = kind_word(kind).as_bytes();
+    let word = kind.word().as_bytes();
     let before_id = " ".as_bytes();
     let id = id.as_str().as_bytes();
     let before_version = " ".as_bytes();
