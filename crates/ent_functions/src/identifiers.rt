@@ -1,7 +1,7 @@
 //! The URIs that name the functions.
 
 ghost use Rattle.std.specs.Prelude.{◌≡◌, ◌++◌, ◌∷◌, [], IfOk, map, find, bytes_eq, flat_map};
-ghost use Rattle.ent_functions.specs.Identifiers.{element_word, ordered_word, comparison_word, prefix_of, type_word_of, operation_of, id_of, function_of, functions_at, comparisons_at, single_functions, IdsReadBack};
+ghost use Rattle.ent_functions.specs.Identifiers.{element_word, ordered_word, comparison_word, prefix_of, type_word_of, operation_of, id_of, function_of, functions_at, comparisons_at, single_functions, all_elements, all_ordered, IdsReadBack};
 
 use crate::function::{Comparison, Element, Function, Ordered};
 use ent_values::Text;
@@ -147,96 +147,121 @@ impl Function {
         operation == self.operation()
     }
 
-    /// The function that has the URI `id` (appendix A.3), None where there is none.
+    /// The function that has the URI `id` (appendix A.3), None where there is none. The type in its name is looked at once for all functions of that type.
     #[tactic(auto, unfolding(crate::specs::Identifiers::function_of, crate::specs::Identifiers::all_functions))]
     pub fn from_id(id: &str) -> Option<Function>
         ensures { result ≡ function_of id.now }
     {
-        [
-            Function::Equal(Element::Text),
-            Function::OneAndOnly(Element::Text),
-            Function::BagSize(Element::Text),
-            Function::IsIn(Element::Text),
-            Function::Bag(Element::Text),
-            Function::Intersection(Element::Text),
-            Function::Union(Element::Text),
-            Function::AtLeastOneMemberOf(Element::Text),
-            Function::Subset(Element::Text),
-            Function::SetEquals(Element::Text),
-            Function::Equal(Element::Boolean),
-            Function::OneAndOnly(Element::Boolean),
-            Function::BagSize(Element::Boolean),
-            Function::IsIn(Element::Boolean),
-            Function::Bag(Element::Boolean),
-            Function::Intersection(Element::Boolean),
-            Function::Union(Element::Boolean),
-            Function::AtLeastOneMemberOf(Element::Boolean),
-            Function::Subset(Element::Boolean),
-            Function::SetEquals(Element::Boolean),
-            Function::Equal(Element::Integer),
-            Function::OneAndOnly(Element::Integer),
-            Function::BagSize(Element::Integer),
-            Function::IsIn(Element::Integer),
-            Function::Bag(Element::Integer),
-            Function::Intersection(Element::Integer),
-            Function::Union(Element::Integer),
-            Function::AtLeastOneMemberOf(Element::Integer),
-            Function::Subset(Element::Integer),
-            Function::SetEquals(Element::Integer),
-            Function::Equal(Element::Date),
-            Function::OneAndOnly(Element::Date),
-            Function::BagSize(Element::Date),
-            Function::IsIn(Element::Date),
-            Function::Bag(Element::Date),
-            Function::Intersection(Element::Date),
-            Function::Union(Element::Date),
-            Function::AtLeastOneMemberOf(Element::Date),
-            Function::Subset(Element::Date),
-            Function::SetEquals(Element::Date),
-            Function::Equal(Element::AnyUri),
-            Function::OneAndOnly(Element::AnyUri),
-            Function::BagSize(Element::AnyUri),
-            Function::IsIn(Element::AnyUri),
-            Function::Bag(Element::AnyUri),
-            Function::Intersection(Element::AnyUri),
-            Function::Union(Element::AnyUri),
-            Function::AtLeastOneMemberOf(Element::AnyUri),
-            Function::Subset(Element::AnyUri),
-            Function::SetEquals(Element::AnyUri),
-            Function::Compare(Comparison::GreaterThan, Ordered::Integer),
-            Function::Compare(Comparison::GreaterThanOrEqual, Ordered::Integer),
-            Function::Compare(Comparison::LessThan, Ordered::Integer),
-            Function::Compare(Comparison::LessThanOrEqual, Ordered::Integer),
-            Function::Compare(Comparison::GreaterThan, Ordered::Text),
-            Function::Compare(Comparison::GreaterThanOrEqual, Ordered::Text),
-            Function::Compare(Comparison::LessThan, Ordered::Text),
-            Function::Compare(Comparison::LessThanOrEqual, Ordered::Text),
-            Function::Compare(Comparison::GreaterThan, Ordered::Date),
-            Function::Compare(Comparison::GreaterThanOrEqual, Ordered::Date),
-            Function::Compare(Comparison::LessThan, Ordered::Date),
-            Function::Compare(Comparison::LessThanOrEqual, Ordered::Date),
-            Function::Add,
-            Function::Subtract,
-            Function::Multiply,
-            Function::Divide,
-            Function::Mod,
-            Function::Abs,
-            Function::Or,
-            Function::And,
-            Function::Not,
-            Function::Concatenate,
-            Function::StartsWith,
-            Function::EndsWith,
-            Function::Contains,
-            Function::DateAdd,
-            Function::DateSubtract,
-            Function::AnyOf,
-            Function::AllOf,
-        ]
-        .iter()
-        .copied()
-        .find(|function| function.is_named(id))
+        if let Some(function) = of_element(id) {
+            return Some(function);
+        }
+        if let Some(function) = comparison(id) {
+            return Some(function);
+        }
+        single(id)
     }
+}
+
+/// The function of equality, bags or sets that has the URI `id`.
+fn of_element(id: &str) -> Option<Function>
+    ensures { result ≡ find (λ f. bytes_eq id.now (id_of f)) (flat_map functions_at all_elements) }
+{
+    function_at(Element::Text, id)
+        .or(function_at(Element::Boolean, id))
+        .or(function_at(Element::Integer, id))
+        .or(function_at(Element::Date, id))
+        .or(function_at(Element::AnyUri, id))
+}
+
+/// The same of one type.
+fn function_at(element: Element, id: &str) -> Option<Function>
+    ensures { result ≡ find (λ f. bytes_eq id.now (id_of f)) (functions_at element) }
+{
+    let name = id.strip_prefix("urn:oasis:names:tc:xacml:1.0:function:")?;
+    let operation = name.strip_prefix(element.word())?;
+    function_by_operation(element, operation)
+}
+
+/// The same by what follows the type in its name.
+fn function_by_operation(element: Element, operation: &str) -> Option<Function>
+    ensures { result ≡ find (λ f. bytes_eq operation.now (operation_of f)) (functions_at element) }
+{
+    [
+        Function::Equal(element),
+        Function::OneAndOnly(element),
+        Function::BagSize(element),
+        Function::IsIn(element),
+        Function::Bag(element),
+        Function::Intersection(element),
+        Function::Union(element),
+        Function::AtLeastOneMemberOf(element),
+        Function::Subset(element),
+        Function::SetEquals(element),
+    ]
+    .iter()
+    .copied()
+    .find(|function| operation == function.operation())
+}
+
+/// The comparison that has the URI `id`.
+fn comparison(id: &str) -> Option<Function>
+    ensures { result ≡ find (λ f. bytes_eq id.now (id_of f)) (flat_map comparisons_at all_ordered) }
+{
+    comparison_at(Ordered::Integer, id)
+        .or(comparison_at(Ordered::Text, id))
+        .or(comparison_at(Ordered::Date, id))
+}
+
+/// The same at one type.
+fn comparison_at(order: Ordered, id: &str) -> Option<Function>
+    ensures { result ≡ find (λ f. bytes_eq id.now (id_of f)) (comparisons_at order) }
+{
+    let name = id.strip_prefix("urn:oasis:names:tc:xacml:1.0:function:")?;
+    let operation = name.strip_prefix(order.word())?;
+    comparison_by_operation(order, operation)
+}
+
+/// The same by what follows the type in its name.
+fn comparison_by_operation(order: Ordered, operation: &str) -> Option<Function>
+    ensures { result ≡ find (λ f. bytes_eq operation.now (operation_of f)) (comparisons_at order) }
+{
+    [
+        Function::Compare(Comparison::GreaterThan, order),
+        Function::Compare(Comparison::GreaterThanOrEqual, order),
+        Function::Compare(Comparison::LessThan, order),
+        Function::Compare(Comparison::LessThanOrEqual, order),
+    ]
+    .iter()
+    .copied()
+    .find(|function| operation == function.operation())
+}
+
+/// The function that has the URI `id`, of those that there are for no other type.
+fn single(id: &str) -> Option<Function>
+    ensures { result ≡ find (λ f. bytes_eq id.now (id_of f)) single_functions }
+{
+    [
+        Function::Add,
+        Function::Subtract,
+        Function::Multiply,
+        Function::Divide,
+        Function::Mod,
+        Function::Abs,
+        Function::Or,
+        Function::And,
+        Function::Not,
+        Function::Concatenate,
+        Function::StartsWith,
+        Function::EndsWith,
+        Function::Contains,
+        Function::DateAdd,
+        Function::DateSubtract,
+        Function::AnyOf,
+        Function::AllOf,
+    ]
+    .iter()
+    .copied()
+    .find(|function| function.is_named(id))
 }
 
 /// A law, with nothing to run: `from_id` gives a function exactly where the text is that function's own URI.
