@@ -140,7 +140,7 @@ fn apply(alloc: Global, object: &Value) -> Result<RawExpression, CheckFault>
 fn expressions(alloc: Global, values: &[Value]) -> Result<Items<RawExpression>, CheckFault>
     ensures { Gives result (each_by expression_of (items_view values.now)) }
 {
-    let mut all = Items::new(alloc);
+    let mut all = Items::with_capacity(alloc, values.len())?;
     for value in values {
         all.push(nested_expression(alloc, value)?)?;
     }

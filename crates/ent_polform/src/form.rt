@@ -35,7 +35,7 @@ fn definition(alloc: Global, object: &Value) -> Result<RawVariableDefinition, Ch
 fn definitions(alloc: Global, values: &[Value]) -> Result<Items<RawVariableDefinition>, CheckFault>
     ensures { Gives result (each_by definition_of (items_view values.now)) }
 {
-    let mut all = Items::new(alloc);
+    let mut all = Items::with_capacity(alloc, values.len())?;
     for value in values {
         all.push(definition(alloc, value)?)?;
     }
@@ -82,7 +82,7 @@ fn rule(alloc: Global, object: &Value) -> Result<RawRule, CheckFault>
 fn rules(alloc: Global, values: &[Value]) -> Result<Items<RawRule>, CheckFault>
     ensures { Gives result (each_by rule_of (items_view values.now)) }
 {
-    let mut all = Items::new(alloc);
+    let mut all = Items::with_capacity(alloc, values.len())?;
     for value in values {
         all.push(rule(alloc, value)?)?;
     }
@@ -162,7 +162,7 @@ fn set(alloc: Global, object: &Value) -> Result<RawPolicySet, CheckFault>
 fn documents(alloc: Global, values: &[Value]) -> Result<Items<RawDocument>, CheckFault>
     ensures { Gives result (each_by raw_of (items_view values.now)) }
 {
-    let mut all = Items::new(alloc);
+    let mut all = Items::with_capacity(alloc, values.len())?;
     for value in values {
         all.push(nested_document(alloc, value)?)?;
     }

@@ -41,7 +41,7 @@ fn one_match(alloc: Global, object: &Value) -> Result<RawMatch, CheckFault>
 fn matches(alloc: Global, values: &[Value]) -> Result<Items<RawMatch>, CheckFault>
     ensures { Gives result (each_by match_of (items_view values.now)) }
 {
-    let mut all = Items::new(alloc);
+    let mut all = Items::with_capacity(alloc, values.len())?;
     for value in values {
         all.push(one_match(alloc, value)?)?;
     }
@@ -65,7 +65,7 @@ fn all_of(alloc: Global, object: &Value) -> Result<RawAllOf, CheckFault>
 fn all_of_list(alloc: Global, values: &[Value]) -> Result<Items<RawAllOf>, CheckFault>
     ensures { Gives result (each_by one_all_of (items_view values.now)) }
 {
-    let mut all = Items::new(alloc);
+    let mut all = Items::with_capacity(alloc, values.len())?;
     for value in values {
         all.push(all_of(alloc, value)?)?;
     }
@@ -89,7 +89,7 @@ fn any_of(alloc: Global, object: &Value) -> Result<RawAnyOf, CheckFault>
 fn any_of_list(alloc: Global, values: &[Value]) -> Result<Items<RawAnyOf>, CheckFault>
     ensures { Gives result (each_by one_any_of (items_view values.now)) }
 {
-    let mut all = Items::new(alloc);
+    let mut all = Items::with_capacity(alloc, values.len())?;
     for value in values {
         all.push(any_of(alloc, value)?)?;
     }

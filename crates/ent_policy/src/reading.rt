@@ -78,7 +78,7 @@ fn apply(alloc: Global, id: Text, arguments: Items<RawExpression>) -> Result<Exp
 fn expressions(alloc: Global, raw: Items<RawExpression>) -> Result<Items<Expression>, CheckFault>
     ensures { Gives result (each_by expression_of raw) }
 {
-    let mut all = Items::new(alloc);
+    let mut all = Items::with_capacity(alloc, raw.len())?;
     for part in raw.into_vec() {
         all.push(expression(alloc, part)?)?;
     }
@@ -107,7 +107,7 @@ fn match_read(alloc: Global, raw: RawMatch) -> Result<Match, CheckFault>
 fn matches(alloc: Global, raw: Items<RawMatch>) -> Result<Items<Match>, CheckFault>
     ensures { Gives result (each_by match_of raw) }
 {
-    let mut all = Items::new(alloc);
+    let mut all = Items::with_capacity(alloc, raw.len())?;
     for part in raw.into_vec() {
         all.push(match_read(alloc, part)?)?;
     }
@@ -126,7 +126,7 @@ fn all_of(alloc: Global, raw: RawAllOf) -> Result<AllOf, CheckFault>
 fn all_ofs(alloc: Global, raw: Items<RawAllOf>) -> Result<Items<AllOf>, CheckFault>
     ensures { Gives result (each_by all_of_of raw) }
 {
-    let mut all = Items::new(alloc);
+    let mut all = Items::with_capacity(alloc, raw.len())?;
     for part in raw.into_vec() {
         all.push(all_of(alloc, part)?)?;
     }
@@ -145,7 +145,7 @@ fn any_of(alloc: Global, raw: RawAnyOf) -> Result<AnyOf, CheckFault>
 fn any_ofs(alloc: Global, raw: Items<RawAnyOf>) -> Result<Items<AnyOf>, CheckFault>
     ensures { Gives result (each_by any_of_of raw) }
 {
-    let mut all = Items::new(alloc);
+    let mut all = Items::with_capacity(alloc, raw.len())?;
     for part in raw.into_vec() {
         all.push(any_of(alloc, part)?)?;
     }
@@ -181,7 +181,7 @@ fn definitions(
 ) -> Result<Items<VariableDefinition>, CheckFault>
     ensures { Gives result (each_by definition_read raw) }
 {
-    let mut all = Items::new(alloc);
+    let mut all = Items::with_capacity(alloc, raw.len())?;
     for part in raw.into_vec() {
         all.push(definition(alloc, part)?)?;
     }
@@ -220,7 +220,7 @@ fn rule(alloc: Global, raw: RawRule) -> Result<Rule, CheckFault>
 fn rules(alloc: Global, raw: Items<RawRule>) -> Result<Items<Rule>, CheckFault>
     ensures { Gives result (each_by rule_of raw) }
 {
-    let mut all = Items::new(alloc);
+    let mut all = Items::with_capacity(alloc, raw.len())?;
     for part in raw.into_vec() {
         all.push(rule(alloc, part)?)?;
     }
@@ -307,7 +307,7 @@ fn set(alloc: Global, raw: RawPolicySet) -> Result<PolicySet, CheckFault>
 fn trees(alloc: Global, raw: Items<RawDocument>) -> Result<Items<Tree>, CheckFault>
     ensures { Gives result (each_by tree_of raw) }
 {
-    let mut all = Items::new(alloc);
+    let mut all = Items::with_capacity(alloc, raw.len())?;
     for part in raw.into_vec() {
         all.push(tree(alloc, part)?)?;
     }

@@ -20,7 +20,7 @@ expressions-nested_expression-requires t c =
 
 pub expressions-returns-in_err-nested_expression : goal.expressions-returns-in_err-nested_expression
 expressions-returns-in_err-nested_expression t c =
-    let p = err_from_is_err_and c.from_residual.result c.from_residual.ensures.1 in
+    let p = err_from_is_err_and c.from_residual-in_err-nested_expression.result c.from_residual-in_err-nested_expression.ensures.1 in
     let vs = c.args.values.now in
     let read = expression_of-step (view c.value-item.result) in
     rw (p.1, p.2) (ends expression_of c.in_err-nested_expression.field-0.0 c.loop-value.all vs c.loop-value.value-index c.value-item.result (each_by expression_of (items_view vs)) c.loop-value-test.true c.value-item.is (rw read c.in_err-nested_expression.ensures) c.loop-value.invariant)

@@ -20,7 +20,7 @@ documents-nested_document-requires t c =
 
 pub documents-returns-in_err-nested_document : goal.documents-returns-in_err-nested_document
 documents-returns-in_err-nested_document t c =
-    let p = err_from_is_err_and c.from_residual.result c.from_residual.ensures.1 in
+    let p = err_from_is_err_and c.from_residual-in_err-nested_document.result c.from_residual-in_err-nested_document.ensures.1 in
     let vs = c.args.values.now in
     let read = raw_of-step (view c.value-item.result) in
     rw (p.1, p.2) (ends raw_of c.in_err-nested_document.field-0.0 c.loop-value.all vs c.loop-value.value-index c.value-item.result (each_by raw_of (items_view vs)) c.loop-value-test.true c.value-item.is (rw read c.in_err-nested_document.ensures) c.loop-value.invariant)

@@ -7,7 +7,7 @@ use Rattle.ent_polform.proofs.form.rules.Goals as goal
 
 pub returns-in_err-rule : goal.returns-in_err-rule
 returns-in_err-rule c =
-    let p = err_from_is_err_and c.from_residual.result c.from_residual.ensures.1 in
+    let p = err_from_is_err_and c.from_residual-in_err-rule.result c.from_residual-in_err-rule.ensures.1 in
     let vs = c.args.values.now in
     rw (p.1, p.2) (ends rule_of c.in_err-rule.field-0.0 c.loop-value.all vs c.loop-value.value-index c.value-item.result (each_by rule_of (items_view vs)) c.loop-value-test.true c.value-item.is c.in_err-rule.ensures c.loop-value.invariant)
 

@@ -7,7 +7,7 @@ use Rattle.ent_polform.proofs.target.all_of_list.Goals as goal
 
 pub returns-in_err-all_of : goal.returns-in_err-all_of
 returns-in_err-all_of c =
-    let p = err_from_is_err_and c.from_residual.result c.from_residual.ensures.1 in
+    let p = err_from_is_err_and c.from_residual-in_err-all_of.result c.from_residual-in_err-all_of.ensures.1 in
     let vs = c.args.values.now in
     rw (p.1, p.2) (ends one_all_of c.in_err-all_of.field-0.0 c.loop-value.all vs c.loop-value.value-index c.value-item.result (each_by one_all_of (items_view vs)) c.loop-value-test.true c.value-item.is c.in_err-all_of.ensures c.loop-value.invariant)
 

@@ -7,7 +7,7 @@ use Rattle.ent_polform.proofs.target.matches.Goals as goal
 
 pub returns-in_err-one_match : goal.returns-in_err-one_match
 returns-in_err-one_match c =
-    let p = err_from_is_err_and c.from_residual.result c.from_residual.ensures.1 in
+    let p = err_from_is_err_and c.from_residual-in_err-one_match.result c.from_residual-in_err-one_match.ensures.1 in
     let vs = c.args.values.now in
     rw (p.1, p.2) (ends match_of c.in_err-one_match.field-0.0 c.loop-value.all vs c.loop-value.value-index c.value-item.result (each_by match_of (items_view vs)) c.loop-value-test.true c.value-item.is c.in_err-one_match.ensures c.loop-value.invariant)
 

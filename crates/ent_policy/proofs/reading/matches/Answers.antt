@@ -16,7 +16,7 @@ loop-part-preserved c =
 pub returns-in_err-match_read : goal.returns-in_err-match_read
 returns-in_err-match_read c =
     let t = YieldsList-turn (YieldsList-from_vec {s = c.into_iter-part-iterator.result} c.args.raw (cc) (cc)) c.loop-part.yielded c.loop-part.part-iterator c.loop-part.yielded_by c.next.result c.next.new.self c.in-Some.part c.in-Some.is c.next.ensures.steps in
-    let p = err_from_is_err_and c.from_residual.result c.from_residual.ensures.1 in
+    let p = err_from_is_err_and c.from_residual-in_err-match_read.result c.from_residual-in_err-match_read.ensures.1 in
     rw (p.1, p.2) (ends match_of c.in_err-match_read.field-0.0 c.loop-part.all c.args.raw (length c.loop-part.yielded) c.in-Some.part _ t.0 t.1 c.in_err-match_read.ensures c.loop-part.invariant)
 
 pub returns : goal.returns
