@@ -1,0 +1,113 @@
+#!/usr/bin/env python3
+"""Makes stdin and stdout, which the gate runs and compares, from the sessions that people read. With --check, says whether they are up to date.
+
+    sessions.py [--check]
+
+A file sessions/SUBJECT.txt holds sessions. A line `# name` begins one, with a service of its own. A line `> ` with what is sent stands before
+a line `< ` with its reply; `--` begins a comment, and an empty line means nothing. The text is sent as it stands, but for what stands in «»:
+
+    «N*TEXT»    N copies of TEXT             №      in TEXT: the number of the copy, from 0
+    «N,TEXT»    N copies joined by commas    №+1    in TEXT: the number of the next copy
+    «FF»        the byte of these two hexadecimal digits
+
+One more session, policies_page, is made from docs/POLICIES.md: each example there is added, with the reply that follows from what the page
+says below it. After `ok KIND ID VERSION` a document of that kind, id and version is there already, as is the JSON below an example that says
+how it is written.
+"""
+import json, os, re, sys
+
+HERE = os.path.dirname(os.path.abspath(__file__))
+PAGE = os.path.join(HERE, '..', '..', 'docs', 'POLICIES.md')
+
+
+def read(path):
+    with open(path, encoding='utf-8', newline='') as file:
+        return file.read()
+
+
+def copies(found):
+    """The text that a «N*TEXT» or «N,TEXT» stands for."""
+    count, joined, text = int(found[1]), found[2], found[3]
+    every = (text.replace('№+1', str(i + 1)).replace('№', str(i)) for i in range(count))
+    return (',' if joined == ',' else '').join(every)
+
+
+def sent(text):
+    """The bytes that a text of a session stands for."""
+    text = re.sub('«([0-9]+)([*,])(.*?)»', copies, text)
+    parts = re.split('«([0-9A-F]{2})»', text)
+    return b''.join(bytes.fromhex(part) if i % 2 else part.encode() for i, part in enumerate(parts))
+
+
+def sessions_of(path):
+    """The sessions of a file: for each its name and its pairs of a line and a reply."""
+    sessions, line = [], None
+    for number, text in enumerate(read(path).split('\n'), 1):
+        begin, rest = text[:2], text[2:]
+        if begin == '# ' and line is None:
+            sessions.append((rest, []))
+        elif begin == '> ' and line is None and sessions:
+            line = sent(rest)
+        elif begin == '< ' and line is not None:
+            sessions[-1][1].append((line, sent(rest)))
+            line = None
+        elif text and begin != '--' or line is not None:
+            sys.exit(f'{path}:{number}: this can\'t stand here: {text[:80]}')
+    return sessions
+
+
+def added(document):
+    """The line that adds a document, given as the object that its JSON spells."""
+    command = {'do': 'policy.add', 'document': document}
+    return json.dumps(command, separators=(',', ':'), ensure_ascii=False).encode()
+
+
+def page_session():
+    """The examples of the page on policies, each with the reply that follows from what stands below it."""
+    blocks = re.findall(r'^```(\w*)\n(.*?)^```$', read(PAGE), re.M | re.S)
+    examples = [(json.loads(text), then) for (kind, text), (_, then) in zip(blocks, blocks[1:]) if kind == 'json']
+    pairs, held = [], []
+    for document, then in examples:
+        (kind, body), told = *document.items(), then.split()
+        line = added(document)
+        if told[0] == 'refused':
+            pairs.append((line, f'{{"refused":{told[1]},"sub":{told[2]}}}'.encode()))
+            continue
+        if document in held:
+            pairs.append((line, b'{"refused":8}'))
+        else:
+            held.append(json.loads(then) if then.startswith('{') else document)
+            pairs.append((line, f'{{"changes":0,"serial":{len(held)}}}'.encode()))
+        if told[0] == 'ok':
+            key = {kind: {key: value for key, value in body.items() if key.endswith('Id')} | {'Version': told[3]}}
+            if told[1:3] != [kind, body[f'{kind}Id']]:
+                sys.exit(f'{PAGE}: {then.strip()} is said of {body[f"{kind}Id"]}')
+            pairs.append((added(key), b'{"refused":8}'))
+    return 'policies_page', pairs
+
+
+def main():
+    folder = os.path.join(HERE, 'sessions')
+    names = sorted((name for name in os.listdir(folder) if name.endswith('.txt')), key=str.encode)
+    sessions = [session for name in names for session in sessions_of(os.path.join(folder, name))] + [page_session()]
+    lines = replies = b''
+    for name, pairs in sessions:
+        heading = f'# {name}\n'.encode()
+        lines += heading + b''.join(line + b'\n' for line, _ in pairs)
+        replies += heading + b''.join(reply + b'\n' for _, reply in pairs)
+    doubled = len(sessions) - len({name for name, _ in sessions})
+    stale = doubled > 0
+    for name, made in (('stdin', lines), ('stdout', replies)):
+        path = os.path.join(HERE, name)
+        if sys.argv[1:] != ['--check']:
+            with open(path, 'wb') as file:
+                file.write(made)
+        elif not os.path.exists(path) or open(path, 'rb').read() != made:
+            print(f'{name} is not what the sessions make')
+            stale = True
+    print(f'{len(sessions)} sessions ({doubled} with a name that stands twice), {sum(len(pairs) for _, pairs in sessions)} lines')
+    return 1 if stale else 0
+
+
+if __name__ == '__main__':
+    sys.exit(main())
