@@ -42,17 +42,17 @@ def sent(text):
 def sessions_of(path):
     """The sessions of a file: for each its name and its pairs of a line and a reply."""
     sessions, line = [], None
-    for number, text in enumerate(read(path).split('\n'), 1):
-        begin, rest = text[:2], text[2:]
-        if begin == '# ' and line is None:
-            sessions.append((rest, []))
-        elif begin == '> ' and line is None and sessions:
-            line = sent(rest)
-        elif begin == '< ' and line is not None:
+    for number, text in enumerate(read(path).split('\n') + [''], 1):
+        mark, rest = text[:2].rstrip(), text[2:]
+        if mark == '<' and line is not None:
             sessions[-1][1].append((line, sent(rest)))
             line = None
-        elif text and begin != '--' or line is not None:
+        elif line is not None or mark not in ('#', '>', '--', '') or mark == '>' and not sessions:
             sys.exit(f'{path}:{number}: this can\'t stand here: {text[:80]}')
+        elif mark == '#':
+            sessions.append((rest, []))
+        elif mark == '>':
+            line = sent(rest)
     return sessions
 
 
