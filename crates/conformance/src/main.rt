@@ -2,6 +2,8 @@
 //! name with the reply to each of its lines.
 #![tactic(auto)]
 
+ghost use Rattle.std.specs.Prelude.{◌≡◌, ◌⊎◌};
+
 use ent_line::{ServeFault, Service, send_all, serve};
 use std::alloc::Global;
 use std::io;
@@ -65,7 +67,9 @@ fn run_sessions<R: BufRead, W: Write>(
 }
 
 /// Runs the sessions of standard input, and gives the exit status.
-fn run<R: Input + Print + AllocGlobal>(rt: &R) -> u8 {
+fn run<R: Input + Print + AllocGlobal>(rt: &R) -> u8
+    ensures { (result ≡ 0) ⊎ (result ≡ 2) }
+{
     let alloc = rt.alloc();
     let (Ok(mut reader), Ok(mut writer)) = (
         BufReader::new(alloc, rt.reader()),
