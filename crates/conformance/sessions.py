@@ -11,8 +11,8 @@ a line `< ` with its reply; `--` begins a comment, and an empty line means nothi
     «FF»        the byte of these two hexadecimal digits
 
 One more session, policies_page, is made from docs/POLICIES.md: each example there is added, with the reply that follows from what the page
-says below it. After `ok KIND ID VERSION` a document of that kind, id and version is there already, as is the JSON below an example that says
-how it is written.
+says below it. After `ok KIND ID VERSION` a document of that kind, id and version is there already, and after an example below which its written
+form stands, so is that form.
 """
 import json, os, re, sys
 
@@ -65,11 +65,13 @@ def added(document):
 def page_session():
     """The examples of the page on policies, each with the reply that follows from what stands below it."""
     blocks = re.findall(r'^```(\w*)\n(.*?)^```$', read(PAGE), re.M | re.S)
-    examples = [(json.loads(text), then) for (kind, text), (_, then) in zip(blocks, blocks[1:]) if kind == 'json']
+    examples = [(json.loads(text), then) for (kind, text), (_, then) in zip(blocks, blocks[1:] + [('', '')]) if kind == 'json']
     pairs, held = [], []
     for document, then in examples:
         (kind, body), told = *document.items(), then.split()
         line = added(document)
+        if not re.match('ok |refused 6 |{', then):
+            sys.exit(f'{PAGE}: no verdict below {body}')
         if told[0] == 'refused':
             pairs.append((line, f'{{"refused":{told[1]},"sub":{told[2]}}}'.encode()))
             continue
