@@ -68,22 +68,22 @@ def page_session():
     examples = [(json.loads(text), then) for (kind, text), (_, then) in zip(blocks, blocks[1:] + [('', '')]) if kind == 'json']
     pairs, held = [], []
     for document, then in examples:
-        (kind, body), told = *document.items(), then.split()
-        line = added(document)
-        if not re.match('ok |refused 6 |{', then):
-            sys.exit(f'{PAGE}: no verdict below {body}')
-        if told[0] == 'refused':
-            pairs.append((line, f'{{"refused":{told[1]},"sub":{told[2]}}}'.encode()))
+        (kind, body), line = *document.items(), added(document)
+        verdict = re.fullmatch('(ok|refused) (.*) (.*)\n', then)
+        written = json.loads(then) if then.startswith('{') else document
+        named = f'{kind} {body.get(f"{kind}Id")}'
+        if not (verdict or then.startswith('{')) or (verdict and verdict[1] == 'ok' and verdict[2] != named) or written[kind].get(f'{kind}Id') != body.get(f'{kind}Id'):
+            sys.exit(f'{PAGE}: no verdict on {named} stands below it')
+        if verdict and verdict[1] == 'refused':
+            pairs.append((line, f'{{"refused":{verdict[2]},"sub":{verdict[3]}}}'.encode()))
             continue
         if document in held:
             pairs.append((line, b'{"refused":8}'))
         else:
-            held.append(json.loads(then) if then.startswith('{') else document)
+            held.append(written)
             pairs.append((line, f'{{"changes":0,"serial":{len(held)}}}'.encode()))
-        if told[0] == 'ok':
-            key = {kind: {key: value for key, value in body.items() if key.endswith('Id')} | {'Version': told[3]}}
-            if told[1:3] != [kind, body[f'{kind}Id']]:
-                sys.exit(f'{PAGE}: {then.strip()} is said of {body[f"{kind}Id"]}')
+        if verdict:
+            key = {kind: {key: value for key, value in body.items() if key.endswith('Id')} | {'Version': verdict[3]}}
             pairs.append((added(key), b'{"refused":8}'))
     return 'policies_page', pairs
 
