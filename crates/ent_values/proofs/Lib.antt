@@ -4,4 +4,5 @@ pub mod Orders
 pub mod Periods
 pub mod ReadBack
 pub mod Texts
+pub mod TypeNames
 pub mod Values

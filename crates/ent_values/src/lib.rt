@@ -13,7 +13,7 @@ mod value;
 mod writing;
 
 pub use bag::Bag;
-pub use datatype::DataType;
+pub use datatype::{DataType, type_names_read_back};
 pub use date::Date;
 pub use duration::YearMonth;
 pub use fault::ValueFault;
