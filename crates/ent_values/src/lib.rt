@@ -20,6 +20,3 @@ pub use fault::ValueFault;
 pub use items::Items;
 pub use text::Text;
 pub use value::{Value, order_is_by_type_and_value, same_is_equal, texts_read_back};
-
-#[cfg(test)]
-mod tests;
