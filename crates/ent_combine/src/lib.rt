@@ -6,8 +6,6 @@ mod chooser;
 mod combiner;
 mod identifiers;
 mod outcome;
-#[cfg(test)]
-mod tests;
 
 pub use chooser::{Choice, Chooser, TargetResult, bad_choice_is_final, seen_targets_are_enough};
 pub use combiner::{Combiner, Progress, fixing_outcome_decides_alone, seen_prefix_is_enough};

@@ -5,6 +5,7 @@ pub mod Groups
 pub mod Held
 pub mod Inner
 pub mod Joining
+pub mod Memory
 pub mod Months
 pub mod Naming
 pub mod NoFault

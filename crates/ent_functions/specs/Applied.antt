@@ -1,8 +1,8 @@
 -- What each function comes to (appendix A.3): the whole table, a line for each function.
-use Rattle.std.specs.Prelude.{◌≡◌, pos, neg_ℤ, ◌+ℤ◌, ◌-ℤ◌, ◌*ℤ◌, unsigned_abs, Bool, not, List, ◌∷◌, length, map, Some, IsSome, Result, Ok}
+use Rattle.std.specs.Prelude.{◌≡◌, pos, neg_ℤ, ◌+ℤ◌, ◌-ℤ◌, ◌*ℤ◌, unsigned_abs, Bool, true, false, not, List, ◌∷◌, length, map, Some, IsSome, Result, Ok}
 use Rattle.std.specs.List.{list_any, list_all}
 use Rattle.ent_values.specs.Same.{same_value}
-use Rattle.ent_values.specs.Types.{datatype_of}
+use Rattle.ent_values.specs.Types.{datatype_of, is_textual}
 use Rattle.ent_values.specs.declared.value.Value.{Value}
 use Rattle.ent_values.specs.declared.value.Value.TheVariants as values
 use Rattle.ent_functions.specs.Arguments.{HasAnswer, type_of_arg, ill_typed, truth, is_true, comes_true, integers_of, texts_of, values_of, of_boolean, of_integer, of_two_values, of_integers, of_texts, of_date_and_months, of_bag, of_value_and_bag, of_two_bags}
@@ -69,6 +69,15 @@ any_of _ = ill_typed
 unfoldable pub all_of : List Arg → Result Arg Fault
 all_of (Fun function ∷ arguments) = truth (list_all (comes_true_with function arguments) (bag_values arguments))
 all_of _ = ill_typed
+
+-- a function whose result takes memory: a bag, or a string or URI out of a bag or joined
+abbrev pub allocates : Function → Bool
+allocates (functions.OneAndOnly e) = is_textual (element_type e)
+allocates (functions.Bag e) = true
+allocates (functions.Intersection e) = true
+allocates (functions.Union e) = true
+allocates functions.Concatenate = true
+allocates _ = false
 
 -- what a function comes to
 unfoldable pub applied : Function → List Arg → Result Arg Fault

@@ -1,19 +1,14 @@
 -- The order of integers, strings and dates (appendix A.3.6 and A.3.8).
 use Rattle.std.specs.Prelude.{Bool, true, false}
 use Rattle.std.specs.Cmp.Lexicographic.{slice_cmp}
-use Rattle.std.specs.Ordering.{nat_cmp, int_cmp, ordering_then}
+use Rattle.std.specs.Ordering.{nat_cmp, int_cmp}
 use Rattle.std.specs.declared.cmp.Ordering.{Ordering}
 use Rattle.std.specs.declared.cmp.Ordering.TheVariants.{Less, Equal, Greater}
-use Rattle.ent_values.specs.Calendar.{Day}
+use Rattle.ent_values.specs.Calendar.{day_order}
 use Rattle.ent_values.specs.declared.value.Value.{Value}
 use Rattle.ent_values.specs.declared.value.Value.TheVariants as values
 use Rattle.ent_functions.specs.declared.function.Comparison.{Comparison}
 use Rattle.ent_functions.specs.declared.function.Comparison.TheVariants.{GreaterThan, GreaterThanOrEqual, LessThan, LessThanOrEqual}
-
--- dates by time: by year, then by month, then by day
-abbrev pub day_order : Day → Day → Ordering
-day_order first second =
-    ordering_then (nat_cmp first.year second.year) (ordering_then (nat_cmp first.month second.month) (nat_cmp first.day second.day))
 
 -- two values of a type with an order: integers by size, strings byte by byte, dates by time
 abbrev pub order_of : Value → Value → Ordering

@@ -1,12 +1,14 @@
 //! Functions of bags, and bags of values.
 
-ghost use Rattle.std.specs.Prelude.{◌≡◌, pos, length, IfOk, OnOk, ◌++◌, All};
+ghost use Rattle.std.specs.Prelude.{◌≡◌, true, pos, length, IfErr, IfOk, OnOk, ◌++◌, All};
+ghost use Rattle.ent_values.specs.Types.{is_textual};
 ghost use Rattle.ent_functions.specs.Applied.{bag_result};
 ghost use Rattle.ent_functions.specs.Arguments.{Applies, values_in, values_of};
 ghost use Rattle.ent_functions.specs.Integers.{within_64_bits};
 ghost use Rattle.ent_functions.specs.Reading.{HoldType, IsHeld};
 ghost use Rattle.ent_functions.specs.Sets.{is_among, only_value};
 ghost use Rattle.ent_functions.specs.Types.{element_type};
+ghost use Rattle.ent_functions.specs.declared.arg.Fault.TheVariants.{Memory};
 
 use crate::arg::{Arg, Fault};
 use crate::arithmetic::made;
@@ -17,6 +19,7 @@ use std::alloc::{AllocError, Global};
 /// The only value of a bag.
 pub(crate) fn one_and_only(alloc: Global, bag: &Bag) -> Result<Arg, Fault>
     ensures value { Applies (only_value bag.now.values) result }
+    ensures memory { IfErr result (λ fault. fault ≡ Memory → is_textual bag.now.datatype ≡ true) }
     ensures held { IsHeld (Arg.Many bag.now) }
 {
     match bag.values() {

@@ -63,15 +63,13 @@ fn date_in_month(number: i64, day: u8) -> Result<Arg, Fault>
     }
 }
 
-// That day of the month, or the month's last day, of which there is one on the 31st, 30th, 29th or 28th.
+// That day of the month, or the month's last day.
 fn clamped(year: u16, month: u8, day: u8) -> Option<Date>
     requires years { (1 ≤ year) × (year ≤ 9999) }
     requires months { (1 ≤ month) × (month ≤ 12) }
     requires days { (1 ≤ day) × (day ≤ 31) }
     ensures { result ≡ Some (record { year = year; month = month; day = min day (days_of_month year month) }) }
 {
-    Date::new(year, month, day)
-        .or_else(|| Date::new(year, month, 30))
-        .or_else(|| Date::new(year, month, 29))
-        .or_else(|| Date::new(year, month, 28))
+    let last = Date::new(year, month, 1)?.last_of_month();
+    Date::new(year, month, day.min(last.day()))
 }

@@ -1,13 +1,14 @@
 //! What each function comes to.
 
-ghost use Rattle.std.specs.Prelude.{◌≡◌, true, [], ◌∷◌, All, IsSome, IfOk, Some, map};
+ghost use Rattle.std.specs.Prelude.{◌≡◌, true, [], ◌∷◌, All, IsSome, IfErr, IfOk, Some, map};
 ghost use Rattle.ent_values.specs.Durations.{is_duration};
 ghost use Rattle.ent_values.specs.declared.value.Value.TheVariants as values;
-ghost use Rattle.ent_functions.specs.Applied.{BooleanFunctionsHaveNoFault, WellTypedCallsHaveAnswers, applied, bag_result, first_order};
+ghost use Rattle.ent_functions.specs.Applied.{BooleanFunctionsHaveNoFault, WellTypedCallsHaveAnswers, allocates, applied, bag_result, first_order};
 ghost use Rattle.ent_functions.specs.Arguments.{Applies, of_two_bags, type_of_arg};
 ghost use Rattle.ent_functions.specs.Reading.{IsHeld, Takes, is_date_sum, is_of_bag, is_one_and_only, is_set_test, is_test, makes_bag};
 ghost use Rattle.ent_functions.specs.Sets.{in_both};
 ghost use Rattle.ent_functions.specs.Types.{bag_of, result_type_of};
+ghost use Rattle.ent_functions.specs.declared.arg.Fault.TheVariants.{Memory};
 ghost use Rattle.ent_functions.specs.declared.function.Function.TheVariants as functions;
 
 use crate::arg::{Arg, Fault};
@@ -25,11 +26,13 @@ use std::alloc::Global;
 
 /// The result of a function for arguments that it takes (appendix A.3).
 ///
-/// A fault other than `Memory` is the function's own, and the same for the same arguments.
+/// A fault other than `Memory` is the function's own, and the same for the same arguments. `Memory` comes from a function alone whose
+/// result takes memory: a bag, or a string or URI.
 #[tactic(auto, unfolding(crate::specs::Applied::applied, crate::specs::Types::result_type_of))]
 pub fn apply(alloc: Global, function: Function, arguments: &[Arg]) -> Result<Arg, Fault>
     requires { IsSome (result_type_of function (map type_of_arg arguments.now)) }
     ensures value { Applies (applied function arguments.now) result }
+    ensures memory { IfErr result (λ fault. fault ≡ Memory → allocates function ≡ true) }
     ensures typed { IfOk result (λ v. Some (type_of_arg v) ≡ result_type_of function (map type_of_arg arguments.now)) }
 {
     match function {
@@ -47,10 +50,11 @@ fn boolean(answer: bool) -> Arg
 }
 
 // The result of a function that takes no function.
-#[tactic(auto, using(crate::proofs::Taken::not_higher))]
+#[tactic(auto, using(crate::proofs::Taken::not_higher, crate::proofs::Memory::may_want))]
 fn first_order(alloc: Global, function: Function, arguments: &[Arg]) -> Result<Arg, Fault>
     requires { Takes function arguments.now }
     ensures value { Applies (first_order function arguments.now) result }
+    ensures memory { IfErr result (λ fault. fault ≡ Memory → allocates function ≡ true) }
     ensures held { is_one_and_only function ≡ true → All IsHeld arguments.now }
 {
     match function {
@@ -99,6 +103,7 @@ fn of_bag(alloc: Global, function: Function, arguments: &[Arg]) -> Result<Arg, F
     requires kind { is_of_bag function ≡ true }
     requires taken { Takes function arguments.now }
     ensures value { Applies (first_order function arguments.now) result }
+    ensures memory { IfErr result (λ fault. fault ≡ Memory → allocates function ≡ true) }
     ensures held { is_one_and_only function ≡ true → All IsHeld arguments.now }
 {
     match function {

@@ -12,8 +12,6 @@ mod identifiers;
 mod logic;
 mod reading;
 mod sets;
-#[cfg(test)]
-mod tests;
 mod texts;
 mod types;
 mod typing;

@@ -5,8 +5,7 @@ use Rattle.std.specs.Bool.{Decides}
 use Rattle.std.specs.Prelude.{◌&&◌}
 use Rattle.std.proofs.lemmas.Slice.Eq.{bytes_eq-Decides, slice_eq-Decides}
 use Rattle.ent_values.specs.Bags.{Contents}
-use Rattle.ent_values.specs.Same.{same_bag, same_value, same_values}
-use Rattle.ent_values.specs.contracts.datatype.DataTypePartialEq.TheImpl as types
+use Rattle.ent_values.specs.Same.{same_bag, same_type, same_value, same_values}
 use Rattle.ent_values.specs.declared.datatype.DataType.{DataType}
 use Rattle.ent_values.specs.declared.value.Value.{Value}
 use Rattle.ent_values.specs.declared.value.Value.TheVariants.{Text, Boolean, Integer, Date, AnyUri, YearMonth}
@@ -52,7 +51,7 @@ same_value-Decides (YearMonth a) (YearMonth b) = search rules
 pub same_values-Decides : (a b : List Value) → Decides (same_values a b) (a ≡ b)
 same_values-Decides a b = slice_eq-Decides same_value-Decides a b _ refl
 
-same_type-Decides : (a b : DataType) → Decides ((types.ghosts).eq a b) (a ≡ b)
+pub same_type-Decides : (a b : DataType) → Decides (same_type a b) (a ≡ b)
 same_type-Decides a b = search rules
 
 both : (a b : Bool) → (a && b) ≡ true → (a ≡ true) × (b ≡ true)

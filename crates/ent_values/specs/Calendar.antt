@@ -1,5 +1,7 @@
 -- Days of the Gregorian calendar.
 use Rattle.std.specs.Prelude.{ℕ, Bool, ◌%◌, ◌==◌, ◌||◌, ◌&&◌, not, nat_le, if◌then◌else◌, Option, Some, None}
+use Rattle.std.specs.Ordering.{nat_cmp, on, then_cmp}
+use Rattle.std.specs.declared.cmp.Ordering.{Ordering}
 
 -- a year, a month of it from 1 to 12, and a day of that month
 pub record Day : Type 0 where
@@ -26,3 +28,7 @@ is_date year month day =
 -- the day of a year, a month and a day of it, if the calendar has it
 abbrev pub day_of : ℕ → ℕ → ℕ → Option Day
 day_of year month day = if is_date year month day then Some (record { year = year; month = month; day = day }) else None
+
+-- days by time: by year, then by month, then by day
+abbrev pub day_order : Day → Day → Ordering
+day_order = then_cmp (on (λ day. day.year) nat_cmp) (then_cmp (on (λ day. day.month) nat_cmp) (on (λ day. day.day) nat_cmp))

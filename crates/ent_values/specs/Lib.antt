@@ -1,5 +1,6 @@
 pub mod Bags
 pub mod Calendar
+pub mod Civil
 pub mod Durations
 pub mod Order
 pub mod ReadBack

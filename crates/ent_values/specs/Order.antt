@@ -1,9 +1,9 @@
 -- How values order: by type, then by value.
 use Rattle.std.specs.Prelude.{◌≡◌, ℕ}
 use Rattle.std.specs.Cmp.Lexicographic.{slice_cmp}
-use Rattle.std.specs.Ordering.{bool_cmp, int_cmp, nat_cmp, ordering_then}
+use Rattle.std.specs.Ordering.{bool_cmp, int_cmp, nat_cmp}
 use Rattle.std.specs.declared.cmp.Ordering.{Ordering}
-use Rattle.ent_values.specs.Calendar.{Day}
+use Rattle.ent_values.specs.Calendar.{day_order}
 use Rattle.ent_values.specs.Types.{datatype_of}
 use Rattle.ent_values.specs.contracts.value.ValueOrd.TheImpl as comparison
 use Rattle.ent_values.specs.declared.datatype.DataType.{DataType}
@@ -23,10 +23,6 @@ place_of types.Integer = 2
 place_of types.Date = 3
 place_of types.AnyUri = 4
 place_of types.YearMonth = 5
-
--- the earlier day is less
-abbrev pub day_order : Day → Day → Ordering
-day_order a b = ordering_then (nat_cmp a.year b.year) (ordering_then (nat_cmp a.month b.month) (nat_cmp a.day b.day))
 
 -- texts by their bytes, false before true, numbers, days and durations the smaller first; of two types the earlier one first
 abbrev pub value_order : Value → Value → Ordering

@@ -1,11 +1,17 @@
--- Whether two values, lists or bags are the same, and that this test decides it.
+-- Whether two types, values, lists or bags are the same, and that this test decides it.
 use Rattle.std.specs.Prelude.{◌≡◌, Bool, List}
 use Rattle.std.specs.Bool.{Decides}
 use Rattle.std.specs.Cmp.Lexicographic.{pointwise}
 use Rattle.ent_values.specs.Bags.{Contents}
 use Rattle.ent_values.specs.declared.value.Value.{Value}
 use Rattle.ent_values.specs.contracts.bag.BagPartialEq.TheImpl as bags
+use Rattle.ent_values.specs.contracts.datatype.DataTypePartialEq.TheImpl as types
 use Rattle.ent_values.specs.contracts.value.ValuePartialEq.TheImpl as comparison
+use Rattle.ent_values.specs.declared.datatype.DataType.{DataType}
+
+-- what `==` of two types answers
+abbrev pub same_type : DataType → DataType → Bool
+same_type = (types.ghosts).eq
 
 -- what `==` of two values answers
 abbrev pub same_value : Value → Value → Bool
@@ -22,6 +28,10 @@ same_bag = (bags.ghosts).eq
 -- it answers whether they are equal
 abbrev pub SameIsEqual : Type 0
 SameIsEqual = (a b : Value) → Decides (same_value a b) (a ≡ b)
+
+-- the same of types
+abbrev pub SameTypesAreEqual : Type 0
+SameTypesAreEqual = (a b : DataType) → Decides (same_type a b) (a ≡ b)
 
 -- the same of lists
 abbrev pub SameListsAreEqual : Type 0

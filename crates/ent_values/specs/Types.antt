@@ -1,5 +1,5 @@
 -- Data types and their names.
-use Rattle.std.specs.Prelude.{ℕ, List, [], ◌∷◌, ◌||◌, Option, find, bytes_eq, codes}
+use Rattle.std.specs.Prelude.{◌≡◌, ℕ, Bool, true, false, List, [], ◌∷◌, ◌||◌, Option, Some, find, bytes_eq, codes}
 use Rattle.ent_values.specs.declared.datatype.DataType.{DataType}
 use Rattle.ent_values.specs.declared.datatype.DataType.TheVariants as types
 use Rattle.ent_values.specs.declared.value.Value.{Value}
@@ -23,6 +23,12 @@ short_name_of types.Date = codes "date"
 short_name_of types.AnyUri = codes "anyURI"
 short_name_of types.YearMonth = codes "yearMonthDuration"
 
+-- a type whose values are texts, which take memory: a string or a URI
+abbrev pub is_textual : DataType → Bool
+is_textual types.Text = true
+is_textual types.AnyUri = true
+is_textual _ = false
+
 -- every type
 abbrev pub all_types : List DataType
 all_types = types.Text ∷ types.Boolean ∷ types.Integer ∷ types.Date ∷ types.AnyUri ∷ types.YearMonth ∷ []
@@ -39,3 +45,7 @@ datatype_of (values.Integer integer) = types.Integer
 datatype_of (values.Date date) = types.Date
 datatype_of (values.AnyUri uri) = types.AnyUri
 datatype_of (values.YearMonth duration) = types.YearMonth
+
+-- the names of a type stand for that type
+abbrev pub TypeNamesReadBack : Type 0
+TypeNamesReadBack = (datatype : DataType) → (type_of (uri_of datatype) ≡ Some datatype) × (type_of (short_name_of datatype) ≡ Some datatype)

@@ -108,9 +108,10 @@ impl Bag {
         self.values.push(value)
     }
 
-    /// An equal bag.
+    /// An equal bag. The copy of an empty bag takes no memory, so it isn't refused.
     pub fn copy(&self, alloc: Global) -> Result<Bag, AllocError>
-        ensures { IfOk result (λ b. b ≡ self.now) }
+        ensures value { IfOk result (λ b. b ≡ self.now) }
+        ensures memory { OnErr result (¬ (self.now.values ≡ [])) }
     {
         let mut copy = Bag::new(alloc, self.datatype);
         for value in self.values.as_slice() {

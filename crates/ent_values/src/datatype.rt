@@ -1,7 +1,7 @@
 //! Data types of values.
 
 ghost use Rattle.std.specs.Prelude.{◌≡◌};
-ghost use Rattle.ent_values.specs.Types.{short_name_of, type_of, uri_of};
+ghost use Rattle.ent_values.specs.Types.{TypeNamesReadBack, short_name_of, type_of, uri_of};
 
 /// The data type of a value (appendix A.2, its URI by appendix B.3).
 #[derive(Clone, Copy, Debug, PartialEq, Eq, PartialOrd, Ord)]
@@ -69,3 +69,8 @@ impl DataType {
         }
     }
 }
+
+/// A law, with nothing to run: the full URI of a type stands for that type, and so does its short name.
+pub fn type_names_read_back()
+    ensures { TypeNamesReadBack }
+{}

@@ -13,13 +13,10 @@ mod value;
 mod writing;
 
 pub use bag::Bag;
-pub use datatype::DataType;
+pub use datatype::{DataType, type_names_read_back};
 pub use date::Date;
 pub use duration::YearMonth;
 pub use fault::ValueFault;
 pub use items::Items;
 pub use text::Text;
 pub use value::{Value, order_is_by_type_and_value, same_is_equal, texts_read_back};
-
-#[cfg(test)]
-mod tests;

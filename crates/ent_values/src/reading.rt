@@ -1,8 +1,9 @@
 //! Values out of their lexical forms.
 
-ghost use Rattle.std.specs.Prelude.{◌≡◌, ◌^◌, ◌≤◌, ◌<◌, ◌||◌, [], bytes_eq, codes, length, Some, None, IfOk, IfErr, IfSome};
+ghost use Rattle.std.specs.Prelude.{◌≡◌, ◌^◌, ◌≤◌, ◌<◌, ◌||◌, [], bytes_eq, codes, length, true, Some, None, IfOk, IfErr, IfSome};
 ghost use Rattle.ent_values.specs.Reading.{boolean_of, count_of, date_of, duration_of, integer_of, months_part_of, period_of, value_of, years_part_of};
-ghost use Rattle.ent_values.specs.declared.fault.ValueFault.TheVariants.{BadValue};
+ghost use Rattle.ent_values.specs.declared.fault.ValueFault.TheVariants.{BadValue, Memory};
+ghost use Rattle.ent_values.specs.Types.{is_textual};
 
 use crate::datatype::DataType;
 use crate::date::Date;
@@ -21,11 +22,12 @@ impl Value {
     /// calendar as `YYYY-MM-DD` in the years 1 to 9999 with a `Z` behind it or none, a duration is `P` with `nY`, `nM` or `nYnM`,
     /// each n of 1 to 9 digits, with a `-` in front or none.
     ///
-    /// Any other text is a `BadValue`.
+    /// Any other text is a `BadValue`. Memory is asked for the text of a string or a URI alone, so no other type is refused.
     #[tactic(auto, unfolding(crate::specs::Reading::value_of))]
     pub fn parse(alloc: Global, datatype: DataType, text: &str) -> Result<Value, ValueFault>
         ensures read { IfOk result (λ v. value_of datatype text.now ≡ Some v) }
         ensures bad { IfErr result (λ e. e ≡ BadValue → value_of datatype text.now ≡ None) }
+        ensures memory { IfErr result (λ e. e ≡ Memory → is_textual datatype ≡ true) }
     {
         let value = match datatype {
             DataType::Text => Some(Value::Text(Text::from_str(alloc, text)?)),

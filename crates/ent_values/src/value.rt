@@ -1,10 +1,10 @@
 //! Values of attributes.
 
-ghost use Rattle.std.specs.Prelude.{◌≡◌, IfOk};
+ghost use Rattle.std.specs.Prelude.{◌≡◌, true, IfOk, OnErr};
 ghost use Rattle.ent_values.specs.Order.{OrderIsByTypeAndValue};
 ghost use Rattle.ent_values.specs.ReadBack.{TextsReadBack};
-ghost use Rattle.ent_values.specs.Same.{SameBagsAreEqual, SameIsEqual, SameListsAreEqual};
-ghost use Rattle.ent_values.specs.Types.{datatype_of};
+ghost use Rattle.ent_values.specs.Same.{SameBagsAreEqual, SameIsEqual, SameListsAreEqual, SameTypesAreEqual};
+ghost use Rattle.ent_values.specs.Types.{datatype_of, is_textual};
 
 use crate::datatype::DataType;
 use crate::date::Date;
@@ -45,9 +45,10 @@ impl Value {
         }
     }
 
-    /// An equal value.
+    /// An equal value. Memory is asked for the text of a string or a URI alone, so no other value is refused.
     pub fn copy(&self, alloc: Global) -> Result<Value, AllocError>
-        ensures { IfOk result (λ v. v ≡ self.now) }
+        ensures value { IfOk result (λ v. v ≡ self.now) }
+        ensures memory { OnErr result (is_textual (datatype_of self.now) ≡ true) }
     {
         match self {
             Value::Text(text) => Ok(Value::Text(text.copy(alloc)?)),
@@ -60,8 +61,9 @@ impl Value {
     }
 }
 
-/// A law, with nothing to run: `==` of two values, of two lists of values and of two bags says whether they are equal.
+/// A law, with nothing to run: `==` of two types, of two values, of two lists of values and of two bags says whether they are equal.
 pub fn same_is_equal()
+    ensures types { SameTypesAreEqual }
     ensures values { SameIsEqual }
     ensures lists { SameListsAreEqual }
     ensures bags { SameBagsAreEqual }

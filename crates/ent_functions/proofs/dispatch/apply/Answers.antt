@@ -42,6 +42,7 @@ returns-in_default c =
     let taken = others_taken c.args.function c.args.arguments.now c.in_default.not-AnyOf c.in_default.not-AllOf c.requires in
     record {
       value = rw (others_applied c.args.function c.in_default.not-AnyOf c.in_default.not-AllOf) c.first_order.ensures.value;
+      memory = c.first_order.ensures.memory;
       typed = rw (others_type c.args.function c.in_default.not-AnyOf c.in_default.not-AllOf)
           (first_order_answer c.args.function c.args.arguments.now c.first_order.result taken c.first_order.ensures.held c.first_order.ensures.value);
     }

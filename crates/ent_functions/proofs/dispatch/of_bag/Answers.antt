@@ -3,6 +3,7 @@ use Rattle.std.proofs.lemmas.List.Elements.{All-cons, All-nil}
 use Rattle.ent_functions.specs.Reading.{IsHeld, Takes}
 use Rattle.ent_functions.specs.declared.arg.Arg.TheVariants.{Many}
 use Rattle.ent_functions.specs.declared.function.Function.TheVariants as functions
+use Rattle.ent_functions.proofs.Memory.{only_value_wants}
 use Rattle.ent_functions.proofs.Taken.{one_bag_taken, takes_one_bag, value_and_bag_taken}
 use Rattle.ent_functions.proofs.dispatch.of_bag.Goals as goal
 
@@ -24,3 +25,9 @@ value_and_bag-requires c =
 pub returns-in-OneAndOnly-clause-held : goal.returns-in-OneAndOnly-clause-held
 returns-in-OneAndOnly-clause-held c = λ kind.
     rw c.one_bag.ensures (All-cons IsHeld (Many c.one_bag.result.now) [] c.one_and_only.ensures.held (All-nil IsHeld))
+
+pub returns-in-OneAndOnly-clause-memory : goal.returns-in-OneAndOnly-clause-memory
+returns-in-OneAndOnly-clause-memory c =
+    let taken : Takes (functions.OneAndOnly c.in-OneAndOnly.field-0) c.args.arguments.now = rw (← c.in-OneAndOnly.is) c.requires.taken in
+    rw c.in-OneAndOnly.is
+    (only_value_wants c.in-OneAndOnly.field-0 c.one_bag.result.now c.args.arguments.now c.one_and_only.result c.one_bag.ensures taken c.one_and_only.ensures.memory)

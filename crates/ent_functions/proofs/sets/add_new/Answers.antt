@@ -9,7 +9,7 @@ returns-in_ok-push c = λ seen is.
     let new : is_among c.args.value.now (each_once seen) ≡ false =
     ap (λ values. is_among c.args.value.now values) (sym held) ∙ sym c.is_in.ensures ∙ c.if-not-is_in.true in
     c.in_ok-push.ensures.ok ∙ ap (λ values. values ++ c.in_ok-copy.field-0 ∷ []) is
-    ∙ ap (λ value. each_once seen ++ value ∷ []) c.in_ok-copy.ensures ∙ sym (found_first seen c.args.value.now new)
+    ∙ ap (λ value. each_once seen ++ value ∷ []) c.in_ok-copy.ensures.value ∙ sym (found_first seen c.args.value.now new)
 
 pub returns-else-not-is_in : goal.returns-else-not-is_in
 returns-else-not-is_in c = λ seen is.

@@ -1,5 +1,8 @@
-use Rattle.ent_values.proofs.Values.{same_bag-Decides, same_value-Decides, same_values-Decides}
+use Rattle.ent_values.proofs.Values.{same_bag-Decides, same_type-Decides, same_value-Decides, same_values-Decides}
 use Rattle.ent_values.proofs.value.same_is_equal.Goals as goal
+
+pub returns-clause-types : goal.returns-clause-types
+returns-clause-types c = same_type-Decides
 
 pub returns-clause-values : goal.returns-clause-values
 returns-clause-values c = same_value-Decides

@@ -1,0 +1,15 @@
+use Rattle.ent_functions.proofs.Memory.{exact}
+use Rattle.ent_functions.proofs.dispatch.first_order.Goals as goal
+
+pub returns-in-Equal-clause-memory : goal.returns-in-Equal-clause-memory
+returns-in-Equal-clause-memory c = exact _ c.args.function c.args.arguments.now c.tested.result c.requires c.tested.ensures
+
+pub returns-in-Add-clause-memory : goal.returns-in-Add-clause-memory
+returns-in-Add-clause-memory c = exact _ c.args.function c.args.arguments.now c.calculated.result c.requires c.calculated.ensures
+
+pub returns-in-AtLeastOneMemberOf-clause-memory : goal.returns-in-AtLeastOneMemberOf-clause-memory
+returns-in-AtLeastOneMemberOf-clause-memory c =
+    exact _ c.args.function c.args.arguments.now c.compared_as_sets.result c.requires c.compared_as_sets.ensures
+
+pub returns-in-DateAdd-clause-memory : goal.returns-in-DateAdd-clause-memory
+returns-in-DateAdd-clause-memory c = exact _ c.args.function c.args.arguments.now c.moved.result c.requires c.moved.ensures
