@@ -31,10 +31,3 @@ pub use raw::{
     RawPolicySet, RawRule, RawTarget, RawValue, RawVariableDefinition,
 };
 pub use version::{Version, text_reads_back};
-
-#[cfg(test)]
-mod tests;
-#[cfg(test)]
-mod tests_of_causes;
-#[cfg(test)]
-mod tests_of_counts;
