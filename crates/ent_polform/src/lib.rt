@@ -23,14 +23,3 @@ pub use reference::read_reference;
 pub use value::read_value;
 pub use written_documents::write_document;
 pub use written_values::write_value;
-
-#[cfg(test)]
-mod document_tests;
-#[cfg(test)]
-mod fault_tests;
-#[cfg(test)]
-mod policies_tests;
-#[cfg(test)]
-mod tests;
-#[cfg(test)]
-mod write_tests;

@@ -15,5 +15,6 @@ pub mod Passed
 pub mod Policies
 pub mod Read
 pub mod References
+pub mod Same
 pub mod Types
 pub mod Written

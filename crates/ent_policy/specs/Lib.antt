@@ -8,6 +8,7 @@ pub mod Names
 pub mod Order
 pub mod Parts
 pub mod Raw
+pub mod Same
 pub mod Sizes
 pub mod Tables
 pub mod Typing

@@ -31,7 +31,7 @@ dotted place number = if place == 0 then decimal number else (46 ∷ decimal num
 abbrev pub version_text : List ℕ → List ℕ
 version_text numbers = join_with_byte 46 (map decimal numbers)
 
--- 1 to 8 numbers of at most 9 digits
+-- what a version is: 1 to 8 numbers, each of at most 9 digits
 abbrev pub is_version : List ℕ → Bool
 is_version numbers = nat_lt 0 (length numbers) && nat_le (length numbers) 8 && list_all (λ n. nat_lt n 1000000000) numbers
 

@@ -9,23 +9,23 @@ use thiserror::Error;
 /// What is wrong with a document, in the order in which faults are looked for over the whole document.
 #[derive(Clone, Copy, Debug, PartialEq, Eq, Error)]
 pub enum DocFault {
-    #[error("the document's form is wrong")]
+    #[error("a key is unknown or missing, or what stands at it has the wrong form")]
     Form,
-    #[error("an identifier has no byte or more than 256, or stands twice")]
+    #[error("an identifier is empty or has more than 256 bytes, or two rules of a policy have the same one")]
     Identifier,
-    #[error("a version can't be read")]
+    #[error("a version isn't 1 to 8 numbers of at most 9 digits, with dots between them")]
     Version,
-    #[error("a combining algorithm is unknown")]
+    #[error("a rule or policy combining algorithm is unknown")]
     Algorithm,
     #[error("a function is unknown")]
     Function,
     #[error("a variable is defined twice, not at all, or through itself")]
     Variable,
-    #[error("a list or the document is too long")]
+    #[error("a list has more than 256 members, or the document has more than 65,536 expressions")]
     Size,
-    #[error("an expression or a policy set is too deep")]
+    #[error("expressions or policy sets nest more than 16 deep")]
     Depth,
-    #[error("an expression has the wrong type")]
+    #[error("a data type is unknown, a value isn't of its type, or an expression has the wrong type")]
     Type,
 }
 

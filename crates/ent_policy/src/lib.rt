@@ -7,6 +7,7 @@ mod document;
 mod expression;
 mod fault;
 mod key;
+mod law;
 mod literals;
 mod names;
 mod parts;
@@ -26,15 +27,9 @@ pub use document::{
 pub use expression::{Expression, VariableDefinition};
 pub use fault::{CheckFault, DocFault};
 pub use key::{DocKey, Kind, Reference};
+pub use law::same_is_equal;
 pub use raw::{
     RawAllOf, RawAnyOf, RawDesignator, RawDocument, RawExpression, RawLiteral, RawMatch, RawPolicy,
     RawPolicySet, RawRule, RawTarget, RawValue, RawVariableDefinition,
 };
 pub use version::{Version, text_reads_back};
-
-#[cfg(test)]
-mod tests;
-#[cfg(test)]
-mod tests_of_causes;
-#[cfg(test)]
-mod tests_of_counts;

@@ -13,7 +13,7 @@ use std::alloc::{AllocError, Global};
 use std::cmp::Ordering;
 use std::marker::Model;
 
-/// The version of a policy or a policy set (section 5.12): at most 8 numbers of at most 9 digits.
+/// The version of a policy or a policy set (section 5.12): 1 to 8 numbers, each of at most 9 digits.
 ///
 /// Versions compare number by number, and one that another begins with is the earlier of the two.
 #[derive(Debug, Drop)]
@@ -23,13 +23,14 @@ pub struct Version {
 }
 
 impl Model for Version {
-    ghost use Rattle.std.specs.Prelude.{List, ℕ, take, ◌≤◌};
+    ghost use Rattle.std.specs.Prelude.{IsTrue, List, ℕ, take, ◌≤◌};
+    ghost use Rattle.ent_policy.specs.Versions.{is_version};
 
     ghost Value = { List ℕ };
 
     ghost view = { λ v. take v.count v.numbers };
 
-    ghost invariant = { λ v. v.count ≤ 8 };
+    ghost invariant = { λ v. (v.count ≤ 8) × IsTrue (is_version (take v.count v.numbers)) };
 }
 
 /// Whether each byte is a decimal digit.

@@ -1,9 +1,9 @@
-use Rattle.std.proofs.Common.{◌≡◌, ◌<◌, length, get_or, ◌∙◌, lit<, length-set, arith}
+use Rattle.std.proofs.Common.{◌≡◌, ◌<◌, length, take, get_or, sym, ◌∙◌, lit<, length-set, arith}
 use Rattle.std.proofs.lemmas.Iterator.Consumers.{YieldsList-turn, YieldsList-end}
 use Rattle.std.proofs.lemmas.Iterator.Splits.{YieldsList-from_str_split}
 use Rattle.std.proofs.lemmas.List.{length_push}
 use Rattle.ent_policy.specs.Versions.{pieces}
-use Rattle.ent_policy.proofs.Numbers.{not_a_number, too_many, all_read, one_more, one_value_more}
+use Rattle.ent_policy.proofs.Numbers.{not_a_number, too_many, all_read, is_version_of, one_more, one_value_more}
 use Rattle.ent_policy.proofs.version.Version.parse.Goals as goal
 
 pub loop-piece-preserved : goal.loop-piece-preserved
@@ -35,3 +35,9 @@ pub returns : goal.returns
 returns c =
     let t = YieldsList-end (YieldsList-from_str_split 46 c.args.text.now (lit< tt) (cc) (cc) (cc)) c.loop-piece.yielded _ c.loop-piece.yielded_by _ _ c.in-None.is c.next.ensures.steps in
     all_read c.args.text.now c.loop-piece.numbers c.loop-piece.count (c.loop-piece.invariant.counted ∙ t.1) c.loop-piece.invariant.few c.loop-piece.invariant.numbers c.loop-piece.invariant.values
+
+pub invariant_of-result : goal.invariant_of-result
+invariant_of-result c =
+    let t = YieldsList-end (YieldsList-from_str_split 46 c.args.text.now (lit< tt) (cc) (cc) (cc)) c.loop-piece.yielded _ c.loop-piece.yielded_by _ _ c.in-None.is c.next.ensures.steps in
+    let read = all_read c.args.text.now c.loop-piece.numbers c.loop-piece.count (c.loop-piece.invariant.counted ∙ t.1) c.loop-piece.invariant.few c.loop-piece.invariant.numbers c.loop-piece.invariant.values in
+    (c.loop-piece.invariant.few, is_version_of c.args.text.now (take c.loop-piece.count c.loop-piece.numbers) (sym read))

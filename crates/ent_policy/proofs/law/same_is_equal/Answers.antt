@@ -1,0 +1,14 @@
+use Rattle.ent_policy.proofs.Same.{same_key-Decides, same_kind-Decides, same_reference-Decides, same_version-Decides}
+use Rattle.ent_policy.proofs.law.same_is_equal.Goals as goal
+
+pub returns-clause-kinds : goal.returns-clause-kinds
+returns-clause-kinds c = same_kind-Decides
+
+pub returns-clause-versions : goal.returns-clause-versions
+returns-clause-versions c = same_version-Decides
+
+pub returns-clause-keys : goal.returns-clause-keys
+returns-clause-keys c = same_key-Decides
+
+pub returns-clause-references : goal.returns-clause-references
+returns-clause-references c = same_reference-Decides

@@ -1,0 +1,42 @@
+-- Whether two kinds, versions, keys or references are the same, and that this test decides it.
+use Rattle.std.specs.Prelude.{◌≡◌, ℕ, List, Bool}
+use Rattle.std.specs.Bool.{Decides}
+use Rattle.ent_policy.specs.contracts.key.DocKeyPartialEq.TheImpl as keys
+use Rattle.ent_policy.specs.contracts.key.KindPartialEq.TheImpl as kinds
+use Rattle.ent_policy.specs.contracts.key.ReferencePartialEq.TheImpl as references
+use Rattle.ent_policy.specs.contracts.version.VersionPartialEq.TheImpl as versions
+use Rattle.ent_policy.specs.declared.key.DocKey.{DocKey}
+use Rattle.ent_policy.specs.declared.key.Kind.{Kind}
+use Rattle.ent_policy.specs.declared.key.Reference.{Reference}
+
+-- what `==` of two kinds answers
+abbrev pub same_kind : Kind → Kind → Bool
+same_kind = (kinds.ghosts).eq
+
+-- what `==` of two versions answers
+abbrev pub same_version : List ℕ → List ℕ → Bool
+same_version = (versions.ghosts).eq
+
+-- what `==` of two keys answers
+abbrev pub same_key : DocKey → DocKey → Bool
+same_key = (keys.ghosts).eq
+
+-- what `==` of two references answers
+abbrev pub same_reference : Reference → Reference → Bool
+same_reference = (references.ghosts).eq
+
+-- it answers whether they are equal
+abbrev pub SameKindsAreEqual : Type 0
+SameKindsAreEqual = (a b : Kind) → Decides (same_kind a b) (a ≡ b)
+
+-- the same of versions
+abbrev pub SameVersionsAreEqual : Type 0
+SameVersionsAreEqual = (a b : List ℕ) → Decides (same_version a b) (a ≡ b)
+
+-- the same of keys
+abbrev pub SameKeysAreEqual : Type 0
+SameKeysAreEqual = (a b : DocKey) → Decides (same_key a b) (a ≡ b)
+
+-- the same of references
+abbrev pub SameReferencesAreEqual : Type 0
+SameReferencesAreEqual = (a b : Reference) → Decides (same_reference a b) (a ≡ b)
