@@ -183,6 +183,7 @@ module _ {W : Type 0} (A : Handling W) (long : LongLinesAlike A) where
           text = p.text;
           splits = p.splits;
           read = nothing_more e.unread e.left next p.text p.read t.0;
+          whole_rest = inr (at_end e.unread e.left next p.text p.read t.1);
           handled = p.lines;
           last = p.rest;
           all = sym same;
@@ -208,6 +209,7 @@ module _ {W : Type 0} (A : Handling W) (long : LongLinesAlike A) where
           text = p.text ++ ended t.0;
           splits = splits_line p.text p.lines p.rest t.0 p.splits t.1;
           read = Consumes-trans e.unread e.left next p.text (ended t.0) p.read t.2;
+          whole_rest = inl refl;
           handled = p.lines;
           last = line;
           all = refl;
