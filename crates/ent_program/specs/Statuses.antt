@@ -1,5 +1,5 @@
 -- The exit statuses of the program.
-use Rattle.std.specs.Prelude.{ℕ, ◌≡◌, ◌⊎◌, Bool, true, false, Result, Ok, Err}
+use Rattle.std.specs.Prelude.{ℕ, Bool, true, false, Result, Ok, Err}
 use Rattle.ent_line.specs.declared.fault.ServeFault.{ServeFault}
 use Rattle.ent_line.specs.declared.fault.ServeFault.TheVariants as fault
 
@@ -9,9 +9,10 @@ fault_status fault.Read = 2
 fault_status fault.Write = 2
 fault_status fault.Memory = 3
 
--- serving ends with the input, or by a fault
-abbrev pub IsServed : ℕ → Type 0
-IsServed status = ((status ≡ 0) ⊎ (status ≡ 2)) ⊎ (status ≡ 3)
+-- serving that ends with its input gives 0, whatever the number of lines, and a fault its own status
+abbrev pub serve_status : Result ℕ ServeFault → ℕ
+serve_status (Ok lines) = 0
+serve_status (Err e) = fault_status e
 
 -- a document that may be stored gives 0, a refusal 1, and a fault its own status
 abbrev pub check_status : Result Bool ServeFault → ℕ

@@ -8,5 +8,5 @@ mod words;
 
 pub use checking::{FILE_LIMIT, check_from};
 pub use running::run;
-pub use status::{check_status, status_of, words_status};
+pub use status::{check_status, serve_status, status_of, words_status};
 pub use words::{FILE, command};

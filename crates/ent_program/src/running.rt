@@ -1,34 +1,53 @@
 //! What the program does, over the runtime that it is started with.
 
-ghost use Rattle.ent_program.specs.Statuses.{IsServed};
+ghost use Rattle.std.specs.Prelude.{[], None};
+ghost use Rattle.ent_table.specs.Limits.{standard_limits};
+ghost use Rattle.ent_table.specs.State.{State, initial};
+ghost use Rattle.ent_line.specs.Serving.{ServesUntil};
+ghost use Rattle.ent_line.specs.Step.{Answers};
 
 use crate::checking::check_from;
-use crate::status::{OKAY, check_status, status_of, words_status};
+use crate::status::{check_status, serve_status, status_of, words_status};
 use crate::words;
 use clap::ArgMatches;
 use clap::error::ErrorKind;
 use ent_line::{ServeFault, Service, serve};
+use std::alloc::Global;
 use std::fs::File;
 use std::io;
-use std::io::{BufReader, BufWriter};
+use std::io::{BufRead, BufReader, BufWriter, Write};
 use std::rt::{Env, Files};
 
-/// Serves standard input to standard output.
-fn serve_input<R: Input + Print + Eprint + AllocGlobal>(rt: &R) -> u8
-    ensures { IsServed result }
+/// Answers each line of the reader by one line into the writer, by a service that holds nothing before the first of them, and
+/// gives their number.
+fn serve_from<R: BufRead, W: Write>(
+    alloc: Global,
+    reader: &mut R,
+    writer: &mut W,
+) -> Result<u64, ServeFault>
+    ensures { (end : State) × ServesUntil Answers (record {
+      start = initial [] None standard_limits;
+      end = end;
+      unread = R.remaining reader.old;
+      left = R.remaining reader.new;
+      wrote = W.contents writer.old;
+      holds = W.contents writer.new;
+    }) result }
 {
+    let mut service = Service::new(alloc);
+    serve(alloc, &mut service, reader, writer)
+}
+
+/// Serves standard input to standard output.
+fn serve_input<R: Input + Print + AllocGlobal>(rt: &R) -> Result<u64, ServeFault> {
     let alloc = rt.alloc();
     let Ok(mut reader) = BufReader::new(alloc, rt.reader()) else {
-        return status_of(rt, ServeFault::Memory);
+        return Err(ServeFault::Memory);
     };
     let Ok(mut writer) = BufWriter::new(alloc, io::writer(rt)) else {
-        return status_of(rt, ServeFault::Memory);
+        return Err(ServeFault::Memory);
     };
-    let mut service = Service::new(alloc);
-    match serve(alloc, &mut service, &mut reader, &mut writer) {
-        Ok(_) => OKAY,
-        Err(fault) => status_of(rt, fault),
-    }
+    serve_from(alloc, &mut reader, &mut writer)
 }
 
 /// Checks the file of that path, and writes to standard output what is said of it.
@@ -48,7 +67,7 @@ fn act<R: Files + Input + Print + Eprint + AllocGlobal>(rt: &R, matches: &ArgMat
             let path = asked.get_str(words::FILE).unwrap_or("");
             check_status(rt, check_file(rt, path))
         }
-        _ => serve_input(rt),
+        _ => serve_status(rt, serve_input(rt)),
     }
 }
 

@@ -1,12 +1,12 @@
 //! The exit statuses of the program.
 
 ghost use Rattle.std.specs.Prelude.{◌≡◌};
-ghost use Rattle.ent_program.specs.Statuses.{check_status, fault_status};
+ghost use Rattle.ent_program.specs.Statuses.{check_status, fault_status, serve_status};
 
 use ent_line::ServeFault;
 
 /// All went well.
-pub(crate) const OKAY: u8 = 0;
+const OKAY: u8 = 0;
 
 /// The command line can't be used, or a file was refused.
 const REFUSED: u8 = 1;
@@ -28,6 +28,16 @@ pub fn status_of(rt: &impl Eprint, fault: ServeFault) -> u8
     };
     let _ = rt.eprintln(text);
     status
+}
+
+/// The exit status of serving; a fault is told on standard error.
+pub fn serve_status(rt: &impl Eprint, served: Result<u64, ServeFault>) -> u8
+    ensures { result ≡ serve_status served }
+{
+    match served {
+        Ok(_) => OKAY,
+        Err(fault) => status_of(rt, fault),
+    }
 }
 
 /// The exit status of a check; a fault is told on standard error.
