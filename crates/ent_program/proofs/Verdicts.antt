@@ -8,12 +8,13 @@ use Rattle.std.proofs.KnownBytes.{Appends-kept}
 use Rattle.ent_line.specs.Pieces.{Sends}
 use Rattle.ent_line.specs.declared.fault.ServeFault.{ServeFault}
 use Rattle.ent_line.specs.declared.fault.ServeFault.TheVariants as fault
+use Rattle.ent_program.specs.declared.checking.FileFault.TheVariants.{TooLong}
 use Rattle.ent_program.specs.declared.checking.Verdict.{Verdict}
-use Rattle.ent_program.specs.Checking.{Checks, IsVerdictOn, is_passed, line_of, verdict_of}
+use Rattle.ent_program.specs.Checking.{IsVerdictOn, Judges, line_of, verdict_of}
 use Rattle.ent_program.specs.declared.checking.Verdict.TheVariants.{Refused}
 
 -- a file of too many bytes is refused as such
-pub too_long : (bytes : List ℕ) → 1048576 < length bytes → Refused 1 None ≡ verdict_of bytes
+pub too_long : (bytes : List ℕ) → 1048576 < length bytes → Refused TooLong ≡ verdict_of bytes
 unfolding verdict_of
 too_long bytes lt = rw (lt-ltb 1048576 (length bytes) lt) refl
 
@@ -46,19 +47,19 @@ nothing None = tt
 nothing (Some xs) = sym (append-nil xs)
 
 -- nothing is written where nothing was read, or memory was wanting
-pub not_read : (unread before : Option (List ℕ)) (e : ServeFault) → e ≢ fault.Write → Checks unread before before (Err e)
+pub not_read : (unread before : Option (List ℕ)) (e : ServeFault) → e ≢ fault.Write → Judges unread before before (Err e)
 not_read unread before fault.Read h = nothing before
 not_read unread before fault.Memory h = nothing before
 not_read unread before fault.Write h = absurd (h refl)
 
 -- a writer that fails holds a front of the line
-pub cut : (unread before after : Option (List ℕ)) (v : Verdict) (e : ServeFault) → IsVerdictOn unread v → Sends before after (line_of v) (Err e) → Checks unread before after (Err e)
-cut unread before after v e on sent = subst (λ x. Checks unread before after (Err x)) (sym sent.0) (v, on, sent.1, sent.2, sent.3, sent.4)
+pub cut : (unread before after : Option (List ℕ)) (v : Verdict) (e : ServeFault) → IsVerdictOn unread v → Sends before after (line_of v) (Err e) → Judges unread before after (Err e)
+cut unread before after v e on sent = subst (λ x. Judges unread before after (Err x)) (sym sent.0) (v, on, sent.1, sent.2, sent.3, sent.4)
 
 -- a writer that can't be flushed holds the line
-pub unflushed : (unread before mid after : Option (List ℕ)) (v : Verdict) → IsVerdictOn unread v → Appends before mid (line_of v) → Keeps mid after → Checks unread before after (Err fault.Write)
+pub unflushed : (unread before mid after : Option (List ℕ)) (v : Verdict) → IsVerdictOn unread v → Appends before mid (line_of v) → Keeps mid after → Judges unread before after (Err fault.Write)
 unflushed unread before mid after v on sent kept = (v, on, line_of v, [], sym (append-nil (line_of v)), Appends-kept before mid after (line_of v) sent kept)
 
 -- the line was written
-pub told : (unread before mid after : Option (List ℕ)) (v : Verdict) (passed : Bool) → IsVerdictOn unread v → Appends before mid (line_of v) → Keeps mid after → passed ≡ is_passed v → Checks unread before after (Ok passed)
-told unread before mid after v passed on sent kept is = (v, on, Appends-kept before mid after (line_of v) sent kept, is)
+pub told : (unread before mid after : Option (List ℕ)) (v : Verdict) → IsVerdictOn unread v → Appends before mid (line_of v) → Keeps mid after → Judges unread before after (Ok v)
+told unread before mid after v on sent kept = (on, Appends-kept before mid after (line_of v) sent kept)

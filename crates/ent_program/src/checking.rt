@@ -3,16 +3,17 @@
 ghost use Rattle.std.specs.Prelude.{◌≡◌, Result, Some, None, IfErr, IfOk, IfSome, take, ◌≢◌};
 ghost use Rattle.ent_line.specs.Pieces.{Sends};
 ghost use Rattle.ent_line.specs.declared.fault.ServeFault.TheVariants.{Write};
-ghost use Rattle.ent_program.specs.Checking.{Checks, is_passed, line_of, passed_of, verdict_of};
-ghost use Rattle.ent_program.specs.declared.checking.Verdict.TheVariants.{Passed, Refused};
+ghost use Rattle.ent_program.specs.Checking.{Checks, Judges, is_passed, line_of, passed_of, refusal_line, verdict_of};
+ghost use Rattle.ent_program.specs.declared.checking.Verdict.TheVariants.{Passed};
 
 use ent_line::{ServeFault, read_json, send_all};
 use ent_polform::read_document;
-use ent_policy::{CheckFault, Document, Kind};
+use ent_policy::{CheckFault, DocFault, Document, Kind};
 use ent_values::Text;
 use itoa::Buffer;
 use std::alloc::{AllocError, Global};
 use std::io::{ErrorKind, Read, Write};
+use thiserror::Error;
 
 /// The most bytes that the file of a document may have.
 pub const FILE_LIMIT: usize = 1_048_576;
@@ -26,13 +27,24 @@ const NOT_JSON: u8 = 2;
 /// The refusal of a file whose JSON spells no document, with a sub-code.
 const DOCUMENT: u8 = 6;
 
+/// Why a file is refused.
+#[derive(Clone, Copy, Debug, Error)]
+pub(crate) enum FileFault {
+    #[error("the file has more than 1048576 bytes")]
+    TooLong,
+    #[error("the file isn't JSON")]
+    NotJson,
+    #[error("{0}")]
+    Document(DocFault),
+}
+
 /// What is said of a file.
 #[derive(Debug, Drop)]
 pub(crate) enum Verdict {
     /// The file holds a document of this kind, id and version, the version as it is written.
     Passed(Kind, Text, Text),
-    /// The file is refused by this number, and for its document by this sub-code.
-    Refused(u8, Option<u8>),
+    /// The file is refused.
+    Refused(FileFault),
 }
 
 /// The bytes that the reader has, of which one more is read than a file may have.
@@ -64,25 +76,25 @@ fn verdict_on(alloc: Global, bytes: &[u8]) -> Result<Verdict, AllocError>
     ensures { IfOk result (λ v. v ≡ verdict_of bytes.now) }
 {
     if bytes.len() > FILE_LIMIT {
-        return Ok(Verdict::Refused(TOO_LONG, None));
+        return Ok(Verdict::Refused(FileFault::TooLong));
     }
     let Some(json) = read_json(alloc, bytes)? else {
-        return Ok(Verdict::Refused(NOT_JSON, None));
+        return Ok(Verdict::Refused(FileFault::NotJson));
     };
     match read_document(alloc, &json) {
         Ok(document) => passed(alloc, &document),
-        Err(CheckFault::Doc(fault)) => Ok(Verdict::Refused(DOCUMENT, Some(fault.code()))),
+        Err(CheckFault::Doc(fault)) => Ok(Verdict::Refused(FileFault::Document(fault))),
         Err(CheckFault::Memory) => Err(AllocError),
     }
 }
 
 /// Whether the document may be stored.
-fn is_passed(verdict: &Verdict) -> bool
+pub(crate) fn is_passed(verdict: &Verdict) -> bool
     ensures { result ≡ is_passed verdict.now }
 {
     match verdict {
         Verdict::Passed(_, _, _) => true,
-        Verdict::Refused(_, _) => false,
+        Verdict::Refused(_) => false,
     }
 }
 
@@ -110,7 +122,7 @@ fn send_passed<'v, W: Write>(
 
 /// Writes the line of a refusal that has no sub-code.
 fn send_refused<W: Write>(writer: &mut W, code: u8) -> Result<(), ServeFault>
-    ensures { Sends (W.contents writer.old) (W.contents writer.new) (line_of (Refused code None)) result }
+    ensures { Sends (W.contents writer.old) (W.contents writer.new) (refusal_line code None) result }
 {
     let mut first = Buffer::new();
     let start = "refused ".as_bytes();
@@ -121,7 +133,7 @@ fn send_refused<W: Write>(writer: &mut W, code: u8) -> Result<(), ServeFault>
 
 /// Writes the line of a refused document.
 fn send_sub<W: Write>(writer: &mut W, code: u8, sub: u8) -> Result<(), ServeFault>
-    ensures { Sends (W.contents writer.old) (W.contents writer.new) (line_of (Refused code (Some sub))) result }
+    ensures { Sends (W.contents writer.old) (W.contents writer.new) (refusal_line code (Some sub)) result }
 {
     let mut first = Buffer::new();
     let mut second = Buffer::new();
@@ -139,10 +151,28 @@ fn send_verdict<W: Write>(writer: &mut W, verdict: &Verdict) -> Result<(), Serve
 {
     match verdict {
         Verdict::Passed(kind, id, version) => send_passed(writer, *kind, id, version),
-        Verdict::Refused(code, sub) => match sub {
-            None => send_refused(writer, *code),
-            Some(sub) => send_sub(writer, *code, *sub),
-        },
+        Verdict::Refused(FileFault::TooLong) => send_refused(writer, TOO_LONG),
+        Verdict::Refused(FileFault::NotJson) => send_refused(writer, NOT_JSON),
+        Verdict::Refused(FileFault::Document(fault)) => send_sub(writer, DOCUMENT, fault.code()),
+    }
+}
+
+/// Does what `check_from` does, and gives the verdict.
+pub(crate) fn check<R: Read, W: Write>(
+    alloc: Global,
+    reader: &mut R,
+    writer: &mut W,
+) -> Result<Verdict, ServeFault>
+    ensures { Judges (R.remaining reader.old) (W.contents writer.old) (W.contents writer.new) result }
+{
+    let bytes = read_front(alloc, reader)?;
+    let Ok(verdict) = verdict_on(alloc, bytes.as_slice()) else {
+        return Err(ServeFault::Memory);
+    };
+    send_verdict(writer, &verdict)?;
+    match writer.flush() {
+        Ok(()) => Ok(verdict),
+        Err(_) => Err(ServeFault::Write),
     }
 }
 
@@ -159,13 +189,6 @@ pub fn check_from<R: Read, W: Write>(
 ) -> Result<bool, ServeFault>
     ensures { Checks (R.remaining reader.old) (W.contents writer.old) (W.contents writer.new) result }
 {
-    let bytes = read_front(alloc, reader)?;
-    let Ok(verdict) = verdict_on(alloc, bytes.as_slice()) else {
-        return Err(ServeFault::Memory);
-    };
-    send_verdict(writer, &verdict)?;
-    match writer.flush() {
-        Ok(()) => Ok(is_passed(&verdict)),
-        Err(_) => Err(ServeFault::Write),
-    }
+    let verdict = check(alloc, reader, writer)?;
+    Ok(is_passed(&verdict))
 }

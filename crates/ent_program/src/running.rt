@@ -6,7 +6,7 @@ ghost use Rattle.ent_table.specs.State.{State, initial};
 ghost use Rattle.ent_line.specs.Serving.{ServesUntil};
 ghost use Rattle.ent_line.specs.Step.{Answers};
 
-use crate::checking::check_from;
+use crate::checking::{Verdict, check, is_passed};
 use crate::status::{check_status, serve_status, status_of, words_status};
 use crate::words;
 use clap::ArgMatches;
@@ -50,14 +50,27 @@ fn serve_input<R: Input + Print + AllocGlobal>(rt: &R) -> Result<u64, ServeFault
     serve_from(alloc, &mut reader, &mut writer)
 }
 
-/// Checks the file of that path, and writes to standard output what is said of it.
-fn check_file<R: Files + Print + AllocGlobal>(rt: &R, path: &str) -> Result<bool, ServeFault> {
+/// Says on standard error why a file is refused, if it is.
+fn tell(rt: &impl Eprint, verdict: &Verdict) {
+    if let Verdict::Refused(fault) = verdict {
+        let _ = eprintln!(rt; "review: {fault}");
+    }
+}
+
+/// Checks the file of that path: writes to standard output what is said of it, and to standard error why it is refused, if it
+/// is. Gives whether its document may be stored.
+fn check_file<R: Files + Print + Eprint + AllocGlobal>(
+    rt: &R,
+    path: &str,
+) -> Result<bool, ServeFault> {
     let mut file = match File::open(rt, path) {
         Ok(file) => file,
         Err(e) if e.kind() == io::ErrorKind::OutOfMemory => return Err(ServeFault::Memory),
         Err(_) => return Err(ServeFault::Read),
     };
-    check_from(rt.alloc(), &mut file, &mut io::writer(rt))
+    let verdict = check(rt.alloc(), &mut file, &mut io::writer(rt))?;
+    tell(rt, &verdict);
+    Ok(is_passed(&verdict))
 }
 
 /// Does what the words of the command line ask for, and gives the exit status.
