@@ -8,7 +8,7 @@ mod fault;
 mod input;
 mod output;
 mod reading;
-mod refusal;
+pub mod refusal;
 mod reply;
 mod service;
 mod serving;

@@ -1,10 +1,11 @@
 -- The verdict on a file, and on its front.
-use Rattle.std.proofs.Common.{◌≡◌, ◌<◌, ◌≤◌, ◌++◌, ℕ, List, [], length, take, nat_lt, Bool, true, false, Option, Some, None, IfSome, option_map, refl, sym, ap, subst, ◌∙◌, arith}
+use Rattle.std.proofs.Common.{◌≡◌, ◌<◌, ◌≤◌, ◌+◌, ◌++◌, ℕ, List, [], length, take, nat_lt, Bool, true, false, Option, Some, None, IfSome, option_map, refl, sym, ap, subst, ◌∙◌, arith}
 use Rattle.std.proofs.lemmas.Bool.{lt-ltb, ltb-false, ltb-true}
 use Rattle.std.proofs.lemmas.List.{length-take-le, take_all}
 use Rattle.std.proofs.Common.{append-nil, ◌≢◌, Result, Ok, Err}
 use Rattle.std.specs.Io.KnownBytes.{Appends, Keeps}
 use Rattle.std.proofs.KnownBytes.{Appends-kept}
+use Rattle.ent_line.specs.Lines.{line_limit}
 use Rattle.ent_line.specs.Pieces.{Sends}
 use Rattle.ent_line.specs.declared.fault.ServeFault.{ServeFault}
 use Rattle.ent_line.specs.declared.fault.ServeFault.TheVariants as fault
@@ -14,31 +15,31 @@ use Rattle.ent_program.specs.Checking.{IsVerdictOn, Judges, line_of, verdict_of}
 use Rattle.ent_program.specs.declared.checking.Verdict.TheVariants.{Refused}
 
 -- a file of too many bytes is refused as such
-pub too_long : (bytes : List ℕ) → 1048576 < length bytes → Refused TooLong ≡ verdict_of bytes
+pub too_long : (bytes : List ℕ) → line_limit < length bytes → Refused TooLong ≡ verdict_of bytes
 unfolding verdict_of
-too_long bytes lt = rw (lt-ltb 1048576 (length bytes) lt) refl
+too_long bytes lt = rw (lt-ltb line_limit (length bytes) lt) refl
 
-front_at : (b : Bool) (all : List ℕ) → nat_lt 1048576 (length all) ≡ b → verdict_of (take 1048577 all) ≡ verdict_of all
-front_at false all h = ap verdict_of (take_all 1048577 all (omega (arith, ltb-false 1048576 (length all) h)))
+front_at : (b : Bool) (all : List ℕ) → nat_lt line_limit (length all) ≡ b → verdict_of (take (line_limit + 1) all) ≡ verdict_of all
+front_at false all h = ap verdict_of (take_all (line_limit + 1) all (omega (arith, ltb-false line_limit (length all) h)))
 front_at true all h =
-    let more = ltb-true 1048576 (length all) h in
-    let taken = length-take-le 1048577 all (omega (arith, more)) in
-    sym (too_long (take 1048577 all) (omega (arith, taken))) ∙ too_long all more
+    let more = ltb-true line_limit (length all) h in
+    let taken = length-take-le (line_limit + 1) all (omega (arith, more)) in
+    sym (too_long (take (line_limit + 1) all) (omega (arith, taken))) ∙ too_long all more
 
 -- one byte more than a file may have is enough for its verdict
-pub verdict_of_front : (all : List ℕ) → verdict_of (take 1048577 all) ≡ verdict_of all
-verdict_of_front all = front_at (nat_lt 1048576 (length all)) all refl
+pub verdict_of_front : (all : List ℕ) → verdict_of (take (line_limit + 1) all) ≡ verdict_of all
+verdict_of_front all = front_at (nat_lt line_limit (length all)) all refl
 
-at_known : (known : Option (List ℕ)) (bytes items : List ℕ) (limit : ℕ) → limit ≡ 1048577 → items ≡ [] → IfSome (option_map (take limit) known) (λ xs. bytes ≡ items ++ xs) → IfSome known (λ all. bytes ≡ take 1048577 all)
+at_known : (known : Option (List ℕ)) (bytes items : List ℕ) (limit : ℕ) → limit ≡ line_limit + 1 → items ≡ [] → IfSome (option_map (take limit) known) (λ xs. bytes ≡ items ++ xs) → IfSome known (λ all. bytes ≡ take (line_limit + 1) all)
 at_known None bytes items limit l n is = tt
 at_known (Some all) bytes items limit l n is = is ∙ ap (λ xs. xs ++ take limit all) n ∙ ap (λ m. take m all) l
 
 -- what a reader of limited length gives
-pub front_read : (known left : Option (List ℕ)) (bytes items : List ℕ) (limit : ℕ) → left ≡ known → limit ≡ 1048577 → items ≡ [] → IfSome (option_map (take limit) left) (λ xs. bytes ≡ items ++ xs) → IfSome known (λ all. bytes ≡ take 1048577 all)
+pub front_read : (known left : Option (List ℕ)) (bytes items : List ℕ) (limit : ℕ) → left ≡ known → limit ≡ line_limit + 1 → items ≡ [] → IfSome (option_map (take limit) left) (λ xs. bytes ≡ items ++ xs) → IfSome known (λ all. bytes ≡ take (line_limit + 1) all)
 front_read known left bytes items limit same l n is = at_known known bytes items limit l n (subst (λ k. IfSome (option_map (take limit) k) (λ xs. bytes ≡ items ++ xs)) same is)
 
 -- the verdict on what was read of a reader is that on all that it had
-pub judged : (unread : Option (List ℕ)) (bytes items : List ℕ) (v : Verdict) → v ≡ verdict_of bytes → bytes ≡ items → IfSome unread (λ all. items ≡ take 1048577 all) → IsVerdictOn unread v
+pub judged : (unread : Option (List ℕ)) (bytes items : List ℕ) (v : Verdict) → v ≡ verdict_of bytes → bytes ≡ items → IfSome unread (λ all. items ≡ take (line_limit + 1) all) → IsVerdictOn unread v
 judged None bytes items v is same front = tt
 judged (Some all) bytes items v is same front = is ∙ ap verdict_of (same ∙ front) ∙ verdict_of_front all
 

@@ -8,6 +8,7 @@ use Rattle.ent_policy.specs.Versions.{version_text}
 use Rattle.ent_policy.specs.declared.document.Tree.{Tree}
 use Rattle.ent_policy.specs.declared.fault.DocFault.{DocFault}
 use Rattle.ent_polform.specs.Form.{document_of}
+use Rattle.ent_line.specs.Lines.{line_limit}
 use Rattle.ent_line.specs.Step.{data_of}
 use Rattle.ent_line.specs.declared.fault.ServeFault.{ServeFault}
 use Rattle.ent_line.specs.declared.fault.ServeFault.TheVariants as fault
@@ -29,9 +30,9 @@ abbrev pub data_verdict : Option Data → Verdict
 data_verdict None = Refused NotJson
 data_verdict (Some d) = document_verdict (document_of d)
 
--- the verdict on the bytes of a file, which are too many above 1,048,576
+-- the verdict on the bytes of a file, which are too many above a line's limit
 unfoldable pub verdict_of : List ℕ → Verdict
-verdict_of bytes = if nat_lt 1048576 (length bytes) then Refused TooLong else data_verdict (data_of bytes)
+verdict_of bytes = if nat_lt line_limit (length bytes) then Refused TooLong else data_verdict (data_of bytes)
 
 -- whether the document may be stored
 abbrev pub is_passed : Verdict → Bool

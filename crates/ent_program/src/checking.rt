@@ -1,12 +1,14 @@
 //! `review check`: what is said of a policy in a file.
 
-ghost use Rattle.std.specs.Prelude.{◌≡◌, Result, Some, None, IfErr, IfOk, IfSome, take, ◌≢◌};
+ghost use Rattle.std.specs.Prelude.{◌≡◌, ◌+◌, Result, Some, None, IfErr, IfOk, IfSome, take, ◌≢◌};
+ghost use Rattle.ent_line.specs.Lines.{line_limit};
 ghost use Rattle.ent_line.specs.Pieces.{Sends};
 ghost use Rattle.ent_line.specs.declared.fault.ServeFault.TheVariants.{Write};
 ghost use Rattle.ent_program.specs.Checking.{Checks, Judges, is_passed, line_of, passed_of, refusal_line, verdict_of};
 ghost use Rattle.ent_program.specs.declared.checking.Verdict.TheVariants.{Passed};
 
-use ent_line::{ServeFault, read_json, send_all};
+use ent_line::refusal::{DOCUMENT, NOT_JSON, TOO_LONG};
+use ent_line::{LINE_LIMIT, ServeFault, read_json, send_all};
 use ent_polform::read_document;
 use ent_policy::{CheckFault, DocFault, Document, Kind};
 use ent_values::Text;
@@ -15,22 +17,13 @@ use std::alloc::{AllocError, Global};
 use std::io::{ErrorKind, Read, Write};
 use thiserror::Error;
 
-/// The most bytes that the file of a document may have.
-pub const FILE_LIMIT: usize = 1_048_576;
-
-/// The refusal of a file that is longer than a file may be.
-const TOO_LONG: u8 = 1;
-
-/// The refusal of a file that isn't JSON.
-const NOT_JSON: u8 = 2;
-
-/// The refusal of a file whose JSON spells no document, with a sub-code.
-const DOCUMENT: u8 = 6;
+/// The most bytes that the file of a document may have: as many as a line.
+pub const FILE_LIMIT: usize = LINE_LIMIT;
 
 /// Why a file is refused.
 #[derive(Clone, Copy, Debug, Error)]
 pub(crate) enum FileFault {
-    #[error("the file has more than 1048576 bytes")]
+    #[error("the file has more than {FILE_LIMIT} bytes")]
     TooLong,
     #[error("the file isn't JSON")]
     NotJson,
@@ -49,7 +42,7 @@ pub(crate) enum Verdict {
 
 /// The bytes that the reader has, of which one more is read than a file may have.
 fn read_front<R: Read>(alloc: Global, reader: &mut R) -> Result<Vec<u8>, ServeFault>
-    ensures front { IfOk result (λ v. IfSome (R.remaining reader.old) (λ all. v.items ≡ take 1048577 all)) }
+    ensures front { IfOk result (λ v. IfSome (R.remaining reader.old) (λ all. v.items ≡ take (line_limit + 1) all)) }
     ensures fault { IfErr result (λ e. e ≢ Write) }
 {
     let mut bytes = Vec::new(alloc);
