@@ -23,7 +23,7 @@ pub const FILE_LIMIT: usize = LINE_LIMIT;
 /// Why a file is refused.
 #[derive(Clone, Copy, Debug, Error)]
 pub(crate) enum FileFault {
-    #[error("the file has more than {FILE_LIMIT} bytes")]
+    #[error("the file has more than {limit} bytes", limit = FILE_LIMIT)]
     TooLong,
     #[error("the file isn't JSON")]
     NotJson,
