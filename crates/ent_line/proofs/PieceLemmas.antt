@@ -7,7 +7,7 @@ use Rattle.std.proofs.Math.Seq.{take-add, take-append-add}
 use Rattle.std.proofs.lemmas.List.{take_more, length-take}
 use Rattle.std.specs.Io.KnownBytes.{Appends, Keeps, IsAtEnd}
 use Rattle.std.proofs.KnownBytes.{Appends-trans}
-use Rattle.ent_line.specs.Lines.{ended}
+use Rattle.ent_line.specs.Lines.{ended, line_limit}
 use Rattle.ent_line.specs.Pieces.{kept_of, Sends}
 use Rattle.ent_line.specs.declared.fault.ServeFault.{ServeFault}
 
@@ -17,14 +17,14 @@ take_twice n m xs = elim (cases_lt n m) [
   | inr le ↦ take_all n (take m xs) (omega (arith, length-take m xs)) ∙ ap (λ k. take k xs) (omega arith)
 ]
 
-pub kept_line : (old a : List ℕ) (end kept : ℕ) → length old ≤ 1048577 → kept ≡ min (1048577 - length old) end → old ++ take kept a ≡ kept_of (old ++ take end a)
+pub kept_line : (old a : List ℕ) (end kept : ℕ) → length old ≤ line_limit + 1 → kept ≡ min (line_limit + 1 - length old) end → old ++ take kept a ≡ kept_of (old ++ take end a)
 kept_line old a end kept le is =
-    let room : length old + (1048577 - length old) ≡ 1048577 = omega arith in
-    let whole : kept_of (old ++ take end a) ≡ old ++ take (1048577 - length old) (take end a) = subst (λ n. take n (old ++ take end a) ≡ old ++ take (1048577 - length old) (take end a)) room (take-append-add old (take end a) (1048577 - length old)) in
-    sym (whole ∙ ap (λ t. old ++ t) (take_twice (1048577 - length old) end a ∙ ap (λ n. take n a) (sym is)))
+    let room : length old + (line_limit + 1 - length old) ≡ line_limit + 1 = omega arith in
+    let whole : kept_of (old ++ take end a) ≡ old ++ take (line_limit + 1 - length old) (take end a) = subst (λ n. take n (old ++ take end a) ≡ old ++ take (line_limit + 1 - length old) (take end a)) room (take-append-add old (take end a) (line_limit + 1 - length old)) in
+    sym (whole ∙ ap (λ t. old ++ t) (take_twice (line_limit + 1 - length old) end a ∙ ap (λ n. take n a) (sym is)))
 
-pub kept_same : (old : List ℕ) → length old ≤ 1048577 → old ≡ kept_of (old ++ [])
-kept_same old le = sym (ap kept_of (append-nil old) ∙ take_all 1048577 old le)
+pub kept_same : (old : List ℕ) → length old ≤ line_limit + 1 → old ≡ kept_of (old ++ [])
+kept_same old le = sym (ap kept_of (append-nil old) ∙ take_all (line_limit + 1) old le)
 
 pub through_newline : (a : List ℕ) (end : ℕ) → end < length a → get_or a end 0 ≡ 10 → take (end + 1) a ≡ ended (take end a)
 through_newline a end lt is = take_more a end 0 lt ∙ ap (λ b. take end a ++ b ∷ []) is

@@ -10,7 +10,7 @@ use Rattle.std.proofs.KnownBytes.{Consumes-nil, Consumes-trans, Appends-nil, App
 use Rattle.ent_line.specs.declared.fault.ServeFault.{ServeFault}
 use Rattle.ent_line.specs.declared.input.Piece.{Piece}
 use Rattle.ent_line.specs.declared.input.Piece.TheVariants.{End, Part, Line}
-use Rattle.ent_line.specs.Lines.{NoNewline, ended, Splits}
+use Rattle.ent_line.specs.Lines.{NoNewline, ended, line_limit, Splits}
 use Rattle.ent_line.specs.Pieces.{kept_of, TakesPiece}
 use Rattle.ent_line.specs.Replies.{Answer, line_of}
 use Rattle.ent_line.specs.Runs.{Handling, Run, LongLinesAlike}
@@ -25,11 +25,11 @@ take_front n a b = elim (cases_lt n (length a)) [
 ]
 
 kept_twice : (a b : List ℕ) → kept_of (kept_of a ++ b) ≡ kept_of (a ++ b)
-kept_twice a b = take_front 1048577 a b
+kept_twice a b = take_front (line_limit + 1) a b
 
 -- what is kept of a line is empty where the line is
-kept_len : (held line : List ℕ) → held ≡ kept_of line → length held ≡ min 1048577 (length line)
-kept_len held line e = ap length e ∙ length-take 1048577 line
+kept_len : (held line : List ℕ) → held ≡ kept_of line → length held ≡ min (line_limit + 1) (length line)
+kept_len held line e = ap length e ∙ length-take (line_limit + 1) line
 
 kept_more : (held new rest bytes : List ℕ) → held ≡ kept_of rest → new ≡ kept_of (held ++ bytes) → new ≡ kept_of (rest ++ bytes)
 kept_more held new rest bytes p q = q ∙ ap (λ x. kept_of (x ++ bytes)) p ∙ kept_twice rest bytes
@@ -131,9 +131,9 @@ module _ {W : Type 0} (A : Handling W) where
 module _ {W : Type 0} (A : Handling W) (long : LongLinesAlike A) where
   -- what is answered to what was kept of a line is an answer to the line
   kept_is_answered : (w v : W) (held line : List ℕ) (a : Answer) → held ≡ kept_of line → A w held a v → A w line a v
-  kept_is_answered w v held line a e h = elim (cases_lt 1048576 (length line)) [
+  kept_is_answered w v held line a e h = elim (cases_lt line_limit (length line)) [
     | inl lt ↦ long w v held line a (omega (arith, kept_len held line e)) lt h
-    | inr le ↦ subst (λ l. A w l a v) (e ∙ take_all 1048577 line (omega arith)) h
+    | inr le ↦ subst (λ l. A w l a v) (e ∙ take_all (line_limit + 1) line (omega arith)) h
   ]
 
   pub after_line : (e : Ends W) (next then : Option (List ℕ)) (u : W) (held new : List ℕ) (n : ℕ) (done : ⊤) → Progress A e held n → TakesPiece e.left next held new (Ok Line) → AnswersLine A e.end u new e.holds then (Ok done) → Progress A (record e { end = u; left = next; holds = then }) [] (n + 1)
@@ -183,6 +183,7 @@ module _ {W : Type 0} (A : Handling W) (long : LongLinesAlike A) where
           text = p.text;
           splits = p.splits;
           read = nothing_more e.unread e.left next p.text p.read t.0;
+          whole_rest = inr (at_end e.unread e.left next p.text p.read t.1);
           handled = p.lines;
           last = p.rest;
           all = sym same;
@@ -208,6 +209,7 @@ module _ {W : Type 0} (A : Handling W) (long : LongLinesAlike A) where
           text = p.text ++ ended t.0;
           splits = splits_line p.text p.lines p.rest t.0 p.splits t.1;
           read = Consumes-trans e.unread e.left next p.text (ended t.0) p.read t.2;
+          whole_rest = inl refl;
           handled = p.lines;
           last = line;
           all = refl;

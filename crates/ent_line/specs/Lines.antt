@@ -2,6 +2,10 @@
 use Rattle.std.specs.Prelude.{◌≡◌, ◌≢◌, ℕ, List, [], ◌∷◌, ◌++◌, All}
 use Rattle.std.specs.List.{flat_map}
 
+-- the most bytes that a line may have
+abbrev pub line_limit : ℕ
+line_limit = 1048576
+
 -- no byte of these is a newline
 abbrev pub NoNewline : List ℕ → Type 0
 NoNewline bytes = All (λ b. b ≢ 10) bytes

@@ -1,14 +1,15 @@
 -- Lines that are too long are answered alike.
 use Rattle.std.proofs.Common.{◌≡◌, ◌<◌, ℕ, List, length, None, arith, sym, ◌∙◌, inl, inr}
 use Rattle.std.proofs.lemmas.Bool.{lt-ltb}
+use Rattle.ent_line.specs.Lines.{line_limit}
 use Rattle.ent_line.specs.Replies.{refused}
 use Rattle.ent_line.specs.Runs.{LongLinesAlike}
 use Rattle.ent_line.specs.Step.{step, Answers}
 use Rattle.ent_table.specs.State.{State}
 
-too_long : (s : State) (line : List ℕ) → 1048576 < length line → step s line ≡ (refused 1 None, s)
+too_long : (s : State) (line : List ℕ) → line_limit < length line → step s line ≡ (refused 1 None, s)
 unfolding step
-too_long s line lt = rw (lt-ltb 1048576 (length line) lt)
+too_long s line lt = rw (lt-ltb line_limit (length line) lt)
 
 -- all lines that are too long are answered alike
 pub long_lines_alike : LongLinesAlike Answers

@@ -1,15 +1,15 @@
 -- What taking a piece of input, and writing bytes, do to the known bytes of a reader and a writer.
-use Rattle.std.specs.Prelude.{◌≡◌, ℕ, List, [], ◌++◌, Option, Result, Ok, Err, take, ⊤, OnSome}
+use Rattle.std.specs.Prelude.{◌≡◌, ℕ, ◌+◌, List, [], ◌++◌, Option, Result, Ok, Err, take, ⊤, OnSome}
 use Rattle.std.specs.Io.KnownBytes.{Consumes, Appends, IsAtEnd}
 use Rattle.ent_line.specs.declared.fault.ServeFault.{ServeFault}
 use Rattle.ent_line.specs.declared.fault.ServeFault.TheVariants.{Read, Write}
 use Rattle.ent_line.specs.declared.input.Piece.{Piece}
 use Rattle.ent_line.specs.declared.input.Piece.TheVariants.{End, Part, Line}
-use Rattle.ent_line.specs.Lines.{NoNewline, ended}
+use Rattle.ent_line.specs.Lines.{NoNewline, ended, line_limit}
 
 -- what is kept of a line: one byte more than a line may have
 abbrev pub kept_of : List ℕ → List ℕ
-kept_of line = take 1048577 line
+kept_of line = take (line_limit + 1) line
 
 -- what one look at the reader does: the reader's bytes before and after, and what was kept of the line before and after
 abbrev pub TakesPiece : Option (List ℕ) → Option (List ℕ) → List ℕ → List ℕ → Result Piece ServeFault → Type 0

@@ -1,5 +1,6 @@
 -- Runs: lines answered one after the other.
 use Rattle.std.specs.Prelude.{◌≡◌, ◌<◌, ℕ, List, [], ◌∷◌, length}
+use Rattle.ent_line.specs.Lines.{line_limit}
 use Rattle.ent_line.specs.Replies.{Answer}
 
 -- what one line may do: the world before, the line, its answer, the world after
@@ -15,4 +16,4 @@ Run Answers w (line ∷ lines) [] v = ⊥
 
 -- a line that is longer than a line may be is answered as any other such line
 abbrev pub LongLinesAlike : {W : Type 0} → Handling W → Type 0
-LongLinesAlike {W = W} Answers = (w v : W) (line other : List ℕ) (a : Answer) → 1048576 < length line → 1048576 < length other → Answers w line a v → Answers w other a v
+LongLinesAlike {W = W} Answers = (w v : W) (line other : List ℕ) (a : Answer) → line_limit < length line → line_limit < length other → Answers w line a v → Answers w other a v

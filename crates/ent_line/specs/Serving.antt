@@ -1,5 +1,5 @@
 -- A run over bytes: what `serve` reads, answers and writes, and how it ends.
-use Rattle.std.specs.Prelude.{◌≡◌, ℕ, List, [], ◌∷◌, ◌++◌, length, Option, OnSome, Result, Ok, Err, ⊤}
+use Rattle.std.specs.Prelude.{◌≡◌, ◌⊎◌, ℕ, List, [], ◌∷◌, ◌++◌, length, Option, OnSome, Result, Ok, Err, ⊤}
 use Rattle.std.specs.List.{flat_map}
 use Rattle.std.specs.Io.KnownBytes.{Consumes, Appends, IsAtEnd}
 use Rattle.ent_line.specs.declared.fault.ServeFault.{ServeFault}
@@ -31,11 +31,13 @@ pub record Serves {W : Type 0} (Answers : Handling W) (e : Ends W) (lines : List
   pub run : Run Answers e.start handled answers e.end
   pub written : Appends e.wrote e.holds (flat_map line_of answers)
 
--- a text of these lines and this rest was read, and all of them were handled, but of the last one's reply only a front was written
+-- a text of these lines and this rest was read, and all of them were handled, but of the last one's reply only a front was written;
+-- what stands after the last newline was handled only where nothing was left to read
 pub record Breaks {W : Type 0} (Answers : Handling W) (e : Ends W) (lines : List (List ℕ)) (rest : List ℕ) : Type 0 where
   pub text : List ℕ
   pub splits : Splits text lines rest
   pub read : Consumes e.unread e.left text
+  pub whole_rest : (rest ≡ []) ⊎ OnSome e.unread (IsAtEnd e.left)
   pub handled : List (List ℕ)
   pub last : List ℕ
   pub all : handled ++ last ∷ [] ≡ with_last lines rest

@@ -23,6 +23,7 @@ use Rattle.ent_table.specs.declared.edit.List.{List as Which}
 use Rattle.ent_line.specs.Asked as asked
 use Rattle.ent_line.specs.Asked.{Command, request_of}
 use Rattle.ent_line.specs.Cells.{one_cell_text, table_text}
+use Rattle.ent_line.specs.Lines.{line_limit}
 use Rattle.ent_line.specs.Replies.{Answer, accepted, refused, text}
 
 -- ---- edits
@@ -109,8 +110,8 @@ told s (Some d) = requested s (request_of d)
 
 -- what a line is answered, and the state after it
 unfoldable pub step : State → List ℕ → Answer × State
-step s line = if nat_lt 1048576 (length line) then (refused 1 None, s) else told s (data_of line)
+step s line = if nat_lt line_limit (length line) then (refused 1 None, s) else told s (data_of line)
 
 -- the step, or want of memory, which changes nothing and is never told of a line that is too long
 abbrev pub Answers : State → List ℕ → Answer → State → Type 0
-Answers s line a t = ((a, t) ≡ step s line) ⊎ ((a ≡ refused 15 None) × (t ≡ s) × (length line ≤ 1048576))
+Answers s line a t = ((a, t) ≡ step s line) ⊎ ((a ≡ refused 15 None) × (t ≡ s) × (length line ≤ line_limit))

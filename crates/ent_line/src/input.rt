@@ -1,7 +1,7 @@
 //! Lines out of a reader, a piece at a time.
 
 ghost use Rattle.std.specs.Prelude.{◌≡◌, ◌≢◌, ◌+◌, ◌<◌, ◌≤◌, length, take, slice_index, vec_len, vec_capacity, Result, List, ℕ};
-ghost use Rattle.ent_line.specs.Lines.{NoNewline, Splits};
+ghost use Rattle.ent_line.specs.Lines.{NoNewline, Splits, line_limit};
 ghost use Rattle.ent_line.specs.Pieces.{TakesPiece};
 
 use crate::fault::ServeFault;
@@ -40,10 +40,10 @@ pub(crate) fn take_piece<R: BufRead>(
     reader: &mut R,
     line: &mut Vec<u8>,
 ) -> Result<Piece, ServeFault>
-    requires room { vec_len line.old ≤ 1048577 }
-    requires taken { 1048577 ≤ vec_capacity line.old }
+    requires room { vec_len line.old ≤ line_limit + 1 }
+    requires taken { line_limit + 1 ≤ vec_capacity line.old }
     ensures piece { TakesPiece (R.remaining reader.old) (R.remaining reader.new) line.old.items line.new.items result }
-    ensures room { vec_len line.new ≤ 1048577 }
+    ensures room { vec_len line.new ≤ line_limit + 1 }
     ensures taken { vec_capacity line.old ≤ vec_capacity line.new }
 {
     let available = match reader.fill_buf() {

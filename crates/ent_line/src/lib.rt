@@ -8,7 +8,7 @@ mod fault;
 mod input;
 mod output;
 mod reading;
-mod refusal;
+pub mod refusal;
 mod reply;
 mod service;
 mod serving;
@@ -21,8 +21,3 @@ pub use reading::read_json;
 pub use reply::Reply;
 pub use service::Service;
 pub use serving::serve;
-
-#[cfg(test)]
-mod service_tests;
-#[cfg(test)]
-mod tests;

@@ -1,4 +1,4 @@
-//! Refusals by their numbers.
+//! Refusals by their numbers. Each number stands here alone.
 
 ghost use Rattle.ent_line.specs.Refusals.{DocumentRefused, EditRefused};
 
@@ -7,29 +7,44 @@ use ent_policy::CheckFault;
 use ent_table::EditFault;
 use std::alloc::AllocError;
 
-/// A line that is longer than a line may be.
-pub(crate) const TOO_LONG: u8 = 1;
+/// A line or a file that is longer than it may be.
+pub const TOO_LONG: u8 = 1;
 
-/// A line that isn't JSON.
-pub(crate) const NOT_JSON: u8 = 2;
+/// A line or a file that isn't JSON.
+pub const NOT_JSON: u8 = 2;
 
 /// A line whose shape is wrong.
-pub(crate) const SHAPE: u8 = 3;
+pub const SHAPE: u8 = 3;
 
 /// A command that no one knows.
-pub(crate) const UNKNOWN_COMMAND: u8 = 4;
+pub const UNKNOWN_COMMAND: u8 = 4;
 
 /// A session that isn't one of the sixteen.
-pub(crate) const UNKNOWN_SESSION: u8 = 5;
+pub const UNKNOWN_SESSION: u8 = 5;
 
 /// A document or a reference that isn't right.
-pub(crate) const DOCUMENT: u8 = 6;
+pub const DOCUMENT: u8 = 6;
 
 /// What is named isn't there.
-pub(crate) const NOT_THERE: u8 = 7;
+pub const NOT_THERE: u8 = 7;
+
+/// What is to be added is there already.
+pub const ALREADY_THERE: u8 = 8;
+
+/// A limit is reached.
+pub const LIMIT: u8 = 9;
+
+/// The attribute is reserved.
+pub const RESERVED: u8 = 10;
+
+/// A value that can't be used.
+pub const BAD_VALUE: u8 = 11;
+
+/// No module has the number.
+pub const UNKNOWN_MODULE: u8 = 13;
 
 /// Memory is wanting.
-pub(crate) const NO_MEMORY: u8 = 15;
+pub const NO_MEMORY: u8 = 15;
 
 /// The reply to an edit that is refused, or want of memory.
 pub(crate) fn refused_edit(fault: EditFault) -> Result<Reply, AllocError>
@@ -37,11 +52,11 @@ pub(crate) fn refused_edit(fault: EditFault) -> Result<Reply, AllocError>
 {
     let code = match fault {
         EditFault::NotThere => NOT_THERE,
-        EditFault::AlreadyThere => 8,
-        EditFault::Limit => 9,
-        EditFault::Reserved => 10,
-        EditFault::BadValue => 11,
-        EditFault::UnknownModule => 13,
+        EditFault::AlreadyThere => ALREADY_THERE,
+        EditFault::Limit => LIMIT,
+        EditFault::Reserved => RESERVED,
+        EditFault::BadValue => BAD_VALUE,
+        EditFault::UnknownModule => UNKNOWN_MODULE,
         EditFault::Memory => return Err(AllocError),
     };
     Ok(Reply::Refused(code, None))

@@ -4,6 +4,7 @@ use Rattle.std.specs.Io.KnownBytes.{Consumes}
 use Rattle.std.specs.Io.BufRead.{FillKeeps}
 use Rattle.std.proofs.KnownBytes.{Consumes-nil, Consumes-kept}
 use Rattle.std.proofs.BufReadLemmas.{Consumes_shown}
+use Rattle.ent_line.specs.Lines.{line_limit}
 use Rattle.ent_line.proofs.PieceLemmas.{kept_line, kept_same, through_newline, at_end}
 use Rattle.ent_line.proofs.input.take_piece.Goals as goal
 
@@ -28,8 +29,8 @@ returns-then-end-shown-clause-piece g c =
     let filled = subst (FillKeeps before (g.R.Read.remaining rested) (g.R.BufRead.consumable_len rested)) c.in-Ok.is c.fill_buf.follows.holds-at-none in
     let moved = Consumes_shown before (g.R.Read.remaining rested) after (g.R.BufRead.consumable_len rested) shown (end + 1) (omega (arith, c.if-end-shown.true)) c.in-Ok.ensures.front c.in-Ok.ensures.end filled.0 filled.1 c.consume.ensures.bytes in
     let old = c.args.line.now.items in
-    let le : length old ≤ 1048577 = omega (arith, c.requires.room, c.args.line.now.ok.0) in
-    let kept : c.min-kept.result ≡ min (1048577 - length old) end = omega (arith, c.min-kept.ensures, c.len.ensures, c.args.line.now.ok.0) in
+    let le : length old ≤ line_limit + 1 = omega (arith, c.requires.room, c.args.line.now.ok.0) in
+    let kept : c.min-kept.result ≡ min (line_limit + 1 - length old) end = omega (arith, c.min-kept.ensures, c.len.ensures, c.args.line.now.ok.0) in
     let grown : c.extend_from_slice.new.self.items ≡ old ++ take c.min-kept.result shown = rw c.unwrap.ensures at c.extend_from_slice.ensures.items in
     (take end shown, c.newline_at-end.ensures.before, subst (Consumes before after) (through_newline shown end c.if-end-shown.true (c.newline_at-end.ensures.at c.if-end-shown.true)) moved.0, grown ∙ kept_line old shown end c.min-kept.result le kept)
 
@@ -43,7 +44,7 @@ returns-else-end-shown-clause-piece g c =
     let filled = subst (FillKeeps before (g.R.Read.remaining rested) (g.R.BufRead.consumable_len rested)) c.in-Ok.is c.fill_buf.follows.holds-at-none in
     let moved = Consumes_shown before (g.R.Read.remaining rested) after (g.R.BufRead.consumable_len rested) shown end c.newline_at-end.ensures.bound c.in-Ok.ensures.front c.in-Ok.ensures.end filled.0 filled.1 c.consume-else-end-shown.ensures.bytes in
     let old = c.args.line.now.items in
-    let le : length old ≤ 1048577 = omega (arith, c.requires.room, c.args.line.now.ok.0) in
-    let kept : c.min-kept.result ≡ min (1048577 - length old) end = omega (arith, c.min-kept.ensures, c.len.ensures, c.args.line.now.ok.0) in
+    let le : length old ≤ line_limit + 1 = omega (arith, c.requires.room, c.args.line.now.ok.0) in
+    let kept : c.min-kept.result ≡ min (line_limit + 1 - length old) end = omega (arith, c.min-kept.ensures, c.len.ensures, c.args.line.now.ok.0) in
     let grown : c.extend_from_slice.new.self.items ≡ old ++ take c.min-kept.result shown = rw c.unwrap.ensures at c.extend_from_slice.ensures.items in
     (take end shown, c.newline_at-end.ensures.before, moved.0, grown ∙ kept_line old shown end c.min-kept.result le kept)
