@@ -90,7 +90,7 @@ target_is_typed t = list_all any_of_is_typed t.any_of
 unfoldable pub definition_is_typed : List VariableDefinition → VariableDefinition → Bool
 definition_is_typed definitions d = is_some (held (type_in definitions d.expression))
 
--- a condition gives one boolean (section 5.25)
+-- a condition gives one boolean (section 5.26)
 unfoldable pub condition_is_typed : List VariableDefinition → Option Expression → Bool
 condition_is_typed definitions None = true
 condition_is_typed definitions (Some e) = is_boolean (type_in definitions e)

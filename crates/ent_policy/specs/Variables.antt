@@ -1,4 +1,4 @@
--- The variables of a policy: which are used, which are defined, and which lead to no end (sections 5.22 and 5.24).
+-- The variables of a policy: which are used, which are defined, and which lead to no end (sections 5.23 and 5.24).
 use Rattle.std.specs.Prelude.{ℕ, zero, suc, List, [], ◌∷◌, Bool, false, not, ◌||◌, Option, Some, None, if◌then◌else◌, bytes_eq, length, map}
 use Rattle.std.specs.List.{flat_map, list_any, list_all}
 use Rattle.ent_policy.specs.declared.raw.RawDocument.{RawDocument}

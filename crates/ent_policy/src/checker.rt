@@ -20,7 +20,7 @@ use std::alloc::{AllocError, Global};
 ///
 /// Identifiers have 1 to 256 bytes, lists at most 256 members, a document at most 65,536 expressions, and expressions and
 /// policy sets nest at most 16 deep. Each expression has a type, also in definitions that aren't used: a match gives a boolean
-/// (section 7.6), and so does a condition (section 5.25). The texts are moved, not copied.
+/// (section 7.6), and so does a condition (section 5.26). The texts are moved, not copied.
 #[tactic(auto, unfolding(crate::specs::Check::checked))]
 pub fn check(alloc: Global, raw: RawDocument) -> Result<Document, CheckFault>
     ensures { Gives result (checked raw) }

@@ -12,7 +12,7 @@ use ent_values::{DataType, Items, Text, Value};
 use std::alloc::{AllocError, Global};
 use std::marker::Model;
 
-/// What a rule gives where it applies (section 5.21).
+/// What a rule gives where it applies (section 5.22).
 #[derive(Clone, Copy, Debug, PartialEq, Eq)]
 pub enum Effect {
     Permit,
@@ -63,7 +63,7 @@ pub struct Rule {
     pub id: Text,
     pub effect: Effect,
     pub target: Target,
-    /// What must be true for the rule to apply; an absent condition is true (section 5.25).
+    /// What must be true for the rule to apply; an absent condition is true (section 5.26).
     pub condition: Option<Expression>,
 }
 

@@ -4,7 +4,7 @@ use crate::document::Designator;
 use ent_functions::Function;
 use ent_values::{Items, Text, Value};
 
-/// What a condition computes (section 5.28).
+/// What a condition computes (section 5.25).
 #[derive(Debug, Drop)]
 pub enum Expression {
     /// A literal (section 5.31).
@@ -19,7 +19,7 @@ pub enum Expression {
     Function(Function),
 }
 
-/// A name for an expression within one policy (section 5.22).
+/// A name for an expression within one policy (section 5.23).
 #[derive(Debug, Drop)]
 pub struct VariableDefinition {
     pub id: Text,
