@@ -31,12 +31,3 @@ pub use reads::Reads;
 pub use request::{Attribute, Category, Request};
 pub use same::same_answer_is_equal;
 pub use target::Targeted;
-
-#[cfg(test)]
-mod tests;
-#[cfg(test)]
-mod tests_of_conditions;
-#[cfg(test)]
-mod tests_of_single_values;
-#[cfg(test)]
-mod tests_of_targets;
