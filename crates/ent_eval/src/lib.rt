@@ -24,10 +24,12 @@ mod uncopied;
 
 pub use answer::{Answer, Status, WhyEntry};
 pub use key::ReadKey;
-pub use law::{each_key_is_recorded_once, equal_look_ups_give_equal_answers};
+pub use law::{
+    each_key_is_recorded_once, equal_look_ups_give_equal_answers, what_is_looked_up_is_recorded,
+};
 pub use pdp::{Evaluation, Pdp};
 pub use policies::{Documents, Policies};
 pub use reads::Reads;
 pub use request::{Attribute, Category, Request};
-pub use same::same_answer_is_equal;
+pub use same::{same_answer_is_equal, same_key_is_equal};
 pub use target::Targeted;
