@@ -2,7 +2,7 @@
 #![tactic(auto)]
 
 mod answer;
-mod chosen;
+mod choose;
 mod evaluated;
 mod expression;
 mod gather;
