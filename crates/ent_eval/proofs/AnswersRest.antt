@@ -18,8 +18,8 @@ use Rattle.ent_policy.specs.declared.key.DocKey.{DocKey}
 use Rattle.ent_policy.specs.declared.key.Kind.TheVariants as kind
 use Rattle.ent_policy.specs.declared.key.Reference.{Reference}
 use Rattle.ent_eval.specs.declared.answer.Answer.{Answer}
-use Rattle.ent_eval.specs.declared.chosen.Only.{Only}
-use Rattle.ent_eval.specs.declared.chosen.Only.TheVariants as only
+use Rattle.ent_eval.specs.declared.only.Only.{Only}
+use Rattle.ent_eval.specs.declared.only.Only.TheVariants as only
 use Rattle.ent_eval.specs.declared.key.ReadKey.TheVariants.{Root, Ref}
 use Rattle.ent_eval.specs.declared.request.Request.{Request}
 use Rattle.ent_eval.specs.declared.target.Targeted.{Targeted}
@@ -30,7 +30,7 @@ use Rattle.ent_eval.specs.Looks.{Looks}
 use Rattle.ent_eval.specs.Node.{Node, children_part, combined, node_of, set_node_of, set_step, tree_part, tree_step}
 use Rattle.ent_eval.specs.Noted.{noted}
 use Rattle.ent_eval.specs.Only.{child_part, choice_part, choice_within, chosen, only_one, result_of_target, results, seen_choice, spoils, too_many}
-use Rattle.ent_eval.specs.Part.{Part, after_look, known, mapped, reads_of, values}
+use Rattle.ent_eval.specs.Part.{Part, after_look, without_look, mapped, reads_of, values}
 use Rattle.ent_eval.proofs.Keys.{all_noted, by_recursion}
 use Rattle.ent_eval.proofs.Rests.{AllRest, Rests, and_then-rests, combined-rests, element-rests, first_looks, later_looks, mapped-rests, policy-rests, rests-by, target-rests}
 use Rattle.ent_eval.proofs.Sets.{map-map}
@@ -101,7 +101,7 @@ within-rests {X} s t target xs each = most_rests 256 where
       (λ u. if nat_le (length xs) most then choice_part (map (target u) xs) else mapped too_many (choice_part (map (target u) (take most xs))))
       (λ u. rw (length-map xs (target u), take-map (target u) most xs) refl) (at most (nat_le (length xs) most))
 
-place-rests : {X : Type 0} (s t : Looks) (part : Looks → X → Part Answer) (xs : List X) → AllRest s t part xs → (place : ℕ) → Rests s t (λ u. get_or (map (part u) xs) place (known nothing))
+place-rests : {X : Type 0} (s t : Looks) (part : Looks → X → Part Answer) (xs : List X) → AllRest s t part xs → (place : ℕ) → Rests s t (λ u. get_or (map (part u) xs) place (without_look nothing))
 place-rests s t part [] each place = λ h. refl
 place-rests s t part (x ∷ xs) each zero = each.0
 place-rests s t part (x ∷ xs) each (suc place) = place-rests s t part xs each.1 place

@@ -17,7 +17,7 @@ use Rattle.ent_policy.specs.Typing.{all_typed}
 use Rattle.ent_eval.specs.declared.evaluated.Evaluated.{Evaluated}
 use Rattle.ent_eval.specs.declared.evaluated.Evaluated.TheVariants.{Known, Indeterminate}
 use Rattle.ent_eval.specs.declared.key.ReadKey.{ReadKey}
-use Rattle.ent_eval.specs.Expression.{arguments_of, come_to, decides, is_result, result_of}
+use Rattle.ent_eval.specs.Expression.{arguments_of, evaluated_of, decides, is_result, result_of}
 use Rattle.ent_eval.specs.Noted.{noted}
 use Rattle.ent_eval.specs.Part.{Part, reads_of, seen_parts, values}
 use Rattle.ent_eval.specs.Typed.{HasType}
@@ -28,12 +28,12 @@ known_arguments : (done : List Arg) → arguments_of (map Known done) ≡ done
 known_arguments [] = refl
 known_arguments (a ∷ done) = ap (λ rest. a ∷ rest) (known_arguments done)
 
-result_unsettled : (f : Function) (vs : List Evaluated) (done : List Arg) → list_any (is_result f) vs ≡ false → vs ≡ map Known done → result_of f vs ≡ come_to (applied f done)
+result_unsettled : (f : Function) (vs : List Evaluated) (done : List Arg) → list_any (is_result f) vs ≡ false → vs ≡ map Known done → result_of f vs ≡ evaluated_of (applied f done)
 result_unsettled f vs done none is =
-    ap (λ o. unwrap_or o (come_to (applied f (arguments_of vs)))) (find_none (is_result f) vs none) ∙ ap (λ given. come_to (applied f given)) (ap arguments_of is ∙ known_arguments done)
+    ap (λ o. unwrap_or o (evaluated_of (applied f (arguments_of vs)))) (find_none (is_result f) vs none) ∙ ap (λ given. evaluated_of (applied f given)) (ap arguments_of is ∙ known_arguments done)
 
 result_settled : (f : Function) (vs : List Evaluated) (v : Evaluated) (ws : List Evaluated) → list_any (is_result f) vs ≡ false → is_result f v ≡ true → result_of f (vs ++ v ∷ ws) ≡ v
-result_settled f vs v ws none is = ap (λ o. unwrap_or o (come_to (applied f (arguments_of (vs ++ v ∷ ws))))) (find_behind (is_result f) vs v ws none is)
+result_settled f vs v ws none is = ap (λ o. unwrap_or o (evaluated_of (applied f (arguments_of (vs ++ v ∷ ws))))) (find_behind (is_result f) vs v ws none is)
 
 -- ---- types
 
@@ -152,7 +152,7 @@ module _ {X : Type 0} (f : Function) (part : X → Part Evaluated) (type : X →
   pub all-types : length xs ≤ i → AreEvaluated f part type xs i done start now → result_type_of f (map type_of_arg done) ≡ option_and_then (result_type_of f) (all_typed (map type xs))
   all-types past so_far = ap (option_and_then (result_type_of f)) (all_left past so_far)
 
-  pub all-value : length xs ≤ i → AreEvaluated f part type xs i done start now → come_to (applied f done) ≡ result_of f (values (map part xs))
+  pub all-value : length xs ≤ i → AreEvaluated f part type xs i done start now → evaluated_of (applied f done) ≡ result_of f (values (map part xs))
   all-value past so_far =
       sym (ap (result_of f) (so_far.going.all ∙ ap (λ ys. values_to part xs i ++ values (map part ys)) (drop_of_length-le xs past) ∙ append-nil (values_to part xs i))
       ∙ result_unsettled f (values_to part xs i) done so_far.going.passed so_far.known)

@@ -16,7 +16,7 @@ use Rattle.ent_combine.specs.declared.combiner.Progress.{Progress}
 use Rattle.ent_combine.specs.declared.combiner.Progress.TheVariants.{Go, Stop}
 use Rattle.ent_combine.proofs.Choosing.{bad_stays}
 use Rattle.ent_eval.specs.declared.answer.Status.TheVariants.{ProcessingError}
-use Rattle.ent_eval.specs.declared.chosen.Only.TheVariants as only
+use Rattle.ent_eval.specs.declared.only.Only.TheVariants as only
 use Rattle.ent_eval.specs.declared.key.ReadKey.{ReadKey}
 use Rattle.ent_eval.specs.declared.target.Targeted.{Targeted}
 use Rattle.ent_eval.specs.declared.target.Targeted.TheVariants.{Match, NoMatch, Indeterminate}

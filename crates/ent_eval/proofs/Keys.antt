@@ -19,10 +19,10 @@ ids : IsAntisymmetric (slice_cmp nat_cmp)
 ids = slice_cmp-IsAntisymmetric nat_cmp-IsAntisymmetric
 
 -- the id of a reference has 1 to 256 bytes
-abbrev IsName : List ℕ → Type 0
+abbrev pub IsName : List ℕ → Type 0
 IsName i = (0 < length i) × (length i ≤ 256)
 
-same_id : (k : Kind) (i j : List ℕ) → i ≡ j → (p : IsName i) (q : IsName j) → Ref (record { kind = k; id = i; named = p }) ≡ Ref (record { kind = k; id = j; named = q })
+pub same_id : (k : Kind) (i j : List ℕ) → i ≡ j → (p : IsName i) (q : IsName j) → Ref (record { kind = k; id = i; named = p }) ≡ Ref (record { kind = k; id = j; named = q })
 same_id k i j e p = subst (λ x. (q : IsName x) → Ref (record { kind = k; id = i; named = p }) ≡ Ref (record { kind = k; id = x; named = q })) e (λ q. ap (λ n. Ref (record { kind = k; id = i; named = n })) (×_prop le_prop le_prop p q))
 
 same_reference : (a b : Kind) (i j : List ℕ) (p : IsName i) (q : IsName j) → read_cmp (Ref (record { kind = a; id = i; named = p })) (Ref (record { kind = b; id = j; named = q })) ≡ Equal

@@ -9,6 +9,7 @@ pub mod Keys
 pub mod Literals
 pub mod MostRecent
 pub mod Once
+pub mod Recorded
 pub mod Rests
 pub mod Sames
 pub mod Sets

@@ -26,7 +26,7 @@ use Rattle.ent_eval.specs.declared.request.Request.{Request}
 use Rattle.ent_eval.specs.Expression.{bag_of, decides, designated, is_result, meaning, meaning_step, result_of, variable_part}
 use Rattle.ent_eval.specs.Looks.{Looks}
 use Rattle.ent_eval.specs.Own.{own_values}
-use Rattle.ent_eval.specs.Part.{Part, known, reads_of, whole}
+use Rattle.ent_eval.specs.Part.{Part, without_look, reads_of, whole}
 use Rattle.ent_eval.specs.Typed.{HasType}
 
 -- whether a literal is among the values of a designator, which may have to be present
@@ -74,22 +74,22 @@ module _ (looks : Looks) (request : Request) (definitions : List VariableDefinit
   unfolding Rattle.ent_policy.specs.declared.expression.Expression.TheViews.roll-Expression denote.Hole.Carrier.roll
   designator-part d = fold-roll-Expression (Part Evaluated) (meaning_step looks request (variable_part looks request definitions n)) (Expression-F.Designator d)
 
-  one : (e : Element) (d : Designator) (v : Value) → whole (is_result (functions.OneAndOnly e)) (result_of (functions.OneAndOnly e)) (known (bag_of d (v ∷ [])) ∷ []) ≡ known (Known (One v))
+  one : (e : Element) (d : Designator) (v : Value) → whole (is_result (functions.OneAndOnly e)) (result_of (functions.OneAndOnly e)) (without_look (bag_of d (v ∷ [])) ∷ []) ≡ without_look (Known (One v))
   unfolding applied first_order
   one e d v = refl
 
   -- one-and-only of a designator with one value
   pub only : (f : Function) (e : Element) (d : Designator) (v : Value) (given : List Expression) → f ≡ functions.OneAndOnly e → given ≡ expressions.Designator d ∷ [] → own_values d request ≡ v ∷ []
-      → whole (is_result f) (result_of f) (map (meaning looks request definitions n) given) ≡ known (Known (One v))
+      → whole (is_result f) (result_of f) (map (meaning looks request definitions n) given) ≡ without_look (Known (One v))
   only f e d v given f-is is own =
       ap (λ h. whole (is_result h) (result_of h) (map (meaning looks request definitions n) given)) f-is
       ∙ ap (whole (is_result (functions.OneAndOnly e)) (result_of (functions.OneAndOnly e))) (ap (map (meaning looks request definitions n)) is ∙ ap (λ p. p ∷ []) (designator-part d))
-      ∙ ap (λ vs. whole (is_result (functions.OneAndOnly e)) (result_of (functions.OneAndOnly e)) (known (bag_of d vs) ∷ [])) own ∙ one e d v
+      ∙ ap (λ vs. whole (is_result (functions.OneAndOnly e)) (result_of (functions.OneAndOnly e)) (without_look (bag_of d vs) ∷ [])) own ∙ one e d v
 
 -- two parts for which nothing is looked up
-two_known : {A B : Type 0} (stop : A → Bool) (come : List A → B) (a b : A) → whole stop come (known a ∷ known b ∷ []) ≡ known (come (a ∷ b ∷ []))
+two_known : {A B : Type 0} (stop : A → Bool) (come : List A → B) (a b : A) → whole stop come (without_look a ∷ without_look b ∷ []) ≡ without_look (come (a ∷ b ∷ []))
 two_known stop come a b = at (stop a) (stop b) where
-  at : (first second : Bool) → record { value = come (a ∷ b ∷ []); reads = reads_of (if first then known a ∷ [] else known a ∷ (if second then known b ∷ [] else known b ∷ [])) } ≡ known (come (a ∷ b ∷ []))
+  at : (first second : Bool) → record { value = come (a ∷ b ∷ []); reads = reads_of (if first then without_look a ∷ [] else without_look a ∷ (if second then without_look b ∷ [] else without_look b ∷ [])) } ≡ without_look (come (a ∷ b ∷ []))
   at true second = refl
   at false true = refl
   at false false = refl
@@ -97,25 +97,25 @@ two_known stop come a b = at (stop a) (stop b) where
 module _ (looks : Looks) (request : Request) (definitions : List VariableDefinition) (n : ℕ) where
   -- a function of two arguments that are known
   of_two : (f : Function) (given : List Expression) (x y : Expression) (a b : Evaluated) → given ≡ x ∷ y ∷ []
-      → meaning looks request definitions n x ≡ known a → meaning looks request definitions n y ≡ known b
-      → whole (is_result f) (result_of f) (map (meaning looks request definitions n) given) ≡ known (result_of f (a ∷ b ∷ []))
+      → meaning looks request definitions n x ≡ without_look a → meaning looks request definitions n y ≡ without_look b
+      → whole (is_result f) (result_of f) (map (meaning looks request definitions n) given) ≡ without_look (result_of f (a ∷ b ∷ []))
   of_two f given x y a b is first second =
       ap (λ xs. whole (is_result f) (result_of f) (map (meaning looks request definitions n) xs)) is
       ∙ ap (λ p. whole (is_result f) (result_of f) (p ∷ meaning looks request definitions n y ∷ [])) first
-      ∙ ap (λ p. whole (is_result f) (result_of f) (known a ∷ p ∷ [])) second ∙ two_known (is_result f) (result_of f) a b
+      ∙ ap (λ p. whole (is_result f) (result_of f) (without_look a ∷ p ∷ [])) second ∙ two_known (is_result f) (result_of f) a b
 
   pub is-in-part : (f : Function) (e : Element) (given : List Expression) (x y : Expression) (v : Value) (d : Designator) → f ≡ functions.IsIn e → given ≡ x ∷ y ∷ []
-      → meaning looks request definitions n x ≡ known (Known (One v)) → y ≡ expressions.Designator d
-      → whole (is_result f) (result_of f) (map (meaning looks request definitions n) given) ≡ known (result_of (functions.IsIn e) (Known (One v) ∷ bag_of d (own_values d request) ∷ []))
+      → meaning looks request definitions n x ≡ without_look (Known (One v)) → y ≡ expressions.Designator d
+      → whole (is_result f) (result_of f) (map (meaning looks request definitions n) given) ≡ without_look (result_of (functions.IsIn e) (Known (One v) ∷ bag_of d (own_values d request) ∷ []))
   is-in-part f e given x y v d f-is is first second =
       of_two f given x y (Known (One v)) (bag_of d (own_values d request)) is first (ap (meaning looks request definitions n) second ∙ designator-part looks request definitions n d)
-      ∙ ap (λ g. known (result_of g (Known (One v) ∷ bag_of d (own_values d request) ∷ []))) f-is
+      ∙ ap (λ g. without_look (result_of g (Known (One v) ∷ bag_of d (own_values d request) ∷ []))) f-is
 
   pub equal-part : (f : Function) (e : Element) (given : List Expression) (x y : Expression) (v w : Value) → f ≡ functions.Equal e → given ≡ x ∷ y ∷ []
-      → meaning looks request definitions n x ≡ known (Known (One v)) → meaning looks request definitions n y ≡ known (Known (One w))
-      → whole (is_result f) (result_of f) (map (meaning looks request definitions n) given) ≡ known (result_of (functions.Equal e) (Known (One v) ∷ Known (One w) ∷ []))
+      → meaning looks request definitions n x ≡ without_look (Known (One v)) → meaning looks request definitions n y ≡ without_look (Known (One w))
+      → whole (is_result f) (result_of f) (map (meaning looks request definitions n) given) ≡ without_look (result_of (functions.Equal e) (Known (One v) ∷ Known (One w) ∷ []))
   equal-part f e given x y v w f-is is first second =
-      of_two f given x y (Known (One v)) (Known (One w)) is first second ∙ ap (λ g. known (result_of g (Known (One v) ∷ Known (One w) ∷ []))) f-is
+      of_two f given x y (Known (One v)) (Known (One w)) is first second ∙ ap (λ g. without_look (result_of g (Known (One v) ∷ Known (One w) ∷ []))) f-is
 
 -- ---- types
 

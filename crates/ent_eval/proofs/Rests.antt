@@ -90,13 +90,13 @@ values-seen stop (p ∷ ps) = values_at (stop p.value) stop p ps (values-seen st
   values_at false stop p ps later = ap (λ vs. p.value ∷ vs) later
 
 -- a whole of parts whose value rests on those that are seen alone
-pub whole-rests : {X A B : Type 0} (s t : Looks) (stop : A → Bool) (part : Looks → X → Part A) (come_to : List A → B) → ((vs : List A) → come_to vs ≡ come_to (up_to_first stop vs)) → (xs : List X) → AllRest s t part xs
-    → Rests s t (λ u. whole stop come_to (map (part u) xs))
-whole-rests s t stop part come_to enough xs each h =
+pub whole-rests : {X A B : Type 0} (s t : Looks) (stop : A → Bool) (part : Looks → X → Part A) (of_values : List A → B) → ((vs : List A) → of_values vs ≡ of_values (up_to_first stop vs)) → (xs : List X) → AllRest s t part xs
+    → Rests s t (λ u. whole stop of_values (map (part u) xs))
+whole-rests s t stop part of_values enough xs each h =
     let same : seen_parts stop (map (part t) xs) ≡ seen_parts stop (map (part s) xs) = seen-rests s t stop part xs each h in
-    let by_seen = λ (u : Looks). enough (values (map (part u) xs)) ∙ ap come_to (sym (values-seen stop (map (part u) xs))) in
+    let by_seen = λ (u : Looks). enough (values (map (part u) xs)) ∙ ap of_values (sym (values-seen stop (map (part u) xs))) in
     ap (λ v. record { value = v; reads = reads_of (seen_parts stop (map (part t) xs)) }) (by_seen t)
-    ∙ ap (λ ps. record { value = come_to (values ps); reads = reads_of ps }) same
+    ∙ ap (λ ps. record { value = of_values (values ps); reads = reads_of ps }) same
     ∙ ap (λ v. record { value = v; reads = reads_of (seen_parts stop (map (part s) xs)) }) (sym (by_seen s))
 
 -- ---- targets

@@ -1,5 +1,5 @@
--- `==` decides whether keys of documents, Why entries and answers are equal.
-use Rattle.std.proofs.Common.{◌≡◌, ℕ, Bool, true, false, ◌&&◌, List, refl, ap, ◌∙◌, rules, Option, Some, None}
+-- `==` decides whether keys of documents and of look-ups, Why entries and answers are equal.
+use Rattle.std.proofs.Common.{◌≡◌, ℕ, Bool, true, false, ◌&&◌, List, [], refl, sym, ap, ◌∙◌, rules, Option, Some, None}
 use Rattle.std.specs.Bool.{Decides}
 use Rattle.std.specs.Str.{bytes_eq}
 use Rattle.std.specs.Cmp.Lexicographic.{pointwise}
@@ -22,7 +22,10 @@ use Rattle.ent_eval.specs.declared.answer.WhyEntry.{WhyEntry}
 use Rattle.ent_eval.specs.contracts.answer.StatusPartialEq.TheImpl as statuses
 use Rattle.ent_eval.specs.contracts.answer.WhyEntryPartialEq.TheImpl as entries
 use Rattle.ent_eval.specs.Finding.{same_document_key}
-use Rattle.ent_eval.specs.Same.{same_answer}
+use Rattle.ent_eval.specs.declared.key.ReadKey.{ReadKey}
+use Rattle.ent_eval.specs.declared.key.ReadKey.TheVariants.{Root, Ref}
+use Rattle.ent_eval.proofs.Keys.{IsName, same_id}
+use Rattle.ent_eval.specs.Same.{same_answer, same_key}
 
 -- two tests decide two facts
 both-Decides : {P Q : Type 0} (a b : Bool) → Decides a P → Decides b Q → Decides (a && b) (P × Q)
@@ -110,3 +113,28 @@ answer-Decides a b =
     (λ e. (ap (λ (k : Answer). k.decision) e, (ap (λ (k : Answer). k.status) e, ap (λ (k : Answer). k.why) e)))
     (both-Decides ((outcomes.ghosts).eq a.decision b.decision) ((statuses.ghosts).eq a.status b.status && pointwise same_entry a.why b.why) (outcome-Decides a.decision b.decision)
     (both-Decides ((statuses.ghosts).eq a.status b.status) (pointwise same_entry a.why b.why) (status-Decides a.status b.status) (why-Decides a.why b.why)))
+
+-- the kind and the id in a key, or any where it has none
+abbrev kind_in : ReadKey → Kind
+kind_in Root = Policy
+kind_in (Ref reference) = reference.kind
+
+abbrev id_in : ReadKey → List ℕ
+id_in Root = []
+id_in (Ref reference) = reference.id
+
+kinds-differ : Policy ≡ PolicySet → ⊥
+kinds-differ e = absurd (cc)
+
+reference-Decides : (a b : Kind) (i j : List ℕ) (p : IsName i) (q : IsName j)
+    → Decides (same_key (Ref (record { kind = a; id = i; named = p })) (Ref (record { kind = b; id = j; named = q }))) (Ref (record { kind = a; id = i; named = p }) ≡ Ref (record { kind = b; id = j; named = q }))
+reference-Decides Policy Policy i j p q = (λ h. same_id Policy i j ((bytes_eq-Decides i j).0 h) p q, λ e. (bytes_eq-Decides i j).1 (ap id_in e))
+reference-Decides Policy PolicySet i j p q = (λ h. absurd (cc), λ e. absurd (kinds-differ (ap kind_in e)))
+reference-Decides PolicySet Policy i j p q = (λ h. absurd (cc), λ e. absurd (kinds-differ (sym (ap kind_in e))))
+reference-Decides PolicySet PolicySet i j p q = (λ h. same_id PolicySet i j ((bytes_eq-Decides i j).0 h) p q, λ e. (bytes_eq-Decides i j).1 (ap id_in e))
+
+pub key-Decides : (a b : ReadKey) → Decides (same_key a b) (a ≡ b)
+key-Decides Root Root = (λ h. refl, λ e. refl)
+key-Decides Root (Ref b) = (λ h. absurd (cc), λ e. absurd (cc))
+key-Decides (Ref a) Root = (λ h. absurd (cc), λ e. absurd (cc))
+key-Decides (Ref a) (Ref b) = reference-Decides a.kind b.kind a.id b.id a.named b.named

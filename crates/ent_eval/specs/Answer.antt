@@ -10,16 +10,16 @@ use Rattle.ent_eval.specs.Judged.{nothing, unresolved}
 use Rattle.ent_eval.specs.Looks.{Looks}
 use Rattle.ent_eval.specs.Node.{tree_part}
 use Rattle.ent_eval.specs.Noted.{noted}
-use Rattle.ent_eval.specs.Part.{Part, known, after_look}
+use Rattle.ent_eval.specs.Part.{Part, without_look, after_look}
 
 -- the document that a reference found, if it found one
 abbrev pub found_part : Looks → Request → Option Tree → Part Answer
-found_part looks request None = known unresolved
+found_part looks request None = without_look unresolved
 found_part looks request (Some t) = tree_part looks request [] t
 
 -- the root's document, if there is a root
 abbrev pub root_part : Looks → Request → Option Reference → Part Answer
-root_part looks request None = known nothing
+root_part looks request None = without_look nothing
 root_part looks request (Some reference) = after_look (Ref reference) (found_part looks request (looks.document reference))
 
 -- the answer, with its look-ups, of which the first is the root

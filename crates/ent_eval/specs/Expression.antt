@@ -21,7 +21,7 @@ use Rattle.ent_eval.specs.declared.evaluated.Evaluated.TheVariants.{Known, Indet
 use Rattle.ent_eval.specs.declared.request.Request.{Request}
 use Rattle.ent_eval.specs.Looks.{Looks}
 use Rattle.ent_eval.specs.Own.{own_values}
-use Rattle.ent_eval.specs.Part.{Part, known, whole}
+use Rattle.ent_eval.specs.Part.{Part, without_look, whole}
 
 -- the bag of a designator, which is Indeterminate if it is empty and a value must be present (section 7.3.5)
 abbrev pub bag_of : Designator → List Value → Evaluated
@@ -30,7 +30,7 @@ bag_of d (v ∷ vs) = Known (Many (record { datatype = d.datatype; values = v �
 
 -- a designator: the request's own values
 abbrev pub designated : Looks → Request → Designator → Part Evaluated
-designated looks request d = known (bag_of d (own_values d request))
+designated looks request d = without_look (bag_of d (own_values d request))
 
 -- whether a boolean is the result whatever the other arguments are: True of `or`, False of `and` (appendix A.3.5)
 abbrev pub decides : Function → Bool → Bool
@@ -55,21 +55,21 @@ arguments_of (Known argument ∷ others) = argument ∷ arguments_of others
 arguments_of (Indeterminate status ∷ others) = arguments_of others
 
 -- what a function comes to: a fault is a processing error (section 7.17)
-abbrev pub come_to : Result Arg Fault → Evaluated
-come_to (Ok outcome) = Known outcome
-come_to (Err fault) = Indeterminate ProcessingError
+abbrev pub evaluated_of : Result Arg Fault → Evaluated
+evaluated_of (Ok outcome) = Known outcome
+evaluated_of (Err fault) = Indeterminate ProcessingError
 
 -- a function of arguments: the first that is the result, if there is one, and else the value of the function
 abbrev pub result_of : Function → List Evaluated → Evaluated
-result_of function vs = unwrap_or (find (is_result function) vs) (come_to (applied function (arguments_of vs)))
+result_of function vs = unwrap_or (find (is_result function) vs) (evaluated_of (applied function (arguments_of vs)))
 
 -- one level, where `refer` gives what a variable comes to, with each argument already seen as what it comes to
 abbrev pub meaning_step : Looks → Request → (List ℕ → Part Evaluated) → Expression-F (Part Evaluated) → Part Evaluated
-meaning_step looks request refer (Expression-F.Value value) = known (Known (One value))
+meaning_step looks request refer (Expression-F.Value value) = without_look (Known (One value))
 meaning_step looks request refer (Expression-F.Designator designator) = designated looks request designator
 meaning_step looks request refer (Expression-F.Variable id) = refer id
 meaning_step looks request refer (Expression-F.Apply function arguments) = whole (is_result function) (result_of function) arguments
-meaning_step looks request refer (Expression-F.Function function) = known (Known (Fun function))
+meaning_step looks request refer (Expression-F.Function function) = without_look (Known (Fun function))
 
 -- an expression, where `refer` gives what a variable comes to; arguments are evaluated up to the first that is the result
 abbrev pub meaning_with : Looks → Request → (List ℕ → Part Evaluated) → Expression → Part Evaluated
@@ -77,12 +77,12 @@ meaning_with looks request refer = fold-Expression (Part Evaluated) (meaning_ste
 
 -- a definition's expression. No variable of a checked document is without a definition
 abbrev pub defined_part : (Expression → Part Evaluated) → Option VariableDefinition → Part Evaluated
-defined_part meaning None = known (Indeterminate ProcessingError)
+defined_part meaning None = without_look (Indeterminate ProcessingError)
 defined_part meaning (Some d) = meaning d.expression
 
 -- a variable, through at most this many references (section 7.8). No chain of a checked document is longer than there are definitions
 abbrev pub variable_part : Looks → Request → List VariableDefinition → ℕ → List ℕ → Part Evaluated
-variable_part looks request definitions zero id = known (Indeterminate ProcessingError)
+variable_part looks request definitions zero id = without_look (Indeterminate ProcessingError)
 variable_part looks request definitions (suc n) id = defined_part (meaning_with looks request (variable_part looks request definitions n)) (definition_of definitions id)
 
 -- an expression among definitions, through at most this many references

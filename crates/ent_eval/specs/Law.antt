@@ -1,10 +1,10 @@
--- An answer rests on the look-ups that are recorded for it, and on no others, and each is recorded once.
-use Rattle.std.specs.Prelude.{◌≡◌, ◌≢◌, List, ◌∷◌, ◌++◌}
-use Rattle.std.specs.List.{All}
+-- An answer rests on the look-ups that are recorded for it, which are those that are made, each once.
+use Rattle.std.specs.Prelude.{◌≡◌, ◌≢◌, ◌↔◌, List, ◌∷◌, ◌++◌}
+use Rattle.std.specs.List.{All, Contains}
 use Rattle.ent_eval.specs.declared.key.ReadKey.{ReadKey}
 use Rattle.ent_eval.specs.declared.key.ReadKey.TheVariants.{Root, Ref}
 use Rattle.ent_eval.specs.declared.request.Request.{Request}
-use Rattle.ent_eval.specs.Answer.{answer, recorded}
+use Rattle.ent_eval.specs.Answer.{answer, looked_up, recorded}
 use Rattle.ent_eval.specs.Looks.{Looks}
 
 -- a look-up gives the same in both
@@ -21,3 +21,7 @@ EqualLookUpsGiveEqualAnswers = (s t : Looks) (request : Request) → All (IsSame
 abbrev pub EachKeyIsRecordedOnce : Type 0
 EachKeyIsRecordedOnce = (looks : Looks) (request : Request) (before between after : List ReadKey) (key : ReadKey)
     → recorded looks request ≢ before ++ key ∷ (between ++ key ∷ after)
+
+-- a key is recorded for an answer exactly where it is looked up for it
+abbrev pub WhatIsLookedUpIsRecorded : Type 0
+WhatIsLookedUpIsRecorded = (looks : Looks) (request : Request) (key : ReadKey) → Contains (recorded looks request) key ↔ Contains (looked_up looks request) key

@@ -1,5 +1,5 @@
 -- The request of a cell of the table (sections 5.42, 5.44 and 5.46).
-use Rattle.std.specs.Prelude.{ℕ, List, [], ◌∷◌, ◌++◌, None, codes, false, take}
+use Rattle.std.specs.Prelude.{◌≡◌, ℕ, List, [], ◌∷◌, ◌++◌, None, codes, false, take}
 use Rattle.ent_values.specs.declared.datatype.DataType.TheVariants as types
 use Rattle.ent_values.specs.declared.value.Value.TheVariants as value
 use Rattle.ent_eval.specs.declared.request.Category.{Category}
@@ -30,3 +30,7 @@ listed person action resource = record {
 -- the same of another resource, which takes the place of the third category and of all behind it
 abbrev pub asked_of : List ℕ → Request → Request
 asked_of resource request = record { categories = take 2 request.categories ++ about resource ∷ [] }
+
+-- what was listed for one resource is listed for another, whoever does whatever
+abbrev pub IsListedAgain : List ℕ → Request → Request → Type 0
+IsListedAgain resource old new = (person action other : List ℕ) → old ≡ listed person action other → new ≡ listed person action resource

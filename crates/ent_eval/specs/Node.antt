@@ -17,7 +17,7 @@ use Rattle.ent_eval.specs.declared.target.Targeted.{Targeted}
 use Rattle.ent_eval.specs.declared.target.Targeted.TheVariants.{Match, NoMatch, Indeterminate}
 use Rattle.ent_eval.specs.Judged.{judgement_of, nothing, stops, with_target}
 use Rattle.ent_eval.specs.Looks.{Looks}
-use Rattle.ent_eval.specs.Part.{Part, known, and_then, mapped, whole}
+use Rattle.ent_eval.specs.Part.{Part, without_look, and_then, mapped, whole}
 use Rattle.ent_eval.specs.Rule.{rule_part}
 use Rattle.ent_eval.specs.Target.{target_part}
 
@@ -27,7 +27,7 @@ combined algorithm children = whole (stops algorithm) (judgement_of algorithm) c
 
 -- the children of an element are evaluated unless its target doesn't match
 abbrev pub children_after : Part Answer → Targeted → Part Answer
-children_after children NoMatch = known nothing
+children_after children NoMatch = without_look nothing
 children_after children Match = children
 children_after children (Indeterminate status) = mapped (with_target (Indeterminate status)) children
 

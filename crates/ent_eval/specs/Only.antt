@@ -9,12 +9,12 @@ use Rattle.ent_combine.specs.declared.chooser.TargetResult.TheVariants as result
 use Rattle.ent_eval.specs.declared.answer.Answer.{Answer}
 use Rattle.ent_eval.specs.declared.answer.Status.{Status}
 use Rattle.ent_eval.specs.declared.answer.Status.TheVariants.{ProcessingError}
-use Rattle.ent_eval.specs.declared.chosen.Only.{Only}
-use Rattle.ent_eval.specs.declared.chosen.Only.TheVariants as only
+use Rattle.ent_eval.specs.declared.only.Only.{Only}
+use Rattle.ent_eval.specs.declared.only.Only.TheVariants as only
 use Rattle.ent_eval.specs.declared.target.Targeted.{Targeted}
 use Rattle.ent_eval.specs.declared.target.Targeted.TheVariants.{Match, NoMatch, Indeterminate}
 use Rattle.ent_eval.specs.Judged.{bad, nothing}
-use Rattle.ent_eval.specs.Part.{Part, known, and_then, mapped, reads_of, values}
+use Rattle.ent_eval.specs.Part.{Part, without_look, and_then, mapped, reads_of, values}
 
 -- what is chosen by: the status doesn't matter
 abbrev pub result_of_target : Targeted → TargetResult
@@ -60,9 +60,9 @@ choice_part targets = record {
 
 -- the chosen child alone is evaluated
 abbrev pub child_part : List (Part Answer) → Only → Part Answer
-child_part answers only.Nobody = known nothing
-child_part answers (only.Child place) = get_or answers place (known nothing)
-child_part answers (only.Bad status) = known (bad status)
+child_part answers only.Nobody = without_look nothing
+child_part answers (only.Child place) = get_or answers place (without_look nothing)
+child_part answers (only.Bad status) = without_look (bad status)
 
 -- more children than a set has at most
 abbrev pub too_many : Only → Only

@@ -9,8 +9,8 @@ pub record Part (A : Type 0) : Type 0 where
   pub reads : List ReadKey
 
 -- a value for which nothing is looked up
-abbrev pub known : {A : Type 0} → A → Part A
-known x = record { value = x; reads = [] }
+abbrev pub without_look : {A : Type 0} → A → Part A
+without_look x = record { value = x; reads = [] }
 
 -- a part before which one key is looked up
 abbrev pub after_look : {A : Type 0} → ReadKey → Part A → Part A
@@ -40,4 +40,4 @@ seen_parts fixed ps = up_to_first (λ p. fixed p.value) ps
 
 -- a whole of parts: its value rests on all of them, its look-ups are those of the parts that are seen
 abbrev pub whole : {A B : Type 0} → (A → Bool) → (List A → B) → List (Part A) → Part B
-whole fixed come_to ps = record { value = come_to (values ps); reads = reads_of (seen_parts fixed ps) }
+whole fixed of_values ps = record { value = of_values (values ps); reads = reads_of (seen_parts fixed ps) }

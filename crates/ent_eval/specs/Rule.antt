@@ -25,7 +25,7 @@ use Rattle.ent_eval.specs.declared.target.Targeted.{Targeted}
 use Rattle.ent_eval.specs.declared.target.Targeted.TheVariants.{Match, NoMatch, Indeterminate}
 use Rattle.ent_eval.specs.Judged.{nothing}
 use Rattle.ent_eval.specs.Looks.{Looks}
-use Rattle.ent_eval.specs.Part.{Part, known, and_then, mapped}
+use Rattle.ent_eval.specs.Part.{Part, without_look, and_then, mapped}
 use Rattle.ent_eval.specs.Target.{target_part}
 
 -- the Indeterminate of an effect (section 7.10)
@@ -47,7 +47,7 @@ truth_of _ = truth.Indeterminate ProcessingError
 
 -- a condition among the definitions of its policy; an absent one is True
 abbrev pub condition_part : Looks → Request → List VariableDefinition → Option Expression → Part Truth
-condition_part looks request definitions None = known truth.True
+condition_part looks request definitions None = without_look truth.True
 condition_part looks request definitions (Some e) = mapped truth_of (meaning looks request definitions (length definitions) e)
 
 -- a rule of the policy at the end of a path, by its condition
@@ -58,8 +58,8 @@ decided path rule truth.True = record { decision = decision_of rule.effect; stat
 
 -- the same, by its target first: the condition is evaluated under a match alone
 abbrev pub rule_after : Part Truth → List DocKey → Rule → Targeted → Part Answer
-rule_after condition path rule NoMatch = known nothing
-rule_after condition path rule (Indeterminate status) = known (decided path rule (truth.Indeterminate status))
+rule_after condition path rule NoMatch = without_look nothing
+rule_after condition path rule (Indeterminate status) = without_look (decided path rule (truth.Indeterminate status))
 rule_after condition path rule Match = mapped (decided path rule) condition
 
 -- a rule of the policy at the end of a path, among the policy's definitions

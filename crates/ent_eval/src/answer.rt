@@ -4,7 +4,7 @@ ghost use Rattle.std.specs.Prelude.{◌≡◌, [], ◌∷◌, ◌++◌, IfOk, On
 ghost use Rattle.ent_eval.specs.Judged.{bad, nothing, unresolved};
 
 use ent_combine::{IndKind, Outcome};
-use ent_policy::DocKey;
+use ent_policy::{DocKey, Kind, Version};
 use ent_values::{Items, Text};
 use std::alloc::{AllocError, Global};
 
@@ -104,17 +104,23 @@ pub(crate) fn copied_path(alloc: Global, path: &[DocKey]) -> Result<Items<DocKey
     Ok(copies)
 }
 
-/// The path to what stands in the element that `path` leads to.
+/// The path to a document or an embedded element of that kind, id and version, where `path` leads to what it stands in.
 pub(crate) fn path_to(
     alloc: Global,
     path: &[DocKey],
-    last: DocKey,
+    kind: Kind,
+    id: &Text,
+    version: &Version,
 ) -> Result<Items<DocKey>, AllocError>
-    ensures { IfOk result (λ p. p ≡ path.now ++ last ∷ []) }
+    ensures { IfOk result (λ p. p ≡ path.now ++ record { kind = kind; id = id.now; version = version.now } ∷ []) }
 {
     let mut here = Items::with_capacity(alloc, path.len() + 1)?;
     add_copies(alloc, &mut here, path)?;
-    here.push(last)?;
+    here.push(DocKey {
+        kind,
+        id: id.copy(alloc)?,
+        version: version.copy(),
+    })?;
     Ok(here)
 }
 

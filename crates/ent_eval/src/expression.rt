@@ -7,7 +7,7 @@ ghost use Rattle.ent_functions.specs.Arguments.{type_of_arg};
 ghost use Rattle.ent_functions.specs.Types.{result_type_of};
 ghost use Rattle.ent_functions.specs.declared.types.ArgType.TheVariants.{Many};
 ghost use Rattle.ent_policy.specs.Typing.{all_typed, definition_of, variable_type};
-ghost use Rattle.ent_eval.specs.Expression.{come_to, designated, is_result, meaning, result_of, settles, variable_part};
+ghost use Rattle.ent_eval.specs.Expression.{evaluated_of, designated, is_result, meaning, result_of, settles, variable_part};
 ghost use Rattle.ent_eval.specs.declared.evaluated.Evaluated.TheVariants.{Known};
 ghost use Rattle.ent_eval.specs.LooksOf.{looks_of};
 ghost use Rattle.ent_eval.specs.Noted.{noted};
@@ -173,7 +173,7 @@ fn settles(function: Function, argument: &Arg) -> bool
 // The value of a function of arguments that it takes. A fault is a processing error.
 fn applied_to(alloc: Global, function: Function, arguments: &[Arg]) -> Result<Evaluated, AllocError>
     requires { IsSome (result_type_of function (map type_of_arg arguments.now)) }
-    ensures value { IfOk result (λ v. v ≡ come_to (applied function arguments.now)) }
+    ensures value { IfOk result (λ v. v ≡ evaluated_of (applied function arguments.now)) }
     ensures typed { IfOk result (λ v. HasType (result_type_of function (map type_of_arg arguments.now)) v) }
 {
     match apply(alloc, function, arguments) {

@@ -1,6 +1,6 @@
 //! Laws of the look-ups that answers rest on.
 
-ghost use Rattle.ent_eval.specs.Law.{EachKeyIsRecordedOnce, EqualLookUpsGiveEqualAnswers};
+ghost use Rattle.ent_eval.specs.Law.{EachKeyIsRecordedOnce, EqualLookUpsGiveEqualAnswers, WhatIsLookedUpIsRecorded};
 
 /// Law: where each look-up that is recorded for an answer gives the same, the answer is the same, and so are the look-ups.
 pub fn equal_look_ups_give_equal_answers()
@@ -10,4 +10,9 @@ pub fn equal_look_ups_give_equal_answers()
 /// Law: no key stands twice among those that are recorded for an answer.
 pub fn each_key_is_recorded_once()
     ensures { EachKeyIsRecordedOnce }
+{}
+
+/// Law: the keys that are recorded for an answer are those that are looked up for it.
+pub fn what_is_looked_up_is_recorded()
+    ensures { WhatIsLookedUpIsRecorded }
 {}

@@ -2,7 +2,7 @@
 #![tactic(auto)]
 
 mod answer;
-mod chosen;
+mod choose;
 mod evaluated;
 mod expression;
 mod gather;
@@ -24,19 +24,12 @@ mod uncopied;
 
 pub use answer::{Answer, Status, WhyEntry};
 pub use key::ReadKey;
-pub use law::{each_key_is_recorded_once, equal_look_ups_give_equal_answers};
+pub use law::{
+    each_key_is_recorded_once, equal_look_ups_give_equal_answers, what_is_looked_up_is_recorded,
+};
 pub use pdp::{Evaluation, Pdp};
 pub use policies::{Documents, Policies};
 pub use reads::Reads;
 pub use request::{Attribute, Category, Request};
-pub use same::same_answer_is_equal;
+pub use same::{same_answer_is_equal, same_key_is_equal};
 pub use target::Targeted;
-
-#[cfg(test)]
-mod tests;
-#[cfg(test)]
-mod tests_of_conditions;
-#[cfg(test)]
-mod tests_of_single_values;
-#[cfg(test)]
-mod tests_of_targets;

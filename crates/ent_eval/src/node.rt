@@ -71,7 +71,7 @@ impl<P: Policies> Scene<'_, P> {
         ensures value { IfOk result (λ a. a ≡ (rules_part (looks_of P.documents self.now.pdp.now) self.now.request.now (path.now ++ record { kind = kind.Policy; id = policy.now.id; version = policy.now.version } ∷ []) policy.now).value) }
         ensures reads { OnOk result (reads.new ≡ noted reads.old (rules_part (looks_of P.documents self.now.pdp.now) self.now.request.now (path.now ++ record { kind = kind.Policy; id = policy.now.id; version = policy.now.version } ∷ []) policy.now).reads) }
     {
-        let here = path_to_policy(self.alloc, path, policy)?;
+        let here = path_to(self.alloc, path, Kind::Policy, &policy.id, &policy.version)?;
         self.rules(
             reads,
             policy.variables.as_slice(),
@@ -103,22 +103,6 @@ impl<P: Policies> Scene<'_, P> {
         }
         Ok(gathering.finish(self.alloc))
     }
-}
-
-// The path to a policy, where `path` leads to what it stands in.
-fn path_to_policy(
-    alloc: Global,
-    path: &[DocKey],
-    policy: &Policy,
-) -> Result<Items<DocKey>, AllocError>
-    ensures { IfOk result (λ p. p ≡ path.now ++ record { kind = kind.Policy; id = policy.now.id; version = policy.now.version } ∷ []) }
-{
-    let key = DocKey {
-        kind: Kind::Policy,
-        id: policy.id.copy(alloc)?,
-        version: policy.version.copy(),
-    };
-    path_to(alloc, path, key)
 }
 
 // What an element comes to with a target that is Indeterminate.

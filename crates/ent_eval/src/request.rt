@@ -1,10 +1,11 @@
 //! Requests.
 
-ghost use Rattle.std.specs.Prelude.{◌≡◌, IfOk, OnOk, codes};
-ghost use Rattle.ent_eval.specs.Listed.{about, asked_of, listed, named};
+ghost use Rattle.std.specs.Prelude.{◌≡◌, IfOk, OnErr, OnOk, codes};
+ghost use Rattle.ent_eval.specs.Listed.{IsListedAgain, about, asked_of, listed, named};
 
 use ent_values::{Bag, Items, Text, Value};
 use std::alloc::{AllocError, Global};
+use std::mem;
 
 /// An attribute of a request, with its values (sections 5.46 and 7.3).
 #[derive(Debug, PartialEq, Eq, Drop)]
@@ -59,12 +60,22 @@ impl Request {
     }
 
     /// Asks the same of another resource, which takes the place of the third category and of all behind it. What was listed for one
-    /// resource is then listed for the other. After a refusal no resource is asked of.
+    /// resource is then listed for the other. After a refusal the request is as before.
     pub fn ask_of(&mut self, alloc: Global, resource: &str) -> Result<(), AllocError>
-        ensures { OnOk result (self.new ≡ asked_of resource.now self.old) }
+        ensures ok { OnOk result (self.new ≡ asked_of resource.now self.old) }
+        ensures listed { OnOk result (IsListedAgain resource.now self.old self.new) }
+        ensures err { OnErr result (self.new ≡ self.old) }
     {
-        self.categories.truncate(2);
-        self.categories.push(about(alloc, resource)?)
+        let category = about(alloc, resource)?;
+        if self.categories.len() < 3 {
+            return self.categories.push(category);
+        }
+        // From here on no memory is needed.
+        let mut categories = mem::replace(&mut self.categories, Items::new(alloc)).into_vec();
+        categories.truncate(3);
+        categories[2] = category;
+        self.categories = Items::from_vec(categories);
+        Ok(())
     }
 }
 

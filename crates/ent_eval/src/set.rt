@@ -1,27 +1,25 @@
 //! What a policy set comes to.
 
-ghost use Rattle.std.specs.Prelude.{◌≡◌, ◌++◌, ◌∷◌, [], IfOk, OnOk, map, true};
+ghost use Rattle.std.specs.Prelude.{◌≡◌, IfOk, OnOk, map, true};
 ghost use Rattle.std.specs.List.{list_all};
 ghost use Rattle.ent_policy.specs.Typing.{is_typed};
 ghost use Rattle.ent_eval.specs.Typed.{set_is_typed};
-ghost use Rattle.ent_policy.specs.declared.key.Kind.TheVariants as kind;
 ghost use Rattle.ent_eval.specs.LooksOf.{looks_of};
 ghost use Rattle.ent_eval.specs.Node.{children_after, children_part, combined, set_children, set_part, tree_part, tree_target};
 ghost use Rattle.ent_eval.specs.Noted.{noted};
 ghost use Rattle.ent_eval.specs.Only.{child_part, only_one};
 
 use crate::answer::{Answer, path_to};
-use crate::chosen::Only;
 use crate::gather::gather;
 use crate::node::under;
+use crate::only::Only;
 use crate::policies::Policies;
 use crate::reads::Reads;
 use crate::scene::Scene;
 use crate::target::Targeted;
 use ent_combine::{PolicyAlg, Progress, RuleAlg};
 use ent_policy::{DocKey, Kind, PolicySet, Tree};
-use ent_values::Items;
-use std::alloc::{AllocError, Global};
+use std::alloc::AllocError;
 
 impl<P: Policies> Scene<'_, P> {
     // A policy or a policy set, where the path leads from the root to what it stands in.
@@ -88,7 +86,7 @@ impl<P: Policies> Scene<'_, P> {
         ensures value { IfOk result (λ a. a ≡ (set_children (looks_of P.documents self.now.pdp.now) self.now.request.now path.now set.now).value) }
         ensures reads { OnOk result (reads.new ≡ noted reads.old (set_children (looks_of P.documents self.now.pdp.now) self.now.request.now path.now set.now).reads) }
     {
-        let here = path_to_set(self.alloc, path, set)?;
+        let here = path_to(self.alloc, path, Kind::PolicySet, &set.id, &set.version)?;
         match set.algorithm {
             PolicyAlg::Shared(algorithm) => {
                 self.children(reads, here.as_slice(), algorithm, set.children.as_slice())
@@ -159,16 +157,4 @@ impl<P: Policies> Scene<'_, P> {
             },
         }
     }
-}
-
-// The path to a set, where `path` leads to what it stands in.
-fn path_to_set(alloc: Global, path: &[DocKey], set: &PolicySet) -> Result<Items<DocKey>, AllocError>
-    ensures { IfOk result (λ p. p ≡ path.now ++ record { kind = kind.PolicySet; id = set.now.id; version = set.now.version } ∷ []) }
-{
-    let key = DocKey {
-        kind: Kind::PolicySet,
-        id: set.id.copy(alloc)?,
-        version: set.version.copy(),
-    };
-    path_to(alloc, path, key)
 }

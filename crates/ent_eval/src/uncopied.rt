@@ -9,7 +9,7 @@ ghost use Rattle.ent_policy.specs.declared.expression.VariableDefinition.{Variab
 ghost use Rattle.ent_eval.specs.Expression.{bag_of, is_result, meaning, result_of};
 ghost use Rattle.ent_eval.specs.Looks.{Looks};
 ghost use Rattle.ent_eval.specs.Own.{own_values};
-ghost use Rattle.ent_eval.specs.Part.{known, whole};
+ghost use Rattle.ent_eval.specs.Part.{without_look, whole};
 ghost use Rattle.ent_eval.specs.Typed.{HasType, type_of};
 ghost use Rattle.ent_eval.specs.declared.evaluated.Evaluated.TheVariants.{Known};
 
@@ -44,7 +44,7 @@ pub(crate) fn without_copies(
 
 // What an expression comes to that is a literal, or the only value of a designator.
 fn seen<'a>(request: &'a Request, expression: &'a Expression) -> Option<&'a Value>
-    ensures { IfSome result (λ v. (looks : Looks) (definitions : List VariableDefinition) (references : ℕ) → meaning looks request.now definitions references expression.now ≡ known (Known (Arg.One v.now))) }
+    ensures { IfSome result (λ v. (looks : Looks) (definitions : List VariableDefinition) (references : ℕ) → meaning looks request.now definitions references expression.now ≡ without_look (Known (Arg.One v.now))) }
 {
     match expression {
         Expression::Value(value) => Some(value),
@@ -61,7 +61,7 @@ fn only_of<'a>(
     function: Function,
     arguments: &'a [Expression],
 ) -> Option<&'a Value>
-    ensures { IfSome result (λ v. (looks : Looks) (definitions : List VariableDefinition) (references : ℕ) → whole (is_result function) (result_of function) (map (meaning looks request.now definitions references) arguments.now) ≡ known (Known (Arg.One v.now))) }
+    ensures { IfSome result (λ v. (looks : Looks) (definitions : List VariableDefinition) (references : ℕ) → whole (is_result function) (result_of function) (map (meaning looks request.now definitions references) arguments.now) ≡ without_look (Known (Arg.One v.now))) }
 {
     match function {
         Function::OneAndOnly(_) => only_own(request, one_designator(arguments)?),

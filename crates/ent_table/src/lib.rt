@@ -13,6 +13,3 @@ pub use cells::Cells;
 pub use edit::{Accepted, Edit, EditFault, List};
 pub use limits::Limits;
 pub use review::Review;
-
-#[cfg(test)]
-mod tests;

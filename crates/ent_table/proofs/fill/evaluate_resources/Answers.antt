@@ -12,13 +12,13 @@ loop-resource-preserved g c =
     let looks = looks_of g.P.Policies.documents c.args.pdp.now in
     let is : c.in_ok-evaluation.evaluation.answer ≡ answer_by looks (triple_of c.args.person.now c.args.action.now c.resource-item.result) =
     c.in_ok-evaluation.ensures.answer
-    ∙ (λ t. answer (looks_of g.P.Policies.documents (c.loop-resource.invariant.rest t)) (c.in_ok-ask_of.ensures t))
+    ∙ (λ t. answer (looks_of g.P.Policies.documents (c.loop-resource.invariant.rest t)) (c.in_ok-ask_of.ensures.ok t))
     ∙ (λ t. answer looks (record { categories = c.loop-resource.invariant.request t ++ about (c.as_str-in-loop-resource.ensures t) ∷ [] }))
     in
     record {
       cells = c.in_ok-push.ensures.items ∙ one_more (triple_of c.args.person.now c.args.action.now) (answer_by looks) c.args.cells.now.items c.loop-resource.cells.items c.args.resources.now c.loop-resource.resource-index c.resource-item.result c.in_ok-evaluation.evaluation.answer c.loop-resource-test.true c.resource-item.is is c.loop-resource.invariant.cells;
       request =
-          (λ t. take 2 (c.in_ok-ask_of.ensures t).categories)
+          (λ t. take 2 (c.in_ok-ask_of.ensures.ok t).categories)
           ∙ (λ t. take 2 (c.loop-resource.invariant.request t ++ about c.as_str-in-loop-resource.result.now ∷ []));
       rest = search rules;
     }

@@ -2,7 +2,7 @@ use Rattle.std.proofs.Common.{◌∙◌, sym, ap, subst, arith}
 use Rattle.std.specs.Prelude.{IsSome}
 use Rattle.std.proofs.lemmas.Result.{IfOk-weaker, on_ok_weaker}
 use Rattle.ent_functions.specs.Applied.{applied}
-use Rattle.ent_eval.specs.Expression.{come_to, meaning}
+use Rattle.ent_eval.specs.Expression.{evaluated_of, meaning}
 use Rattle.ent_eval.specs.LooksOf.{looks_of}
 use Rattle.ent_eval.specs.Noted.{noted}
 use Rattle.ent_eval.specs.Typed.{HasType, type_of}
@@ -34,7 +34,7 @@ application-loop-argument-preserved g t c =
 
 pub application-returns-clause-value : goal.application-returns-clause-value
 application-returns-clause-value g t c =
-    IfOk-weaker c.applied_to.result _ _ (λ v is. is ∙ ap (λ given. come_to (applied c.args.function given)) c.as_slice.ensures
+    IfOk-weaker c.applied_to.result _ _ (λ v is. is ∙ ap (λ given. evaluated_of (applied c.args.function given)) c.as_slice.ensures
     ∙ all-value c.args.function (meaning (looks_of g.P.Policies.documents c.args.self.now.pdp.now) c.args.self.now.request.now c.args.definitions.now c.args.references) (type_of c.args.definitions.now c.args.references)
     c.args.arguments.now c.loop-argument.argument-index c.loop-argument.evaluated c.args.reads.now c.loop-argument.reads (omega (arith, c.loop-argument-test.false)) c.loop-argument.invariant) c.applied_to.ensures.value
 

@@ -2,7 +2,7 @@ use Rattle.std.proofs.Common.{[], ◌∷◌, ◌++◌, ◌∙◌, ap, subst}
 use Rattle.ent_combine.specs.Choose.{HasSeen, progress_at_target}
 use Rattle.ent_eval.specs.LooksOf.{looks_of}
 use Rattle.ent_eval.specs.Node.{tree_target}
-use Rattle.ent_eval.specs.declared.chosen.Only.TheVariants as only
+use Rattle.ent_eval.specs.declared.only.Only.TheVariants as only
 use Rattle.ent_eval.proofs.Choices.{next_choice, room, stop_reads, stop_value}
 use Rattle.ent_eval.proofs.scene.Scene.choose_among.Goals as goal
 
