@@ -54,7 +54,7 @@ arguments_of [] = []
 arguments_of (Known argument ∷ others) = argument ∷ arguments_of others
 arguments_of (Indeterminate status ∷ others) = arguments_of others
 
--- what a function comes to: a fault is a processing error (section 7.17)
+-- what a function comes to: a fault is a processing error (sections 7.4 and 5.55, appendix B.8)
 abbrev pub evaluated_of : Result Arg Fault → Evaluated
 evaluated_of (Ok outcome) = Known outcome
 evaluated_of (Err fault) = Indeterminate ProcessingError
