@@ -1,5 +1,5 @@
 -- Readers of JSON whose faults are of form, and readers that read values of their own kind inside.
-use Rattle.std.specs.Prelude.{ℕ, zero, suc, List, Bool, Option, Some, None, Result, Ok, Err}
+use Rattle.std.specs.Prelude.{ℕ, zero, suc, List, Bool, true, false, Option, Some, None, Result, Ok, Err}
 use Rattle.serde_json.specs.Data.{Data, depth}
 use Rattle.serde_json.specs.Find.{as_str}
 use Rattle.ent_policy.specs.declared.fault.DocFault.{DocFault}
@@ -13,6 +13,11 @@ part o = need fault.Form o
 -- what is read where the form's test holds
 abbrev pub formed : {A : Type 0} → Bool → Result A DocFault → Result A DocFault
 formed b r = must fault.Form b r
+
+-- whether nothing is wrong with the form
+abbrev pub has_form : {A : Type 0} → Result A DocFault → Bool
+has_form (Err fault.Form) = false
+has_form read = true
 
 -- what may be absent, read where it is there
 abbrev pub maybe : {A : Type 0} → (Data → Result A DocFault) → Option Data → Result (Option A) DocFault

@@ -1,8 +1,8 @@
 -- The values that JSON spells, where their data type is known.
-use Rattle.std.specs.Prelude.{ℤ, Bool, Option, Some, None, option_and_then}
+use Rattle.std.specs.Prelude.{ℤ, Bool, IsTrue, Option, Some, None, is_some, option_and_then}
 use Rattle.serde_json.specs.Data as json
 use Rattle.serde_json.specs.Data.{Data}
-use Rattle.serde_json.specs.Find.{as_i64}
+use Rattle.serde_json.specs.Find.{as_i64, as_str}
 use Rattle.ent_values.specs.declared.datatype.DataType.{DataType}
 use Rattle.ent_values.specs.declared.datatype.DataType.TheVariants as types
 use Rattle.ent_values.specs.declared.value.Value.{Value}
@@ -27,3 +27,7 @@ value_in datatype (json.number n) = option_and_then (integer_in datatype) (as_i6
 value_in datatype (json.string s) = value_of datatype s
 value_in datatype (json.array ds) = None
 value_in datatype (json.object ms) = None
+
+-- a text, which alone takes memory when it is read or written
+abbrev pub IsText : Data → Type 0
+IsText d = IsTrue (is_some (as_str d))

@@ -1,9 +1,10 @@
 //! JSON objects: which keys they have, and what stands at a key.
 
-ghost use Rattle.std.specs.Prelude.{◌≡◌, map, option_map};
+ghost use Rattle.std.specs.Prelude.{◌≡◌, IfErr, IsTrue, is_some, map, option_map};
 ghost use Rattle.serde_json.specs.Find.{get};
 ghost use Rattle.serde_json.specs.View.{items_view, members_view, view};
 ghost use Rattle.ent_policy.specs.Gives.{Gives};
+ghost use Rattle.ent_policy.specs.declared.fault.CheckFault.TheVariants.{Memory};
 ghost use Rattle.ent_polform.specs.Reading.{maybe, part, text_of};
 ghost use Rattle.ent_polform.specs.Objects.{among, filled_list_at, flag_at, has_only, list_at, one_member, only, text_at, text_or_absent};
 
@@ -108,7 +109,8 @@ pub fn filled_list_at<'a>(object: &'a Value, key: &str) -> Option<&'a [Value]>
 
 /// A copy of the text that has to stand at the key.
 pub(crate) fn required(alloc: Global, object: &Value, key: &str) -> Result<Text, CheckFault>
-    ensures { Gives result (part (text_at key.now (view object.now))) }
+    ensures text { Gives result (part (text_at key.now (view object.now))) }
+    ensures memory { IfErr result (λ e. e ≡ Memory → IsTrue (is_some (text_at key.now (view object.now)))) }
 {
     let text = text_at(object, key).ok_or(DocFault::Form)?;
     Ok(Text::from_str(alloc, text)?)

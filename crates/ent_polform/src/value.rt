@@ -2,8 +2,8 @@
 
 ghost use Rattle.std.specs.Prelude.{◌≡◌, None, IfErr, IfOk, Some};
 ghost use Rattle.serde_json.specs.View.{view};
-ghost use Rattle.ent_values.specs.declared.fault.ValueFault.TheVariants.{BadValue};
-ghost use Rattle.ent_polform.specs.Values.{boolean_in, integer_in, value_in};
+ghost use Rattle.ent_values.specs.declared.fault.ValueFault.TheVariants.{BadValue, Memory};
+ghost use Rattle.ent_polform.specs.Values.{IsText, boolean_in, integer_in, value_in};
 
 use ent_values::{DataType, Value, ValueFault};
 use serde_json::Value as Json;
@@ -34,11 +34,12 @@ fn integer(datatype: DataType, number: i64) -> Option<Value>
 ///
 /// # Errors
 ///
-/// [`ValueFault::BadValue`] for any other JSON value. [`ValueFault::Memory`] if memory runs out.
+/// [`ValueFault::BadValue`] for any other JSON value. [`ValueFault::Memory`] if memory runs out, which only a text takes.
 #[tactic(auto, unfolding(crate::specs::Values::value_in))]
 pub fn read_value(alloc: Global, datatype: DataType, json: &Json) -> Result<Value, ValueFault>
     ensures read { IfOk result (λ v. value_in datatype (view json.now) ≡ Some v) }
     ensures bad { IfErr result (λ e. e ≡ BadValue → value_in datatype (view json.now) ≡ None) }
+    ensures memory { IfErr result (λ e. e ≡ Memory → IsText (view json.now)) }
 {
     match json {
         Json::String(text) => Value::parse(alloc, datatype, text.as_str()),

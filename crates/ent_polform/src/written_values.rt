@@ -1,8 +1,9 @@
 //! Values and attribute designators, as they are written.
 
-ghost use Rattle.std.specs.Prelude.{◌≡◌, IfOk, option_map};
+ghost use Rattle.std.specs.Prelude.{◌≡◌, IfOk, OnErr, option_map};
 ghost use Rattle.serde_json.specs.Data.{string};
 ghost use Rattle.serde_json.specs.View.{view};
+ghost use Rattle.ent_polform.specs.Values.{IsText};
 ghost use Rattle.ent_polform.specs.Written.{designator_written, literal_written, value_written};
 
 use crate::members::{put_optional, put_text};
@@ -16,10 +17,11 @@ use std::alloc::{AllocError, Global};
 ///
 /// # Errors
 ///
-/// `AllocError` if memory runs out.
+/// `AllocError` if memory runs out, which only what is written as a text takes.
 #[tactic(auto, unfolding(crate::specs::Written::value_written))]
 pub fn write_value(alloc: Global, value: &Value) -> Result<Json, AllocError>
-    ensures { IfOk result (λ v. view v ≡ value_written value.now) }
+    ensures written { IfOk result (λ v. view v ≡ value_written value.now) }
+    ensures memory { OnErr result (IsText (value_written value.now)) }
 {
     match value {
         Value::Boolean(flag) => Ok(Json::Bool(*flag)),
