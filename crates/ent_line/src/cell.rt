@@ -119,13 +119,7 @@ fn cell_values(alloc: Global, cells: Cells<'_>) -> Result<Vec<Value>, AllocError
 {
     let mut values = Vec::new(alloc);
     for (person, action, resource, answer) in cells {
-        values.push(cell_value(
-            alloc,
-            person.as_str(),
-            action.as_str(),
-            resource.as_str(),
-            answer,
-        )?)?;
+        values.push(cell_value(alloc, person, action, resource, answer)?)?;
     }
     Ok(values)
 }

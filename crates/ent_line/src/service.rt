@@ -131,10 +131,7 @@ impl<P: Policies> Service<P> {
         requires { IsReady P.documents self.now }
         ensures { IfOk result (λ r. reply_view r ≡ cell_told (world_of P.documents self.now) (triple_of person.now action.now resource.now)) }
     {
-        let who = Text::from_str(self.alloc, person)?;
-        let what = Text::from_str(self.alloc, action)?;
-        let whereto = Text::from_str(self.alloc, resource)?;
-        match self.review.cell(&who, &what, &whereto) {
+        match self.review.cell(person, action, resource) {
             None => Ok(Reply::Refused(NOT_THERE, None)),
             Some(answer) => {
                 let text = one_cell_text(self.alloc, person, action, resource, answer)?;

@@ -3,4 +3,5 @@ pub mod Counts
 pub mod Fills
 pub mod Places
 pub mod Steps
+pub mod Texts
 pub mod Turns

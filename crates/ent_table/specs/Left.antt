@@ -4,7 +4,7 @@ use Rattle.std.specs.List.{zip}
 use Rattle.ent_eval.specs.declared.answer.Answer.{Answer}
 use Rattle.ent_table.specs.declared.cells.Cells.{Cells}
 use Rattle.std.specs.Borrow.{Bor}
-use Rattle.ent_table.specs.Names.{Triple, triple_of, with_resources, with_actions, all_triples}
+use Rattle.ent_table.specs.Names.{Triple, texts, triple_of, with_resources, with_actions, all_triples}
 
 -- a person with the first action and the resources that are left of it, and with the later actions and all resources
 abbrev pub actions_left : List ℕ → List (List ℕ) → List (List ℕ) → List (List ℕ) → List Triple
@@ -16,9 +16,13 @@ abbrev pub people_left : List (List ℕ) → List (List ℕ) → List (List ℕ)
 people_left [] actions left all_actions resources = []
 people_left (person ∷ people) actions left all_actions resources = actions_left person actions left resources ++ all_triples people all_actions resources
 
--- the requests that are left, each with its answer
+-- the requests that are left
+abbrev pub requests_left : Cells → List Triple
+requests_left c = people_left (texts c.people.now) (texts c.actions.now) (texts c.resources.now) (texts c.all_actions.now) (texts c.all_resources.now)
+
+-- the same, each with its answer
 abbrev pub cells_left : Cells → List (Triple × Answer)
-cells_left c = zip (people_left c.people.now c.actions.now c.resources.now c.all_actions.now c.all_resources.now) c.cells.now
+cells_left c = zip (requests_left c) c.cells.now
 
 -- an item as a request with its answer
 abbrev pub cell_of : Bor (List ℕ) × Bor (List ℕ) × Bor (List ℕ) × Bor Answer → Triple × Answer
@@ -30,4 +34,4 @@ HasTurnedAction c = c.resources.now ≡ [] → (c.actions.now ≡ []) ⊎ (c.all
 
 -- where no resource or no action is left, nothing is
 abbrev pub HasTurned : Cells → Type 0
-HasTurned c = (c.resources.now ≡ []) ⊎ (c.actions.now ≡ []) → people_left c.people.now c.actions.now c.resources.now c.all_actions.now c.all_resources.now ≡ []
+HasTurned c = (c.resources.now ≡ []) ⊎ (c.actions.now ≡ []) → requests_left c ≡ []

@@ -1,5 +1,5 @@
 -- The three lists of names, and the requests that they make.
-use Rattle.std.specs.Prelude.{◌≡◌, ℕ, ◌*◌, List, [], ◌∷◌, ◌++◌, Bool, true, false, ◌&&◌, length, map, nat_eq, slice_get, Option, Some, None}
+use Rattle.std.specs.Prelude.{◌≡◌, ℕ, String, string_bytes, ◌*◌, List, [], ◌∷◌, ◌++◌, Bool, true, false, ◌&&◌, length, map, nat_eq, slice_get, Option, Some, None}
 use Rattle.std.specs.Cmp.Lexicographic.{pointwise}
 use Rattle.std.specs.List.{flat_map, list_any}
 use Rattle.ent_table.specs.declared.edit.List.{List as Which}
@@ -10,6 +10,10 @@ pub record Names : Type 0 where
   pub people : List (List ℕ)
   pub actions : List (List ℕ)
   pub resources : List (List ℕ)
+
+-- the names in a list of `String`s
+abbrev pub texts : {Z : Type 0} → List (String Z) → List (List ℕ)
+texts names = map string_bytes names
 
 abbrev pub no_names : Names
 no_names = record { people = []; actions = []; resources = [] }

@@ -4,31 +4,30 @@ ghost use Rattle.std.specs.Prelude.{◌≡◌};
 ghost use Rattle.std.specs.Iterator.{YieldsFirstBy, item_count};
 ghost use Rattle.std.specs.List.{zip};
 ghost use Rattle.ent_table.specs.Left.{HasTurned, HasTurnedAction, cell_of, cells_left};
-ghost use Rattle.ent_table.specs.Names.{all_triples};
+ghost use Rattle.ent_table.specs.Names.{all_triples, texts};
 
 use ent_eval::Answer;
-use ent_values::Text;
 
 /// The listed requests with their answers: person, action, resource and answer, people outermost, then actions, then resources.
 #[derive(Drop)]
 pub struct Cells<'a> {
     // What is left of the first person and its first action, and all lists for those that follow.
-    people: &'a [Text],
-    actions: &'a [Text],
-    resources: &'a [Text],
-    all_actions: &'a [Text],
-    all_resources: &'a [Text],
+    people: &'a [String],
+    actions: &'a [String],
+    resources: &'a [String],
+    all_actions: &'a [String],
+    all_resources: &'a [String],
     cells: &'a [Answer],
 }
 
 impl<'a> Cells<'a> {
     pub(crate) fn new(
-        people: &'a [Text],
-        actions: &'a [Text],
-        resources: &'a [Text],
+        people: &'a [String],
+        actions: &'a [String],
+        resources: &'a [String],
         cells: &'a [Answer],
     ) -> Cells<'a>
-        ensures { cells_left result ≡ zip (all_triples people.now actions.now resources.now) cells.now }
+        ensures { cells_left result ≡ zip (all_triples (texts people.now) (texts actions.now) (texts resources.now)) cells.now }
     {
         Cells {
             people,
@@ -76,13 +75,13 @@ impl<'a> Cells<'a> {
 }
 
 impl<'a> Iterator for Cells<'a> {
-    type Item = (&'a Text, &'a Text, &'a Text, &'a Answer);
+    type Item = (&'a str, &'a str, &'a str, &'a Answer);
 
     ghost next_gives = { YieldsFirstBy cell_of cells_left };
 
     ghost remaining = { item_count cells_left };
 
-    fn next(&mut self) -> Option<(&'a Text, &'a Text, &'a Text, &'a Answer)> {
+    fn next(&mut self) -> Option<(&'a str, &'a str, &'a str, &'a Answer)> {
         self.next_action();
         self.next_person();
         let (answer, cells) = self.cells.split_first()?;
@@ -91,6 +90,6 @@ impl<'a> Iterator for Cells<'a> {
         let (resource, resources) = self.resources.split_first()?;
         self.cells = cells;
         self.resources = resources;
-        Some((person, action, resource, answer))
+        Some((person.as_str(), action.as_str(), resource.as_str(), answer))
     }
 }

@@ -2,26 +2,26 @@
 
 ghost use Rattle.std.specs.Prelude.{◌≡◌, ◌++◌, map, IfOk, OnOk};
 ghost use Rattle.ent_eval.specs.LooksOf.{looks_of};
-ghost use Rattle.ent_table.specs.Names.{all_triples, with_actions, with_resources};
+ghost use Rattle.ent_table.specs.Names.{all_triples, texts, with_actions, with_resources};
 ghost use Rattle.ent_table.specs.State.{answer_by};
 
 use ent_eval::{Answer, Pdp, Policies, Request};
-use ent_values::{Items, Text};
+use ent_values::Items;
 use std::alloc::{AllocError, Global};
 
 /// Appends the answers for a person and an action with each of the resources. One request serves for all of them.
 fn evaluate_resources<P: Policies>(
     alloc: Global,
     pdp: &mut Pdp<P>,
-    person: &Text,
-    action: &Text,
-    resources: &[Text],
+    person: &str,
+    action: &str,
+    resources: &[String],
     cells: &mut Vec<Answer>,
 ) -> Result<(), AllocError>
-    ensures cells { OnOk result (cells.new.items ≡ cells.old.items ++ map (answer_by (looks_of P.documents pdp.old)) (with_resources person.now action.now resources.now)) }
+    ensures cells { OnOk result (cells.new.items ≡ cells.old.items ++ map (answer_by (looks_of P.documents pdp.old)) (with_resources person.now action.now (texts resources.now))) }
     ensures rest { pdp.new ≡ record pdp.old { evaluations = pdp.new.evaluations } }
 {
-    let mut request = Request::listed(alloc, person.as_str(), action.as_str(), "")?;
+    let mut request = Request::listed(alloc, person, action, "")?;
     for resource in resources {
         request.ask_of(alloc, resource.as_str())?;
         let evaluation = pdp.evaluate(&request)?;
@@ -34,16 +34,16 @@ fn evaluate_resources<P: Policies>(
 fn evaluate_actions<P: Policies>(
     alloc: Global,
     pdp: &mut Pdp<P>,
-    person: &Text,
-    actions: &[Text],
-    resources: &[Text],
+    person: &str,
+    actions: &[String],
+    resources: &[String],
     cells: &mut Vec<Answer>,
 ) -> Result<(), AllocError>
-    ensures cells { OnOk result (cells.new.items ≡ cells.old.items ++ map (answer_by (looks_of P.documents pdp.old)) (with_actions person.now actions.now resources.now)) }
+    ensures cells { OnOk result (cells.new.items ≡ cells.old.items ++ map (answer_by (looks_of P.documents pdp.old)) (with_actions person.now (texts actions.now) (texts resources.now))) }
     ensures rest { pdp.new ≡ record pdp.old { evaluations = pdp.new.evaluations } }
 {
     for action in actions {
-        evaluate_resources(alloc, pdp, person, action, resources, cells)?;
+        evaluate_resources(alloc, pdp, person, action.as_str(), resources, cells)?;
     }
     Ok(())
 }
@@ -52,17 +52,17 @@ fn evaluate_actions<P: Policies>(
 pub(crate) fn evaluate_all<P: Policies>(
     alloc: Global,
     pdp: &mut Pdp<P>,
-    people: &[Text],
-    actions: &[Text],
-    resources: &[Text],
+    people: &[String],
+    actions: &[String],
+    resources: &[String],
     count: usize,
 ) -> Result<Items<Answer>, AllocError>
-    ensures cells { IfOk result (λ v. v ≡ map (answer_by (looks_of P.documents pdp.old)) (all_triples people.now actions.now resources.now)) }
+    ensures cells { IfOk result (λ v. v ≡ map (answer_by (looks_of P.documents pdp.old)) (all_triples (texts people.now) (texts actions.now) (texts resources.now))) }
     ensures rest { pdp.new ≡ record pdp.old { evaluations = pdp.new.evaluations } }
 {
     let mut cells = Vec::with_capacity(alloc, count)?;
     for person in people {
-        evaluate_actions(alloc, pdp, person, actions, resources, &mut cells)?;
+        evaluate_actions(alloc, pdp, person.as_str(), actions, resources, &mut cells)?;
     }
     Ok(Items::from_vec(cells))
 }
@@ -71,11 +71,11 @@ pub(crate) fn evaluate_all<P: Policies>(
 pub(crate) fn evaluate_person<P: Policies>(
     alloc: Global,
     pdp: &mut Pdp<P>,
-    person: &Text,
-    actions: &[Text],
-    resources: &[Text],
+    person: &str,
+    actions: &[String],
+    resources: &[String],
 ) -> Result<Items<Answer>, AllocError>
-    ensures cells { IfOk result (λ v. v ≡ map (answer_by (looks_of P.documents pdp.old)) (with_actions person.now actions.now resources.now)) }
+    ensures cells { IfOk result (λ v. v ≡ map (answer_by (looks_of P.documents pdp.old)) (with_actions person.now (texts actions.now) (texts resources.now))) }
     ensures rest { pdp.new ≡ record pdp.old { evaluations = pdp.new.evaluations } }
 {
     let mut cells = Vec::new(alloc);

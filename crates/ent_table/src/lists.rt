@@ -1,7 +1,7 @@
 //! The lists of people, actions and resources.
 
 ghost use Rattle.std.specs.Prelude.{◌≡◌, ◌<◌, ◌≤◌, false, length, OnErr, OnOk};
-ghost use Rattle.ent_table.specs.Names.{CountsWith, IsPlace, TakesLast, cell_count, has_name, list_of, no_names, triple_of, with_name};
+ghost use Rattle.ent_table.specs.Names.{CountsWith, IsPlace, TakesLast, cell_count, has_name, list_of, no_names, texts, triple_of, with_name};
 
 use crate::edit::List;
 use ent_values::Text;
@@ -9,21 +9,21 @@ use indexmap::IndexSet;
 use std::alloc::{AllocError, Global};
 use std::marker::Model;
 
-/// The three lists, each in order of insertion and without doubles.
+/// The three lists, each in order of insertion and without doubles. A name is found by a `&str`, without memory.
 #[derive(Drop)]
 pub(crate) struct Lists {
-    people: IndexSet<Text>,
-    actions: IndexSet<Text>,
-    resources: IndexSet<Text>,
+    people: IndexSet<String>,
+    actions: IndexSet<String>,
+    resources: IndexSet<String>,
 }
 
 impl Model for Lists {
     ghost use Rattle.std.specs.Prelude.{◌≤◌, length};
-    ghost use Rattle.ent_table.specs.Names.{Names};
+    ghost use Rattle.ent_table.specs.Names.{Names, texts};
 
     ghost Value = { Names };
 
-    ghost view = { λ l. record { people = l.people.keys; actions = l.actions.keys; resources = l.resources.keys } };
+    ghost view = { λ l. record { people = texts l.people.keys; actions = texts l.actions.keys; resources = texts l.resources.keys } };
 
     ghost invariant = { λ l. (length l.people.keys ≤ 256) × (length l.actions.keys ≤ 256) × (length l.resources.keys ≤ 256) };
 }
@@ -44,8 +44,8 @@ impl Lists {
     }
 
     /// The names of one list.
-    pub(crate) fn names(&self, list: List) -> &[Text]
-        ensures names { result.now ≡ list_of list self.now }
+    pub(crate) fn names(&self, list: List) -> &[String]
+        ensures names { texts result.now ≡ list_of list self.now }
         ensures few { length result.now ≤ 256 }
     {
         match list {
@@ -56,7 +56,7 @@ impl Lists {
     }
 
     /// Whether a list has the name.
-    pub(crate) fn has(&self, list: List, name: &Text) -> bool
+    pub(crate) fn has(&self, list: List, name: &str) -> bool
         ensures { result ≡ has_name name.now (list_of list self.now) }
     {
         match list {
@@ -91,12 +91,14 @@ impl Lists {
     }
 
     /// Puts a name last that the list doesn't have. After a refusal the lists are as before.
+    #[tactic(auto, using(crate::proofs::Texts::texts_with))]
     pub(crate) fn push(&mut self, list: List, name: Text) -> Result<(), AllocError>
         requires room { length (list_of list self.old) < 256 }
         requires absent { has_name name (list_of list self.old) ≡ false }
         ensures ok { OnOk result (self.new ≡ with_name list name self.old) }
         ensures err { OnErr result (self.new ≡ self.old) }
     {
+        let name = name.into_string();
         match list {
             List::People => {
                 self.people.insert(name)?;
@@ -129,7 +131,7 @@ impl Lists {
     }
 
     /// The place of a request in list order, if it is listed.
-    pub(crate) fn place(&self, person: &Text, action: &Text, resource: &Text) -> Option<usize>
+    pub(crate) fn place(&self, person: &str, action: &str, resource: &str) -> Option<usize>
         ensures { IsPlace self.now (triple_of person.now action.now resource.now) result }
     {
         let row = self.people.get_index_of(person)?;

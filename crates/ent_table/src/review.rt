@@ -67,7 +67,7 @@ impl<P: Policies> Review<P> {
     }
 
     /// The answer to a listed request.
-    pub fn cell(&self, person: &Text, action: &Text, resource: &Text) -> Option<&Answer>
+    pub fn cell(&self, person: &str, action: &str, resource: &str) -> Option<&Answer>
         requires { IsFresh P.documents self.now }
         ensures { option_copied result ≡ answer_at (state_of P.documents self.now) (triple_of person.now action.now resource.now) }
     {
@@ -89,7 +89,7 @@ impl<P: Policies> Review<P> {
     }
 
     /// Whether a list has the name.
-    pub fn listed(&self, list: List, name: &Text) -> bool
+    pub fn listed(&self, list: List, name: &str) -> bool
         ensures { result ≡ has_name name.now (list_of list (state_of P.documents self.now).names) }
     {
         self.lists.has(list, name)
@@ -221,7 +221,7 @@ impl<P: Policies> Review<P> {
     fn name_fault(&self, list: List, name: &Text) -> Result<(), EditFault>
         ensures { IsTested (name_added (state_of P.documents self.now) list name.now) result }
     {
-        if self.lists.has(list, name) {
+        if self.lists.has(list, name.as_str()) {
             return Err(EditFault::AlreadyThere);
         }
         if self.serial >= LAST_SERIAL || self.exceeds(list) {
@@ -294,7 +294,7 @@ impl<P: Policies> Review<P> {
         evaluate_person(
             self.alloc,
             &mut self.pdp,
-            person,
+            person.as_str(),
             self.lists.names(List::Actions),
             self.lists.names(List::Resources),
         )

@@ -1,11 +1,11 @@
 use Rattle.std.proofs.Common.{◌≡◌, ◌++◌, take, map}
 use Rattle.ent_eval.specs.LooksOf.{looks_of}
-use Rattle.ent_table.specs.Names.{with_actions}
+use Rattle.ent_table.specs.Names.{texts, with_actions}
 use Rattle.ent_table.specs.State.{answer_by}
 use Rattle.ent_table.proofs.fill.evaluate_actions.Given as goal
 
 abbrev pub invariant-loop-action : goal.invariant-loop-action
 invariant-loop-action g l = record {
-  cells : l.cells.items ≡ l.fn.cells.items ++ map (answer_by (looks_of g.P.Policies.documents l.fn.pdp)) (with_actions l.person (take l.action-index l.actions) l.resources);
+  cells : l.cells.items ≡ l.fn.cells.items ++ map (answer_by (looks_of g.P.Policies.documents l.fn.pdp)) (with_actions l.person (texts (take l.action-index l.actions)) (texts l.resources));
   rest : l.pdp ≡ record l.fn.pdp { evaluations = l.pdp.evaluations };
 }

@@ -1,0 +1,31 @@
+-- Names that are kept as `String`s are found by their bytes.
+use Rattle.std.proofs.Common.{◌≡◌, ℕ, ◌+◌, List, [], ◌∷◌, ◌++◌, length, map, nat_eq, Bool, true, false, ◌||◌, if◌then◌else◌, refl, sym, ap, ◌∙◌}
+use Rattle.std.specs.Prelude.{String, not, nat_lt, Option, Some, None, string_bytes}
+use Rattle.std.specs.List.{list_any, position, position_or_len}
+use Rattle.std.specs.Cmp.Lexicographic.{pointwise}
+use Rattle.std.specs.String.{string_eq}
+use Rattle.std.proofs.lemmas.List.{length-map, map-append}
+use Rattle.indexmap.specs.IndexSet.{insert_key}
+use Rattle.ent_table.specs.Names.{has_name, texts}
+
+any_of : {A B : Type 0} (p : B → Bool) (f : A → B) (xs : List A) → list_any (λ x. p (f x)) xs ≡ list_any p (map f xs)
+any_of p f [] = refl
+any_of p f (x ∷ xs) = ap (λ b. p (f x) || b) (any_of p f xs)
+
+first_of : {A B : Type 0} (p : B → Bool) (f : A → B) (xs : List A) → position_or_len (λ x. p (f x)) xs ≡ position_or_len p (map f xs)
+first_of p f [] = refl
+first_of p f (x ∷ xs) = ap (λ n. if not (p (f x)) then 1 + n else 0) (first_of p f xs)
+
+-- whether one of them has these bytes
+pub has_text : {Z : Type 0} (name : List ℕ) (keys : List (String Z)) → list_any (λ k. pointwise nat_eq name (string_bytes k)) keys ≡ has_name name (texts keys)
+has_text name keys = any_of (pointwise nat_eq name) string_bytes keys
+
+-- the place of the first that has them
+pub text_place : {Z : Type 0} (name : List ℕ) (keys : List (String Z)) → position (λ k. pointwise nat_eq name (string_bytes k)) keys ≡ position (pointwise nat_eq name) (texts keys)
+text_place name keys =
+    (λ t. if nat_lt (first_of (pointwise nat_eq name) string_bytes keys t) (sym (length-map keys string_bytes) t) then Some (first_of (pointwise nat_eq name) string_bytes keys t) else None)
+
+-- one more, which isn't there yet
+pub texts_with : {Z : Type 0} (k : String Z) (keys : List (String Z)) → has_name (string_bytes k) (texts keys) ≡ false → texts (insert_key string_eq keys k) ≡ texts keys ++ string_bytes k ∷ []
+texts_with k keys absent =
+    ap (λ b. texts (if b then keys else keys ++ k ∷ [])) (has_text (string_bytes k) keys ∙ absent) ∙ map-append string_bytes keys (k ∷ [])
