@@ -1,0 +1,8 @@
+//! The tests of this repository: what no contract says and no line of the conformance run shows. A crate whose tests stand in it is
+//! proved twice, and so they stand here, above all that they call.
+#![tactic(auto)]
+
+#[cfg(test)]
+mod combining;
+#[cfg(test)]
+mod values;
