@@ -111,25 +111,37 @@ fn table_seven(rt: HostRuntime) {
     }
 }
 
+/// Identifiers, with the algorithm of rules and the algorithm of policies that each names.
+const IDENTIFIERS: [(&str, Option<RuleAlg>, Option<PolicyAlg>); 3] = [
+    (
+        "urn:oasis:names:tc:xacml:3.0:rule-combining-algorithm:ordered-permit-overrides",
+        Some(RuleAlg::OrderedPermitOverrides),
+        None,
+    ),
+    (
+        "urn:oasis:names:tc:xacml:1.0:policy-combining-algorithm:only-one-applicable",
+        None,
+        Some(PolicyAlg::OnlyOne),
+    ),
+    (
+        "urn:oasis:names:tc:xacml:1.0:policy-combining-algorithm:first-applicable",
+        None,
+        Some(PolicyAlg::Shared(RuleAlg::FirstApplicable)),
+    ),
+];
+
 #[test]
 fn identifiers(rt: HostRuntime) {
-    let ordered = "urn:oasis:names:tc:xacml:3.0:rule-combining-algorithm:ordered-permit-overrides";
-    assert_eq!(rt;
-        RuleAlg::from_id(ordered),
-        Some(RuleAlg::OrderedPermitOverrides)
-    );
-    assert_eq!(rt; RuleAlg::OrderedPermitOverrides.rule_id(), ordered);
-
-    let only = "urn:oasis:names:tc:xacml:1.0:policy-combining-algorithm:only-one-applicable";
-    assert_eq!(rt; PolicyAlg::from_id(only), Some(PolicyAlg::OnlyOne));
-    assert_eq!(rt; PolicyAlg::OnlyOne.id(), only);
-
-    let first = "urn:oasis:names:tc:xacml:1.0:policy-combining-algorithm:first-applicable";
-    assert_eq!(rt;
-        PolicyAlg::from_id(first),
-        Some(PolicyAlg::Shared(RuleAlg::FirstApplicable))
-    );
-    assert_eq!(rt; RuleAlg::from_id(first), None);
+    for (id, of_rules, of_policies) in IDENTIFIERS {
+        assert_eq!(rt; RuleAlg::from_id(id), of_rules);
+        assert_eq!(rt; PolicyAlg::from_id(id), of_policies);
+        if let Some(algorithm) = of_rules {
+            assert_eq!(rt; algorithm.rule_id(), id);
+        }
+        if let Some(algorithm) = of_policies {
+            assert_eq!(rt; algorithm.id(), id);
+        }
+    }
 }
 
 // The pseudo-code of the standard's appendix C, line by line, for a second reading of it. Each gives
