@@ -21,8 +21,3 @@ pub use reading::read_json;
 pub use reply::Reply;
 pub use service::Service;
 pub use serving::serve;
-
-#[cfg(test)]
-mod service_tests;
-#[cfg(test)]
-mod tests;

@@ -1,6 +1,6 @@
 use Rattle.std.proofs.lemmas.Result.{err_from_is_err_and}
-use Rattle.review.proofs.Verdicts.{cut, judged, told, unflushed}
-use Rattle.review.proofs.checking.check_from.Goals as goal
+use Rattle.ent_program.proofs.Verdicts.{cut, judged, told, unflushed}
+use Rattle.ent_program.proofs.checking.check_from.Goals as goal
 
 pub returns-in_err-send_verdict : goal.returns-in_err-send_verdict
 returns-in_err-send_verdict g c =

@@ -3,8 +3,8 @@
 ghost use Rattle.std.specs.Prelude.{◌≡◌, Result, Some, None, IfErr, IfOk, IfSome, take, ◌≢◌};
 ghost use Rattle.ent_line.specs.Pieces.{Sends};
 ghost use Rattle.ent_line.specs.declared.fault.ServeFault.TheVariants.{Write};
-ghost use Rattle.review.specs.Checking.{Checks, is_passed, line_of, passed_of, verdict_of};
-ghost use Rattle.review.specs.declared.checking.Verdict.TheVariants.{Passed, Refused};
+ghost use Rattle.ent_program.specs.Checking.{Checks, is_passed, line_of, passed_of, verdict_of};
+ghost use Rattle.ent_program.specs.declared.checking.Verdict.TheVariants.{Passed, Refused};
 
 use ent_line::{ServeFault, read_json, send_all};
 use ent_polform::read_document;

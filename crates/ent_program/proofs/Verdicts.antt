@@ -8,9 +8,9 @@ use Rattle.std.proofs.KnownBytes.{Appends-kept}
 use Rattle.ent_line.specs.Pieces.{Sends}
 use Rattle.ent_line.specs.declared.fault.ServeFault.{ServeFault}
 use Rattle.ent_line.specs.declared.fault.ServeFault.TheVariants as fault
-use Rattle.review.specs.declared.checking.Verdict.{Verdict}
-use Rattle.review.specs.Checking.{Checks, IsVerdictOn, is_passed, line_of, verdict_of}
-use Rattle.review.specs.declared.checking.Verdict.TheVariants.{Refused}
+use Rattle.ent_program.specs.declared.checking.Verdict.{Verdict}
+use Rattle.ent_program.specs.Checking.{Checks, IsVerdictOn, is_passed, line_of, verdict_of}
+use Rattle.ent_program.specs.declared.checking.Verdict.TheVariants.{Refused}
 
 -- a file of too many bytes is refused as such
 pub too_long : (bytes : List ℕ) → 1048576 < length bytes → Refused 1 None ≡ verdict_of bytes

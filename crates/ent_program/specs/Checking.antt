@@ -11,8 +11,8 @@ use Rattle.ent_polform.specs.Form.{document_of}
 use Rattle.ent_line.specs.Step.{data_of}
 use Rattle.ent_line.specs.declared.fault.ServeFault.{ServeFault}
 use Rattle.ent_line.specs.declared.fault.ServeFault.TheVariants as fault
-use Rattle.review.specs.declared.checking.Verdict.{Verdict}
-use Rattle.review.specs.declared.checking.Verdict.TheVariants.{Passed, Refused}
+use Rattle.ent_program.specs.declared.checking.Verdict.{Verdict}
+use Rattle.ent_program.specs.declared.checking.Verdict.TheVariants.{Passed, Refused}
 
 -- the verdict on a document that may be stored: its kind, its id, and its version as it is written
 abbrev pub passed_of : Tree → Verdict

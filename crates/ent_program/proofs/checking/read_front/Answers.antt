@@ -1,6 +1,6 @@
 use Rattle.std.proofs.Common.{ap}
-use Rattle.review.proofs.Verdicts.{front_read}
-use Rattle.review.proofs.checking.read_front.Goals as goal
+use Rattle.ent_program.proofs.Verdicts.{front_read}
+use Rattle.ent_program.proofs.checking.read_front.Goals as goal
 
 pub returns-in-Ok-clause-front : goal.returns-in-Ok-clause-front
 returns-in-Ok-clause-front g c =
