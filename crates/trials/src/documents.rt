@@ -152,26 +152,16 @@ fn values_are_read_and_written(rt: HostRuntime) -> Result<(), Fail> {
 }
 
 /// JSON of references, all of which are to `p1`, or of none.
-const REFERENCES: [(&str, Result<Kind, DocFault>); 8] = [
+const REFERENCES: [(&str, Result<Kind, DocFault>); 4] = [
     (r#"{"PolicyIdReference":{"Id":"p1"}}"#, Ok(Kind::Policy)),
     (
         r#"{"PolicySetIdReference":{"Id":"p1"}}"#,
         Ok(Kind::PolicySet),
     ),
     ("null", Err(DocFault::Form)),
-    (r#"{"Policy":{"Id":"p1"}}"#, Err(DocFault::Form)),
     (
         r#"{"PolicyIdReference":{"Id":"p1","Version":"1.0"}}"#,
         Err(DocFault::Form),
-    ),
-    (r#"{"PolicySetIdReference":{"Id":1}}"#, Err(DocFault::Form)),
-    (
-        r#"{"PolicyIdReference":{"Id":"p1"},"PolicySetIdReference":{"Id":"p1"}}"#,
-        Err(DocFault::Form),
-    ),
-    (
-        r#"{"PolicySetIdReference":{"Id":""}}"#,
-        Err(DocFault::Identifier),
     ),
 ];
 

@@ -29,7 +29,7 @@ fn version(text: &str) -> Result<Version, Fail> {
 }
 
 #[test]
-fn versions_that_are_read(rt: HostRuntime) -> Result<(), Fail> {
+fn versions_have_an_order(rt: HostRuntime) -> Result<(), Fail> {
     let mut last = version("0")?;
     for (text, numbers, written) in VERSIONS {
         let read = version(text)?;
@@ -40,24 +40,6 @@ fn versions_that_are_read(rt: HostRuntime) -> Result<(), Fail> {
         last = read;
     }
     Ok(())
-}
-
-#[test]
-fn versions_that_are_not_read(rt: HostRuntime) {
-    for text in [
-        "",
-        ".",
-        "1.",
-        ".1",
-        "1..2",
-        "+1",
-        "1.x",
-        "0000000001",
-        "1 .2",
-        "1.1.1.1.1.1.1.1.1",
-    ] {
-        assert!(rt; Version::parse(text).is_none(), "{text}");
-    }
 }
 
 #[test]
