@@ -2,7 +2,7 @@
 
 use crate::documents::document;
 use ent_combine::{IndKind, Outcome};
-use ent_eval::{Evaluation, Pdp, Policies, ReadKey, Request, Status};
+use ent_eval::{Evaluation, Pdp, Policies, ReadKey, Reads, Request, Status};
 use ent_policy::{DocKey, Kind, Reference, Version};
 use ent_values::{Items, Text};
 use std::alloc::Global;
@@ -67,7 +67,10 @@ fn look_ups_of_reading(rt: HostRuntime) -> Result<(), Fail> {
     let read = ReadKey::Ref(reference(alloc, "p1")?);
     assert!(rt; reads.len() == 2 && reads.contains(&ReadKey::Root) && reads.contains(&read));
     assert!(rt; !reads.contains(&ReadKey::Ref(reference(alloc, "p2")?)));
-    assert!(rt; read.copy(alloc)? == read);
+    let mut noted = Reads::new(alloc);
+    noted.note(read.copy(alloc)?)?;
+    noted.note(read.copy(alloc)?)?;
+    assert!(rt; noted.len() == 1 && noted.contains(&read) && !noted.contains(&ReadKey::Root));
     Ok(())
 }
 

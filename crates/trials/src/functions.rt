@@ -4,7 +4,7 @@ ghost use Rattle.std.specs.Prelude.{◌≡◌, IfOk, map};
 ghost use Rattle.ent_functions.specs.Arguments.{type_of_arg};
 
 use ent_functions::{Arg, ArgType, Element, Fault, Function, apply};
-use ent_values::{Bag, DataType, Items, Text, Value};
+use ent_values::{DataType, Items, Text, Value};
 use std::alloc::{AllocError, Global};
 use std::process::Abort;
 use std::test::Fail;
@@ -70,10 +70,11 @@ fn single(alloc: Global, values: Items<Value>) -> Result<Vec<Arg>, AllocError> {
 }
 
 /// A bag of those numbers as the only argument.
-fn bag(alloc: Global, given: &[i64]) -> Result<Vec<Arg>, AllocError> {
+fn bag(rt: &impl Abort, alloc: Global, given: &[i64]) -> Result<Vec<Arg>, Fail> {
+    let members = single(alloc, numbers(alloc, given)?)?;
+    let id = "urn:oasis:names:tc:xacml:1.0:function:integer-bag";
     let mut arguments = Vec::new(alloc);
-    let bag = Bag::of(DataType::Integer, numbers(alloc, given)?);
-    arguments.push(Arg::Many(bag))?;
+    arguments.push(call(rt, alloc, id, members.as_slice())??)?;
     Ok(arguments)
 }
 
@@ -130,7 +131,7 @@ fn only_values(rt: HostRuntime) -> Result<(), Fail> {
         ([7].as_slice(), Ok(7)),
         ([7, 7].as_slice(), Err(Fault::NotSingle)),
     ] {
-        let arguments = bag(alloc, given)?;
+        let arguments = bag(&rt, alloc, given)?;
         let answer = call(&rt, alloc, id, arguments.as_slice())?;
         let want = want.map(|number| Arg::One(Value::Integer(number)));
         assert_eq!(rt; answer, want, "of {given:?}");

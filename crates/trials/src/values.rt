@@ -1,6 +1,7 @@
 //! Values, their texts and their order, and the lists that they stand in.
 
 use ent_values::{Bag, DataType, Date, Items, Text, Value, YearMonth};
+use std::alloc::{AllocError, Global};
 use std::test::Fail;
 
 /// The types with their names.
@@ -28,9 +29,8 @@ fn type_names(rt: HostRuntime) {
     assert_eq!(rt; DataType::from_name("time"), None);
 }
 
-/// Texts with what the value that each spells is written as, in the order of the values.
-const WRITTEN: [(DataType, &str, &str); 22] = [
-    (DataType::Text, "", ""),
+/// Texts with what the value that each spells is written as, in the order of the values, which come after the empty string.
+const WRITTEN: [(DataType, &str, &str); 21] = [
     (DataType::Text, " a\"b ", " a\"b "),
     (DataType::Text, "Z", "Z"),
     (DataType::Text, "a", "a"),
@@ -79,15 +79,11 @@ fn values_are_read_and_written(rt: HostRuntime) -> Result<(), Fail> {
 #[test]
 fn values_have_an_order(rt: HostRuntime) -> Result<(), Fail> {
     let alloc = rt.alloc();
-    let mut values = Vec::new(alloc);
+    let mut last = Value::parse(alloc, DataType::Text, "")?;
     for (datatype, text, _) in WRITTEN {
-        values.push(Value::parse(alloc, datatype, text)?)?;
-    }
-    for (place, value) in values.iter().enumerate() {
-        for (other_place, other) in values.iter().enumerate() {
-            assert_eq!(rt; value.cmp(other), place.cmp(&other_place));
-            assert_eq!(rt; value == other, place == other_place);
-        }
+        let value = Value::parse(alloc, datatype, text)?;
+        assert!(rt; last < value && last != value, "{text}");
+        last = value;
     }
     Ok(())
 }
@@ -104,23 +100,35 @@ fn dates_and_durations(rt: HostRuntime) {
 }
 
 #[test]
-fn texts_and_lists(rt: HostRuntime) -> Result<(), Fail> {
+fn texts(rt: HostRuntime) -> Result<(), Fail> {
     let alloc = rt.alloc();
     let ann = Text::from_str(alloc, "ann")?;
     let bob = Text::new(String::from_str(alloc, "bob")?);
     assert!(rt; ann.copy(alloc)? == ann);
     assert!(rt; ann < bob && ann != bob);
     assert_eq!(rt; bob.into_string().as_str(), "bob");
-    let mut list = Items::of_one(alloc, 1)?;
-    list.push(2)?;
-    let mut all = Items::with_capacity(alloc, 3)?;
-    all.append(list)?;
-    all.append(Items::of_one(alloc, 3)?)?;
-    assert_eq!(rt; all.pop(), Some(3));
-    assert!(rt; all.as_slice() == [1, 2].as_slice() && all.len() == 2);
+    Ok(())
+}
+
+/// So many numbers, from zero on.
+fn numbers(alloc: Global, count: u32) -> Result<Items<u32>, AllocError> {
+    let mut items = Items::with_capacity(alloc, 2)?;
+    for number in 0..count {
+        items.push(number)?;
+    }
+    Ok(items)
+}
+
+#[test]
+fn lists(rt: HostRuntime) -> Result<(), Fail> {
+    let alloc = rt.alloc();
+    let mut all = Items::of_one(alloc, 7)?;
+    all.append(numbers(alloc, 3)?)?;
+    assert!(rt; all.as_slice() == [7, 0, 1, 2].as_slice() && all.len() == 4);
+    assert_eq!(rt; all.pop(), Some(2));
     all.truncate(1);
-    assert!(rt; Items::from_vec(all.into_vec()) == Items::of_one(alloc, 1)?);
-    let none: Items<u8> = Items::new(alloc);
+    assert!(rt; Items::from_vec(all.into_vec()) == Items::of_one(alloc, 7)?);
+    let none: Items<u32> = Items::new(alloc);
     assert!(rt; none.is_empty());
     Ok(())
 }
