@@ -90,7 +90,7 @@ impl BufRead for Slow<'_> {
     }
 }
 
-/// A writer that takes so many bytes, and then fails, and that fails to flush unless told otherwise.
+/// A writer that takes so many bytes, and then fails. It can be flushed where `flushes` is set.
 #[derive(Drop)]
 pub(crate) struct Narrow {
     pub(crate) taken: Vec<u8>,

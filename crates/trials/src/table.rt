@@ -5,7 +5,7 @@ ghost use Rattle.ent_table.specs.Review.{IsFresh};
 
 use crate::documents::document;
 use ent_combine::Outcome;
-use ent_eval::{Answer, Documents, Pdp, Policies};
+use ent_eval::{Documents, Pdp, Policies};
 use ent_policy::{Kind, Reference};
 use ent_table::{Accepted, Edit, EditFault, Limits, List, Review};
 use ent_values::Text;
