@@ -1,0 +1,224 @@
+//! The JSON of documents, references and values: what is read of it, and what is written.
+
+use ent_polform::{
+    filled_list_at, flag_at, has_only, list_at, one_member, read_document, read_reference,
+    read_value, text_at, text_or_absent, write_document, write_value,
+};
+use ent_policy::{CheckFault, DocFault, Document, Expression, Kind, Tree};
+use ent_values::{DataType, Value, ValueFault};
+use serde_json::Value as Json;
+use std::alloc::Global;
+use std::test::Fail;
+
+/// The JSON that the text spells.
+fn json_of(alloc: Global, text: &str) -> Result<Json, Fail> {
+    Ok(Json::from_str(alloc, text)?)
+}
+
+/// The document that the text spells.
+pub(crate) fn document(alloc: Global, text: &str) -> Result<Document, Fail> {
+    let json = json_of(alloc, text)?;
+    Ok(read_document(alloc, &json)?)
+}
+
+/// Documents, and what they are written as.
+const WRITTEN: [(&str, &str); 4] = [
+    // Keys in another order, a description and an empty target.
+    (
+        r#"{"Policy":{"Version":"1","PolicyId":"p3","Description":"","RuleCombiningAlgId":"urn:oasis:names:tc:xacml:3.0:rule-combining-algorithm:deny-overrides","Target":{},"Rule":[{"RuleId":"ok","Effect":"Permit"}]}}"#,
+        r#"{"Policy":{"PolicyId":"p3","Rule":[{"Effect":"Permit","RuleId":"ok"}],"RuleCombiningAlgId":"urn:oasis:names:tc:xacml:3.0:rule-combining-algorithm:deny-overrides","Version":"1"}}"#,
+    ),
+    // A description in a rule.
+    (
+        r#"{"Policy":{"PolicyId":"p3","Rule":[{"Description":"x","Effect":"Permit","RuleId":"ok"}],"RuleCombiningAlgId":"urn:oasis:names:tc:xacml:3.0:rule-combining-algorithm:deny-overrides","Version":"1"}}"#,
+        r#"{"Policy":{"PolicyId":"p3","Rule":[{"Effect":"Permit","RuleId":"ok"}],"RuleCombiningAlgId":"urn:oasis:names:tc:xacml:3.0:rule-combining-algorithm:deny-overrides","Version":"1"}}"#,
+    ),
+    // Every part that a policy can have.
+    (
+        r#"{"Policy":{"PolicyId":"p1","Version":"1.0","RuleCombiningAlgId":"urn:oasis:names:tc:xacml:3.0:rule-combining-algorithm:deny-overrides","Description":"who may read","Target":{"AnyOf":[{"AllOf":[{"Match":[{"MatchId":"urn:oasis:names:tc:xacml:1.0:function:string-equal","AttributeValue":{"DataType":"string","Value":"read"},"AttributeDesignator":{"Category":"urn:oasis:names:tc:xacml:3.0:attribute-category:action","AttributeId":"urn:oasis:names:tc:xacml:1.0:action:action-id","DataType":"string","Issuer":"desk","MustBePresent":true}}]}]}]},"VariableDefinition":[{"VariableId":"cleared","Expression":{"Apply":{"FunctionId":"urn:oasis:names:tc:xacml:1.0:function:boolean-one-and-only","Arguments":[{"AttributeDesignator":{"Category":"urn:oasis:names:tc:xacml:1.0:subject-category:access-subject","AttributeId":"cleared","DataType":"boolean"}}]}}}],"Rule":[{"RuleId":"r1","Effect":"Permit","Target":{},"Condition":{"Apply":{"FunctionId":"urn:oasis:names:tc:xacml:3.0:function:any-of","Arguments":[{"Function":{"FunctionId":"urn:oasis:names:tc:xacml:1.0:function:boolean-equal"}},{"VariableReference":{"VariableId":"cleared"}},{"Apply":{"FunctionId":"urn:oasis:names:tc:xacml:1.0:function:boolean-bag","Arguments":[{"AttributeValue":{"Value":true}}]}}]}}},{"RuleId":"r2","Effect":"Deny","Description":"","Condition":{"Apply":{"FunctionId":"urn:oasis:names:tc:xacml:1.0:function:integer-equal","Arguments":[{"AttributeValue":{"DataType":"integer","Value":-9223372036854775808}},{"AttributeValue":{"DataType":"integer","Value":"9223372036854775807"}}]}}}]}}"#,
+        r#"{"Policy":{"PolicyId":"p1","Rule":[{"Condition":{"Apply":{"Arguments":[{"Function":{"FunctionId":"urn:oasis:names:tc:xacml:1.0:function:boolean-equal"}},{"VariableReference":{"VariableId":"cleared"}},{"Apply":{"Arguments":[{"AttributeValue":{"DataType":"http://www.w3.org/2001/XMLSchema#boolean","Value":true}}],"FunctionId":"urn:oasis:names:tc:xacml:1.0:function:boolean-bag"}}],"FunctionId":"urn:oasis:names:tc:xacml:3.0:function:any-of"}},"Effect":"Permit","RuleId":"r1"},{"Condition":{"Apply":{"Arguments":[{"AttributeValue":{"DataType":"http://www.w3.org/2001/XMLSchema#integer","Value":-9223372036854775808}},{"AttributeValue":{"DataType":"http://www.w3.org/2001/XMLSchema#integer","Value":9223372036854775807}}],"FunctionId":"urn:oasis:names:tc:xacml:1.0:function:integer-equal"}},"Effect":"Deny","RuleId":"r2"}],"RuleCombiningAlgId":"urn:oasis:names:tc:xacml:3.0:rule-combining-algorithm:deny-overrides","Target":{"AnyOf":[{"AllOf":[{"Match":[{"AttributeDesignator":{"AttributeId":"urn:oasis:names:tc:xacml:1.0:action:action-id","Category":"urn:oasis:names:tc:xacml:3.0:attribute-category:action","DataType":"http://www.w3.org/2001/XMLSchema#string","Issuer":"desk","MustBePresent":true},"AttributeValue":{"DataType":"http://www.w3.org/2001/XMLSchema#string","Value":"read"},"MatchId":"urn:oasis:names:tc:xacml:1.0:function:string-equal"}]}]}]},"VariableDefinition":[{"Expression":{"Apply":{"Arguments":[{"AttributeDesignator":{"AttributeId":"cleared","Category":"urn:oasis:names:tc:xacml:1.0:subject-category:access-subject","DataType":"http://www.w3.org/2001/XMLSchema#boolean","MustBePresent":false}}],"FunctionId":"urn:oasis:names:tc:xacml:1.0:function:boolean-one-and-only"}},"VariableId":"cleared"}],"Version":"1.0"}}"#,
+    ),
+    // A policy and a set in a set.
+    (
+        r#"{"PolicySet":{"PolicySetId":"s1","Version":"2","PolicyCombiningAlgId":"urn:oasis:names:tc:xacml:3.0:policy-combining-algorithm:permit-overrides","Description":"both","Target":{"AnyOf":[]},"Children":[{"Policy":{"Version":"1","PolicyId":"p3","Description":"","RuleCombiningAlgId":"urn:oasis:names:tc:xacml:3.0:rule-combining-algorithm:deny-overrides","Target":{},"Rule":[{"RuleId":"ok","Effect":"Permit"}]}},{"PolicySet":{"PolicySetId":"s2","Version":"03","PolicyCombiningAlgId":"urn:oasis:names:tc:xacml:3.0:policy-combining-algorithm:deny-unless-permit","Children":[]}}]}}"#,
+        r#"{"PolicySet":{"Children":[{"Policy":{"PolicyId":"p3","Rule":[{"Effect":"Permit","RuleId":"ok"}],"RuleCombiningAlgId":"urn:oasis:names:tc:xacml:3.0:rule-combining-algorithm:deny-overrides","Version":"1"}},{"PolicySet":{"PolicyCombiningAlgId":"urn:oasis:names:tc:xacml:3.0:policy-combining-algorithm:deny-unless-permit","PolicySetId":"s2","Version":"3"}}],"PolicyCombiningAlgId":"urn:oasis:names:tc:xacml:3.0:policy-combining-algorithm:permit-overrides","PolicySetId":"s1","Version":"2"}}"#,
+    ),
+];
+
+/// Documents as they are written.
+const IN_WRITTEN_FORM: [&str; 3] = [
+    // A policy with one rule.
+    r#"{"Policy":{"PolicyId":"p3","Rule":[{"Effect":"Permit","RuleId":"ok"}],"RuleCombiningAlgId":"urn:oasis:names:tc:xacml:3.0:rule-combining-algorithm:deny-overrides","Version":"1"}}"#,
+    // A target, a variable and a condition.
+    r#"{"Policy":{"PolicyId":"p","Rule":[{"Condition":{"Apply":{"Arguments":[{"Function":{"FunctionId":"urn:oasis:names:tc:xacml:1.0:function:integer-equal"}},{"AttributeValue":{"DataType":"http://www.w3.org/2001/XMLSchema#integer","Value":-7}},{"VariableReference":{"VariableId":"levels"}}],"FunctionId":"urn:oasis:names:tc:xacml:3.0:function:any-of"}},"Effect":"Deny","RuleId":"r"}],"RuleCombiningAlgId":"urn:oasis:names:tc:xacml:1.0:rule-combining-algorithm:first-applicable","Target":{"AnyOf":[{"AllOf":[{"Match":[{"AttributeDesignator":{"AttributeId":"cleared","Category":"subject","DataType":"http://www.w3.org/2001/XMLSchema#boolean","Issuer":"desk","MustBePresent":true},"AttributeValue":{"DataType":"http://www.w3.org/2001/XMLSchema#boolean","Value":true},"MatchId":"urn:oasis:names:tc:xacml:1.0:function:boolean-equal"}]}]}]},"VariableDefinition":[{"Expression":{"AttributeDesignator":{"AttributeId":"level","Category":"subject","DataType":"http://www.w3.org/2001/XMLSchema#integer","MustBePresent":false}},"VariableId":"levels"}],"Version":"1.10"}}"#,
+    // A set in a set.
+    r#"{"PolicySet":{"Children":[{"PolicySet":{"PolicyCombiningAlgId":"urn:oasis:names:tc:xacml:1.0:policy-combining-algorithm:only-one-applicable","PolicySetId":"inner","Version":"2"}}],"PolicyCombiningAlgId":"urn:oasis:names:tc:xacml:3.0:policy-combining-algorithm:deny-overrides","PolicySetId":"outer","Version":"3"}}"#,
+];
+
+/// The document of `docs/POLICIES.md` that isn't in written form, and what the page says that it is written as.
+const EXAMPLE: (&str, &str) = (
+    r#"{"Policy":{"Version":"01.2","PolicyId":"written","Description":"a note","RuleCombiningAlgId":"urn:oasis:names:tc:xacml:3.0:rule-combining-algorithm:deny-overrides","Target":{"AnyOf":[]},"VariableDefinition":[{"VariableId":"number","Expression":{"AttributeValue":{"DataType":"integer","Value":"+007"}}},{"VariableId":"flag","Expression":{"AttributeValue":{"DataType":"boolean","Value":"1"}}},{"VariableId":"day","Expression":{"AttributeValue":{"DataType":"date","Value":"2025-02-28Z"}}},{"VariableId":"term","Expression":{"AttributeValue":{"DataType":"yearMonthDuration","Value":"P14M"}}},{"VariableId":"names","Expression":{"AttributeDesignator":{"Category":"c","AttributeId":"a","DataType":"string"}}}],"Rule":[{"RuleId":"ok","Effect":"Permit","Target":{},"Condition":{"Apply":{"FunctionId":"urn:oasis:names:tc:xacml:1.0:function:and","Arguments":[]}}}]}}"#,
+    r#"{"Policy":{"PolicyId":"written","Rule":[{"Condition":{"Apply":{"FunctionId":"urn:oasis:names:tc:xacml:1.0:function:and"}},"Effect":"Permit","RuleId":"ok"}],"RuleCombiningAlgId":"urn:oasis:names:tc:xacml:3.0:rule-combining-algorithm:deny-overrides","VariableDefinition":[{"Expression":{"AttributeValue":{"DataType":"http://www.w3.org/2001/XMLSchema#integer","Value":7}},"VariableId":"number"},{"Expression":{"AttributeValue":{"DataType":"http://www.w3.org/2001/XMLSchema#boolean","Value":true}},"VariableId":"flag"},{"Expression":{"AttributeValue":{"DataType":"http://www.w3.org/2001/XMLSchema#date","Value":"2025-02-28"}},"VariableId":"day"},{"Expression":{"AttributeValue":{"DataType":"http://www.w3.org/2001/XMLSchema#yearMonthDuration","Value":"P1Y2M"}},"VariableId":"term"},{"Expression":{"AttributeDesignator":{"AttributeId":"a","Category":"c","DataType":"http://www.w3.org/2001/XMLSchema#string","MustBePresent":false}},"VariableId":"names"}],"Version":"1.2"}}"#,
+);
+
+/// The compact text of what the document that the text spells is written as.
+fn written_again(alloc: Global, text: &str) -> Result<String, Fail> {
+    let document = document(alloc, text)?;
+    Ok(write_document(alloc, &document)?.to_string(alloc)?)
+}
+
+#[test]
+fn documents_are_written(rt: HostRuntime) -> Result<(), Fail> {
+    for (text, written) in WRITTEN {
+        assert_eq!(rt; written_again(rt.alloc(), text)?.as_str(), written);
+    }
+    for text in IN_WRITTEN_FORM {
+        assert_eq!(rt; written_again(rt.alloc(), text)?.as_str(), text);
+    }
+    assert_eq!(rt; written_again(rt.alloc(), EXAMPLE.0)?.as_str(), EXAMPLE.1);
+    Ok(())
+}
+
+/// The literal of the variable at that place of a policy.
+fn literal(document: &Document, place: usize) -> Result<&Value, Fail> {
+    let Tree::Policy(policy) = document.tree() else {
+        return Err(Fail::new("a set"));
+    };
+    let variable = policy.variables.as_slice().get(place).ok_or("no variable")?;
+    match &variable.expression {
+        Expression::Value(value) => Ok(value),
+        _ => Err(Fail::new("no literal")),
+    }
+}
+
+#[test]
+fn literals_are_read_by_their_type(rt: HostRuntime) -> Result<(), Fail> {
+    let document = document(rt.alloc(), EXAMPLE.0)?;
+    assert!(rt; *literal(&document, 0)? == Value::Integer(7));
+    assert!(rt; *literal(&document, 1)? == Value::Boolean(true));
+    match (literal(&document, 2)?, literal(&document, 3)?) {
+        (Value::Date(day), Value::YearMonth(term)) => {
+            assert!(rt; day.day() == 28 && term.months() == 14)
+        }
+        _ => assert!(rt; false),
+    }
+    Ok(())
+}
+
+/// JSON with a type, and what its value is written as, if it spells one.
+const VALUES: [(DataType, &str, Option<&str>); 19] = [
+    (DataType::Text, r#""a\"b""#, Some(r#""a\"b""#)),
+    (DataType::AnyUri, r#""""#, Some(r#""""#)),
+    (DataType::Boolean, "true", Some("true")),
+    (DataType::Boolean, r#""0""#, Some("false")),
+    (DataType::Boolean, r#""1""#, Some("true")),
+    (DataType::Integer, "-7", Some("-7")),
+    (DataType::Integer, r#""+007""#, Some("7")),
+    (DataType::Date, r#""2025-02-28Z""#, Some(r#""2025-02-28""#)),
+    (DataType::YearMonth, r#""P14M""#, Some(r#""P1Y2M""#)),
+    (DataType::Text, "true", None),
+    (DataType::Text, "1", None),
+    (DataType::Text, "null", None),
+    (DataType::Boolean, "1", None),
+    (DataType::Integer, "1.0", None),
+    (DataType::Integer, "9223372036854775808", None),
+    (DataType::Integer, "[]", None),
+    (DataType::Integer, r#""-""#, None),
+    (DataType::Date, r#""2025-02-29""#, None),
+    (DataType::YearMonth, "{}", None),
+];
+
+/// What the value that the text spells is written as, if it spells one.
+fn value_again(alloc: Global, datatype: DataType, text: &str) -> Result<Option<String>, Fail> {
+    let json = json_of(alloc, text)?;
+    match read_value(alloc, datatype, &json) {
+        Ok(value) => Ok(Some(write_value(alloc, &value)?.to_string(alloc)?)),
+        Err(ValueFault::BadValue) => Ok(None),
+        Err(ValueFault::Memory) => Err(Fail::new("out of memory")),
+    }
+}
+
+#[test]
+fn values_are_read_and_written(rt: HostRuntime) -> Result<(), Fail> {
+    for (datatype, text, written) in VALUES {
+        let again = value_again(rt.alloc(), datatype, text)?;
+        assert_eq!(rt;
+            again.as_ref().map(|again| again.as_str()),
+            written,
+            "{text}"
+        );
+    }
+    Ok(())
+}
+
+/// JSON of references, all of which are to `p1`, or of none.
+const REFERENCES: [(&str, Result<Kind, DocFault>); 4] = [
+    (r#"{"PolicyIdReference":{"Id":"p1"}}"#, Ok(Kind::Policy)),
+    (
+        r#"{"PolicySetIdReference":{"Id":"p1"}}"#,
+        Ok(Kind::PolicySet),
+    ),
+    ("null", Err(DocFault::Form)),
+    (
+        r#"{"PolicyIdReference":{"Id":"p1","Version":"1.0"}}"#,
+        Err(DocFault::Form),
+    ),
+];
+
+/// The kind of the reference to `p1` that the text spells, or its fault.
+fn kind_of(alloc: Global, text: &str) -> Result<Result<Kind, DocFault>, Fail> {
+    let json = json_of(alloc, text)?;
+    match read_reference(alloc, &json) {
+        Ok(reference) if reference.id.as_str() == "p1" => Ok(Ok(reference.kind)),
+        Ok(_) => Err(Fail::new("another id")),
+        Err(CheckFault::Doc(fault)) => Ok(Err(fault)),
+        Err(CheckFault::Memory) => Err(Fail::new("out of memory")),
+    }
+}
+
+#[test]
+fn references_are_read(rt: HostRuntime) -> Result<(), Fail> {
+    for (text, kind) in REFERENCES {
+        assert_eq!(rt; kind_of(rt.alloc(), text)?, kind, "{text}");
+    }
+    Ok(())
+}
+
+fn length(list: Option<&[Json]>) -> Option<usize> {
+    list.map(|items| items.len())
+}
+
+#[test]
+fn members_of_objects(rt: HostRuntime) -> Result<(), Fail> {
+    let json = json_of(
+        rt.alloc(),
+        r#"{"list":[1],"none":[],"text":"t","true":true}"#,
+    )?;
+    assert!(rt; has_only(&json, &["none", "list", "text", "true", "more"]));
+    assert!(rt; !has_only(&json, &["list", "text", "true"]));
+    assert!(rt; text_at(&json, "text") == Some("t") && text_at(&json, "list").is_none());
+    assert!(rt; text_or_absent(&json, "text") && text_or_absent(&json, "more"));
+    assert!(rt; !text_or_absent(&json, "true"));
+    for (key, flag) in [("true", Some(true)), ("more", Some(false)), ("text", None)] {
+        assert_eq!(rt; flag_at(&json, key), flag);
+    }
+    Ok(())
+}
+
+#[test]
+fn lists_of_objects(rt: HostRuntime) -> Result<(), Fail> {
+    let json = json_of(rt.alloc(), r#"{"list":[1],"none":[],"text":"t"}"#)?;
+    for (key, any, filled) in [
+        ("list", Some(1), Some(1)),
+        ("none", Some(0), None),
+        ("more", Some(0), None),
+        ("text", None, None),
+    ] {
+        assert_eq!(rt; length(list_at(&json, key)), any);
+        assert_eq!(rt; length(filled_list_at(&json, key)), filled);
+    }
+    assert!(rt; one_member(&json).is_none());
+    let one = json_of(rt.alloc(), r#"{"key":"t"}"#)?;
+    assert_eq!(rt; one_member(&one).map(|member| member.0), Some("key"));
+    Ok(())
+}

@@ -1,0 +1,24 @@
+//! The tests of this repository: what no contract says and no line of the conformance run shows. A crate whose tests stand in it is
+//! proved twice, and so they stand here, above all that they call.
+#![tactic(auto)]
+
+#[cfg(test)]
+mod checking;
+#[cfg(test)]
+mod combining;
+#[cfg(test)]
+mod documents;
+#[cfg(test)]
+mod evaluation;
+#[cfg(test)]
+mod functions;
+#[cfg(test)]
+mod policies;
+#[cfg(test)]
+mod serving;
+#[cfg(test)]
+mod table;
+#[cfg(test)]
+mod values;
+#[cfg(test)]
+mod words;

@@ -1,0 +1,137 @@
+//! Versions, references, and what `check` makes of documents without a fault.
+
+use crate::documents::document;
+use ent_combine::{PolicyAlg, RuleAlg};
+use ent_policy::{
+    DocKey, Kind, Policy, PolicySet, RawDocument, RawPolicy, RawTarget, Reference, Tree, Version,
+    check,
+};
+use ent_values::{Items, Text};
+use std::alloc::{AllocError, Global};
+use std::test::Fail;
+
+/// Texts of versions, from the earliest on, with their numbers and how they are written.
+const VERSIONS: [(&str, &[u32], &str); 6] = [
+    ("01.2", &[1, 2], "1.2"),
+    ("1.2.0", &[1, 2, 0], "1.2.0"),
+    ("1.9", &[1, 9], "1.9"),
+    ("1.10", &[1, 10], "1.10"),
+    ("000000010", &[10], "10"),
+    (
+        "999999999.0.0.0.0.0.0.1",
+        &[999_999_999, 0, 0, 0, 0, 0, 0, 1],
+        "999999999.0.0.0.0.0.0.1",
+    ),
+];
+
+fn version(text: &str) -> Result<Version, Fail> {
+    Ok(Version::parse(text).ok_or("no version")?)
+}
+
+#[test]
+fn versions_have_an_order(rt: HostRuntime) -> Result<(), Fail> {
+    let mut last = version("0")?;
+    for (text, numbers, written) in VERSIONS {
+        let read = version(text)?;
+        assert_eq!(rt; read.numbers(), numbers);
+        assert_eq!(rt; read.text(rt.alloc())?.as_str(), written);
+        assert!(rt; version(written)? == read && read.copy() == read);
+        assert!(rt; last < read && last != read, "{text}");
+        last = read;
+    }
+    Ok(())
+}
+
+#[test]
+fn references(rt: HostRuntime) -> Result<(), Fail> {
+    let alloc = rt.alloc();
+    for (length, is_name) in [(0, false), (1, true), (256, true), (257, false)] {
+        let mut id = Vec::new(alloc);
+        id.resize(length, b'p')?;
+        let id = Text::new(String::from_utf8(id)?);
+        let reference = Reference::new(Kind::Policy, id);
+        assert_eq!(rt; reference.is_some(), is_name, "{length}");
+    }
+    let reference = Reference::new(Kind::Policy, text(alloc, "p")?).ok_or("p")?;
+    assert!(rt; reference.copy(alloc)? == reference);
+    Ok(())
+}
+
+/// A set without a fault, with a policy that has every part.
+const SET: &str =
+    r#"{"PolicySet":{"PolicySetId":"s","Version":"2","PolicyCombiningAlgId":"urn:oasis:names:tc:xacml:1.0:policy-combining-algorithm:only-one-applicable","Children":[{"Policy":{"PolicyId":"p","Version":"1.0","RuleCombiningAlgId":"urn:oasis:names:tc:xacml:3.0:rule-combining-algorithm:deny-overrides","Target":{"AnyOf":[{"AllOf":[{"Match":[{"MatchId":"urn:oasis:names:tc:xacml:1.0:function:string-equal","AttributeValue":{"Value":"ann"},"AttributeDesignator":{"Category":"subject","AttributeId":"name","DataType":"string"}}]}]}]},"VariableDefinition":[{"VariableId":"known","Expression":{"AttributeValue":{"Value":true}}}],"Rule":[{"RuleId":"r","Effect":"Permit","Condition":{"VariableReference":{"VariableId":"known"}}}]}}]}}"#;
+
+/// Whether a key is that one, and its copy too.
+fn is_key(
+    alloc: Global,
+    key: &DocKey,
+    kind: Kind,
+    id: &str,
+    numbers: &[u32],
+) -> Result<bool, Fail> {
+    let is_that = key.kind == kind && key.id.as_str() == id && key.version.numbers() == numbers;
+    Ok(is_that && key.copy(alloc)? == *key)
+}
+
+/// The set of a tree.
+fn set_of(tree: &Tree) -> Result<&PolicySet, Fail> {
+    match tree {
+        Tree::Set(set) => Ok(set),
+        Tree::Policy(_) => Err(Fail::new("a policy")),
+    }
+}
+
+/// The policy of a tree.
+fn policy_of(tree: &Tree) -> Result<&Policy, Fail> {
+    match tree {
+        Tree::Policy(policy) => Ok(policy),
+        Tree::Set(_) => Err(Fail::new("a set")),
+    }
+}
+
+#[test]
+fn a_sound_set(rt: HostRuntime) -> Result<(), Fail> {
+    let alloc = rt.alloc();
+    let document = document(alloc, SET)?;
+    let key = document.key(alloc)?;
+    assert!(rt; is_key(alloc, &key, Kind::PolicySet, "s", &[2])?);
+    let set = set_of(document.tree())?;
+    assert!(rt; set.algorithm == PolicyAlg::OnlyOne);
+    let policy = policy_of(set.children.as_slice().first().ok_or("no child")?)?;
+    assert_eq!(rt; policy.version.numbers(), [1, 0].as_slice());
+    assert!(rt; policy.algorithm == RuleAlg::DenyOverrides);
+    assert!(rt; policy.rules.len() == 1 && policy.variables.len() == 1);
+    Ok(())
+}
+
+fn text(alloc: Global, text: &str) -> Result<Text, AllocError> {
+    Text::from_str(alloc, text)
+}
+
+/// The least policy, as read.
+fn least(alloc: Global) -> Result<RawPolicy, AllocError> {
+    Ok(RawPolicy {
+        id: text(alloc, "p")?,
+        version: text(alloc, "1.0")?,
+        algorithm: text(
+            alloc,
+            "urn:oasis:names:tc:xacml:3.0:rule-combining-algorithm:deny-unless-permit",
+        )?,
+        target: RawTarget {
+            any_of: Items::new(alloc),
+        },
+        variables: Items::new(alloc),
+        rules: Items::new(alloc),
+    })
+}
+
+#[test]
+fn a_sound_policy(rt: HostRuntime) -> Result<(), Fail> {
+    let alloc = rt.alloc();
+    let document = check(alloc, RawDocument::Policy(least(alloc)?))?;
+    let key = document.key(alloc)?;
+    assert!(rt; is_key(alloc, &key, Kind::Policy, "p", &[1, 0])?);
+    let policy = policy_of(document.tree())?;
+    assert!(rt; policy.algorithm == RuleAlg::DenyUnlessPermit && policy.rules.is_empty());
+    Ok(())
+}

@@ -1,0 +1,150 @@
+//! Values, their texts and their order, and the lists that they stand in.
+
+use ent_values::{Bag, DataType, Date, Items, Text, Value, YearMonth};
+use std::alloc::{AllocError, Global};
+use std::test::Fail;
+
+/// The types with their names.
+const NAMES: [(&str, DataType); 6] = [
+    ("string", DataType::Text),
+    ("boolean", DataType::Boolean),
+    ("integer", DataType::Integer),
+    ("date", DataType::Date),
+    ("anyURI", DataType::AnyUri),
+    ("yearMonthDuration", DataType::YearMonth),
+];
+
+#[test]
+fn type_names(rt: HostRuntime) {
+    for (name, datatype) in NAMES {
+        assert_eq!(rt; DataType::from_name(name), Some(datatype));
+        assert_eq!(rt; datatype.short_name(), name);
+        assert_eq!(rt; DataType::from_name(datatype.uri()), Some(datatype));
+    }
+    assert_eq!(rt;
+        DataType::YearMonth.uri(),
+        "http://www.w3.org/2001/XMLSchema#yearMonthDuration"
+    );
+    assert_eq!(rt; DataType::from_name("String"), None);
+    assert_eq!(rt; DataType::from_name("time"), None);
+}
+
+/// Texts with what the value that each spells is written as, in the order of the values, which come after the empty string.
+const WRITTEN: [(DataType, &str, &str); 21] = [
+    (DataType::Text, " a\"b ", " a\"b "),
+    (DataType::Text, "Z", "Z"),
+    (DataType::Text, "a", "a"),
+    (DataType::Text, "é", "é"),
+    (DataType::Boolean, "false", "false"),
+    (DataType::Boolean, "1", "true"),
+    (
+        DataType::Integer,
+        "-9223372036854775808",
+        "-9223372036854775808",
+    ),
+    (DataType::Integer, "-2", "-2"),
+    (DataType::Integer, "-0", "0"),
+    (DataType::Integer, "+007", "7"),
+    (DataType::Integer, "10", "10"),
+    (DataType::Date, "0001-01-01", "0001-01-01"),
+    (DataType::Date, "2024-02-29", "2024-02-29"),
+    (DataType::Date, "2024-10-01", "2024-10-01"),
+    (DataType::Date, "9999-12-31Z", "9999-12-31"),
+    (DataType::AnyUri, "", ""),
+    (DataType::YearMonth, "-P1Y", "-P1Y"),
+    (DataType::YearMonth, "-P0Y3M", "-P3M"),
+    (DataType::YearMonth, "-P0M", "P0M"),
+    (DataType::YearMonth, "P14M", "P1Y2M"),
+    (
+        DataType::YearMonth,
+        "P999999999Y999999999M",
+        "P1083333332Y3M",
+    ),
+];
+
+#[test]
+fn values_are_read_and_written(rt: HostRuntime) -> Result<(), Fail> {
+    let alloc = rt.alloc();
+    for (datatype, read, written) in WRITTEN {
+        let value = Value::parse(alloc, datatype, read)?;
+        assert_eq!(rt; value.datatype(), datatype);
+        assert_eq!(rt; value.text(alloc)?.as_str(), written);
+        assert!(rt; value.copy(alloc)? == value, "{read}");
+    }
+    assert!(rt; Value::parse(alloc, DataType::Integer, "+007")? == Value::Integer(7));
+    Ok(())
+}
+
+/// Values order by their type, and within a type as their type orders them.
+#[test]
+fn values_have_an_order(rt: HostRuntime) -> Result<(), Fail> {
+    let alloc = rt.alloc();
+    let mut last = Value::parse(alloc, DataType::Text, "")?;
+    for (datatype, text, _) in WRITTEN {
+        let value = Value::parse(alloc, datatype, text)?;
+        assert!(rt; last < value && last != value, "{text}");
+        last = value;
+    }
+    Ok(())
+}
+
+#[test]
+fn dates_and_durations(rt: HostRuntime) {
+    let leap = Date::new(2024, 2, 29);
+    assert!(rt; leap.is_some_and(|date| (date.year(), date.month(), date.day()) == (2024, 2, 29)));
+    assert!(rt; Date::new(2023, 2, 29).is_none());
+    assert!(rt; Date::new(10000, 1, 1).is_none());
+    assert!(rt; Date::new(2024, 255, 1).is_none());
+    assert!(rt; YearMonth::new(-14).is_some_and(|duration| duration.months() == -14));
+    assert!(rt; YearMonth::new(12_999_999_988).is_none());
+}
+
+#[test]
+fn texts(rt: HostRuntime) -> Result<(), Fail> {
+    let alloc = rt.alloc();
+    let ann = Text::from_str(alloc, "ann")?;
+    let bob = Text::new(String::from_str(alloc, "bob")?);
+    assert!(rt; ann.copy(alloc)? == ann);
+    assert!(rt; ann < bob && ann != bob);
+    assert_eq!(rt; bob.into_string().as_str(), "bob");
+    Ok(())
+}
+
+/// So many numbers, from zero on.
+fn numbers(alloc: Global, count: u32) -> Result<Items<u32>, AllocError> {
+    let mut items = Items::with_capacity(alloc, 2)?;
+    for number in 0..count {
+        items.push(number)?;
+    }
+    Ok(items)
+}
+
+#[test]
+fn lists(rt: HostRuntime) -> Result<(), Fail> {
+    let alloc = rt.alloc();
+    let mut all = Items::of_one(alloc, 7)?;
+    all.append(numbers(alloc, 3)?)?;
+    assert!(rt; all.as_slice() == [7, 0, 1, 2].as_slice() && all.len() == 4);
+    assert_eq!(rt; all.pop(), Some(2));
+    all.truncate(1);
+    assert!(rt; Items::from_vec(all.into_vec()) == Items::of_one(alloc, 7)?);
+    let none: Items<u32> = Items::new(alloc);
+    assert!(rt; none.is_empty());
+    Ok(())
+}
+
+#[test]
+fn bags(rt: HostRuntime) -> Result<(), Fail> {
+    let alloc = rt.alloc();
+    let mut bag = Bag::new(alloc, DataType::Integer);
+    assert!(rt; bag.is_empty());
+    bag.push(Value::Integer(7))?;
+    assert!(rt; bag == Bag::of_one(alloc, Value::Integer(7))?);
+    bag.push(Value::Integer(7))?;
+    assert!(rt; bag.len() == 2 && bag.datatype() == DataType::Integer);
+    assert!(rt; bag.values()[1] == Value::Integer(7));
+    let copy = bag.copy(alloc)?;
+    assert!(rt; copy == bag);
+    assert!(rt; Bag::of(DataType::Integer, copy.into_values()) == bag);
+    Ok(())
+}
