@@ -1,7 +1,6 @@
 //! Versions, references, and what `check` makes of documents without a fault.
 
-use crate::documents::document;
-use ent_combine::{PolicyAlg, RuleAlg};
+use ent_combine::RuleAlg;
 use ent_policy::{
     DocKey, Kind, Policy, PolicySet, RawDocument, RawPolicy, RawTarget, Reference, Tree, Version,
     check,
@@ -73,35 +72,12 @@ fn is_key(
     Ok(is_that && key.copy(alloc)? == *key)
 }
 
-/// The set of a tree.
-fn set_of(tree: &Tree) -> Result<&PolicySet, Fail> {
-    match tree {
-        Tree::Set(set) => Ok(set),
-        Tree::Policy(_) => Err(Fail::new("a policy")),
-    }
-}
-
 /// The policy of a tree.
 fn policy_of(tree: &Tree) -> Result<&Policy, Fail> {
     match tree {
         Tree::Policy(policy) => Ok(policy),
         Tree::Set(_) => Err(Fail::new("a set")),
     }
-}
-
-#[test]
-fn a_sound_set(rt: HostRuntime) -> Result<(), Fail> {
-    let alloc = rt.alloc();
-    let document = document(alloc, SET)?;
-    let key = document.key(alloc)?;
-    assert!(rt; is_key(alloc, &key, Kind::PolicySet, "s", &[2])?);
-    let set = set_of(document.tree())?;
-    assert!(rt; set.algorithm == PolicyAlg::OnlyOne);
-    let policy = policy_of(set.children.as_slice().first().ok_or("no child")?)?;
-    assert_eq!(rt; policy.version.numbers(), [1, 0].as_slice());
-    assert!(rt; policy.algorithm == RuleAlg::DenyOverrides);
-    assert!(rt; policy.rules.len() == 1 && policy.variables.len() == 1);
-    Ok(())
 }
 
 fn text(alloc: Global, text: &str) -> Result<Text, AllocError> {
