@@ -39,11 +39,14 @@ element target children = and_then target (children_after children)
 abbrev pub rules_part : Looks → Request → List DocKey → Policy → Part Answer
 rules_part looks request here policy = combined policy.algorithm (map (rule_part looks request policy.variables here) policy.rules)
 
+-- the rules of a policy, where `path` leads from the root to what the policy stands in
+abbrev pub policy_rules : Looks → Request → List DocKey → Policy → Part Answer
+policy_rules looks request path policy =
+    rules_part looks request (path ++ record { kind = kind.Policy; id = policy.id; version = policy.version } ∷ []) policy
+
 -- a policy, where `path` leads from the root to what it stands in
 abbrev pub policy_part : Looks → Request → List DocKey → Policy → Part Answer
-policy_part looks request path policy =
-    element (target_part looks request policy.target)
-    (rules_part looks request (path ++ record { kind = kind.Policy; id = policy.id; version = policy.version } ∷ []) policy)
+policy_part looks request path policy = element (target_part looks request policy.target) (policy_rules looks request path policy)
 
 -- a policy or a set: its target, and what it comes to by the path from the root to what it stands in
 pub record Node : Type 0 where

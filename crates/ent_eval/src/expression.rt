@@ -7,11 +7,10 @@ ghost use Rattle.ent_functions.specs.Arguments.{type_of_arg};
 ghost use Rattle.ent_functions.specs.Types.{result_type_of};
 ghost use Rattle.ent_functions.specs.declared.types.ArgType.TheVariants.{Many};
 ghost use Rattle.ent_policy.specs.Typing.{all_typed, definition_of, variable_type};
-ghost use Rattle.ent_eval.specs.Expression.{evaluated_of, designated, is_result, meaning, result_of, settles, variable_part};
+ghost use Rattle.ent_eval.specs.Expression.{apply_part, evaluated_of, designated, is_result, meaning, settles, variable_part};
 ghost use Rattle.ent_eval.specs.declared.evaluated.Evaluated.TheVariants.{Known};
 ghost use Rattle.ent_eval.specs.LooksOf.{looks_of};
 ghost use Rattle.ent_eval.specs.Noted.{noted};
-ghost use Rattle.ent_eval.specs.Part.{whole};
 ghost use Rattle.ent_eval.specs.Typed.{HasType, type_of};
 
 use crate::answer::Status;
@@ -92,8 +91,8 @@ impl<P: Policies> Scene<'_, P> {
         arguments: &[Expression],
     ) -> Result<Evaluated, AllocError>
         requires typed { IsSome (option_and_then (result_type_of function) (all_typed (map (type_of definitions.now references) arguments.now))) }
-        ensures value { IfOk result (λ v. v ≡ (whole (is_result function) (result_of function) (map (meaning (looks_of P.documents self.now.pdp.now) self.now.request.now definitions.now references) arguments.now)).value) }
-        ensures reads { OnOk result (reads.new ≡ noted reads.old (whole (is_result function) (result_of function) (map (meaning (looks_of P.documents self.now.pdp.now) self.now.request.now definitions.now references) arguments.now)).reads) }
+        ensures value { IfOk result (λ v. v ≡ (apply_part (looks_of P.documents self.now.pdp.now) self.now.request.now definitions.now references function arguments.now).value) }
+        ensures reads { OnOk result (reads.new ≡ noted reads.old (apply_part (looks_of P.documents self.now.pdp.now) self.now.request.now definitions.now references function arguments.now).reads) }
         ensures typed { IfOk result (λ v. HasType (option_and_then (result_type_of function) (all_typed (map (type_of definitions.now references) arguments.now))) v) }
     {
         if let Some(value) = without_copies(self.request, function, arguments) {

@@ -1,14 +1,13 @@
 //! What a policy comes to.
 
-ghost use Rattle.std.specs.Prelude.{◌≡◌, ◌++◌, ◌∷◌, [], IfOk, OnOk, map, true};
+ghost use Rattle.std.specs.Prelude.{◌≡◌, IfOk, OnOk, map, true};
 ghost use Rattle.std.specs.List.{list_all};
 ghost use Rattle.ent_policy.specs.Typing.{policy_is_typed, rule_is_typed};
 ghost use Rattle.ent_eval.specs.Judged.{under_target};
 ghost use Rattle.ent_eval.specs.LooksOf.{looks_of};
-ghost use Rattle.ent_eval.specs.Node.{children_after, combined, policy_part, rules_part};
+ghost use Rattle.ent_eval.specs.Node.{children_after, combined, policy_part, policy_rules};
 ghost use Rattle.ent_eval.specs.Noted.{noted};
 ghost use Rattle.ent_eval.specs.Rule.{rule_part};
-ghost use Rattle.ent_policy.specs.declared.key.Kind.TheVariants as kind;
 
 use crate::answer::{Answer, Status, path_to};
 use crate::gather::gather;
@@ -47,8 +46,8 @@ impl<P: Policies> Scene<'_, P> {
         targeted: Targeted,
     ) -> Result<Answer, AllocError>
         requires { list_all (rule_is_typed policy.now.variables) policy.now.rules ≡ true }
-        ensures value { IfOk result (λ a. a ≡ (children_after (rules_part (looks_of P.documents self.now.pdp.now) self.now.request.now (path.now ++ record { kind = kind.Policy; id = policy.now.id; version = policy.now.version } ∷ []) policy.now) targeted).value) }
-        ensures reads { OnOk result (reads.new ≡ noted reads.old (children_after (rules_part (looks_of P.documents self.now.pdp.now) self.now.request.now (path.now ++ record { kind = kind.Policy; id = policy.now.id; version = policy.now.version } ∷ []) policy.now) targeted).reads) }
+        ensures value { IfOk result (λ a. a ≡ (children_after (policy_rules (looks_of P.documents self.now.pdp.now) self.now.request.now path.now policy.now) targeted).value) }
+        ensures reads { OnOk result (reads.new ≡ noted reads.old (children_after (policy_rules (looks_of P.documents self.now.pdp.now) self.now.request.now path.now policy.now) targeted).reads) }
     {
         match targeted {
             Targeted::NoMatch => Ok(Answer::not_applicable(self.alloc)),
@@ -68,8 +67,8 @@ impl<P: Policies> Scene<'_, P> {
         policy: &Policy,
     ) -> Result<Answer, AllocError>
         requires { list_all (rule_is_typed policy.now.variables) policy.now.rules ≡ true }
-        ensures value { IfOk result (λ a. a ≡ (rules_part (looks_of P.documents self.now.pdp.now) self.now.request.now (path.now ++ record { kind = kind.Policy; id = policy.now.id; version = policy.now.version } ∷ []) policy.now).value) }
-        ensures reads { OnOk result (reads.new ≡ noted reads.old (rules_part (looks_of P.documents self.now.pdp.now) self.now.request.now (path.now ++ record { kind = kind.Policy; id = policy.now.id; version = policy.now.version } ∷ []) policy.now).reads) }
+        ensures value { IfOk result (λ a. a ≡ (policy_rules (looks_of P.documents self.now.pdp.now) self.now.request.now path.now policy.now).value) }
+        ensures reads { OnOk result (reads.new ≡ noted reads.old (policy_rules (looks_of P.documents self.now.pdp.now) self.now.request.now path.now policy.now).reads) }
     {
         let here = path_to(self.alloc, path, Kind::Policy, &policy.id, &policy.version)?;
         self.rules(
