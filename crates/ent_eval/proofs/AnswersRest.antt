@@ -1,8 +1,8 @@
 -- What policy sets and answers rest on.
-use Rattle.std.proofs.Common.{◌≡◌, ℕ, zero, suc, Bool, true, false, List, [], ◌∷◌, ◌++◌, length, take, map, get_or, refl, sym, ap, ◌∙◌, subst, Option, Some, None}
-use Rattle.std.specs.Prelude.{if◌then◌else◌, nat_le}
+use Rattle.std.proofs.Common.{◌≡◌, ℕ, zero, suc, Bool, true, false, List, [], ◌∷◌, ◌++◌, map, get_or, refl, sym, ap, ◌∙◌, subst, Option, Some, None}
+use Rattle.std.specs.Prelude.{if◌then◌else◌}
 use Rattle.std.specs.List.{AllByRecursion}
-use Rattle.std.proofs.lemmas.List.{length-map, map-append, take-map}
+use Rattle.std.proofs.lemmas.List.{map-append}
 use Rattle.ent_combine.specs.Choose.{choose, is_bad}
 use Rattle.ent_combine.specs.Seen.{rest_to_passing}
 use Rattle.ent_combine.specs.declared.chooser.TargetResult.{TargetResult}
@@ -29,10 +29,10 @@ use Rattle.ent_eval.specs.Law.{EqualLookUpsGiveEqualAnswers, IsSameLook}
 use Rattle.ent_eval.specs.Looks.{Looks}
 use Rattle.ent_eval.specs.Node.{Node, children_part, combined, node_of, set_node_of, set_step, tree_part, tree_step}
 use Rattle.ent_eval.specs.Noted.{noted}
-use Rattle.ent_eval.specs.Only.{child_part, choice_part, choice_within, chosen, only_one, result_of_target, results, seen_choice, spoils, too_many}
-use Rattle.ent_eval.specs.Part.{Part, after_look, without_look, mapped, reads_of, values}
+use Rattle.ent_eval.specs.Only.{child_part, choice_part, chosen, only_one, result_of_target, results, seen_choice, spoils}
+use Rattle.ent_eval.specs.Part.{Part, after_look, without_look, reads_of, values}
 use Rattle.ent_eval.proofs.Keys.{all_noted, by_recursion}
-use Rattle.ent_eval.proofs.Rests.{AllRest, Rests, and_then-rests, combined-rests, element-rests, first_looks, later_looks, mapped-rests, policy-rests, rests-by, target-rests}
+use Rattle.ent_eval.proofs.Rests.{AllRest, Rests, and_then-rests, combined-rests, element-rests, first_looks, later_looks, policy-rests, rests-by, target-rests}
 use Rattle.ent_eval.proofs.Sets.{map-map}
 use Rattle.ent_eval.proofs.Choices.{values-append}
 
@@ -84,23 +84,6 @@ choice-rests : {X : Type 0} (s t : Looks) (target : Looks → X → Part Targete
 choice-rests s t target xs each h =
     choice-seen (map (target t) xs) ∙ ap by_seen (rest-rests s t spoils target [] xs each h) ∙ sym (choice-seen (map (target s) xs))
 
-taken-rest : {X A : Type 0} (s t : Looks) (part : Looks → X → Part A) (n : ℕ) (xs : List X) → AllRest s t part xs → AllRest s t part (take n xs)
-taken-rest s t part zero xs each = tt
-taken-rest s t part (suc n) [] each = tt
-taken-rest s t part (suc n) (x ∷ xs) each = (each.0, taken-rest s t part n xs each.1)
-
-within-rests : {X : Type 0} (s t : Looks) (target : Looks → X → Part Targeted) (xs : List X) → AllRest s t target xs → Rests s t (λ u. choice_within (map (target u) xs))
-within-rests {X} s t target xs each = most_rests 256 where
-  at : (most : ℕ) (b : Bool) → Rests s t (λ u. if b then choice_part (map (target u) xs) else mapped too_many (choice_part (map (target u) (take most xs))))
-  at most true = choice-rests s t target xs each
-  at most false = mapped-rests s t too_many (λ u. choice_part (map (target u) (take most xs))) (choice-rests s t target (take most xs) (taken-rest s t target most xs each))
-
-  most_rests : (most : ℕ) → Rests s t (λ u. if nat_le (length (map (target u) xs)) most then choice_part (map (target u) xs) else mapped too_many (choice_part (take most (map (target u) xs))))
-  most_rests most =
-      rests-by s t (λ u. if nat_le (length (map (target u) xs)) most then choice_part (map (target u) xs) else mapped too_many (choice_part (take most (map (target u) xs))))
-      (λ u. if nat_le (length xs) most then choice_part (map (target u) xs) else mapped too_many (choice_part (map (target u) (take most xs))))
-      (λ u. rw (length-map xs (target u), take-map (target u) most xs) refl) (at most (nat_le (length xs) most))
-
 place-rests : {X : Type 0} (s t : Looks) (part : Looks → X → Part Answer) (xs : List X) → AllRest s t part xs → (place : ℕ) → Rests s t (λ u. get_or (map (part u) xs) place (without_look nothing))
 place-rests s t part [] each place = λ h. refl
 place-rests s t part (x ∷ xs) each zero = each.0
@@ -114,7 +97,7 @@ child-rests s t part xs each (only.Bad status) = λ h. refl
 only_one-rests : {X : Type 0} (s t : Looks) (target : Looks → X → Part Targeted) (part : Looks → X → Part Answer) (xs : List X) → AllRest s t target xs → AllRest s t part xs
     → Rests s t (λ u. only_one (map (target u) xs) (map (part u) xs))
 only_one-rests s t target part xs targets answers =
-    and_then-rests s t (λ u. choice_within (map (target u) xs)) (λ u. child_part (map (part u) xs)) (within-rests s t target xs targets) (child-rests s t part xs answers)
+    and_then-rests s t (λ u. choice_part (map (target u) xs)) (λ u. child_part (map (part u) xs)) (choice-rests s t target xs targets) (child-rests s t part xs answers)
 
 -- ---- policies and sets
 

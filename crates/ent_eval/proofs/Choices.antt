@@ -1,11 +1,10 @@
 -- Targets of which some have been looked at, to find the only one that matches.
 use Rattle.std.proofs.Common.{◌≡◌, ℕ, ◌+◌, ◌<◌, ◌≤◌, Bool, true, false, List, [], ◌∷◌, ◌++◌, length, take, drop, map, get_or, suc, refl, sym, ap, ◌∙◌, subst, append_assoc, add-one, arith}
-use Rattle.std.specs.Prelude.{if◌then◌else◌, nat_le, unwrap_or}
+use Rattle.std.specs.Prelude.{unwrap_or}
 use Rattle.std.specs.List.{list_any}
 use Rattle.std.proofs.Math.Seq.{take-suc}
 use Rattle.std.proofs.Math.ListN.{drop_of_length-le}
-use Rattle.std.proofs.lemmas.Bool.{lt-leb}
-use Rattle.std.proofs.lemmas.List.{append-nil, take-map, length-map, length-take-le, map-append, take-append-drop, take_all}
+use Rattle.std.proofs.lemmas.List.{append-nil, length-map, length-take-le, map-append, take-append-drop, take_all}
 use Rattle.ent_combine.specs.Choose.{HasSeen, choose, is_bad, is_indeterminate, progress_at_target, progress_of}
 use Rattle.ent_combine.specs.Chosen.{Chosen}
 use Rattle.ent_combine.specs.Seen.{rest_to_passing}
@@ -21,8 +20,8 @@ use Rattle.ent_eval.specs.declared.key.ReadKey.{ReadKey}
 use Rattle.ent_eval.specs.declared.target.Targeted.{Targeted}
 use Rattle.ent_eval.specs.declared.target.Targeted.TheVariants.{Match, NoMatch, Indeterminate}
 use Rattle.ent_eval.specs.Noted.{noted}
-use Rattle.ent_eval.specs.Only.{choice_part, choice_within, chosen, first_target_status, result_of_target, results, seen_choice, spoils, status_of_target, too_many}
-use Rattle.ent_eval.specs.Part.{Part, mapped, reads_of, values}
+use Rattle.ent_eval.specs.Only.{chosen, first_target_status, result_of_target, results, seen_choice, spoils, status_of_target}
+use Rattle.ent_eval.specs.Part.{Part, reads_of, values}
 use Rattle.ent_eval.proofs.Walk.{at_item, noted-append, values_to, values_to-next}
 
 -- the first i targets don't choose Bad, and those left are looked at as they would be from the start
@@ -158,9 +157,3 @@ module _ {X : Type 0} (target : X → Part Targeted) (xs : List X) (i : ℕ) (ch
 
   pub end_reads : length xs ≤ i → now ≡ noted start (reads_of (seen_choice (map target xs)))
   end_reads past = ap (λ ys. noted now (reads_of (rest_to_passing spoils (map target (take i xs)) (map target ys)))) (sym (drop_of_length-le xs past)) ∙ so_far.reads
-
--- more children than a set has
-pub within_more : {X : Type 0} (target : X → Part Targeted) (xs : List X) → 256 < length xs → choice_within (map target xs) ≡ mapped too_many (choice_part (map target (take 256 xs)))
-within_more target xs more = at 256 more where
-  at : (most : ℕ) → most < length xs → (if nat_le (length (map target xs)) most then choice_part (map target xs) else mapped too_many (choice_part (take most (map target xs)))) ≡ mapped too_many (choice_part (map target (take most xs)))
-  at most h = rw (length-map xs target, lt-leb (length xs) most h) (ap (λ ts. mapped too_many (choice_part ts)) (take-map target most xs))

@@ -4,6 +4,7 @@ pub mod Booleans
 pub mod Children
 pub mod Choices
 pub mod Empty
+pub mod Fit
 pub mod Gathered
 pub mod Keys
 pub mod Literals

@@ -18,7 +18,7 @@ use Rattle.ent_eval.specs.declared.request.Request.{Request}
 use Rattle.ent_eval.specs.declared.target.Targeted.{Targeted}
 use Rattle.ent_eval.specs.declared.target.Targeted.TheVariants as is
 use Rattle.ent_functions.specs.declared.function.Function.{Function}
-use Rattle.ent_policy.specs.Typing.{definition_of}
+use Rattle.ent_policy.specs.Variables.{definition_of}
 use Rattle.ent_policy.specs.declared.expression.Expression.{Expression}
 use Rattle.ent_policy.specs.declared.expression.Expression.TheOpen.{Expression-F}
 use Rattle.ent_policy.specs.declared.expression.Expression.TheFolds.{fold-roll-Expression, ind-Expression, map-Expression}

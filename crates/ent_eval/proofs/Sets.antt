@@ -1,9 +1,11 @@
 -- The equations of policy sets.
-use Rattle.std.proofs.Common.{◌≡◌, Bool, true, ◌&&◌, List, [], ◌∷◌, ◌++◌, map, refl, sym, ap, ◌∙◌}
+use Rattle.std.proofs.Common.{◌≡◌, ℕ, ◌≤◌, Bool, true, ◌&&◌, List, [], ◌∷◌, ◌++◌, length, map, nat_le, refl, sym, ap, subst, ◌∙◌, arith}
+use Rattle.std.proofs.lemmas.Bool.Decides.{nat_tests}
+use Rattle.std.proofs.lemmas.List.{length-map}
 use Rattle.std.specs.List.{list_all}
 use Rattle.ent_combine.specs.declared.outcome.PolicyAlg.TheVariants.{Shared, OnlyOne}
 use Rattle.ent_combine.specs.declared.outcome.RuleAlg.{RuleAlg}
-use Rattle.ent_policy.specs.Typing.{is_typed, target_is_typed}
+use Rattle.ent_policy.specs.Typing.{target_is_typed}
 use Rattle.ent_policy.specs.Typing as typing
 use Rattle.ent_policy.specs.declared.document.PolicySet.{PolicySet}
 use Rattle.ent_policy.specs.declared.document.Tree.{Tree}
@@ -18,7 +20,7 @@ use Rattle.ent_eval.specs.Node.{Node, children_after, children_part, combined, e
 use Rattle.ent_eval.specs.Noted.{noted}
 use Rattle.ent_eval.specs.Only.{only_one}
 use Rattle.ent_eval.specs.Target.{target_part}
-use Rattle.ent_eval.specs.Typed.{set_is_typed}
+use Rattle.ent_eval.specs.Typed.{fit_step, is_fit, set_is_fit}
 use Rattle.ent_eval.proofs.Typing.{both_true}
 use Rattle.ent_eval.proofs.Walk.{noted_both}
 
@@ -44,12 +46,17 @@ all_map : {X : Type 0} (p : X → Bool) (xs : List X) → list_all (λ b. b) (ma
 all_map p [] = refl
 all_map p (x ∷ xs) = ap (λ b. p x && b) (all_map p xs)
 
--- the target and the children of a typed set
-pub set-typed : (set : PolicySet) → set_is_typed set ≡ true → (target_is_typed set.target ≡ true) × (list_all is_typed set.children ≡ true)
-set-typed set typed =
-    let out : set_is_typed set ≡ (target_is_typed set.target && list_all (λ b. b) (map is_typed set.children)) = fold_out-PolicySet Bool Bool typing.tree_step typing.set_step set in
-    let parts = both_true (target_is_typed set.target) (list_all (λ b. b) (map is_typed set.children)) (sym out ∙ typed) in
-    (parts.0, sym (all_map is_typed set.children) ∙ parts.1)
+few : (n : ℕ) → nat_le n 256 ≡ true → n ≤ 256
+few n h = grind (arith, nat_tests)
+
+-- the target and the children of a set that can be evaluated
+pub set-fit : (set : PolicySet) → set_is_fit set ≡ true → (target_is_typed set.target ≡ true) × ((length set.children ≤ 256) × (list_all is_fit set.children ≡ true))
+set-fit set fit =
+    let out : set_is_fit set ≡ (target_is_typed set.target && (nat_le (length (map is_fit set.children)) 256 && list_all (λ b. b) (map is_fit set.children))) = fold_out-PolicySet Bool Bool typing.tree_step fit_step set in
+    let parts = both_true (target_is_typed set.target) (nat_le (length (map is_fit set.children)) 256 && list_all (λ b. b) (map is_fit set.children)) (sym out ∙ fit) in
+    let inside = both_true (nat_le (length (map is_fit set.children)) 256) (list_all (λ b. b) (map is_fit set.children)) parts.1 in
+    let short : length (map is_fit set.children) ≤ 256 = few (length (map is_fit set.children)) inside.0 in
+    (parts.0, (subst (λ n. n ≤ 256) (length-map set.children is_fit) short, sym (all_map is_fit set.children) ∙ inside.1))
 
 -- the set's reads, after its target and its children
 pub set-reads : (looks : Looks) (request : Request) (path : List DocKey) (set : PolicySet) (t : Targeted) (keys first next : List ReadKey) → t ≡ (target_part looks request set.target).value

@@ -1,5 +1,5 @@
 -- What is known of typed documents.
-use Rattle.std.proofs.Common.{◌≡◌, ℕ, ◌<◌, Bool, true, false, ◌&&◌, List, [], ◌∷◌, length, get_or, take, zero, suc, refl, ap, ◌∙◌, arith}
+use Rattle.std.proofs.Common.{◌≡◌, ℕ, ◌<◌, Bool, true, false, ◌&&◌, List, [], ◌∷◌, length, get_or, zero, suc, refl, ap, ◌∙◌, arith}
 use Rattle.std.specs.List.{list_all}
 use Rattle.ent_policy.specs.declared.document.AllOf.{AllOf}
 use Rattle.ent_policy.specs.declared.document.AnyOf.{AnyOf}
@@ -24,9 +24,3 @@ matches_typed xs i x members all below at is = ap (list_all match_is_typed) is �
 pub alternatives_typed : (xs : List AnyOf) (i : ℕ) (x : AnyOf) (members : List AllOf) → list_all any_of_is_typed xs ≡ true → i < length xs → x ≡ get_or xs i x → members ≡ x.all_of → list_all all_of_is_typed members ≡ true
 unfolding any_of_is_typed
 alternatives_typed xs i x members all below at is = ap (list_all all_of_is_typed) is ∙ holds_at any_of_is_typed xs i x all below at
-
--- what holds of all holds of the first n
-pub all_taken : {A : Type 0} (p : A → Bool) (n : ℕ) (xs : List A) → list_all p xs ≡ true → list_all p (take n xs) ≡ true
-all_taken p zero xs all = refl
-all_taken p (suc n) [] all = refl
-all_taken p (suc n) (x ∷ xs) all = let parts = both_true (p x) (list_all p xs) all in rw parts.0 (all_taken p n xs parts.1)

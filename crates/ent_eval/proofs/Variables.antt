@@ -1,11 +1,13 @@
 -- Variables and their definitions.
 use Rattle.std.proofs.Common.{◌≡◌, ℕ, zero, suc, ◌+◌, ◌*◌, ◌-◌, ◌<◌, ◌≤◌, max, Bool, true, false, List, [], ◌∷◌, refl, sym, ap, ◌∙◌, subst, suc-mul, arith, Option, Some, None}
-use Rattle.std.specs.Prelude.{bytes_eq, if◌then◌else◌, IsSome, option_and_then}
+use Rattle.std.specs.Prelude.{bytes_eq, if◌then◌else◌, IsSome}
 use Rattle.ent_functions.specs.declared.types.ArgType.{ArgType}
 use Rattle.ent_functions.specs.declared.types.ArgType.TheVariants.{One, Many, Fun}
 use Rattle.ent_policy.specs.declared.expression.Expression.{size-Expression}
 use Rattle.ent_policy.specs.declared.expression.VariableDefinition.{VariableDefinition}
-use Rattle.ent_policy.specs.Typing.{definition_of, held, type_with, variable_type}
+use Rattle.ent_policy.specs.Typing.{held, type_with, variable_type}
+use Rattle.ent_policy.specs.Typing as typing
+use Rattle.ent_policy.specs.Variables.{defined, definition_of}
 use Rattle.ent_eval.specs.declared.request.Request.{Request}
 use Rattle.ent_eval.specs.Expression.{meaning, variable_part}
 use Rattle.ent_eval.specs.Looks.{Looks}
@@ -33,7 +35,7 @@ module _ (definitions : List VariableDefinition) (n : ℕ) (id : List ℕ) where
       at zero some = absurd (cc)
       at (suc m) some =
           let e : suc m - 1 ≡ m = omega arith in
-          let out : variable_type definitions (suc m) id ≡ held (type_of definitions m d.expression) = ap (option_and_then (λ (d : VariableDefinition). held (type_with (variable_type definitions m) d.expression))) found in
+          let out : variable_type definitions (suc m) id ≡ held (type_of definitions m d.expression) = ap (defined (typing.definition_type (variable_type definitions m)) None) found in
           out ∙ held_some (type_of definitions m d.expression) (subst IsSome out some) ∙ ap (λ k. type_of definitions k d.expression) (sym e)
 
     -- and what it comes to

@@ -1,5 +1,5 @@
 -- The only child that applies (appendix C.9).
-use Rattle.std.specs.Prelude.{Bool, List, [], ◌∷◌, get_or, Option, Some, None, map, unwrap_or, length, take, nat_le, if◌then◌else◌}
+use Rattle.std.specs.Prelude.{Bool, List, [], ◌∷◌, get_or, Option, Some, None, map, unwrap_or}
 use Rattle.ent_combine.specs.Choose.{choose, is_bad}
 use Rattle.ent_combine.specs.Seen.{up_to_passing}
 use Rattle.ent_combine.specs.declared.chooser.Choice.{Choice}
@@ -14,7 +14,7 @@ use Rattle.ent_eval.specs.declared.only.Only.TheVariants as only
 use Rattle.ent_eval.specs.declared.target.Targeted.{Targeted}
 use Rattle.ent_eval.specs.declared.target.Targeted.TheVariants.{Match, NoMatch, Indeterminate}
 use Rattle.ent_eval.specs.Judged.{bad, nothing}
-use Rattle.ent_eval.specs.Part.{Part, without_look, and_then, mapped, reads_of, values}
+use Rattle.ent_eval.specs.Part.{Part, without_look, and_then, reads_of, values}
 
 -- what is chosen by: the status doesn't matter
 abbrev pub result_of_target : Targeted → TargetResult
@@ -64,15 +64,6 @@ child_part answers only.Nobody = without_look nothing
 child_part answers (only.Child place) = get_or answers place (without_look nothing)
 child_part answers (only.Bad status) = without_look (bad status)
 
--- more children than a set has at most
-abbrev pub too_many : Only → Only
-too_many (only.Bad status) = only.Bad status
-too_many _ = only.Bad ProcessingError
-
--- which child is chosen, where a set has at most 256. No checked document has a longer list, which would be as a second match
-abbrev pub choice_within : List (Part Targeted) → Part Only
-choice_within targets = if nat_le (length targets) 256 then choice_part targets else mapped too_many (choice_part (take 256 targets))
-
 -- the only one of several children that applies, by their targets
 abbrev pub only_one : List (Part Targeted) → List (Part Answer) → Part Answer
-only_one targets answers = and_then (choice_within targets) (child_part answers)
+only_one targets answers = and_then (choice_part targets) (child_part answers)

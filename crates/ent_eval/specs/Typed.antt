@@ -1,5 +1,6 @@
 -- The types of what expressions come to.
-use Rattle.std.specs.Prelude.{◌≡◌, ℕ, ◌+◌, ◌*◌, max, List, [], ◌∷◌, Bool, true, Option, Some}
+use Rattle.std.specs.Prelude.{◌≡◌, ℕ, ◌+◌, ◌*◌, max, List, [], ◌∷◌, Bool, true, ◌&&◌, Option, Some, length, nat_le}
+use Rattle.std.specs.List.{list_all}
 use Rattle.ent_values.specs.declared.datatype.DataType.{DataType}
 use Rattle.ent_values.specs.declared.value.Value.{Value}
 use Rattle.ent_values.specs.Types.{datatype_of}
@@ -10,9 +11,11 @@ use Rattle.ent_functions.specs.declared.types.ArgType.{ArgType}
 use Rattle.ent_functions.specs.declared.types.ArgType.TheVariants.{One}
 use Rattle.ent_policy.specs.declared.expression.Expression.{Expression, size-Expression}
 use Rattle.ent_policy.specs.declared.expression.VariableDefinition.{VariableDefinition}
-use Rattle.ent_policy.specs.Typing.{is_boolean, set_step, tree_step, type_with, variable_type}
+use Rattle.ent_policy.specs.Typing.{is_boolean, target_is_typed, tree_step, type_with, variable_type}
 use Rattle.ent_policy.specs.declared.document.PolicySet.{PolicySet}
-use Rattle.ent_policy.specs.declared.document.Tree.TheFolds.{fold-PolicySet}
+use Rattle.ent_policy.specs.declared.document.Tree.{Tree}
+use Rattle.ent_policy.specs.declared.document.Tree.TheOpen.{PolicySet-F}
+use Rattle.ent_policy.specs.declared.document.Tree.TheFolds.{fold-PolicySet, fold-Tree}
 use Rattle.ent_eval.specs.declared.evaluated.Evaluated.{Evaluated}
 use Rattle.ent_eval.specs.declared.evaluated.Evaluated.TheVariants.{Known, Indeterminate}
 
@@ -38,6 +41,14 @@ deepest (d ∷ definitions) = max (size-Expression d.expression) (deepest defini
 abbrev pub worth : List VariableDefinition → ℕ
 worth definitions = 4 * deepest definitions + 8
 
--- each expression of a set has its type
-abbrev pub set_is_typed : PolicySet → Bool
-set_is_typed = fold-PolicySet Bool Bool tree_step set_step
+-- one level of a set, with each child already seen: its target has its type, and there are at most 256 children
+abbrev pub fit_step : PolicySet-F Bool Bool → Bool
+fit_step set = target_is_typed set.target && (nat_le (length set.children) 256 && list_all (λ child. child) set.children)
+
+-- a document can be evaluated: each expression of it has its type, and no set has more than 256 children
+abbrev pub is_fit : Tree → Bool
+is_fit = fold-Tree Bool Bool tree_step fit_step
+
+-- a set can
+abbrev pub set_is_fit : PolicySet → Bool
+set_is_fit = fold-PolicySet Bool Bool tree_step fit_step

@@ -2,11 +2,11 @@
 
 ghost use Rattle.std.specs.Prelude.{◌≡◌, ◌≤◌, IfOk, OnOk, length, map, true};
 ghost use Rattle.std.specs.List.{list_all};
-ghost use Rattle.ent_policy.specs.Typing.{is_typed};
 ghost use Rattle.ent_eval.specs.LooksOf.{looks_of};
 ghost use Rattle.ent_eval.specs.Node.{tree_target};
 ghost use Rattle.ent_eval.specs.Noted.{noted};
-ghost use Rattle.ent_eval.specs.Only.{choice_part, choice_within, result_of_target, status_of_target, too_many};
+ghost use Rattle.ent_eval.specs.Only.{choice_part, result_of_target, status_of_target};
+ghost use Rattle.ent_eval.specs.Typed.{is_fit};
 
 use crate::answer::Status;
 use crate::only::Only;
@@ -19,22 +19,10 @@ use ent_policy::Tree;
 use std::alloc::AllocError;
 
 impl<P: Policies> Scene<'_, P> {
-    // The child whose target alone matches. A checked set has at most 256 children.
+    // The child whose target alone matches: the targets are looked at up to the first that is Indeterminate or the second that
+    // matches.
     pub(crate) fn choose(&self, reads: &mut Reads, children: &[Tree]) -> Result<Only, AllocError>
-        requires { list_all is_typed children.now ≡ true }
-        ensures value { IfOk result (λ o. o ≡ (choice_within (map (tree_target (looks_of P.documents self.now.pdp.now) self.now.request.now) children.now)).value) }
-        ensures reads { OnOk result (reads.new ≡ noted reads.old (choice_within (map (tree_target (looks_of P.documents self.now.pdp.now) self.now.request.now) children.now)).reads) }
-    {
-        if children.len() <= Chooser::MOST {
-            return self.choose_among(reads, children);
-        }
-        let only = self.choose_among(reads, &children[..Chooser::MOST])?;
-        Ok(too_many(only))
-    }
-
-    // The targets up to the first that is Indeterminate or the second that matches.
-    fn choose_among(&self, reads: &mut Reads, children: &[Tree]) -> Result<Only, AllocError>
-        requires typed { list_all is_typed children.now ≡ true }
+        requires fit { list_all is_fit children.now ≡ true }
         requires room { length children.now ≤ 256 }
         ensures value { IfOk result (λ o. o ≡ (choice_part (map (tree_target (looks_of P.documents self.now.pdp.now) self.now.request.now) children.now)).value) }
         ensures reads { OnOk result (reads.new ≡ noted reads.old (choice_part (map (tree_target (looks_of P.documents self.now.pdp.now) self.now.request.now) children.now)).reads) }
@@ -56,7 +44,7 @@ impl<P: Policies> Scene<'_, P> {
     // The target of a policy or a policy set.
     #[tactic(auto, using(crate::proofs::Typing::both_true), unfolding(ent_policy::specs::Typing::policy_is_typed))]
     fn target_of(&self, reads: &mut Reads, tree: &Tree) -> Result<Targeted, AllocError>
-        requires { is_typed tree.now ≡ true }
+        requires { is_fit tree.now ≡ true }
         ensures value { IfOk result (λ t. t ≡ (tree_target (looks_of P.documents self.now.pdp.now) self.now.request.now tree.now).value) }
         ensures reads { OnOk result (reads.new ≡ noted reads.old (tree_target (looks_of P.documents self.now.pdp.now) self.now.request.now tree.now).reads) }
     {
@@ -85,14 +73,5 @@ fn status_of(targeted: Targeted) -> Status
     match targeted {
         Targeted::Indeterminate(status) => status,
         _ => Status::ProcessingError,
-    }
-}
-
-fn too_many(only: Only) -> Only
-    ensures { result ≡ too_many only }
-{
-    match only {
-        Only::Bad(status) => Only::Bad(status),
-        _ => Only::Bad(Status::ProcessingError),
     }
 }

@@ -1,9 +1,8 @@
 //! What a policy set comes to.
 
-ghost use Rattle.std.specs.Prelude.{◌≡◌, IfOk, OnOk, map, true};
+ghost use Rattle.std.specs.Prelude.{◌≡◌, ◌≤◌, IfOk, OnOk, length, map, true};
 ghost use Rattle.std.specs.List.{list_all};
-ghost use Rattle.ent_policy.specs.Typing.{is_typed};
-ghost use Rattle.ent_eval.specs.Typed.{set_is_typed};
+ghost use Rattle.ent_eval.specs.Typed.{is_fit, set_is_fit};
 ghost use Rattle.ent_eval.specs.LooksOf.{looks_of};
 ghost use Rattle.ent_eval.specs.Node.{children_after, children_part, combined, set_children, set_part, tree_part, tree_target};
 ghost use Rattle.ent_eval.specs.Noted.{noted};
@@ -30,7 +29,7 @@ impl<P: Policies> Scene<'_, P> {
         path: &[DocKey],
         tree: &Tree,
     ) -> Result<Answer, AllocError>
-        requires { is_typed tree.now ≡ true }
+        requires { is_fit tree.now ≡ true }
         ensures value { IfOk result (λ a. a ≡ (tree_part (looks_of P.documents self.now.pdp.now) self.now.request.now path.now tree.now).value) }
         ensures reads { OnOk result (reads.new ≡ noted reads.old (tree_part (looks_of P.documents self.now.pdp.now) self.now.request.now path.now tree.now).reads) }
     {
@@ -43,7 +42,7 @@ impl<P: Policies> Scene<'_, P> {
     #[cycle(tree)]
     #[tactic(auto, using(crate::proofs::Walk::noted_both, crate::proofs::Typing::both_true))]
     fn set(&self, reads: &mut Reads, path: &[DocKey], set: &PolicySet) -> Result<Answer, AllocError>
-        requires { set_is_typed set.now ≡ true }
+        requires { set_is_fit set.now ≡ true }
         ensures value { IfOk result (λ a. a ≡ (set_part (looks_of P.documents self.now.pdp.now) self.now.request.now path.now set.now).value) }
         ensures reads { OnOk result (reads.new ≡ noted reads.old (set_part (looks_of P.documents self.now.pdp.now) self.now.request.now path.now set.now).reads) }
     {
@@ -60,7 +59,8 @@ impl<P: Policies> Scene<'_, P> {
         set: &PolicySet,
         targeted: Targeted,
     ) -> Result<Answer, AllocError>
-        requires { list_all is_typed set.now.children ≡ true }
+        requires fit { list_all is_fit set.now.children ≡ true }
+        requires room { length set.now.children ≤ 256 }
         ensures value { IfOk result (λ a. a ≡ (children_after (set_children (looks_of P.documents self.now.pdp.now) self.now.request.now path.now set.now) targeted).value) }
         ensures reads { OnOk result (reads.new ≡ noted reads.old (children_after (set_children (looks_of P.documents self.now.pdp.now) self.now.request.now path.now set.now) targeted).reads) }
     {
@@ -82,7 +82,8 @@ impl<P: Policies> Scene<'_, P> {
         path: &[DocKey],
         set: &PolicySet,
     ) -> Result<Answer, AllocError>
-        requires { list_all is_typed set.now.children ≡ true }
+        requires fit { list_all is_fit set.now.children ≡ true }
+        requires room { length set.now.children ≤ 256 }
         ensures value { IfOk result (λ a. a ≡ (set_children (looks_of P.documents self.now.pdp.now) self.now.request.now path.now set.now).value) }
         ensures reads { OnOk result (reads.new ≡ noted reads.old (set_children (looks_of P.documents self.now.pdp.now) self.now.request.now path.now set.now).reads) }
     {
@@ -104,7 +105,7 @@ impl<P: Policies> Scene<'_, P> {
         algorithm: RuleAlg,
         children: &[Tree],
     ) -> Result<Answer, AllocError>
-        requires { list_all is_typed children.now ≡ true }
+        requires { list_all is_fit children.now ≡ true }
         ensures value { IfOk result (λ a. a ≡ (combined algorithm (map (tree_part (looks_of P.documents self.now.pdp.now) self.now.request.now path.now) children.now)).value) }
         ensures reads { OnOk result (reads.new ≡ noted reads.old (combined algorithm (map (tree_part (looks_of P.documents self.now.pdp.now) self.now.request.now path.now) children.now)).reads) }
     {
@@ -127,7 +128,8 @@ impl<P: Policies> Scene<'_, P> {
         path: &[DocKey],
         children: &[Tree],
     ) -> Result<Answer, AllocError>
-        requires { list_all is_typed children.now ≡ true }
+        requires fit { list_all is_fit children.now ≡ true }
+        requires room { length children.now ≤ 256 }
         ensures value { IfOk result (λ a. a ≡ (only_one (map (tree_target (looks_of P.documents self.now.pdp.now) self.now.request.now) children.now) (map (tree_part (looks_of P.documents self.now.pdp.now) self.now.request.now path.now) children.now)).value) }
         ensures reads { OnOk result (reads.new ≡ noted reads.old (only_one (map (tree_target (looks_of P.documents self.now.pdp.now) self.now.request.now) children.now) (map (tree_part (looks_of P.documents self.now.pdp.now) self.now.request.now path.now) children.now)).reads) }
     {
@@ -144,7 +146,7 @@ impl<P: Policies> Scene<'_, P> {
         children: &[Tree],
         only: Only,
     ) -> Result<Answer, AllocError>
-        requires { list_all is_typed children.now ≡ true }
+        requires { list_all is_fit children.now ≡ true }
         ensures value { IfOk result (λ a. a ≡ (child_part (map (tree_part (looks_of P.documents self.now.pdp.now) self.now.request.now path.now) children.now) only).value) }
         ensures reads { OnOk result (reads.new ≡ noted reads.old (child_part (map (tree_part (looks_of P.documents self.now.pdp.now) self.now.request.now path.now) children.now) only).reads) }
     {

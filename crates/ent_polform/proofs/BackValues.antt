@@ -8,7 +8,7 @@ use Rattle.ent_values.specs.declared.datatype.DataType.{DataType}
 use Rattle.ent_values.specs.declared.datatype.DataType.TheVariants as types
 use Rattle.ent_values.specs.declared.value.Value.{Value}
 use Rattle.ent_values.specs.declared.value.Value.TheVariants as values
-use Rattle.ent_policy.specs.Check as check
+use Rattle.ent_policy.specs.Reading.{designator_read, done, literal_as, value_read}
 use Rattle.ent_policy.specs.declared.document.Designator.{Designator}
 use Rattle.ent_policy.specs.declared.raw.RawDesignator.{RawDesignator}
 use Rattle.ent_policy.specs.declared.raw.RawLiteral.{RawLiteral}
@@ -18,6 +18,7 @@ use Rattle.ent_polform.specs.Expressions.{designator_of, value_of}
 use Rattle.ent_polform.specs.ReadBack.{ValuesReadBack}
 use Rattle.ent_polform.specs.Values.{value_in}
 use Rattle.ent_polform.specs.Written.{designator_written, literal_written, value_written}
+use Rattle.ent_polform.proofs.Back.{Back}
 
 pub values_back : ValuesReadBack
 unfolding value_in value_written
@@ -31,7 +32,7 @@ values_back (values.YearMonth months) h = read_back (values.YearMonth months) h
 
 -- ---- as read, before the check
 
-abbrev pub raw_literal : Value → RawLiteral
+abbrev raw_literal : Value → RawLiteral
 raw_literal (values.Text text) = literals.Text (text_of (values.Text text))
 raw_literal (values.Boolean boolean) = literals.Boolean boolean
 raw_literal (values.Integer integer) = literals.Integer integer
@@ -39,10 +40,10 @@ raw_literal (values.Date date) = literals.Text (text_of (values.Date date))
 raw_literal (values.AnyUri uri) = literals.Text (text_of (values.AnyUri uri))
 raw_literal (values.YearMonth months) = literals.Text (text_of (values.YearMonth months))
 
-abbrev pub raw_value : Value → RawValue
+abbrev raw_value : Value → RawValue
 raw_value value = record { datatype = Some (uri_of (datatype_of value)); literal = raw_literal value }
 
-abbrev pub raw_designator : Designator → RawDesignator
+abbrev raw_designator : Designator → RawDesignator
 raw_designator d = record { category = d.category; attribute = d.attribute; datatype = uri_of d.datatype; issuer = d.issuer; must_be_present = d.must_be_present }
 
 type_back : (datatype : DataType) → type_of (uri_of datatype) ≡ Some datatype
@@ -54,7 +55,7 @@ type_back types.Date = refl
 type_back types.AnyUri = refl
 type_back types.YearMonth = refl
 
-pub value_form : (value : Value) → IsReadable value → value_of (literal_written value) ≡ Ok (raw_value value)
+value_form : (value : Value) → IsReadable value → value_of (literal_written value) ≡ Ok (raw_value value)
 unfolding value_of literal_written value_written
 value_form (values.Text text) h = refl
 value_form (values.Boolean boolean) h = refl
@@ -64,28 +65,28 @@ value_form (values.Date date) h = refl
 value_form (values.AnyUri uri) h = refl
 value_form (values.YearMonth months) h = refl
 
-literal_holds : (value : Value) → IsReadable value → check.literal_as (raw_literal value) (datatype_of value) ≡ Ok value
-unfolding check.literal_as
-literal_holds (values.Text text) h = rw (read_back (values.Text text) h) refl
+literal_holds : (value : Value) → IsReadable value → literal_as (raw_literal value) (datatype_of value) ≡ Some value
+unfolding literal_as
+literal_holds (values.Text text) h = read_back (values.Text text) h
 literal_holds (values.Boolean boolean) h = refl
 literal_holds (values.Integer integer) h = refl
-literal_holds (values.Date date) h = rw (read_back (values.Date date) h) refl
-literal_holds (values.AnyUri uri) h = rw (read_back (values.AnyUri uri) h) refl
-literal_holds (values.YearMonth months) h = rw (read_back (values.YearMonth months) h) refl
+literal_holds (values.Date date) h = read_back (values.Date date) h
+literal_holds (values.AnyUri uri) h = read_back (values.AnyUri uri) h
+literal_holds (values.YearMonth months) h = read_back (values.YearMonth months) h
 
-pub value_holds : (value : Value) → IsReadable value → check.value_read (raw_value value) ≡ Ok value
-unfolding check.value_read
-value_holds value h = rw (type_back (datatype_of value)) (literal_holds value h)
+value_holds : (value : Value) → IsReadable value → value_read (raw_value value) ≡ done value
+unfolding value_read
+value_holds value h = rw (type_back (datatype_of value), literal_holds value h) refl
 
-designator_fields : (category attribute : List ℕ) (datatype : DataType) (issuer : Option (List ℕ)) (must_be_present : Bool) (d : Designator) → d ≡ record { category = category; attribute = attribute; datatype = datatype; issuer = issuer; must_be_present = must_be_present }
+pub value_back : (value : Value) → IsReadable value → Back (value_of (literal_written value)) value_read value
+value_back value h = (raw_value value, (value_form value h, value_holds value h))
+
+designator_form : (category attribute : List ℕ) (datatype : DataType) (issuer : Option (List ℕ)) (must_be_present : Bool) (d : Designator) → d ≡ record { category = category; attribute = attribute; datatype = datatype; issuer = issuer; must_be_present = must_be_present }
     → designator_of (designator_written d) ≡ Ok (raw_designator d)
 unfolding designator_of designator_written
-designator_fields category attribute datatype None must_be_present d same = rw same refl
-designator_fields category attribute datatype (Some issuer) must_be_present d same = rw same refl
+designator_form category attribute datatype None must_be_present d same = rw same refl
+designator_form category attribute datatype (Some issuer) must_be_present d same = rw same refl
 
-pub designator_form : (d : Designator) → designator_of (designator_written d) ≡ Ok (raw_designator d)
-designator_form d = designator_fields d.category d.attribute d.datatype d.issuer d.must_be_present d refl
-
-pub designator_holds : (d : Designator) → check.designator_of (raw_designator d) ≡ Ok d
-unfolding check.designator_of
-designator_holds d = rw (type_back d.datatype) refl
+pub designator_back : (d : Designator) → Back (designator_of (designator_written d)) designator_read d
+unfolding designator_read
+designator_back d = (raw_designator d, (designator_form d.category d.attribute d.datatype d.issuer d.must_be_present d refl, rw (type_back d.datatype) refl))

@@ -5,14 +5,8 @@ pub mod MemberLemmas
 pub mod WrittenLemmas
 pub mod BackValues
 pub mod Back
-pub mod Plain
 pub mod BackTargets
 pub mod BackExpressions
-pub mod BackVersions
 pub mod BackPolicies
 pub mod BackDocuments
-pub mod AlikeLists
-pub mod AlikeExpressions
-pub mod AlikePolicies
-pub mod AlikeDocuments
 pub mod BackWhole

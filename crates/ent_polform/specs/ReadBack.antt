@@ -1,12 +1,12 @@
 -- That what is written reads back.
 use Rattle.std.specs.Prelude.{◌≡◌, List, [], ◌∷◌, ◌++◌, Some, Ok}
 use Rattle.std.specs.List.{AllByRecursion, flat_map}
+use Rattle.std.specs.Option.{option_to_list}
 use Rattle.serde_json.specs.Data.{Data}
 use Rattle.ent_values.specs.ReadBack.{IsReadable}
 use Rattle.ent_values.specs.Types.{datatype_of}
 use Rattle.ent_values.specs.declared.value.Value.{Value}
 use Rattle.ent_policy.specs.Check.{IsChecked}
-use Rattle.ent_policy.specs.Raw.{if_there, joined}
 use Rattle.ent_policy.specs.declared.document.AllOf.{AllOf}
 use Rattle.ent_policy.specs.declared.document.AnyOf.{AnyOf}
 use Rattle.ent_policy.specs.declared.document.Match.{Match}
@@ -29,6 +29,10 @@ abbrev pub ValuesReadBack : Type 0
 ValuesReadBack = (value : Value) → IsReadable value → value_in (datatype_of value) (value_written value) ≡ Some value
 
 -- ---- the values of a document
+
+-- the members of all lists
+abbrev pub joined : {A : Type 0} → List (List A) → List A
+joined lists = flat_map (λ l. l) lists
 
 -- the values in one level of an expression, with those of each argument already seen
 abbrev pub values_here : Expression-F (List Value) → List Value
@@ -64,7 +68,7 @@ definition_values d = expression_values d.expression
 
 -- the values in a rule
 abbrev pub rule_values : Rule → List Value
-rule_values r = target_values r.target ++ flat_map expression_values (if_there r.condition)
+rule_values r = target_values r.target ++ flat_map expression_values (option_to_list r.condition)
 
 -- the values in a policy
 abbrev pub policy_values : Policy → List Value

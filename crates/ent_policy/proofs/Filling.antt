@@ -1,103 +1,123 @@
--- Tables of numbers that are filled in the order of the definitions.
-use Rattle.std.proofs.Common.{◌≡◌, ℕ, ◌+◌, ◌<◌, ◌≤◌, min, List, [], ◌∷◌, length, drop, get_or, add-one, drop-cons, drop_of_length-le, Bool, true, false, cond, ◌||◌, Option, Some, is_some, unwrap_or, Bor, nat_cmp, refl, sym, ap, ◌∙◌, bytes_eq, ⊎_elim, arith}
+-- A table that is filled in the order of the definitions.
+use Rattle.std.proofs.Common.{◌≡◌, ℕ, zero, suc, ◌+◌, ◌<◌, ◌≤◌, min, List, [], ◌∷◌, length, map, drop, get_or, add-one, drop-cons, drop_of_length-le, Bool, true, false, cond, ◌||◌, Option, Some, None, is_some, unwrap_or, Bor, nat_cmp, refl, sym, ap, ◌∙◌, bytes_eq, arith}
 use Rattle.std.proofs.lemmas.Bool.{false≢true}
 use Rattle.std.proofs.lemmas.Map.Text.{btree_map_updates_str}
-use Rattle.std.specs.BTreeMap.{BTreeMap, UpdatesBy, get_by}
+use Rattle.std.proofs.lemmas.Slice.Eq.{bytes_eq-Decides}
+use Rattle.std.specs.BTreeMap.{UpdatesBy, get_by}
 use Rattle.std.specs.Cmp.Lexicographic.{slice_cmp}
 use Rattle.std.specs.List.{list_all}
-use Rattle.ent_policy.specs.declared.raw.RawExpression.{RawExpression}
-use Rattle.ent_policy.specs.declared.raw.RawVariableDefinition.{RawVariableDefinition}
+use Rattle.ent_functions.specs.declared.types.ArgType.{ArgType}
+use Rattle.ent_policy.specs.declared.expression.VariableDefinition.{VariableDefinition}
+use Rattle.ent_policy.specs.declared.measure.Measured.{Measured}
+use Rattle.ent_policy.specs.Depths.{depth_with}
+use Rattle.ent_policy.specs.Limits.{is_among}
+use Rattle.ent_policy.specs.Measure.{IsTableOf, Table, found, measured_variable, measured_with}
 use Rattle.ent_policy.specs.Order.{IsInOrder, IsOrderOf}
-use Rattle.ent_policy.specs.Tables.{IsTableOf, listed}
-use Rattle.ent_policy.specs.Variables.{definition, ids_of, is_among, is_resolved, variables}
-use Rattle.ent_policy.proofs.Ids.{or_cases, same_from_eq, bytes_eq-flip, text_cmp}
-use Rattle.ent_policy.proofs.References.{all_among, all_mono, now_all}
+use Rattle.ent_policy.specs.Sizes.{nodes_with}
+use Rattle.ent_policy.specs.Typing.{held, variable_type}
+use Rattle.ent_policy.specs.Variables.{defined, definition_of, followed, ids_of, is_resolved, uses_only}
+use Rattle.ent_policy.proofs.Ids.{same_id, text_cmp}
+use Rattle.ent_policy.proofs.Measures.{alike, cut, measured_agrees}
+use Rattle.ent_policy.proofs.References.{all_among, defined_ids}
 
-abbrev pub Table : Type 0
-Table = BTreeMap (Bor (List ℕ)) ℕ
+-- ---- variables
 
--- what the table has for an id
-abbrev pub held : Table → List ℕ → Option ℕ
-held table id = get_by (λ k. slice_cmp nat_cmp id k.now) table
+-- what a variable comes to through at most this many references, without limits
+abbrev pub through : List VariableDefinition → ℕ → List ℕ → Measured
+through ds n id = record { nodes = followed nodes_with 0 ds n id; depth = followed depth_with 0 ds n id; datatype = variable_type ds n id }
 
--- whether it has the id
-abbrev pub has_key : Table → List ℕ → Bool
-has_key table id = is_some (held table id)
-
-in_order_mono : (ds : List RawVariableDefinition) (s t : List ℕ → Bool) → ((q : List ℕ) → s q ≡ true → t q ≡ true) → (os : List RawVariableDefinition) → IsInOrder ds s os → IsInOrder ds t os
-in_order_mono ds s t h [] io = tt
-in_order_mono ds s t h (d ∷ os) io =
-    (io.0, all_mono s t h (variables d.expression) io.1, in_order_mono ds (λ q. bytes_eq q d.id || s q) (λ q. bytes_eq q d.id || t q) (λ q w. wider (bytes_eq q d.id) (s q) (t q) (h q) w) os io.2)
+pub cut_once : (m : Measured) → cut (cut m) ≡ cut m
+cut_once m = alike (again 65537 m.nodes) (again 17 m.depth) refl
   where
-    wider : (b x y : Bool) → (x ≡ true → y ≡ true) → (b || x) ≡ true → (b || y) ≡ true
-    wider true x y f e = refl
-    wider false x y f e = f e
+    again : (l x : ℕ) → min l (min l x) ≡ min l x
+    again l x = omega arith
 
--- the table has the numbers of the definitions so far
-pub record IsFilling (ds : List RawVariableDefinition) (limit : ℕ) (number : List ℕ → ℕ) (left : List RawVariableDefinition) (table : Table) : Type 0 where
-  pub in_order : IsInOrder ds (has_key table) left
-  pub right : (q : List ℕ) → has_key table q ≡ true → listed table q ≡ min limit (number q)
-  pub covers : (q : List ℕ) → is_some (definition ds q) ≡ true → (has_key table q || is_among (ids_of left) q) ≡ true
+-- what is kept of a definition
+abbrev pub kept : Measured → Measured
+kept m = record { nodes = m.nodes; depth = m.depth; datatype = held m.datatype }
 
-empty_has : (table : Table) → table.entries ≡ [] → (q : List ℕ) → has_key table q ≡ false
-empty_has table e q = rw e refl
+pub kept_of : (one m : Measured) (t : Option ArgType) → one ≡ m → t ≡ held one.datatype → ◌≡◌ {A = Measured} (record { nodes = one.nodes; depth = one.depth; datatype = t }) (kept m)
+kept_of one m t e f = rw (f, e) refl
 
-pub filling_first : (ds : List RawVariableDefinition) (limit : ℕ) (number : List ℕ → ℕ) (os : List RawVariableDefinition) (table : Table) → table.entries ≡ [] → IsOrderOf ds os → list_all (is_resolved ds) (ids_of ds) ≡ true → IsFilling ds limit number os table
-filling_first ds limit number os table e o r = record {
-  in_order = in_order_mono ds (λ q. false) (has_key table) (λ q w. absurd (false≢true w)) os o.in_order;
-  right = λ q w. absurd (false≢true (sym (empty_has table e q) ∙ w));
-  covers = λ q d. rw (empty_has table e q) (o.whole r q d);
-}
+-- a definition is what its expression is
+defined_through : (ds : List VariableDefinition) (n : ℕ) (q : List ℕ) (d : VariableDefinition) → definition_of ds q ≡ Some d → cut (through ds (suc n) q) ≡ kept (measured_with (through ds n) d.expression)
+defined_through ds n q d here = rw here refl
 
-pub filling_last : (ds : List RawVariableDefinition) (limit : ℕ) (number : List ℕ → ℕ) (left : List RawVariableDefinition) (table : Table) → left ≡ [] → IsFilling ds limit number left table → IsTableOf ds limit number table
-filling_last ds limit number left table none f0 q d =
-    let f : IsFilling ds limit number [] table = rw none at f0 in
-    f.right q (⊎_elim (λ (h : has_key table q ≡ true). h) (λ (h : false ≡ true). absurd (false≢true h)) (or_cases (has_key table q) false (f.covers q d)))
+defined_once_more : (ds : List VariableDefinition) (n : ℕ) (q : List ℕ) (o : Option VariableDefinition) → definition_of ds q ≡ o → ((p : List ℕ) → followed uses_only false ds n p ≡ true → cut (through ds n p) ≡ cut (through ds (suc n) p))
+    → defined (uses_only (followed uses_only false ds n)) false o ≡ true → cut (through ds (suc n) q) ≡ cut (through ds (suc (suc n)) q)
+defined_once_more ds n q None here before e = absurd (false≢true e)
+defined_once_more ds n q (Some d) here before e =
+    defined_through ds n q d here ∙ ap kept (measured_agrees (through ds n) (through ds (suc n)) (followed uses_only false ds n) before d.expression e) ∙ sym (defined_through ds (suc n) q d here)
 
--- what an expression comes to depends on what its variables come to, up to the limit
-abbrev pub IsLocal : ℕ → ((List ℕ → ℕ) → RawExpression → ℕ) → Type 0
-IsLocal limit f = (r s : List ℕ → ℕ) (e : RawExpression) → ((q : List ℕ) → is_among (variables e) q ≡ true → min limit (r q) ≡ min limit (s q)) → min limit (f r e) ≡ min limit (f s e)
+-- what leads to an end stays through one reference more
+once_more : (ds : List VariableDefinition) (n : ℕ) (q : List ℕ) → followed uses_only false ds n q ≡ true → cut (through ds n q) ≡ cut (through ds (suc n) q)
+once_more ds zero q e = absurd (false≢true e)
+once_more ds (suc n) q e = defined_once_more ds n q (definition_of ds q) refl (once_more ds n) e
 
--- the number of a variable is that of its definition
-abbrev pub IsDefinedBy : List RawVariableDefinition → (List ℕ → ℕ) → ((List ℕ → ℕ) → RawExpression → ℕ) → Type 0
-IsDefinedBy ds number f = (q : List ℕ) (e : RawExpression) → definition ds q ≡ Some e → number q ≡ f number e
+-- nothing is what a variable without definition comes to
+undefined_through : (ds : List VariableDefinition) (n : ℕ) (q : List ℕ) → definition_of ds q ≡ None → cut (through ds n q) ≡ record { nodes = 0; depth = 0; datatype = None }
+undefined_through ds zero q h = refl
+undefined_through ds (suc n) q h = rw h refl
 
-moved : (k h r : Bool) → (h || (k || r)) ≡ true → ((k || h) || r) ≡ true
-moved true h r e = refl
-moved false h r e = e
+-- ---- the table
 
-module _ (ds : List RawVariableDefinition) (limit : ℕ) (number : List ℕ → ℕ) (f : (List ℕ → ℕ) → RawExpression → ℕ) (local : IsLocal limit f) (defined : IsDefinedBy ds number f) where
-  pub filling_next : (left rest : List RawVariableDefinition) (d : RawVariableDefinition) (table more : Table) (key : Bor (List ℕ)) (n : ℕ) → left ≡ d ∷ rest → key.now ≡ d.id
-      → UpdatesBy text_cmp (text_cmp key) table more (Some n) → n ≡ min limit (f (listed table) d.expression) → IsFilling ds limit number left table → IsFilling ds limit number rest more
-  filling_next left rest d table more key n first same updates count f0 =
-      let now : IsFilling ds limit number (d ∷ rest) table = rw first at f0 in
-      let io = now.in_order in
-      let after : (q : List ℕ) → held more q ≡ cond (bytes_eq d.id q) (Some n) (held table q) =
-      λ q. btree_map_updates_str key.now table more (Some n) updates q ∙ ap (λ k. cond (bytes_eq k q) (Some n) (held table q)) same in
-      let keys : (q : List ℕ) → has_key more q ≡ (bytes_eq q d.id || has_key table q) =
-      λ q. ap is_some (after q) ∙ key_after (bytes_eq d.id q) (held table q) ∙ ap (λ b. b || has_key table q) (bytes_eq-flip d.id q) in
-      let own : n ≡ min limit (number d.id) =
-      count ∙ local (listed table) number d.expression (λ q m. again (listed table q) (number q) (now.right q (all_among (has_key table) (variables d.expression) q io.1 m))) ∙ ap (min limit) (sym (defined d.id d.expression io.0)) in
-      record {
-        in_order = in_order_mono ds (λ q. bytes_eq q d.id || has_key table q) (has_key more) (λ q w. keys q ∙ w) rest io.2;
-        right = λ q w. read (bytes_eq d.id q) q (held table q) (held more q) (λ e. own ∙ ap (λ x. min limit (number x)) (same_from_eq d.id q e)) (after q) (λ h. now.right q h) w;
-        covers = λ q h. rw (keys q) (moved (bytes_eq q d.id) (has_key table q) (is_among (ids_of rest) q) (now.covers q h));
-      }
-    where
-      key_after : (b : Bool) (o : Option ℕ) → is_some (cond b (Some n) o) ≡ (b || is_some o)
-      key_after true o = refl
-      key_after false o = refl
+-- nothing is measured
+abbrev pub nothing : Measured
+nothing = record { nodes = 0; depth = 0; datatype = None }
 
-      again : (x y : ℕ) → x ≡ min limit y → min limit x ≡ min limit y
-      again x y e = omega arith
+abbrev look : Table → List ℕ → Option Measured
+look table id = get_by (λ k. slice_cmp nat_cmp id k.now) table
 
-      read : (b : Bool) (q : List ℕ) (o p : Option ℕ) → (b ≡ true → n ≡ min limit (number q)) → p ≡ cond b (Some n) o → (is_some o ≡ true → unwrap_or o 0 ≡ min limit (number q)) → is_some p ≡ true → unwrap_or p 0 ≡ min limit (number q)
-      read true q o p own e old w = rw e (own refl)
-      read false q o p own e old w = rw e (old (rw e at w))
+-- the table has what is measured of the variables that pass, which are those of the definitions so far
+pub record IsFilling (ds left : List VariableDefinition) (table : Table) : Type 0 where
+  pub passes : List ℕ → Bool
+  pub resolved : list_all (is_resolved ds) (ids_of ds) ≡ true
+  pub in_order : IsInOrder ds passes left
+  pub right : (q : List ℕ) → found table q ≡ cond (passes q) (measured_variable ds q) nothing
+  pub covers : (q : List ℕ) → is_some (definition_of ds q) ≡ true → (passes q || is_among (ids_of left) q) ≡ true
+
+pub filling_first : (ds os : List VariableDefinition) (table : Table) → table.entries ≡ [] → IsOrderOf ds os → IsFilling ds os table
+filling_first ds os table none o = record { passes = λ q. false; resolved = o.resolved; in_order = o.in_order; right = λ q. rw none refl; covers = o.whole }
+
+pub filling_last : (ds left : List VariableDefinition) (table : Table) → left ≡ [] → IsFilling ds left table → IsTableOf ds table
+filling_last ds left table none f0 q =
+    let f : IsFilling ds [] table = rw none at f0 in
+    f.right q ∙ at (f.passes q) (definition_of ds q) refl (f.covers q)
+  where
+    at : (b : Bool) (o : Option VariableDefinition) → definition_of ds q ≡ o → (is_some o ≡ true → (b || false) ≡ true) → cond b (measured_variable ds q) nothing ≡ measured_variable ds q
+    at true o e h = refl
+    at false None e h = sym (undefined_through ds (length ds) q e)
+    at false (Some d) e h = absurd (false≢true (h refl))
+
+pub filling_next : (ds left rest : List VariableDefinition) (d : VariableDefinition) (table more : Table) (key : Bor (List ℕ)) (one : Measured) → left ≡ d ∷ rest → key.now ≡ d.id
+    → UpdatesBy text_cmp (text_cmp key) table more (Some one) → one ≡ kept (measured_with (found table) d.expression) → IsFilling ds left table → IsFilling ds rest more
+filling_next ds left rest d table more key one first same updates is f0 =
+    let f : IsFilling ds (d ∷ rest) table = rw first at f0 in
+    let seen : measured_with (found table) d.expression ≡ measured_with (through ds (length ds)) d.expression =
+    measured_agrees (found table) (through ds (length ds)) f.passes (λ q h. ap cut (rw h at (f.right q)) ∙ cut_once (through ds (length ds) q)) d.expression f.in_order.1 in
+    let own : one ≡ measured_variable ds d.id =
+    is ∙ ap kept seen ∙ sym (defined_through ds (length ds) d.id d f.in_order.0) ∙ sym (once_more ds (length ds) d.id (all_among (is_resolved ds) (ids_of ds) d.id f.resolved (sym (defined_ids ds d.id) ∙ rw f.in_order.0 refl))) in
+    let after : (q : List ℕ) → look more q ≡ cond (bytes_eq q d.id) (Some one) (look table q) =
+    λ q. btree_map_updates_str key.now table more (Some one) updates q ∙ ap (λ b. cond b (Some one) (look table q)) (ap (λ k. bytes_eq k q) same ∙ same_id.symm d.id q) in
+    record {
+      passes = λ q. bytes_eq q d.id || f.passes q;
+      resolved = f.resolved;
+      in_order = f.in_order.2;
+      right = λ q. ap (λ o. unwrap_or o nothing) (after q) ∙ at q (f.passes q) (bytes_eq q d.id) own refl (f.right q);
+      covers = λ q h. moved (bytes_eq q d.id) (f.passes q) (is_among (ids_of rest) q) (f.covers q h);
+    }
+  where
+    at : (q : List ℕ) (p b : Bool) → one ≡ measured_variable ds d.id → bytes_eq q d.id ≡ b → found table q ≡ cond p (measured_variable ds q) nothing → unwrap_or (cond b (Some one) (look table q)) nothing ≡ cond (b || p) (measured_variable ds q) nothing
+    at q p true own e old = own ∙ ap (measured_variable ds) (sym ((bytes_eq-Decides q d.id).0 e))
+    at q p false own e old = old
+
+    moved : (k h r : Bool) → (h || (k || r)) ≡ true → ((k || h) || r) ≡ true
+    moved true h r e = refl
+    moved false h r e = e
 
 -- the next one left stands first
-pub next_left : (xs : List (Bor RawVariableDefinition)) (i : ℕ) (x : Bor RawVariableDefinition) → i < length xs → x ≡ get_or xs i x → now_all (drop i xs) ≡ x.now ∷ now_all (drop (i + 1) xs)
+pub next_left : (xs : List (Bor VariableDefinition)) (i : ℕ) (x : Bor VariableDefinition) → i < length xs → x ≡ get_or xs i x → map (λ d. d.now) (drop i xs) ≡ x.now ∷ map (λ d. d.now) (drop (i + 1) xs)
 next_left xs i x lt here = rw (add-one, drop-cons xs i x, ← here) refl
 
-pub none_left : (xs : List (Bor RawVariableDefinition)) (i : ℕ) → length xs ≤ i → now_all (drop i xs) ≡ []
+pub none_left : (xs : List (Bor VariableDefinition)) (i : ℕ) → length xs ≤ i → map (λ d. d.now) (drop i xs) ≡ []
 none_left xs i le = rw (drop_of_length-le xs le) refl

@@ -1,375 +1,213 @@
 -- Chains of references between definitions, and definitions in order.
-use Rattle.std.proofs.Common.{◌≡◌, ℕ, zero, suc, ◌+◌, ◌*◌, ◌<◌, ◌≤◌, List, [], ◌∷◌, ◌++◌, length, map, Bool, true, false, not, ◌||◌, Option, Some, None, is_some, Bor, refl, sym, ap, ◌∙◌, bytes_eq, ⊎_elim, arith, length-append, if◌then◌else◌}
-use Rattle.std.proofs.lemmas.Bool.{cases_lt, false≢true}
-use Rattle.std.proofs.lemmas.List.Elements.{All-cons, All-head, All-nil, All-tail}
-use Rattle.std.proofs.lemmas.List.Sorted.{All-permutation, IsPermutation-map, length_permutation, list_any-IsPermutation}
+use Rattle.std.proofs.Common.{◌≡◌, ℕ, zero, suc, ◌+◌, ◌<◌, ◌≤◌, List, [], ◌∷◌, ◌++◌, length, get_or, append_assoc, append-nil, Bool, true, false, not, ◌||◌, cond, Option, Some, None, is_some, Bor, refl, sym, ap, ◌∙◌, bytes_eq, inl, inr, arith}
+use Rattle.std.proofs.Math.Bool.{or_assoc, or_comm}
+use Rattle.std.proofs.lemmas.Bool.{cases_Bool, cases_lt, false_from_ne_true, false≢true, or_cases, or_left, or_parts, or_right}
+use Rattle.std.proofs.lemmas.Bool.Decides.{same_from_decides}
+use Rattle.std.proofs.lemmas.List.{get_or-map, length-map, map_push}
+use Rattle.std.proofs.lemmas.List.Elements.{All-append, All-cons, All-contains, All-head, All-nil, All-push, All-tail, All-weaker, Contains-append_left, Contains-append_right, Contains-push}
+use Rattle.std.proofs.lemmas.List.Folds.{list_all-map, list_any_at}
+use Rattle.std.proofs.lemmas.List.Sorted.{All-permutation, IsPermutation-append_comm, IsPermutation-append_right, IsPermutation-map, IsPermutation-middle, IsPermutation-pop_more, IsPermutation-sym, IsPermutation-trans, length_permutation, list_any-IsPermutation}
+use Rattle.std.proofs.lemmas.List.Sums.{AllPass-from_list_all, list_all-from_AllPass}
+use Rattle.std.proofs.lemmas.Map.Views.{Contains-from_any}
+use Rattle.std.proofs.lemmas.Slice.Eq.{bytes_eq-Decides}
 use Rattle.std.specs.BTreeSet.{BTreeSet, UpdatesBy}
-use Rattle.std.specs.List.{All, list_all}
+use Rattle.std.specs.List.{All, Contains, list_all}
 use Rattle.std.specs.List.Sorted.{IsPermutation}
-use Rattle.ent_policy.specs.declared.raw.RawExpression.{RawExpression}
-use Rattle.ent_policy.specs.declared.raw.RawVariableDefinition.{RawVariableDefinition}
+use Rattle.ent_policy.specs.declared.expression.VariableDefinition.{VariableDefinition}
+use Rattle.ent_policy.specs.Limits.{has_double, is_among}
+use Rattle.ent_policy.specs.declared.document.Policy.{Policy}
 use Rattle.ent_policy.specs.Order.{AreDistinctIds, IsInOrder, IsOrderOf, has_id}
-use Rattle.ent_policy.specs.declared.raw.RawPolicy.{RawPolicy}
-use Rattle.ent_policy.specs.Variables.{definition, has_bad_variable, has_double, ids_of, is_among, is_resolved, resolves, used, uses_only, variables}
-use Rattle.ent_policy.proofs.Ids.{and_parts, and_join, or_left, or_right, or_cases, same_from_eq, eq_from_same, same_tests, bytes_eq-flip, grows, text_cmp}
+use Rattle.ent_policy.specs.Variables.{MoreReferencesChangeNothing, defined, definition_of, followed, has_bad_variable, ids_of, is_resolved, used, uses_only, variables}
+use Rattle.ent_policy.proofs.Ids.{known_push, same_id, text_cmp}
 
-abbrev Definition : Type 0
-Definition = RawVariableDefinition
+-- ---- tests of ids
 
--- what references point to
-abbrev pub now_all : List (Bor Definition) → List Definition
-now_all xs = map (λ x. x.now) xs
+pub all_mono : (f g : List ℕ → Bool) (ids : List (List ℕ)) → ((q : List ℕ) → f q ≡ true → g q ≡ true) → list_all f ids ≡ true → list_all g ids ≡ true
+all_mono f g ids h e = list_all-from_AllPass g ids (All-weaker (λ q. f q ≡ true) (λ q. g q ≡ true) h ids (AllPass-from_list_all f ids e))
 
-now_length : (xs : List (Bor Definition)) → length (now_all xs) ≡ length xs
-now_length [] = refl
-now_length (x ∷ xs) = ap suc (now_length xs)
+pub all_among : (f : List ℕ → Bool) (ids : List (List ℕ)) (q : List ℕ) → list_all f ids ≡ true → is_among ids q ≡ true → f q ≡ true
+all_among f ids q all among = All-contains (λ x. f x ≡ true) ids q (AllPass-from_list_all f ids all) (Contains-from_any (λ x y. (bytes_eq-Decides x y).0) q ids among)
 
--- each member has a property
-abbrev pub Each : {X : Type 0} → (X → Type 0) → List X → Type 0
-Each P [] = Unit {0}
-Each P (x ∷ xs) = P x × Each P xs
+pub all_agree : (f g : List ℕ → Bool) (ids : List (List ℕ)) → ((q : List ℕ) → is_among ids q ≡ true → f q ≡ g q) → list_all f ids ≡ list_all g ids
+all_agree f g [] h = refl
+all_agree f g (x ∷ ids) h = rw (h x (or_left (bytes_eq x x) (is_among ids x) (same_id.refl x)), all_agree f g ids (λ q m. h q (or_right (bytes_eq q x) (is_among ids q) m))) refl
 
-each_map : {X : Type 0} (P Q : X → Type 0) → ((x : X) → P x → Q x) → (xs : List X) → Each P xs → Each Q xs
-each_map P Q f [] h = tt
-each_map P Q f (x ∷ xs) h = (f x h.0, each_map P Q f xs h.1)
+-- ---- references
 
-pub each_append : {X : Type 0} (P : X → Type 0) (xs ys : List X) → Each P xs → Each P ys → Each P (xs ++ ys)
-each_append P [] ys p q = q
-each_append P (x ∷ xs) ys p q = (p.0, each_append P xs ys p.1 q)
+-- more references change nothing for a variable that leads to an end
+pub more_references : {A : Type 0} → MoreReferencesChangeNothing A
+more_references f none local ds zero q h = absurd (false≢true h)
+more_references f none local ds (suc n) q h = at_definition (more_references f none local ds n) (definition_of ds q) h
+  where
+    at_definition : ((v : List ℕ) → followed uses_only false ds n v ≡ true → followed f none ds n v ≡ followed f none ds (suc n) v) → (o : Option VariableDefinition)
+        → defined (uses_only (followed uses_only false ds n)) false o ≡ true → defined (f (followed f none ds n)) none o ≡ defined (f (followed f none ds (suc n))) none o
+    at_definition less None h = absurd (false≢true h)
+    at_definition less (Some d) h = local (followed f none ds n) (followed f none ds (suc n)) d.expression (λ v m. less v (all_among (followed uses_only false ds n) (variables d.expression) v h m))
 
-pub each_split : {X : Type 0} (P : X → Type 0) (xs ys : List X) → Each P (xs ++ ys) → Each P xs × Each P ys
-each_split P [] ys p = (tt, p)
-each_split P (x ∷ xs) ys p = let r = each_split P xs ys p.1 in ((p.0, r.0), r.1)
+pub followed_up : (ds : List VariableDefinition) (n : ℕ) (q : List ℕ) → followed uses_only false ds n q ≡ true → followed uses_only false ds (suc n) q ≡ true
+followed_up ds n q h = sym (more_references uses_only false (λ r s e same. all_agree r s (variables e) same) ds n q h) ∙ h
 
-pub all_mono : (f g : List ℕ → Bool) → ((q : List ℕ) → f q ≡ true → g q ≡ true) → (xs : List (List ℕ)) → list_all f xs ≡ true → list_all g xs ≡ true
-all_mono f g h [] e = refl
-all_mono f g h (x ∷ xs) e = let p = and_parts (f x) (list_all f xs) e in and_join (g x) (list_all g xs) (h x p.0) (all_mono f g h xs p.1)
-
-pub all_among : (f : List ℕ → Bool) (xs : List (List ℕ)) (q : List ℕ) → list_all f xs ≡ true → is_among xs q ≡ true → f q ≡ true
-all_among f [] q a m = absurd (false≢true m)
-all_among f (x ∷ xs) q a m =
-    let p = and_parts (f x) (list_all f xs) a in
-    ⊎_elim (λ (e : bytes_eq q x ≡ true). rw (same_from_eq q x e) p.0) (λ (r : is_among xs q ≡ true). all_among f xs q p.1 r) (or_cases (bytes_eq q x) (is_among xs q) m)
-
-pub all_from : (f : List ℕ → Bool) (xs ys : List (List ℕ)) → ((q : List ℕ) → is_among ys q ≡ true → f q ≡ true) → ((q : List ℕ) → is_among xs q ≡ true → is_among ys q ≡ true) → list_all f xs ≡ true
-all_from f [] ys h w = refl
-all_from f (x ∷ xs) ys h w =
-    and_join (f x) (list_all f xs) (h x (w x (or_left (bytes_eq x x) (is_among xs x) (eq_from_same x x refl))))
-    (all_from f xs ys h (λ q m. w q (or_right (bytes_eq q x) (is_among xs q) m)))
+followed_le : (ds : List VariableDefinition) (n m : ℕ) (q : List ℕ) → n ≤ m → followed uses_only false ds n q ≡ true → followed uses_only false ds m q ≡ true
+followed_le ds n zero q le h = let e : n ≡ zero = omega arith in rw e at h
+followed_le ds n (suc m) q le h =
+    elim (cases_lt n (suc m)) [
+      | inl lt ↦ followed_up ds m q (followed_le ds n m q (omega arith) h)
+      | inr ge ↦ let e : n ≡ suc m = omega arith in rw e at h
+    ]
 
 -- ---- definitions
 
-chosen : (b : Bool) (e : RawExpression) (o : Option RawExpression) → is_some (if b then Some e else o) ≡ (b || is_some o)
-chosen true e o = refl
-chosen false e o = refl
-
 -- an id has a definition if it is the id of one
-pub defined_ids : (ds : List Definition) (q : List ℕ) → is_some (definition ds q) ≡ is_among (ids_of ds) q
+pub defined_ids : (ds : List VariableDefinition) (q : List ℕ) → is_some (definition_of ds q) ≡ is_among (ids_of ds) q
 defined_ids [] q = refl
-defined_ids (d ∷ ds) q = chosen (bytes_eq q d.id) d.expression (definition ds q) ∙ ap (λ b. bytes_eq q d.id || b) (defined_ids ds q)
+defined_ids (d ∷ ds) q = rw (same_id.symm q d.id) (chosen (bytes_eq d.id q) (definition_of ds q) (defined_ids ds q))
+  where
+    chosen : (b : Bool) (o : Option VariableDefinition) → is_some o ≡ is_among (ids_of ds) q → is_some (cond b (Some d) o) ≡ (b || is_among (ids_of ds) q)
+    chosen true o e = refl
+    chosen false o e = e
+
+among_at : (ds : List VariableDefinition) (k : ℕ) (x : VariableDefinition) (q : List ℕ) → k < length ds → bytes_eq q (get_or ds k x).id ≡ true → is_among (ids_of ds) q ≡ true
+among_at ds k x q lt same = list_any_at (bytes_eq q) (ids_of ds) k x.id (rw length-map lt) (rw (get_or-map (λ (y : VariableDefinition). y.id) ds k x x.id lt) same)
+
+own_id : (ds : List VariableDefinition) → All (λ d. is_among (ids_of ds) d.id ≡ true) ds
+own_id ds k x lt = among_at ds k x (get_or ds k x).id lt (same_id.refl (get_or ds k x).id)
 
 -- a definition that is found by its id
-abbrev pub IsFound : List Definition → Definition → Type 0
-IsFound definitions d = definition definitions d.id ≡ Some d.expression
-
-later : (d : Definition) (ds rest : List Definition) → is_among (ids_of rest) d.id ≡ false → Each (IsFound ds) rest → Each (IsFound (d ∷ ds)) rest
-later d ds [] none h = tt
-later d ds (x ∷ rest) none h =
-    (apart (bytes_eq d.id x.id) (bytes_eq x.id d.id) (is_among (ids_of rest) d.id) (bytes_eq-flip d.id x.id) none h.0, later d ds rest (others (bytes_eq d.id x.id) (is_among (ids_of rest) d.id) none) h.1)
-  where
-    others : (a b : Bool) → (a || b) ≡ false → b ≡ false
-    others true b e = absurd cc
-    others false b e = e
-
-    apart : (a c b : Bool) → a ≡ c → (a || b) ≡ false → definition ds x.id ≡ Some x.expression → (if c then Some d.expression else definition ds x.id) ≡ Some x.expression
-    apart true c b e n f = absurd cc
-    apart false true b e n f = absurd cc
-    apart false false b e n f = f
-
-none_twice : (a b : Bool) → (a || b) ≡ false → (a ≡ false) × (b ≡ false)
-none_twice true b e = absurd cc
-none_twice false b e = (refl, e)
+abbrev pub IsFound : List VariableDefinition → VariableDefinition → Type 0
+IsFound ds d = definition_of ds d.id ≡ Some d
 
 -- where no id stands twice each definition is found
-pub found : (ds : List Definition) → has_double (ids_of ds) ≡ false → Each (IsFound ds) ds
-found [] h = tt
-found (d ∷ ds) h =
-    let p = none_twice (is_among (ids_of ds) d.id) (has_double (ids_of ds)) h in
-    (rw (eq_from_same d.id d.id refl) refl, later d ds ds p.0 (found ds p.1))
+pub all_found : (ds : List VariableDefinition) → has_double (ids_of ds) ≡ false → All (IsFound ds) ds
+all_found [] once k x lt = absurd (omega arith)
+all_found (d ∷ ds) once zero x lt = rw (same_id.refl d.id) refl
+all_found (d ∷ ds) once (suc k) x lt =
+    let o = or_parts (is_among (ids_of ds) d.id) (has_double (ids_of ds)) once in
+    let within : k < length ds = omega arith in
+    let apart = false_from_ne_true (bytes_eq d.id (get_or ds k x).id) (λ same. false≢true (sym o.0 ∙ among_at ds k x d.id within same)) in
+    rw apart (all_found ds o.1 k x within)
 
--- ---- chains
+-- what holds of each definition holds of the one that is found
+found_has : (P : VariableDefinition → Type 0) (ds : List VariableDefinition) (q : List ℕ) (d : VariableDefinition) → All P ds → definition_of ds q ≡ Some d → P d × (d.id ≡ q)
+found_has P [] q d all e = absurd cc
+found_has P (x ∷ ds) q d all e =
+    elim (cases_Bool (bytes_eq x.id q)) [
+      | inl same ↦ let is : x ≡ d = cc (rw same at e) in (rw is at (All-head P x ds all), rw is at ((bytes_eq-Decides x.id q).0 same))
+      | inr other ↦ found_has P ds q d (All-tail P x ds all) (rw other at e)
+    ]
 
-uses_mono : (f g : List ℕ → Bool) → ((q : List ℕ) → f q ≡ true → g q ≡ true) → (o : Option RawExpression) → uses_only f o ≡ true → uses_only g o ≡ true
-uses_mono f g h None e = e
-uses_mono f g h (Some x) e = all_mono f g h (variables x) e
+-- ---- definitions in order
 
-pub resolves_up : (ds : List Definition) (n : ℕ) (q : List ℕ) → resolves ds n q ≡ true → resolves ds (suc n) q ≡ true
-resolves_up ds zero q e = absurd (false≢true e)
-resolves_up ds (suc n) q e = uses_mono (resolves ds n) (resolves ds (suc n)) (resolves_up ds n) (definition ds q) e
-
-pub resolves_le : (ds : List Definition) (n m : ℕ) (q : List ℕ) → n ≤ m → resolves ds n q ≡ true → resolves ds m q ≡ true
-resolves_le ds n zero q le h = let e : n ≡ zero = omega arith in rw e at h
-resolves_le ds n (suc m) q le h =
-    ⊎_elim (λ (lt : n < suc m). resolves_up ds m q (resolves_le ds n m q (omega arith) h))
-    (λ (ge : suc m ≤ n). let e : n ≡ suc m = omega arith in rw e at h) (cases_lt n (suc m))
-
-turned : (a b c : Bool) → ((a || b) || c) ≡ true → (b || (a || c)) ≡ true
-turned true true c e = refl
-turned true false c e = refl
-turned false b c e = e
-
--- definitions in order lead to an end
-pub in_order_resolves : (ds : List Definition) (m : ℕ) (t : List ℕ → Bool) (os : List Definition) → IsInOrder ds t os → ((q : List ℕ) → t q ≡ true → resolves ds m q ≡ true)
-    → (q : List ℕ) → (is_among (ids_of os) q || t q) ≡ true → resolves ds (m + length os) q ≡ true
-in_order_resolves ds m t [] io h q e = resolves_le ds m (m + 0) q (omega arith) (h q e)
-in_order_resolves ds m t (d ∷ os) io h q e =
-    let next : (p : List ℕ) → (bytes_eq p d.id || t p) ≡ true → resolves ds (suc m) p ≡ true =
-    λ p w. ⊎_elim (λ (s : bytes_eq p d.id ≡ true). rw (same_from_eq p d.id s, io.0) (all_mono t (resolves ds m) h (variables d.expression) io.1))
-    (λ (r : t p ≡ true). resolves_up ds m p (h p r)) (or_cases (bytes_eq p d.id) (t p) w) in
-    let r : resolves ds (suc m + length os) q ≡ true = in_order_resolves ds (suc m) (λ p. bytes_eq p d.id || t p) os io.2 next q (turned (bytes_eq q d.id) (is_among (ids_of os) q) (t q) e) in
-    resolves_le ds (suc m + length os) (m + length (d ∷ os)) q (omega arith) r
+-- they lead to an end
+in_order_followed : (ds : List VariableDefinition) (t : List ℕ → Bool) (n m : ℕ) (os : List VariableDefinition) → n + length os ≤ m → IsInOrder ds t os → ((q : List ℕ) → t q ≡ true → followed uses_only false ds n q ≡ true)
+    → All (λ d. followed uses_only false ds m d.id ≡ true) os
+in_order_followed ds t n m [] le io h = All-nil (λ d. followed uses_only false ds m d.id ≡ true)
+in_order_followed ds t n m (d ∷ os) le io h =
+    let here : followed uses_only false ds (suc n) d.id ≡ true = rw io.0 (all_mono t (followed uses_only false ds n) (variables d.expression) h io.1) in
+    All-cons (λ d. followed uses_only false ds m d.id ≡ true) d os (followed_le ds (suc n) m d.id (omega arith) here)
+    (in_order_followed ds (λ q. bytes_eq q d.id || t q) (suc n) m os (omega arith) io.2
+    (λ q e. elim (or_cases (bytes_eq q d.id) (t q) e) [ inl same ↦ rw ((bytes_eq-Decides q d.id).0 same) here | inr before ↦ followed_up ds n q (h q before) ]))
 
 -- one more that uses only earlier ones
-pub in_order_push : (ds : List Definition) (t : List ℕ → Bool) (os : List Definition) (d : Definition) → IsInOrder ds t os → IsFound ds d
-    → list_all (λ q. is_among (ids_of os) q || t q) (variables d.expression) ≡ true → IsInOrder ds t (os ++ d ∷ [])
-in_order_push ds t [] d io f uses = (f, uses, tt)
-in_order_push ds t (x ∷ os) d io f uses = (
+in_order_push : (ds : List VariableDefinition) (t known : List ℕ → Bool) (os : List VariableDefinition) (d : VariableDefinition) → IsInOrder ds t os → IsFound ds d → uses_only known d.expression ≡ true
+    → ((q : List ℕ) → known q ≡ true → (is_among (ids_of os) q || t q) ≡ true) → IsInOrder ds t (os ++ d ∷ [])
+in_order_push ds t known [] d io found uses h = (found, all_mono known t (variables d.expression) h uses, tt)
+in_order_push ds t known (x ∷ os) d io found uses h = (
   io.0,
   io.1,
-  in_order_push ds (λ q. bytes_eq q x.id || t q) os d io.2 f
-      (all_mono (λ q. (bytes_eq q x.id || is_among (ids_of os) q) || t q) (λ q. is_among (ids_of os) q || (bytes_eq q x.id || t q)) (λ q e. turned (bytes_eq q x.id) (is_among (ids_of os) q) (t q) e) (variables d.expression) uses),
+  in_order_push ds (λ q. bytes_eq q x.id || t q) known os d io.2 found uses
+      (λ q k. sym (or_assoc (is_among (ids_of os) q) (bytes_eq q x.id) (t q)) ∙ ap (λ b. b || t q) (or_comm (is_among (ids_of os) q) (bytes_eq q x.id)) ∙ h q k),
 )
+
+-- where each definition that uses only known ones is known, so is what leads to an end
+closed : (known : List ℕ → Bool) (ds : List VariableDefinition) → All (λ d. uses_only known d.expression ≡ true → known d.id ≡ true) ds → (n : ℕ) (q : List ℕ) → followed uses_only false ds n q ≡ true → known q ≡ true
+closed known ds all zero q h = absurd (false≢true h)
+closed known ds all (suc n) q h = at_definition (closed known ds all n) (definition_of ds q) refl h
+  where
+    at_definition : ((v : List ℕ) → followed uses_only false ds n v ≡ true → known v ≡ true) → (o : Option VariableDefinition) → definition_of ds q ≡ o → defined (uses_only (followed uses_only false ds n)) false o ≡ true → known q ≡ true
+    at_definition less None is h = absurd (false≢true h)
+    at_definition less (Some d) is h =
+        let here = found_has (λ d. uses_only known d.expression ≡ true → known d.id ≡ true) ds q d all is in
+        rw (← here.1) (here.0 (all_mono (followed uses_only false ds n) known (variables d.expression) less h))
 
 -- ---- the loop
 
--- a definition that uses a variable which isn't in the set
-abbrev pub IsStuck : BTreeSet (Bor (List ℕ)) → Definition → Type 0
-IsStuck known d = list_all (has_id known) (variables d.expression) ≡ false
+-- a definition that uses a variable which isn't known
+abbrev pub IsStuck : BTreeSet (Bor (List ℕ)) → VariableDefinition → Type 0
+IsStuck known d = uses_only (has_id known) d.expression ≡ false
 
--- the definitions, some in order and the others left, of which some are known to be stuck
-pub record IsParted (ds ordered : List Definition) (known : BTreeSet (Bor (List ℕ))) (pending stuck : List Definition) : Type 0 where
+-- the definitions, some in order, the others left, of which some are known to be stuck
+pub record IsParted (ds ordered pending stuck : List VariableDefinition) (known : BTreeSet (Bor (List ℕ))) : Type 0 where
   pub in_order : IsInOrder ds (λ q. false) ordered
   pub known_ids : (q : List ℕ) → has_id known q ≡ is_among (ids_of ordered) q
-  pub pending_found : Each (IsFound ds) pending
-  pub stuck_found : Each (IsFound ds) stuck
-  pub are_stuck : Each (IsStuck known) stuck
-  pub covered : (q : List ℕ) → is_among (ids_of ds) q ≡ true → (is_among (ids_of ordered) q || (is_among (ids_of pending) q || is_among (ids_of stuck) q)) ≡ true
-  pub lengths : length ordered + length pending + length stuck ≡ length ds
-
-nothing_known : (known : BTreeSet (Bor (List ℕ))) → known.keys ≡ [] → (q : List ℕ) → has_id known q ≡ false
-nothing_known known e q = rw e refl
-
-keep_left : (a : Bool) → a ≡ true → (false || (a || false)) ≡ true
-keep_left a e = rw e refl
-
-each_all : {X : Type 0} (P : X → Type 0) (xs : List X) → All P xs → Each P xs
-each_all P [] a = tt
-each_all P (x ∷ xs) a = (All-head P x xs a, each_all P xs (All-tail P x xs a))
-
-all_each : {X : Type 0} (P : X → Type 0) (xs : List X) → Each P xs → All P xs
-all_each P [] e = All-nil P
-all_each P (x ∷ xs) e = All-cons P x xs e.0 (all_each P xs e.1)
-
-pub parted_first : (ds pending : List Definition) (known : BTreeSet (Bor (List ℕ))) → has_double (ids_of ds) ≡ false → IsPermutation ds pending → known.keys ≡ [] → IsParted ds [] known pending []
-parted_first ds pending known once p none = record {
-  in_order = tt;
-  known_ids = nothing_known known none;
-  pending_found = each_all (IsFound ds) pending (All-permutation (IsFound ds) ds pending p (all_each (IsFound ds) ds (found ds once)));
-  stuck_found = tt;
-  are_stuck = tt;
-  covered = λ q h.
-      let there : is_among (ids_of pending) q ≡ true = sym (list_any-IsPermutation (bytes_eq q) (ids_of ds) (ids_of pending) (IsPermutation-map (λ (d : Definition). d.id) ds pending p)) ∙ h in
-      keep_left (is_among (ids_of pending) q) there;
-  lengths = omega (arith, length_permutation ds pending p);
-}
-
-ids_append : (xs ys : List Definition) (q : List ℕ) → is_among (ids_of (xs ++ ys)) q ≡ (is_among (ids_of xs) q || is_among (ids_of ys) q)
-ids_append [] ys q = refl
-ids_append (x ∷ xs) ys q = ap (λ b. bytes_eq q x.id || b) (ids_append xs ys q) ∙ sym (or_assoc (bytes_eq q x.id) (is_among (ids_of xs) q) (is_among (ids_of ys) q))
-  where
-    or_assoc : (a b c : Bool) → ((a || b) || c) ≡ (a || (b || c))
-    or_assoc true b c = refl
-    or_assoc false b c = refl
-
-stuck_on : (o p s k : Bool) → (o || ((p || (k || false)) || s)) ≡ true → (o || (p || (s || (k || false)))) ≡ true
-stuck_on true p s k e = refl
-stuck_on false true s k e = refl
-stuck_on false false s true e = stuck_true s
-  where
-    stuck_true : (b : Bool) → (b || true) ≡ true
-    stuck_true true = refl
-    stuck_true false = refl
-stuck_on false false s false e = more s e
-  where
-    more : (b : Bool) → b ≡ true → (b || false) ≡ true
-    more b h = rw h refl
+  pub parted : IsPermutation ds (ordered ++ (pending ++ stuck))
+  pub are_stuck : All (IsStuck known) stuck
 
 -- the last one left is stuck
-pub parted_stuck : (ds ordered : List Definition) (known : BTreeSet (Bor (List ℕ))) (pending stuck rest : List Definition) (d : Definition) → pending ≡ rest ++ d ∷ [] → IsStuck known d → IsParted ds ordered known pending stuck
-    → IsParted ds ordered known rest (stuck ++ d ∷ [])
-parted_stuck ds ordered known pending stuck rest d e is s =
-    let both = each_split (IsFound ds) rest (d ∷ []) (rw e at s.pending_found) in
-    record {
-      in_order = s.in_order;
-      known_ids = s.known_ids;
-      pending_found = both.0;
-      stuck_found = each_append (IsFound ds) stuck (d ∷ []) s.stuck_found both.1;
-      are_stuck = each_append (IsStuck known) stuck (d ∷ []) s.are_stuck (is, tt);
-      covered = λ q h.
-          let before : (is_among (ids_of ordered) q || (is_among (ids_of (rest ++ d ∷ [])) q || is_among (ids_of stuck) q)) ≡ true = rw e at (s.covered q h) in
-          let parts : (is_among (ids_of ordered) q || ((is_among (ids_of rest) q || (bytes_eq q d.id || false)) || is_among (ids_of stuck) q)) ≡ true = rw (ids_append rest (d ∷ []) q) at before in
-          rw (ids_append stuck (d ∷ []) q) (stuck_on (is_among (ids_of ordered) q) (is_among (ids_of rest) q) (is_among (ids_of stuck) q) (bytes_eq q d.id) parts);
-      lengths = omega (arith, s.lengths, ap length e, length-append rest (d ∷ []), length-append stuck (d ∷ []));
-    }
+pub parted_stuck : (ds ordered rest stuck : List VariableDefinition) (d : VariableDefinition) (known : BTreeSet (Bor (List ℕ))) → IsStuck known d → IsParted ds ordered (rest ++ d ∷ []) stuck known
+    → IsParted ds ordered rest (stuck ++ d ∷ []) known
+parted_stuck ds ordered rest stuck d known is s = record {
+  in_order = s.in_order;
+  known_ids = s.known_ids;
+  parted = IsPermutation-trans ds (ordered ++ ((rest ++ d ∷ []) ++ stuck)) (ordered ++ (rest ++ (stuck ++ d ∷ []))) s.parted
+      (IsPermutation-append_right ordered ((rest ++ d ∷ []) ++ stuck) (rest ++ (stuck ++ d ∷ [])) (rw append_assoc (IsPermutation-append_right rest (d ∷ stuck) (stuck ++ d ∷ []) (IsPermutation-append_comm (d ∷ []) stuck))));
+  are_stuck = All-push (IsStuck known) stuck d s.are_stuck is;
+}
 
-order_on : (o p s k : Bool) → (o || ((p || (k || false)) || s)) ≡ true → ((o || (k || false)) || ((p || s) || false)) ≡ true
-order_on true p s k e = refl
-order_on false p s true e = refl
-order_on false true s false e = refl
-order_on false false s false e = rw e refl
+module _ (ds : List VariableDefinition) (once : has_double (ids_of ds) ≡ false) where
+  member_found : (xs : List VariableDefinition) (d : VariableDefinition) → IsPermutation ds xs → Contains xs d → IsFound ds d
+  member_found xs d p = All-contains (IsFound ds) xs d (All-permutation (IsFound ds) ds xs p (all_found ds once))
 
-known_on : (k o : Bool) → (k || o) ≡ (o || (k || false))
-known_on true true = refl
-known_on true false = refl
-known_on false true = refl
-known_on false false = refl
+  -- the last one left can be put in order, and those that were stuck may not be any more
+  pub parted_ordered : (ordered rest stuck : List VariableDefinition) (d : VariableDefinition) (known more : BTreeSet (Bor (List ℕ))) (key : Bor (List ℕ)) → key.now ≡ d.id → UpdatesBy text_cmp (text_cmp key) known more true
+      → uses_only (has_id known) d.expression ≡ true → IsParted ds ordered (rest ++ d ∷ []) stuck known → IsParted ds (ordered ++ d ∷ []) (rest ++ stuck) [] more
+  parted_ordered ordered rest stuck d known more key same updates uses s =
+      let moved : IsPermutation ds ((ordered ++ d ∷ []) ++ (rest ++ stuck)) =
+      IsPermutation-pop_more ds ordered ((rest ++ d ∷ []) ++ stuck) (rest ++ stuck) d s.parted (rw append_assoc (IsPermutation-middle rest d stuck)) in
+      record {
+        in_order = in_order_push ds (λ q. false) (has_id known) ordered d s.in_order
+            (member_found ((ordered ++ d ∷ []) ++ (rest ++ stuck)) d moved (Contains-append_left (ordered ++ d ∷ []) (rest ++ stuck) d (Contains-push ordered d))) uses
+            (λ q h. or_left (is_among (ids_of ordered) q) false (sym (s.known_ids q) ∙ h));
+        known_ids = rw (map_push (λ (x : VariableDefinition). x.id) ordered d, ← same) (known_push (ids_of ordered) known more key s.known_ids updates);
+        parted = rw (append-nil (rest ++ stuck)) moved;
+        are_stuck = All-nil (IsStuck more);
+      }
 
--- the last one left can be put in order, and those that were stuck may not be any more
-pub parted_ordered : (ds ordered : List Definition) (known more : BTreeSet (Bor (List ℕ))) (pending stuck rest : List Definition) (d : Definition) (key : Bor (List ℕ)) → pending ≡ rest ++ d ∷ [] → key.now ≡ d.id → UpdatesBy text_cmp (text_cmp key) known more true
-    → list_all (has_id known) (variables d.expression) ≡ true → IsParted ds ordered known pending stuck → IsParted ds (ordered ++ d ∷ []) more (rest ++ stuck) []
-parted_ordered ds ordered known more pending stuck rest d key e same updates uses s =
-    let both = each_split (IsFound ds) rest (d ∷ []) (rw e at s.pending_found) in
-    record {
-      in_order = in_order_push ds (λ q. false) ordered d s.in_order both.1.0
-          (all_mono (has_id known) (λ q. is_among (ids_of ordered) q || false) (λ q h. or_left (is_among (ids_of ordered) q) false (sym (s.known_ids q) ∙ h)) (variables d.expression) uses);
-      known_ids = λ q. grows known more key updates q
-          ∙ ap (λ b. b || has_id known q) (ap (λ k. bytes_eq k q) same ∙ bytes_eq-flip d.id q)
-          ∙ ap (λ b. bytes_eq q d.id || b) (s.known_ids q)
-          ∙ known_on (bytes_eq q d.id) (is_among (ids_of ordered) q)
-          ∙ sym (ids_append ordered (d ∷ []) q);
-      pending_found = each_append (IsFound ds) rest stuck both.0 s.stuck_found;
-      stuck_found = tt;
-      are_stuck = tt;
-      covered = λ q h.
-          let before : (is_among (ids_of ordered) q || (is_among (ids_of (rest ++ d ∷ [])) q || is_among (ids_of stuck) q)) ≡ true = rw e at (s.covered q h) in
-          let parts : (is_among (ids_of ordered) q || ((is_among (ids_of rest) q || (bytes_eq q d.id || false)) || is_among (ids_of stuck) q)) ≡ true = rw (ids_append rest (d ∷ []) q) at before in
-          rw (ids_append ordered (d ∷ []) q, ids_append rest stuck q) (order_on (is_among (ids_of ordered) q) (is_among (ids_of rest) q) (is_among (ids_of stuck) q) (bytes_eq q d.id) parts);
-      lengths = omega (arith, s.lengths, ap length e, length-append rest (d ∷ []), length-append ordered (d ∷ []), length-append rest stuck);
-    }
-
--- as many are left as the loop says
-pub now_lengths : (ordered : List Definition) (pending stuck : List (Bor Definition)) (n : ℕ) → length ordered + length (now_all pending) + length (now_all stuck) ≡ n → length pending + length stuck ≤ n
-now_lengths ordered pending stuck n e = omega (arith, e, now_length pending, now_length stuck)
-
--- the measure of the loop, where one more is in order
-pub falls : (p s r q t n : ℕ) → p ≡ r + 1 → q ≡ r + s → t ≡ 0 → p + s ≤ n → (q + t) * (n + 1) + q < (p + s) * (n + 1) + p
-falls p s r q t n e f g h = rw (e, f, g) (omega arith)
-
--- ---- the end of the loop
-
-module _ (ds ordered : List Definition) (known : BTreeSet (Bor (List ℕ))) where
-  among_stuck : (stuck : List Definition) → Each (IsFound ds) stuck → Each (IsStuck known) stuck → (q : List ℕ) → is_among (ids_of stuck) q ≡ true → uses_only (has_id known) (definition ds q) ≡ false
-  among_stuck [] f s q m = absurd (false≢true m)
-  among_stuck (d ∷ stuck) f s q m =
-      ⊎_elim (λ (e : bytes_eq q d.id ≡ true). rw (same_from_eq q d.id e, f.0) s.0) (λ (r : is_among (ids_of stuck) q ≡ true). among_stuck stuck f.1 s.1 q r) (or_cases (bytes_eq q d.id) (is_among (ids_of stuck) q) m)
-
-  is_defined : (f : List ℕ → Bool) (o : Option RawExpression) → uses_only f o ≡ true → is_some o ≡ true
-  is_defined f None e = absurd (false≢true e)
-  is_defined f (Some x) e = refl
-
-  -- what leads to an end is in order
-  resolved_known : (stuck : List Definition) → IsParted ds ordered known [] stuck → (n : ℕ) (q : List ℕ) → resolves ds n q ≡ true → has_id known q ≡ true
-  resolved_known stuck s zero q e = absurd (false≢true e)
-  resolved_known stuck s (suc n) q e =
-      let uses : uses_only (has_id known) (definition ds q) ≡ true = uses_mono (resolves ds n) (has_id known) (resolved_known stuck s n) (definition ds q) e in
-      let there : is_among (ids_of ds) q ≡ true = sym (defined_ids ds q) ∙ is_defined (has_id known) (definition ds q) uses in
-      ⊎_elim (λ (o : is_among (ids_of ordered) q ≡ true). s.known_ids q ∙ o)
-      (λ (m : (false || is_among (ids_of stuck) q) ≡ true). absurd (false≢true (sym (among_stuck stuck s.stuck_found s.are_stuck q m) ∙ uses)))
-      (or_cases (is_among (ids_of ordered) q) (false || is_among (ids_of stuck) q) (s.covered q there))
-
-  first_stuck : (d : Definition) (stuck : List Definition) → IsParted ds ordered known [] (d ∷ stuck) → is_resolved ds d.id ≡ true → ⊥
-  first_stuck d stuck s r =
-      let n = length ds in
-      let uses : uses_only (has_id known) (definition ds d.id) ≡ true = uses_mono (resolves ds n) (has_id known) (resolved_known (d ∷ stuck) s n) (definition ds d.id) (resolves_up ds n d.id r) in
-      let uses_known : list_all (has_id known) (variables d.expression) ≡ true = rw s.stuck_found.0 at uses in
-      false≢true (sym s.are_stuck.0 ∙ uses_known)
-
-  all_ordered : IsParted ds ordered known [] [] → (q : List ℕ) → is_among (ids_of ds) q ≡ true → is_among (ids_of ordered) q ≡ true
-  all_ordered s q h = ⊎_elim (λ (o : is_among (ids_of ordered) q ≡ true). o) (λ (m : (false || false) ≡ true). absurd (false≢true m)) (or_cases (is_among (ids_of ordered) q) (false || false) (s.covered q h))
-
-  all_resolved : IsParted ds ordered known [] [] → list_all (is_resolved ds) (ids_of ds) ≡ true
-  all_resolved s =
-      let whole : length ordered ≡ length ds = omega (arith, s.lengths) in
-      all_from (is_resolved ds) (ids_of ds) (ids_of ordered)
-      (λ q m. resolves_le ds (0 + length ordered) (length ds) q (omega arith)
-      (in_order_resolves ds 0 (λ p. false) ordered s.in_order (λ p w. absurd (false≢true w)) q (or_left (is_among (ids_of ordered) q) false m)))
-      (all_ordered s)
-
-  pub parted_last : (pending stuck : List Definition) → pending ≡ [] → IsParted ds ordered known pending stuck → IsOrderOf ds ordered
-  parted_last pending [] e s0 =
-      let s : IsParted ds ordered known [] [] = rw e at s0 in
+  -- none is left
+  pub parted_all : (ordered : List VariableDefinition) (known : BTreeSet (Bor (List ℕ))) → IsParted ds ordered [] [] known → IsOrderOf ds ordered
+  parted_all ordered known s =
+      let all : IsPermutation ds ordered = rw append-nil at s.parted in
       record {
         in_order = s.in_order;
-        whole = λ r q h. all_ordered s q (sym (defined_ids ds q) ∙ h);
-        all = λ r. omega (arith, s.lengths);
-        fewer = λ r. absurd (false≢true (sym r ∙ all_resolved s));
+        whole = λ id h. sym (list_any-IsPermutation (bytes_eq id) (ids_of ds) (ids_of ordered) (IsPermutation-map (λ (x : VariableDefinition). x.id) ds ordered all)) ∙ sym (defined_ids ds id) ∙ h;
+        resolved = list_all-map (is_resolved ds) (λ (x : VariableDefinition). x.id) ds
+            ∙ list_all-from_AllPass (λ (x : VariableDefinition). is_resolved ds x.id) ds
+            (All-permutation (λ x. is_resolved ds x.id ≡ true) ordered ds (IsPermutation-sym ds ordered all)
+            (in_order_followed ds (λ q. false) 0 (length ds) ordered (omega (arith, length_permutation ds ordered all)) s.in_order (λ q h. absurd (false≢true h))));
       }
-  parted_last pending (d ∷ stuck) e s0 =
-      let s : IsParted ds ordered known [] (d ∷ stuck) = rw e at s0 in
-      let never : list_all (is_resolved ds) (ids_of ds) ≡ true → ⊥ =
-      λ r. first_stuck d stuck s (all_among (is_resolved ds) (ids_of ds) d.id r (sym (defined_ids ds d.id) ∙ rw s.stuck_found.0 refl)) in
-      record {
-        in_order = s.in_order;
-        whole = λ r q h. absurd (never r);
-        all = λ r. absurd (never r);
-        fewer = λ r. omega (arith, s.lengths);
-      }
+
+  -- all that are left are stuck
+  pub parted_not_all : (ordered stuck : List VariableDefinition) (known : BTreeSet (Bor (List ℕ))) → 0 < length stuck → IsParted ds ordered [] stuck known → list_all (is_resolved ds) (ids_of ds) ≡ false
+  parted_not_all ordered [] known some s = absurd (omega arith)
+  parted_not_all ordered (d ∷ stuck) known some s = false_from_ne_true (list_all (is_resolved ds) (ids_of ds)) (λ all.
+      let found = member_found (ordered ++ d ∷ stuck) d s.parted (Contains-append_right ordered (d ∷ stuck) d (0, omega arith, refl)) in
+      let here : is_resolved ds d.id ≡ true = all_among (is_resolved ds) (ids_of ds) d.id all (sym (defined_ids ds d.id) ∙ rw found refl) in
+      let uses : uses_only (is_resolved ds) d.expression ≡ true = rw found at (followed_up ds (length ds) d.id here) in
+      let Known : VariableDefinition → Type 0 = λ x. uses_only (has_id known) x.expression ≡ true → has_id known x.id ≡ true in
+      let all_known : All Known ds = All-permutation Known (ordered ++ d ∷ stuck) ds (IsPermutation-sym ds (ordered ++ d ∷ stuck) s.parted)
+      (All-append Known ordered (d ∷ stuck) (λ k x lt u. s.known_ids (get_or ordered k x).id ∙ own_id ordered k x lt)
+      (All-weaker (IsStuck known) Known (λ x is u. absurd (false≢true (sym is ∙ u))) (d ∷ stuck) s.are_stuck)) in
+      false≢true (sym (All-head (IsStuck known) d stuck s.are_stuck) ∙ all_mono (is_resolved ds) (has_id known) (variables d.expression) (closed (has_id known) ds all_known (length ds)) uses))
 
 -- ---- a policy
 
-all_same : (f g : List ℕ → Bool) → ((q : List ℕ) → f q ≡ g q) → (xs : List (List ℕ)) → list_all f xs ≡ list_all g xs
-all_same f g h [] = refl
-all_same f g h (x ∷ xs) = rw (h x, all_same f g h xs) refl
-
-pub is_there : (ds : List Definition) (n : ℕ) (q : List ℕ) → resolves ds n q ≡ true → is_some (definition ds q) ≡ true
-is_there ds zero q e = absurd (false≢true e)
-is_there ds (suc n) q e = some_used (resolves ds n) (definition ds q) e
-  where
-    some_used : (f : List ℕ → Bool) (o : Option RawExpression) → uses_only f o ≡ true → is_some o ≡ true
-    some_used f None e = absurd (false≢true e)
-    some_used f (Some x) e = refl
-
-module _ (p : RawPolicy) (ordered : List Definition) (o : IsOrderOf p.variables ordered) where
-  not_all : (b : Bool) → b ≡ list_all (is_resolved p.variables) (ids_of p.variables) → length ordered < length p.variables → b ≡ false
-  not_all true e fewer = let whole : length ordered ≡ length p.variables = o.all (sym e) in absurd (omega (arith, whole, fewer))
-  not_all false e fewer = refl
-
-  all_of : (b : Bool) → b ≡ list_all (is_resolved p.variables) (ids_of p.variables) → length p.variables ≤ length ordered → b ≡ true
-  all_of true e whole = refl
-  all_of false e whole = let fewer : length ordered < length p.variables = o.fewer (sym e) in absurd (omega (arith, whole, fewer))
-
-  bad_between : (a b c : Bool) → b ≡ false → true ≡ ((a || not b) || c)
-  bad_between true b c e = refl
-  bad_between false true c e = absurd cc
-  bad_between false false c e = refl
-
-  -- a definition that leads to no end
-  pub bad_definition : length ordered < length p.variables → true ≡ has_bad_variable p
-  bad_definition fewer =
-      bad_between (has_double (ids_of p.variables)) (list_all (is_resolved p.variables) (ids_of p.variables)) (not (list_all (is_resolved p.variables) (used p)))
-      (not_all (list_all (is_resolved p.variables) (ids_of p.variables)) refl fewer)
-
-  -- all definitions lead to an end, and conditions use these
-  pub bad_condition : (s : BTreeSet (Bor (List ℕ))) (b : Bool) → AreDistinctIds p.variables (Some s) → length p.variables ≤ length ordered → b ≡ list_all (has_id s) (used p) → not b ≡ has_bad_variable p
-  bad_condition s b ids whole e =
-      let all : list_all (is_resolved p.variables) (ids_of p.variables) ≡ true = all_of (list_all (is_resolved p.variables) (ids_of p.variables)) refl whole in
-      let same : list_all (has_id s) (used p) ≡ list_all (is_resolved p.variables) (used p) =
-      all_same (has_id s) (is_resolved p.variables) (λ q. same_tests (has_id s q) (is_resolved p.variables q)
-      (λ h. all_among (is_resolved p.variables) (ids_of p.variables) q all (sym (ids.1 q) ∙ h))
-      (λ h. ids.1 q ∙ sym (defined_ids p.variables q) ∙ is_there p.variables (length p.variables) q h)) (used p) in
-      rw (ids.0, all, e, same) refl
-
-pub bad_condition_of : (p : RawPolicy) (ds : List Definition) (ordered : List (Bor Definition)) → ds ≡ p.variables → IsOrderOf ds (now_all ordered) → (s : BTreeSet (Bor (List ℕ))) (b : Bool) → AreDistinctIds ds (Some s)
-    → length ds ≤ length ordered → b ≡ list_all (has_id s) (used p) → not b ≡ has_bad_variable p
-bad_condition_of p ds ordered same o s b ids whole e =
-    bad_condition p (now_all ordered) (rw same at o) s b (rw same at ids) (let w : length p.variables ≤ length ordered = rw same at whole in omega (arith, w, now_length ordered)) e
+-- where all definitions lead to an end, a policy is bad if its conditions use others
+pub bad_condition : (p : Policy) (s : BTreeSet (Bor (List ℕ))) (b : Bool) → AreDistinctIds p.variables (Some s) → list_all (is_resolved p.variables) (ids_of p.variables) ≡ true → b ≡ list_all (has_id s) (used p) → has_bad_variable p ≡ not b
+unfolding has_bad_variable
+bad_condition p s b ids all e =
+    let ds = p.variables in
+    let within : (q : List ℕ) → is_resolved ds q ≡ true → is_among (ids_of ds) q ≡ true =
+    closed (is_among (ids_of ds)) ds (λ k x lt u. own_id ds k x lt) (length ds) in
+    let same : list_all (is_resolved ds) (used p) ≡ list_all (has_id s) (used p) =
+    all_agree (is_resolved ds) (has_id s) (used p) (λ q m.
+    same_from_decides (is_resolved ds q) (has_id s q) (λ h. h, λ h. h) (λ h. all_among (is_resolved ds) (ids_of ds) q all (sym (ids.1 q) ∙ h), λ h. ids.1 q ∙ within q h)) in
+    rw (ids.0, all, same, e) refl

@@ -1,5 +1,5 @@
 -- The types of expressions, and the documents in which each expression has one.
-use Rattle.std.specs.Prelude.{◌≡◌, ℕ, zero, suc, List, [], ◌∷◌, Bool, true, false, ◌&&◌, Option, Some, None, is_some, option_map, option_and_then, find, bytes_eq, length}
+use Rattle.std.specs.Prelude.{ℕ, List, [], ◌∷◌, Bool, true, false, ◌&&◌, Option, Some, None, is_some, option_map, option_and_then, length}
 use Rattle.std.specs.List.{list_all}
 use Rattle.ent_values.specs.declared.datatype.DataType.TheVariants.{Boolean}
 use Rattle.ent_values.specs.Types.{datatype_of}
@@ -19,6 +19,7 @@ use Rattle.ent_policy.specs.declared.document.Target.{Target}
 use Rattle.ent_policy.specs.declared.document.AnyOf.{AnyOf}
 use Rattle.ent_policy.specs.declared.document.AllOf.{AllOf}
 use Rattle.ent_policy.specs.declared.document.Match.{Match}
+use Rattle.ent_policy.specs.Variables.{followed}
 
 -- ---- expressions
 
@@ -47,15 +48,13 @@ held (Some (One t)) = Some (One t)
 held (Some (Many t)) = Some (Many t)
 held (Some (Fun f)) = None
 
--- the definition of that identifier
-abbrev pub definition_of : List VariableDefinition → List ℕ → Option VariableDefinition
-definition_of definitions id = find (λ (d : VariableDefinition). bytes_eq d.id id) definitions
+-- the type of a definition: that of its expression, if a variable may have it
+abbrev pub definition_type : (List ℕ → Option ArgType) → Expression → Option ArgType
+definition_type refer e = held (type_with refer e)
 
 -- the type of a variable through at most this many references
 abbrev pub variable_type : List VariableDefinition → ℕ → List ℕ → Option ArgType
-variable_type definitions zero id = None
-variable_type definitions (suc n) id =
-    option_and_then (λ (d : VariableDefinition). held (type_with (variable_type definitions n) d.expression)) (definition_of definitions id)
+variable_type = followed definition_type None
 
 -- the type of an expression among the definitions of its policy: none leads through more references than there are definitions
 abbrev pub type_in : List VariableDefinition → Expression → Option ArgType

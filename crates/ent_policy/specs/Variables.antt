@@ -1,66 +1,96 @@
 -- The variables of a policy: which are used, which are defined, and which lead to no end (sections 5.23 and 5.24).
-use Rattle.std.specs.Prelude.{ℕ, zero, suc, List, [], ◌∷◌, Bool, false, not, ◌||◌, Option, Some, None, if◌then◌else◌, bytes_eq, length, map}
+use Rattle.std.specs.Prelude.{◌≡◌, ℕ, zero, suc, List, [], ◌∷◌, Bool, true, false, not, ◌||◌, Option, Some, None, bytes_eq, find, length, map}
 use Rattle.std.specs.List.{flat_map, list_any, list_all}
-use Rattle.ent_policy.specs.declared.raw.RawDocument.{RawDocument}
-use Rattle.ent_policy.specs.declared.raw.RawExpression.{RawExpression}
-use Rattle.ent_policy.specs.declared.raw.RawExpression.TheOpen.{RawExpression-F}
-use Rattle.ent_policy.specs.declared.raw.RawExpression.TheFolds.{fold-RawExpression}
-use Rattle.ent_policy.specs.declared.raw.RawPolicy.{RawPolicy}
-use Rattle.ent_policy.specs.declared.raw.RawRule.{RawRule}
-use Rattle.ent_policy.specs.declared.raw.RawVariableDefinition.{RawVariableDefinition}
-pub use Rattle.ent_policy.specs.Names.{has_double, is_among}
-pub use Rattle.ent_policy.specs.Raw.{joined, policies}
+use Rattle.ent_policy.specs.declared.document.Policy.{Policy}
+use Rattle.ent_policy.specs.declared.document.Rule.{Rule}
+use Rattle.ent_policy.specs.declared.document.Tree.{Tree}
+use Rattle.ent_policy.specs.declared.document.Tree.TheOpen.{Tree-F, PolicySet-F}
+use Rattle.ent_policy.specs.declared.document.Tree.TheFolds.{fold-Tree}
+use Rattle.ent_policy.specs.declared.expression.Expression.{Expression}
+use Rattle.ent_policy.specs.declared.expression.Expression.TheOpen.{Expression-F}
+use Rattle.ent_policy.specs.declared.expression.Expression.TheFolds.{fold-Expression}
+use Rattle.ent_policy.specs.declared.expression.VariableDefinition.{VariableDefinition}
+use Rattle.ent_policy.specs.Limits.{has_double, is_among}
 
 -- one level of an expression, with the variables of each argument
-abbrev pub variables_step : RawExpression-F (List (List ℕ)) → List (List ℕ)
-variables_step (RawExpression-F.Value v) = []
-variables_step (RawExpression-F.Designator d) = []
-variables_step (RawExpression-F.Variable id) = id ∷ []
-variables_step (RawExpression-F.Apply f arguments) = joined arguments
-variables_step (RawExpression-F.Function f) = []
+abbrev pub variables_step : Expression-F (List (List ℕ)) → List (List ℕ)
+variables_step (Expression-F.Value value) = []
+variables_step (Expression-F.Designator designator) = []
+variables_step (Expression-F.Variable id) = id ∷ []
+variables_step (Expression-F.Apply function arguments) = flat_map (λ ids. ids) arguments
+variables_step (Expression-F.Function function) = []
 
 -- the variables that an expression uses
-abbrev pub variables : RawExpression → List (List ℕ)
-variables = fold-RawExpression (List (List ℕ)) variables_step
+abbrev pub variables : Expression → List (List ℕ)
+variables = fold-Expression (List (List ℕ)) variables_step
 
--- the ids of some definitions
-abbrev pub ids_of : List RawVariableDefinition → List (List ℕ)
-ids_of definitions = map (λ (d : RawVariableDefinition). d.id) definitions
-
--- the expression that a variable stands for
-abbrev pub definition : List RawVariableDefinition → List ℕ → Option RawExpression
-definition [] id = None
-definition (d ∷ ds) id = if bytes_eq id d.id then Some d.expression else definition ds id
-
--- a definition whose variables all pass
-abbrev pub uses_only : (List ℕ → Bool) → Option RawExpression → Bool
-uses_only test None = false
-uses_only test (Some e) = list_all test (variables e)
-
--- whether a variable is defined and, along chains of at most this many references, leads to defined variables and to an end
-abbrev pub resolves : List RawVariableDefinition → ℕ → List ℕ → Bool
-resolves definitions zero id = false
-resolves definitions (suc n) id = uses_only (resolves definitions n) (definition definitions id)
-
--- whether a variable is defined, and not through itself. No chain is longer than there are definitions, unless one of them stands in it twice
-abbrev pub is_resolved : List RawVariableDefinition → List ℕ → Bool
-is_resolved definitions id = resolves definitions (length definitions) id
-
--- the variables that a condition uses
-abbrev pub condition_variables : Option RawExpression → List (List ℕ)
+-- those that an optional expression uses
+abbrev pub condition_variables : Option Expression → List (List ℕ)
 condition_variables None = []
 condition_variables (Some e) = variables e
 
--- the variables that the conditions of a policy use
-abbrev pub used : RawPolicy → List (List ℕ)
-used p = joined (map (λ (r : RawRule). condition_variables r.condition) p.rules)
+-- those that the conditions of a policy use
+abbrev pub used : Policy → List (List ℕ)
+used p = flat_map (λ (r : Rule). condition_variables r.condition) p.rules
+
+-- the ids of some definitions
+abbrev pub ids_of : List VariableDefinition → List (List ℕ)
+ids_of definitions = map (λ d. d.id) definitions
+
+-- ---- references
+
+-- the definition of that identifier
+abbrev pub definition_of : List VariableDefinition → List ℕ → Option VariableDefinition
+definition_of definitions id = find (λ d. bytes_eq d.id id) definitions
+
+-- what a definition comes to, where there is one
+abbrev pub defined : {A : Type 0} → (Expression → A) → A → Option VariableDefinition → A
+defined f none None = none
+defined f none (Some d) = f d.expression
+
+-- what a variable comes to through at most this many references, where `f` says what an expression comes to by its variables
+abbrev pub followed : {A : Type 0} → ((List ℕ → A) → Expression → A) → A → List VariableDefinition → ℕ → List ℕ → A
+followed f none definitions zero id = none
+followed f none definitions (suc n) id = defined (f (followed f none definitions n)) none (definition_of definitions id)
+
+-- what it comes to: no chain of references is longer than there are definitions, unless a variable leads to itself
+abbrev pub variable_by : {A : Type 0} → ((List ℕ → A) → Expression → A) → A → List VariableDefinition → List ℕ → A
+variable_by f none definitions id = followed f none definitions (length definitions) id
+
+-- each variable of an expression passes
+abbrev pub uses_only : (List ℕ → Bool) → Expression → Bool
+uses_only passes e = list_all passes (variables e)
+
+-- whether a variable is defined and leads to defined variables and to an end
+abbrev pub is_resolved : List VariableDefinition → List ℕ → Bool
+is_resolved definitions id = variable_by uses_only false definitions id
+
+-- what an expression comes to depends on its variables alone
+abbrev pub IsLocal : {A : Type 0} → ((List ℕ → A) → Expression → A) → Type 0
+IsLocal {A} f = (r s : List ℕ → A) (e : Expression) → ((id : List ℕ) → is_among (variables e) id ≡ true → r id ≡ s id) → f r e ≡ f s e
+
+-- for a variable that leads to an end, more references change nothing
+abbrev pub MoreReferencesChangeNothing : Type 0 → Type 0
+MoreReferencesChangeNothing A = (f : (List ℕ → A) → Expression → A) (none : A) → IsLocal f → (definitions : List VariableDefinition) (n : ℕ) (id : List ℕ)
+    → followed uses_only false definitions n id ≡ true → followed f none definitions n id ≡ followed f none definitions (suc n) id
+
+-- ---- faults
 
 -- a variable is defined twice, or one that is defined or used leads to itself or to one that isn't defined
-abbrev pub has_bad_variable : RawPolicy → Bool
+unfoldable pub has_bad_variable : Policy → Bool
 has_bad_variable p = has_double (ids_of p.variables)
     || not (list_all (is_resolved p.variables) (ids_of p.variables))
     || not (list_all (is_resolved p.variables) (used p))
 
+-- one level of a document, with a set already seen
+abbrev pub variables_of_tree : Tree-F Bool Bool → Bool
+variables_of_tree (Tree-F.Policy policy) = has_bad_variable policy
+variables_of_tree (Tree-F.Set set) = set
+
+-- a set, with each child already seen
+abbrev pub variables_of_set : PolicySet-F Bool Bool → Bool
+variables_of_set set = list_any (λ child. child) set.children
+
 -- some policy of the document has a variable that is defined twice, not at all, or through itself
-abbrev pub has_variable_fault : RawDocument → Bool
-has_variable_fault d = list_any has_bad_variable (policies d)
+abbrev pub has_variable_fault : Tree → Bool
+has_variable_fault = fold-Tree Bool Bool variables_of_tree variables_of_set

@@ -1,72 +1,56 @@
 //! The checker, which makes documents.
 
 ghost use Rattle.std.specs.Prelude.{◌≡◌, IfOk};
-ghost use Rattle.ent_policy.specs.Check.{IsRead, OnlyTypesAreLeft, checked, fault_of, if_typed};
+ghost use Rattle.ent_policy.specs.Check.{checked, tree_fault, whole_fault};
 ghost use Rattle.ent_policy.specs.Gives.{Gives};
 
-use crate::depths::exceeds_depth;
 use crate::document::{Document, Tree};
+use crate::extent::{depth, extent_of};
 use crate::fault::{CheckFault, DocFault};
-use crate::names::name_fault;
-use crate::parts::collect;
+use crate::first::{earlier, first_of, if_so};
+use crate::limits::limit_fault;
+use crate::measure::{TOO_DEEP, TOO_MANY};
 use crate::raw::RawDocument;
-use crate::reading;
-use crate::sizes::exceeds_size;
-use crate::typing::is_typed;
-use crate::variables::has_variable_fault;
+use crate::read::Read;
+use crate::reading::document;
 use std::alloc::{AllocError, Global};
 
-/// The document that was read, or its first fault, in the order of `DocFault`, each looked for over the whole document.
+/// The document that was read, or the one of its faults that stands first in the order of `DocFault`.
 ///
 /// Identifiers have 1 to 256 bytes, lists at most 256 members, a document at most 65,536 expressions, and expressions and
 /// policy sets nest at most 16 deep. Each expression has a type, also in definitions that aren't used: a match gives a boolean
 /// (section 7.6), and so does a condition (section 5.26). The texts are moved, not copied.
-#[tactic(auto, unfolding(crate::specs::Check::checked))]
+#[tactic(auto, unfolding(crate::specs::Check::checked, crate::specs::Check::fault_of))]
 pub fn check(alloc: Global, raw: RawDocument) -> Result<Document, CheckFault>
     ensures { Gives result (checked raw) }
 {
-    if let Some(fault) = first_fault(alloc, &raw)? {
-        return Err(CheckFault::Doc(fault));
+    let Read { value: tree, fault } = document(alloc, raw)?;
+    match earlier(fault, tree_fault(alloc, &tree)?) {
+        Some(fault) => Err(CheckFault::Doc(fault)),
+        None => Ok(Document::new(tree)),
     }
-    let tree = reading::tree(alloc, raw)?;
-    typed(alloc, tree)
 }
 
-/// The first fault before the types are looked at.
-#[tactic(auto, unfolding(crate::specs::Check::fault_of))]
-fn first_fault(alloc: Global, raw: &RawDocument) -> Result<Option<DocFault>, AllocError>
-    ensures { IfOk result (λ f. f ≡ fault_of raw.now) }
+/// The first fault of a tree.
+#[tactic(auto, unfolding(crate::specs::Check::tree_fault))]
+fn tree_fault(alloc: Global, tree: &Tree) -> Result<Option<DocFault>, AllocError>
+    ensures { IfOk result (λ f. f ≡ tree_fault tree.now) }
 {
-    let parts = collect(alloc, raw)?;
-    if let Some(fault) = name_fault(alloc, &parts)? {
-        return Ok(Some(fault));
-    }
-    if has_variable_fault(alloc, raw)? {
+    let limit = limit_fault(alloc, tree)?;
+    Ok(earlier(limit, whole_fault(alloc, tree)?))
+}
+
+/// The first fault of a tree as a whole.
+fn whole_fault(alloc: Global, tree: &Tree) -> Result<Option<DocFault>, AllocError>
+    ensures { IfOk result (λ f. f ≡ whole_fault tree.now) }
+{
+    let Some(extent) = extent_of(alloc, tree)? else {
         return Ok(Some(DocFault::Variable));
-    }
-    if exceeds_size(alloc, raw)? {
-        return Ok(Some(DocFault::Size));
-    }
-    if exceeds_depth(alloc, raw)? {
-        return Ok(Some(DocFault::Depth));
-    }
-    Ok(None)
+    };
+    let is_deep = extent.is_deep || depth(tree) == TOO_DEEP;
+    Ok(first_of(&[
+        if_so(extent.nodes == TOO_MANY, DocFault::Size),
+        if_so(is_deep, DocFault::Depth),
+        if_so(!extent.is_typed, DocFault::Type),
+    ]))
 }
-
-/// The document, if each expression in it has its type.
-#[tactic(auto, using(crate::proofs::Passed::is_checked_typed), unfolding(crate::specs::Check::if_typed))]
-fn typed(alloc: Global, tree: Tree) -> Result<Document, CheckFault>
-    requires { IsRead tree }
-    ensures { Gives result (if_typed tree) }
-{
-    if !is_typed(alloc, &tree)? {
-        return Err(CheckFault::Doc(DocFault::Type));
-    }
-    Ok(Document::new(tree))
-}
-
-/// Law: where no fault of a name stands, a document that can't be read names an unknown type or holds a value that isn't of its
-/// type.
-pub fn only_types_are_left()
-    ensures { OnlyTypesAreLeft }
-{}

@@ -120,8 +120,8 @@ impl Model for Document {
 }
 
 impl Document {
-    ghost use Rattle.std.specs.Prelude.{true};
-    ghost use Rattle.ent_policy.specs.Check.{IsChecked};
+    ghost use Rattle.std.specs.Prelude.{None, true};
+    ghost use Rattle.ent_policy.specs.Check.{IsChecked, tree_fault};
     ghost use Rattle.ent_policy.specs.Typing.{is_typed};
 
     pub(crate) fn new(tree: Tree) -> Document
@@ -131,11 +131,12 @@ impl Document {
         Document { tree }
     }
 
-    /// The policy or the policy set that the document holds: what the checker passed, with names and versions that can be read,
-    /// within the limits, each variable defined, and each expression of its type.
+    /// The policy or the policy set that the document holds: what the checker passed, within the limits of names, lists, nodes and
+    /// depth, each variable defined, and each expression of its type.
     pub fn tree(&self) -> &Tree
         ensures same { result.now ≡ self.now }
         ensures checked { IsChecked result.now }
+        ensures sound { tree_fault result.now ≡ None }
         ensures typed { is_typed result.now ≡ true }
     {
         &self.tree

@@ -2,6 +2,7 @@
 
 ghost use Rattle.std.specs.Prelude.{◌≡◌, ◌<◌, ◌≤◌, IfOk, IfSome, is_some, length, not};
 
+use crate::limits::is_bad_name;
 use crate::version::Version;
 use ent_values::Text;
 use std::alloc::{AllocError, Global};
@@ -57,7 +58,7 @@ impl DocKey {
 }
 
 impl Reference {
-    ghost use Rattle.ent_policy.specs.Names.{is_bad_name};
+    ghost use Rattle.ent_policy.specs.Limits.{is_bad_name};
 
     /// The reference, unless the id is empty or has more than 256 bytes.
     pub fn new(kind: Kind, id: Text) -> Option<Reference>
@@ -65,8 +66,7 @@ impl Reference {
         ensures kind { IfSome result (λ r. r.kind ≡ kind) }
         ensures id { IfSome result (λ r. r.id ≡ id) }
     {
-        let length = id.as_str().len();
-        if length == 0 || length > 256 {
+        if is_bad_name(id.as_str()) {
             return None;
         }
         Some(Reference { kind, id })

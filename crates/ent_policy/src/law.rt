@@ -1,6 +1,9 @@
-//! What `==` says of names and versions.
+//! Laws of names, versions and variables.
 
+ghost use Rattle.std.specs.Prelude.{ℕ, Option};
+ghost use Rattle.ent_functions.specs.declared.types.ArgType.{ArgType};
 ghost use Rattle.ent_policy.specs.Same.{SameKeysAreEqual, SameKindsAreEqual, SameReferencesAreEqual, SameVersionsAreEqual};
+ghost use Rattle.ent_policy.specs.Variables.{MoreReferencesChangeNothing};
 
 /// A law, with nothing to run: `==` of two kinds, of two versions, of two keys and of two references says whether they are equal.
 pub fn same_is_equal()
@@ -8,4 +11,10 @@ pub fn same_is_equal()
     ensures versions { SameVersionsAreEqual }
     ensures keys { SameKeysAreEqual }
     ensures references { SameReferencesAreEqual }
+{}
+
+/// A law, with nothing to run: what is counted of a variable that leads to an end, and its type, are the same through more references.
+pub fn more_references_change_nothing()
+    ensures counts { MoreReferencesChangeNothing ℕ }
+    ensures types { MoreReferencesChangeNothing (Option ArgType) }
 {}

@@ -2,32 +2,30 @@
 #![tactic(auto)]
 
 mod checker;
-mod depths;
 mod document;
 mod expression;
+mod extent;
 mod fault;
+mod first;
 mod key;
 mod law;
+mod limits;
 mod literals;
-mod names;
-mod parts;
+mod measure;
 mod raw;
+mod read;
 mod reading;
-mod sizes;
-mod tables;
-mod typing;
-mod uses;
 mod variables;
 mod version;
 
-pub use checker::{check, only_types_are_left};
+pub use checker::check;
 pub use document::{
     AllOf, AnyOf, Designator, Document, Effect, Match, Policy, PolicySet, Rule, Target, Tree,
 };
 pub use expression::{Expression, VariableDefinition};
 pub use fault::{CheckFault, DocFault};
 pub use key::{DocKey, Kind, Reference};
-pub use law::same_is_equal;
+pub use law::{more_references_change_nothing, same_is_equal};
 pub use raw::{
     RawAllOf, RawAnyOf, RawDesignator, RawDocument, RawExpression, RawLiteral, RawMatch, RawPolicy,
     RawPolicySet, RawRule, RawTarget, RawValue, RawVariableDefinition,

@@ -1,29 +1,53 @@
 //! From the parts of a document as read to those that are stored.
 
-ghost use Rattle.std.specs.Prelude.{◌≡◌};
-ghost use Rattle.ent_functions.specs.Identifiers.{function_of};
-ghost use Rattle.ent_policy.specs.declared.fault.DocFault.TheVariants as fault;
-ghost use Rattle.ent_policy.specs.Check.{all_of_of, any_of_of, apply_of, definition_read, designator_of, each_by, expression_of, known, match_of, maybe_by, policy_of, rule_of, set_of, target_of, tree_of};
-ghost use Rattle.ent_policy.specs.Gives.{Gives};
-ghost use Rattle.ent_policy.specs.Versions.{version_of};
+ghost use Rattle.std.specs.Prelude.{◌≡◌, IfOk};
+ghost use Rattle.ent_policy.specs.Reading.{apply_read, designator_read, document_read, each_read, expression_read, function_read, maybe_read, policy_algorithm_read, policy_read, rule_algorithm_read, set_read, target_read, version_read};
 
 use crate::document::{AllOf, AnyOf, Designator, Match, Policy, PolicySet, Rule, Target, Tree};
 use crate::expression::{Expression, VariableDefinition};
-use crate::fault::{CheckFault, DocFault};
-use crate::literals::{named_type, value_read};
+use crate::fault::DocFault;
+use crate::first::{earlier, first_of};
+use crate::literals::value;
 use crate::raw::{
     RawAllOf, RawAnyOf, RawDesignator, RawDocument, RawExpression, RawMatch, RawPolicy,
     RawPolicySet, RawRule, RawTarget, RawVariableDefinition,
 };
+use crate::read::{Read, Readable, done, each, known, made};
 use crate::version::Version;
 use ent_combine::{PolicyAlg, RuleAlg};
 use ent_functions::Function;
-use ent_values::{Items, Text};
-use std::alloc::Global;
+use ent_values::{DataType, Items, Text};
+use std::alloc::{AllocError, Global};
 
-#[tactic(auto, unfolding(crate::specs::Check::designator_of))]
-fn designator(raw: RawDesignator) -> Result<Designator, CheckFault>
-    ensures { Gives result (designator_of raw) }
+fn function(id: &str) -> Read<Function>
+    ensures { result ≡ function_read id.now }
+{
+    known(Function::Add, DocFault::Function, Function::from_id(id))
+}
+
+fn version(text: &str) -> Read<Version>
+    ensures { result ≡ version_read text.now }
+{
+    known(Version::zero(), DocFault::Version, Version::parse(text))
+}
+
+fn rule_algorithm(id: &str) -> Read<RuleAlg>
+    ensures { result ≡ rule_algorithm_read id.now }
+{
+    let stand_in = RuleAlg::DenyOverrides;
+    known(stand_in, DocFault::Algorithm, RuleAlg::from_id(id))
+}
+
+fn policy_algorithm(id: &str) -> Read<PolicyAlg>
+    ensures { result ≡ policy_algorithm_read id.now }
+{
+    let stand_in = PolicyAlg::OnlyOne;
+    known(stand_in, DocFault::Algorithm, PolicyAlg::from_id(id))
+}
+
+#[tactic(auto, unfolding(crate::specs::Reading::designator_read))]
+fn designator(raw: RawDesignator) -> Read<Designator>
+    ensures { result ≡ designator_read raw }
 {
     let RawDesignator {
         category,
@@ -32,284 +56,262 @@ fn designator(raw: RawDesignator) -> Result<Designator, CheckFault>
         issuer,
         must_be_present,
     } = raw;
-    let datatype = named_type(datatype.as_str())?;
-    Ok(Designator {
-        category,
-        attribute,
+    let found = DataType::from_name(datatype.as_str());
+    let datatype = known(DataType::Text, DocFault::Type, found);
+    made(
         datatype,
-        issuer,
-        must_be_present,
-    })
-}
-
-/// The function of that identifier.
-fn known_function(id: &str) -> Result<Function, CheckFault>
-    ensures { Gives result (known (function_of id.now) fault.Function) }
-{
-    Function::from_id(id).ok_or(CheckFault::Doc(DocFault::Function))
+        move |datatype| Designator {
+            category,
+            attribute,
+            datatype,
+            issuer,
+            must_be_present,
+        },
+    )
 }
 
 /// An expression.
 #[cycle(expression)]
-#[tactic(auto, using(crate::proofs::Read::apply_is_read))]
-fn expression(alloc: Global, raw: RawExpression) -> Result<Expression, CheckFault>
-    ensures { Gives result (expression_of raw) }
+#[tactic(auto, using(crate::proofs::WhatIsRead::apply_is_read))]
+fn expression(alloc: Global, raw: RawExpression) -> Result<Read<Expression>, AllocError>
+    ensures { IfOk result (λ r. r ≡ expression_read raw) }
 {
     match raw {
-        RawExpression::Value(value) => Ok(Expression::Value(value_read(alloc, value)?)),
-        RawExpression::Designator(named) => Ok(Expression::Designator(designator(named)?)),
-        RawExpression::Variable(id) => Ok(Expression::Variable(id)),
+        RawExpression::Value(raw) => Ok(made(value(alloc, raw)?, |v| Expression::Value(v))),
+        RawExpression::Designator(raw) => Ok(made(designator(raw), |d| Expression::Designator(d))),
+        RawExpression::Variable(id) => Ok(done(Expression::Variable(id))),
         RawExpression::Apply(id, arguments) => apply(alloc, id, arguments),
-        RawExpression::Function(id) => Ok(Expression::Function(known_function(id.as_str())?)),
+        RawExpression::Function(id) => {
+            Ok(made(function(id.as_str()), |f| Expression::Function(f)))
+        }
     }
 }
 
 /// A function of arguments.
 #[cycle(expression)]
-fn apply(alloc: Global, id: Text, arguments: Items<RawExpression>) -> Result<Expression, CheckFault>
-    ensures { Gives result (apply_of id arguments) }
+fn apply(
+    alloc: Global,
+    id: Text,
+    arguments: Items<RawExpression>,
+) -> Result<Read<Expression>, AllocError>
+    ensures { IfOk result (λ r. r ≡ apply_read id arguments) }
 {
-    let function = known_function(id.as_str())?;
-    Ok(Expression::Apply(function, expressions(alloc, arguments)?))
+    let function = function(id.as_str());
+    let all = expressions(alloc, arguments)?;
+    Ok(Read {
+        value: Expression::Apply(function.value, all.value),
+        fault: first_of(&[function.fault, all.fault]),
+    })
 }
 
 /// The arguments.
 #[cycle(expression)]
-fn expressions(alloc: Global, raw: Items<RawExpression>) -> Result<Items<Expression>, CheckFault>
-    ensures { Gives result (each_by expression_of raw) }
-{
-    let mut all = Items::with_capacity(alloc, raw.len())?;
-    for part in raw.into_vec() {
-        all.push(expression(alloc, part)?)?;
-    }
-    Ok(all)
-}
-
-#[tactic(auto, unfolding(crate::specs::Check::match_of))]
-fn match_read(alloc: Global, raw: RawMatch) -> Result<Match, CheckFault>
-    ensures { Gives result (match_of raw) }
-{
-    let RawMatch {
-        function,
-        literal,
-        designator: named,
-    } = raw;
-    let function = known_function(function.as_str())?;
-    let literal = value_read(alloc, literal)?;
-    let designator = designator(named)?;
-    Ok(Match {
-        function,
-        literal,
-        designator,
-    })
-}
-
-fn matches(alloc: Global, raw: Items<RawMatch>) -> Result<Items<Match>, CheckFault>
-    ensures { Gives result (each_by match_of raw) }
-{
-    let mut all = Items::with_capacity(alloc, raw.len())?;
-    for part in raw.into_vec() {
-        all.push(match_read(alloc, part)?)?;
-    }
-    Ok(all)
-}
-
-#[tactic(auto, unfolding(crate::specs::Check::all_of_of))]
-fn all_of(alloc: Global, raw: RawAllOf) -> Result<AllOf, CheckFault>
-    ensures { Gives result (all_of_of raw) }
-{
-    Ok(AllOf {
-        matches: matches(alloc, raw.matches)?,
-    })
-}
-
-fn all_ofs(alloc: Global, raw: Items<RawAllOf>) -> Result<Items<AllOf>, CheckFault>
-    ensures { Gives result (each_by all_of_of raw) }
-{
-    let mut all = Items::with_capacity(alloc, raw.len())?;
-    for part in raw.into_vec() {
-        all.push(all_of(alloc, part)?)?;
-    }
-    Ok(all)
-}
-
-#[tactic(auto, unfolding(crate::specs::Check::any_of_of))]
-fn any_of(alloc: Global, raw: RawAnyOf) -> Result<AnyOf, CheckFault>
-    ensures { Gives result (any_of_of raw) }
-{
-    Ok(AnyOf {
-        all_of: all_ofs(alloc, raw.all_of)?,
-    })
-}
-
-fn any_ofs(alloc: Global, raw: Items<RawAnyOf>) -> Result<Items<AnyOf>, CheckFault>
-    ensures { Gives result (each_by any_of_of raw) }
-{
-    let mut all = Items::with_capacity(alloc, raw.len())?;
-    for part in raw.into_vec() {
-        all.push(any_of(alloc, part)?)?;
-    }
-    Ok(all)
-}
-
-#[tactic(auto, unfolding(crate::specs::Check::target_of))]
-fn target(alloc: Global, raw: RawTarget) -> Result<Target, CheckFault>
-    ensures { Gives result (target_of raw) }
-{
-    Ok(Target {
-        any_of: any_ofs(alloc, raw.any_of)?,
-    })
-}
-
-#[tactic(auto, unfolding(crate::specs::Check::definition_read))]
-fn definition(alloc: Global, raw: RawVariableDefinition) -> Result<VariableDefinition, CheckFault>
-    ensures { Gives result (definition_read raw) }
-{
-    let RawVariableDefinition {
-        id,
-        expression: meant,
-    } = raw;
-    Ok(VariableDefinition {
-        id,
-        expression: expression(alloc, meant)?,
-    })
-}
-
-fn definitions(
+fn expressions(
     alloc: Global,
-    raw: Items<RawVariableDefinition>,
-) -> Result<Items<VariableDefinition>, CheckFault>
-    ensures { Gives result (each_by definition_read raw) }
+    raw: Items<RawExpression>,
+) -> Result<Read<Items<Expression>>, AllocError>
+    ensures { IfOk result (λ r. r ≡ each_read expression_read raw) }
 {
-    let mut all = Items::with_capacity(alloc, raw.len())?;
+    let mut value = Items::with_capacity(alloc, raw.len())?;
+    let mut fault = None;
     for part in raw.into_vec() {
-        all.push(definition(alloc, part)?)?;
+        let Read {
+            value: one,
+            fault: found,
+        } = expression(alloc, part)?;
+        value.push(one)?;
+        fault = earlier(fault, found);
     }
-    Ok(all)
+    Ok(Read { value, fault })
 }
 
-fn condition(alloc: Global, raw: Option<RawExpression>) -> Result<Option<Expression>, CheckFault>
-    ensures { Gives result (maybe_by expression_of raw) }
+impl Readable<Match> for RawMatch {
+    ghost use Rattle.ent_policy.specs.Reading.{match_read};
+
+    ghost what = { match_read };
+
+    #[tactic(auto, unfolding(crate::specs::Reading::match_read))]
+    fn read(self, alloc: Global) -> Result<Read<Match>, AllocError> {
+        let RawMatch {
+            function: id,
+            literal,
+            designator: named,
+        } = self;
+        let function = function(id.as_str());
+        let literal = value(alloc, literal)?;
+        let designator = designator(named);
+        Ok(Read {
+            fault: first_of(&[function.fault, literal.fault, designator.fault]),
+            value: Match {
+                function: function.value,
+                literal: literal.value,
+                designator: designator.value,
+            },
+        })
+    }
+}
+
+impl Readable<AllOf> for RawAllOf {
+    ghost use Rattle.ent_policy.specs.Reading.{all_of_read};
+
+    ghost what = { all_of_read };
+
+    #[tactic(auto, unfolding(crate::specs::Reading::all_of_read))]
+    fn read(self, alloc: Global) -> Result<Read<AllOf>, AllocError> {
+        Ok(made(each(alloc, self.matches)?, |matches| AllOf { matches }))
+    }
+}
+
+impl Readable<AnyOf> for RawAnyOf {
+    ghost use Rattle.ent_policy.specs.Reading.{any_of_read};
+
+    ghost what = { any_of_read };
+
+    #[tactic(auto, unfolding(crate::specs::Reading::any_of_read))]
+    fn read(self, alloc: Global) -> Result<Read<AnyOf>, AllocError> {
+        Ok(made(each(alloc, self.all_of)?, |all_of| AnyOf { all_of }))
+    }
+}
+
+#[tactic(auto, unfolding(crate::specs::Reading::target_read))]
+fn target(alloc: Global, raw: RawTarget) -> Result<Read<Target>, AllocError>
+    ensures { IfOk result (λ r. r ≡ target_read raw) }
+{
+    Ok(made(each(alloc, raw.any_of)?, |any_of| Target { any_of }))
+}
+
+impl Readable<VariableDefinition> for RawVariableDefinition {
+    ghost use Rattle.ent_policy.specs.Reading.{definition_read};
+
+    ghost what = { definition_read };
+
+    #[tactic(auto, unfolding(crate::specs::Reading::definition_read))]
+    fn read(self, alloc: Global) -> Result<Read<VariableDefinition>, AllocError> {
+        let RawVariableDefinition {
+            id,
+            expression: meant,
+        } = self;
+        Ok(made(expression(alloc, meant)?, move |expression| {
+            VariableDefinition { id, expression }
+        }))
+    }
+}
+
+fn condition(
+    alloc: Global,
+    raw: Option<RawExpression>,
+) -> Result<Read<Option<Expression>>, AllocError>
+    ensures { IfOk result (λ r. r ≡ maybe_read expression_read raw) }
 {
     match raw {
-        None => Ok(None),
-        Some(meant) => Ok(Some(expression(alloc, meant)?)),
+        None => Ok(done(None)),
+        Some(meant) => Ok(made(expression(alloc, meant)?, |tested| Some(tested))),
     }
 }
 
-#[tactic(auto, unfolding(crate::specs::Check::rule_of))]
-fn rule(alloc: Global, raw: RawRule) -> Result<Rule, CheckFault>
-    ensures { Gives result (rule_of raw) }
+impl Readable<Rule> for RawRule {
+    ghost use Rattle.ent_policy.specs.Reading.{rule_read};
+
+    ghost what = { rule_read };
+
+    #[tactic(auto, unfolding(crate::specs::Reading::rule_read))]
+    fn read(self, alloc: Global) -> Result<Read<Rule>, AllocError> {
+        let RawRule {
+            id,
+            effect,
+            target: meant,
+            condition: tested,
+        } = self;
+        let target = target(alloc, meant)?;
+        let condition = condition(alloc, tested)?;
+        Ok(Read {
+            fault: first_of(&[target.fault, condition.fault]),
+            value: Rule {
+                id,
+                effect,
+                target: target.value,
+                condition: condition.value,
+            },
+        })
+    }
+}
+
+#[tactic(auto, unfolding(crate::specs::Reading::policy_read))]
+fn policy(alloc: Global, raw: RawPolicy) -> Result<Read<Policy>, AllocError>
+    ensures { IfOk result (λ r. r ≡ policy_read raw) }
 {
-    let RawRule {
-        id,
-        effect,
-        target: meant,
-        condition: tested,
-    } = raw;
-    let target = target(alloc, meant)?;
-    let condition = condition(alloc, tested)?;
-    Ok(Rule {
-        id,
-        effect,
-        target,
-        condition,
+    let version = version(raw.version.as_str());
+    let algorithm = rule_algorithm(raw.algorithm.as_str());
+    let target = target(alloc, raw.target)?;
+    let variables = each(alloc, raw.variables)?;
+    let rules = each(alloc, raw.rules)?;
+    Ok(Read {
+        fault: first_of(&[
+            version.fault,
+            algorithm.fault,
+            target.fault,
+            variables.fault,
+            rules.fault,
+        ]),
+        value: Policy {
+            id: raw.id,
+            version: version.value,
+            algorithm: algorithm.value,
+            target: target.value,
+            variables: variables.value,
+            rules: rules.value,
+        },
     })
 }
 
-fn rules(alloc: Global, raw: Items<RawRule>) -> Result<Items<Rule>, CheckFault>
-    ensures { Gives result (each_by rule_of raw) }
-{
-    let mut all = Items::with_capacity(alloc, raw.len())?;
-    for part in raw.into_vec() {
-        all.push(rule(alloc, part)?)?;
-    }
-    Ok(all)
-}
-
-/// The version that a text writes.
-fn known_version(text: &str) -> Result<Version, CheckFault>
-    ensures { Gives result (known (version_of text.now) fault.Version) }
-{
-    Version::parse(text).ok_or(CheckFault::Doc(DocFault::Version))
-}
-
-#[tactic(auto, unfolding(crate::specs::Check::policy_of))]
-fn policy(alloc: Global, raw: RawPolicy) -> Result<Policy, CheckFault>
-    ensures { Gives result (policy_of raw) }
-{
-    let RawPolicy {
-        id,
-        version,
-        algorithm,
-        target: meant,
-        variables,
-        rules: listed,
-    } = raw;
-    let version = known_version(version.as_str())?;
-    let algorithm = RuleAlg::from_id(algorithm.as_str()).ok_or(CheckFault::Doc(
-        DocFault::Algorithm,
-    ))?;
-    let target = target(alloc, meant)?;
-    let variables = definitions(alloc, variables)?;
-    let rules = rules(alloc, listed)?;
-    Ok(Policy {
-        id,
-        version,
-        algorithm,
-        target,
-        variables,
-        rules,
-    })
-}
-
-/// What a document holds, or the first name or value in it that can't be read.
+/// A document.
 #[cycle(document)]
-#[tactic(auto, using(crate::proofs::Read::set_is_read))]
-pub(crate) fn tree(alloc: Global, raw: RawDocument) -> Result<Tree, CheckFault>
-    ensures { Gives result (tree_of raw) }
+#[tactic(auto, using(crate::proofs::WhatIsRead::set_is_read))]
+pub(crate) fn document(alloc: Global, raw: RawDocument) -> Result<Read<Tree>, AllocError>
+    ensures { IfOk result (λ r. r ≡ document_read raw) }
 {
     match raw {
-        RawDocument::Policy(part) => Ok(Tree::Policy(policy(alloc, part)?)),
-        RawDocument::Set(part) => Ok(Tree::Set(set(alloc, part)?)),
+        RawDocument::Policy(raw) => Ok(made(policy(alloc, raw)?, |policy| Tree::Policy(policy))),
+        RawDocument::Set(raw) => Ok(made(set(alloc, raw)?, |set| Tree::Set(set))),
     }
 }
 
+/// A set.
 #[cycle(document)]
-#[tactic(auto, unfolding(crate::specs::Check::set_of))]
-fn set(alloc: Global, raw: RawPolicySet) -> Result<PolicySet, CheckFault>
-    ensures { Gives result (set_of raw) }
+#[tactic(auto, unfolding(crate::specs::Reading::set_read))]
+fn set(alloc: Global, raw: RawPolicySet) -> Result<Read<PolicySet>, AllocError>
+    ensures { IfOk result (λ r. r ≡ set_read raw) }
 {
-    let RawPolicySet {
-        id,
-        version,
-        algorithm,
-        target: meant,
-        children: listed,
-    } = raw;
-    let version = known_version(version.as_str())?;
-    let algorithm = PolicyAlg::from_id(algorithm.as_str()).ok_or(CheckFault::Doc(
-        DocFault::Algorithm,
-    ))?;
-    let target = target(alloc, meant)?;
-    let children = trees(alloc, listed)?;
-    Ok(PolicySet {
-        id,
-        version,
-        algorithm,
-        target,
-        children,
+    let version = version(raw.version.as_str());
+    let algorithm = policy_algorithm(raw.algorithm.as_str());
+    let target = target(alloc, raw.target)?;
+    let children = documents(alloc, raw.children)?;
+    Ok(Read {
+        fault: first_of(&[version.fault, algorithm.fault, target.fault, children.fault]),
+        value: PolicySet {
+            id: raw.id,
+            version: version.value,
+            algorithm: algorithm.value,
+            target: target.value,
+            children: children.value,
+        },
     })
 }
 
 /// The children of a set.
 #[cycle(document)]
-fn trees(alloc: Global, raw: Items<RawDocument>) -> Result<Items<Tree>, CheckFault>
-    ensures { Gives result (each_by tree_of raw) }
+fn documents(alloc: Global, raw: Items<RawDocument>) -> Result<Read<Items<Tree>>, AllocError>
+    ensures { IfOk result (λ r. r ≡ each_read document_read raw) }
 {
-    let mut all = Items::with_capacity(alloc, raw.len())?;
+    let mut value = Items::with_capacity(alloc, raw.len())?;
+    let mut fault = None;
     for part in raw.into_vec() {
-        all.push(tree(alloc, part)?)?;
+        let Read {
+            value: one,
+            fault: found,
+        } = document(alloc, part)?;
+        value.push(one)?;
+        fault = earlier(fault, found);
     }
-    Ok(all)
+    Ok(Read { value, fault })
 }

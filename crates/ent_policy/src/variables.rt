@@ -1,33 +1,33 @@
 //! The variables of policies: whether each is defined once and not through itself.
 
-ghost use Rattle.std.specs.Prelude.{◌≡◌, ◌++◌, false, IfOk, OnOk, map};
-ghost use Rattle.std.specs.List.{list_all};
+ghost use Rattle.std.specs.Prelude.{◌≡◌, false, IfOk, map};
+ghost use Rattle.std.specs.List.{flat_map, list_all};
 ghost use Rattle.std.specs.List.Sorted.{IsPermutation};
-ghost use Rattle.ent_policy.specs.Order.{AreDistinctIds, IsOrderOf, has_id};
-ghost use Rattle.ent_policy.specs.Variables.{condition_variables, has_bad_variable, has_double, has_variable_fault, ids_of, joined, policies, variables};
+ghost use Rattle.ent_policy.specs.Limits.{has_double};
+ghost use Rattle.ent_policy.specs.Order.{AreDistinctIds, IsFoundOrder, IsOrdered, has_id};
+ghost use Rattle.ent_policy.specs.Variables.{condition_variables, ids_of, uses_only, variables};
 
-use crate::parts::policies;
-use crate::raw::{RawDocument, RawExpression, RawPolicy, RawRule, RawVariableDefinition};
-use crate::tables::listed;
+use crate::document::{Policy, Rule};
+use crate::expression::{Expression, VariableDefinition};
 use std::alloc::{AllocError, Global};
 use std::collections::{BTreeMap, BTreeSet};
 
 /// Whether all variables of an expression are known.
 #[cycle(known)]
-fn uses_only(expression: &RawExpression, known: &BTreeSet<&str>) -> bool
-    ensures { result ≡ list_all (has_id known.now) (variables expression.now) }
+fn uses_only(expression: &Expression, known: &BTreeSet<&str>) -> bool
+    ensures { result ≡ uses_only (has_id known.now) expression.now }
 {
     match expression {
-        RawExpression::Variable(id) => known.contains(id.as_str()),
-        RawExpression::Apply(_, arguments) => all_use_only(arguments.as_slice(), known),
+        Expression::Variable(id) => known.contains(id.as_str()),
+        Expression::Apply(_, arguments) => all_use_only(arguments.as_slice(), known),
         _ => true,
     }
 }
 
 /// Whether all variables of some expressions are known.
 #[cycle(known)]
-fn all_use_only(expressions: &[RawExpression], known: &BTreeSet<&str>) -> bool
-    ensures { result ≡ list_all (has_id known.now) (joined (map variables expressions.now)) }
+fn all_use_only(expressions: &[Expression], known: &BTreeSet<&str>) -> bool
+    ensures { result ≡ list_all (has_id known.now) (flat_map (λ ids. ids) (map variables expressions.now)) }
 {
     for expression in expressions {
         if !uses_only(expression, known) {
@@ -38,7 +38,7 @@ fn all_use_only(expressions: &[RawExpression], known: &BTreeSet<&str>) -> bool
 }
 
 /// Whether all variables of a condition are known.
-fn condition_uses_only(condition: &Option<RawExpression>, known: &BTreeSet<&str>) -> bool
+fn condition_uses_only(condition: &Option<Expression>, known: &BTreeSet<&str>) -> bool
     ensures { result ≡ list_all (has_id known.now) (condition_variables condition.now) }
 {
     match condition {
@@ -48,8 +48,8 @@ fn condition_uses_only(condition: &Option<RawExpression>, known: &BTreeSet<&str>
 }
 
 /// Whether all variables of the rules' conditions are known.
-fn conditions_use_only(rules: &[RawRule], known: &BTreeSet<&str>) -> bool
-    ensures { result ≡ list_all (has_id known.now) (joined (map (λ r. condition_variables r.condition) rules.now)) }
+fn conditions_use_only(rules: &[Rule], known: &BTreeSet<&str>) -> bool
+    ensures { result ≡ list_all (has_id known.now) (flat_map (λ r. condition_variables r.condition) rules.now) }
 {
     for rule in rules {
         if !condition_uses_only(&rule.condition, known) {
@@ -62,7 +62,7 @@ fn conditions_use_only(rules: &[RawRule], known: &BTreeSet<&str>) -> bool
 /// The ids of some definitions, or `None` if two are the same.
 fn distinct_ids(
     alloc: Global,
-    definitions: &[RawVariableDefinition],
+    definitions: &[VariableDefinition],
 ) -> Result<Option<BTreeSet<&str>>, AllocError>
     ensures { IfOk result (λ ids. AreDistinctIds definitions.now ids) }
 {
@@ -75,43 +75,29 @@ fn distinct_ids(
     Ok(Some(ids))
 }
 
-/// References to some definitions.
-fn references(
-    alloc: Global,
-    definitions: &[RawVariableDefinition],
-) -> Result<Vec<&RawVariableDefinition>, AllocError>
-    ensures { IfOk result (λ v. map (λ d. d.now) v.items ≡ definitions.now) }
-{
-    let mut all = Vec::new(alloc);
-    for definition in definitions {
-        all.push(definition)?;
-    }
-    Ok(all)
-}
-
 /// A step of a walk along the uses of variables.
 #[derive(Drop)]
 enum Step<'a> {
-    Enter(&'a RawVariableDefinition),
-    Leave(&'a RawVariableDefinition),
+    Enter(&'a VariableDefinition),
+    Leave(&'a VariableDefinition),
 }
 
 /// Adds that the definitions of an expression's variables are entered.
 #[cycle(uses)]
 fn add_uses<'a>(
-    expression: &RawExpression,
-    by_id: &BTreeMap<&str, &'a RawVariableDefinition>,
+    expression: &Expression,
+    by_id: &BTreeMap<&str, &'a VariableDefinition>,
     steps: &mut Vec<Step<'a>>,
 ) -> Result<(), AllocError> {
     match expression {
-        RawExpression::Variable(id) => match by_id.get(id.as_str()) {
+        Expression::Variable(id) => match by_id.get(id.as_str()) {
             Some(definition) => {
                 steps.push(Step::Enter(*definition))?;
                 Ok(())
             }
             None => Ok(()),
         },
-        RawExpression::Apply(_, arguments) => add_all_uses(arguments.as_slice(), by_id, steps),
+        Expression::Apply(_, arguments) => add_all_uses(arguments.as_slice(), by_id, steps),
         _ => Ok(()),
     }
 }
@@ -119,8 +105,8 @@ fn add_uses<'a>(
 /// Adds that the definitions of the variables of some expressions are entered.
 #[cycle(uses)]
 fn add_all_uses<'a>(
-    expressions: &[RawExpression],
-    by_id: &BTreeMap<&str, &'a RawVariableDefinition>,
+    expressions: &[Expression],
+    by_id: &BTreeMap<&str, &'a VariableDefinition>,
     steps: &mut Vec<Step<'a>>,
 ) -> Result<(), AllocError> {
     for expression in expressions {
@@ -132,7 +118,7 @@ fn add_all_uses<'a>(
 /// Numbers by the ids of definitions, from `count` down as the walk leaves them.
 fn walk<'a>(
     alloc: Global,
-    by_id: &BTreeMap<&str, &'a RawVariableDefinition>,
+    by_id: &BTreeMap<&str, &'a VariableDefinition>,
     mut steps: Vec<Step<'a>>,
     count: usize,
 ) -> Result<BTreeMap<&'a str, usize>, AllocError> {
@@ -157,13 +143,21 @@ fn walk<'a>(
     Ok(ranks)
 }
 
+/// The number of an id, 0 where there is none.
+fn rank(ranks: &BTreeMap<&str, usize>, id: &str) -> usize {
+    match ranks.get(id) {
+        Some(rank) => *rank,
+        None => 0,
+    }
+}
+
 /// The definitions, mostly each before those that it uses.
 ///
 /// The order only spares time: where no definition is used through itself, each stands before those that it uses.
 fn users_first(
     alloc: Global,
-    definitions: &[RawVariableDefinition],
-) -> Result<Vec<&RawVariableDefinition>, AllocError>
+    definitions: &[VariableDefinition],
+) -> Result<Vec<&VariableDefinition>, AllocError>
     ensures { IfOk result (λ v. IsPermutation definitions.now (map (λ d. d.now) v.items)) }
 {
     let mut by_id = BTreeMap::new(alloc);
@@ -173,18 +167,18 @@ fn users_first(
         steps.push(Step::Enter(definition))?;
     }
     let ranks = walk(alloc, &by_id, steps, definitions.len())?;
-    let mut all = references(alloc, definitions)?;
-    all.sort_unstable_by_key(|definition| listed(&ranks, definition.id.as_str()));
+    let mut all: Vec<&VariableDefinition> = definitions.iter().collect(alloc)?;
+    all.sort_unstable_by_key(|definition| rank(&ranks, definition.id.as_str()));
     Ok(all)
 }
 
-/// The definitions that lead to an end, each after those that it uses.
-pub(crate) fn in_order(
+/// The definitions, each after those that it uses; or `None`, if one leads to no end.
+fn in_order(
     alloc: Global,
-    definitions: &[RawVariableDefinition],
-) -> Result<Vec<&RawVariableDefinition>, AllocError>
+    definitions: &[VariableDefinition],
+) -> Result<Option<Vec<&VariableDefinition>>, AllocError>
     requires { has_double (ids_of definitions.now) ≡ false }
-    ensures { IfOk result (λ v. IsOrderOf definitions.now (map (λ d. d.now) v.items)) }
+    ensures { IfOk result (λ found. IsFoundOrder definitions.now found) }
 {
     let mut pending = users_first(alloc, definitions)?;
     let mut stuck = Vec::new(alloc);
@@ -199,31 +193,31 @@ pub(crate) fn in_order(
             stuck.push(definition)?;
         }
     }
-    Ok(ordered)
+    if stuck.is_empty() {
+        Ok(Some(ordered))
+    } else {
+        Ok(None)
+    }
 }
 
-/// Whether a variable of the policy is defined twice, not at all, or through itself.
-fn has_bad_variable(alloc: Global, policy: &RawPolicy) -> Result<bool, AllocError>
-    ensures { IfOk result (λ b. b ≡ has_bad_variable policy.now) }
+/// The definitions of a policy, each after those that it uses; or `None`, if a variable of the policy is defined twice, not at all, or
+/// through itself.
+#[tactic(auto, using(crate::proofs::References::bad_condition), unfolding(crate::specs::Variables::has_bad_variable))]
+pub(crate) fn ordered(
+    alloc: Global,
+    policy: &Policy,
+) -> Result<Option<Vec<&VariableDefinition>>, AllocError>
+    ensures { IfOk result (λ found. IsOrdered policy.now found) }
 {
     let definitions = policy.variables.as_slice();
     let Some(ids) = distinct_ids(alloc, definitions)? else {
-        return Ok(true);
+        return Ok(None);
     };
-    if in_order(alloc, definitions)?.len() < definitions.len() {
-        return Ok(true);
+    let Some(order) = in_order(alloc, definitions)? else {
+        return Ok(None);
+    };
+    if !conditions_use_only(policy.rules.as_slice(), &ids) {
+        return Ok(None);
     }
-    Ok(!conditions_use_only(policy.rules.as_slice(), &ids))
-}
-
-/// Whether, in some policy of the document, a variable is defined twice, not at all, or through itself.
-pub(crate) fn has_variable_fault(alloc: Global, document: &RawDocument) -> Result<bool, AllocError>
-    ensures { IfOk result (λ b. b ≡ has_variable_fault document.now) }
-{
-    for policy in policies(alloc, document)?.as_slice() {
-        if has_bad_variable(alloc, policy)? {
-            return Ok(true);
-        }
-    }
-    Ok(false)
+    Ok(Some(order))
 }

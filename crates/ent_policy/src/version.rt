@@ -1,6 +1,6 @@
 //! Versions of policies.
 
-ghost use Rattle.std.specs.Prelude.{◌≡◌, IfOk, Some, nat_eq, refl, string_bytes};
+ghost use Rattle.std.specs.Prelude.{◌≡◌, ◌∷◌, [], IfOk, Some, nat_eq, refl, string_bytes};
 ghost use Rattle.std.specs.Cmp as Cmp;
 ghost use Rattle.std.specs.Cmp.Lexicographic.{nat_list_cmp_total, nat_list_eq_equiv, pointwise, slice_cmp, texts_po, texts_ties};
 ghost use Rattle.std.specs.Ordering.{nat_cmp};
@@ -88,6 +88,16 @@ impl Version {
             count += 1;
         }
         Some(Version { numbers, count })
+    }
+
+    /// The version 0.
+    pub(crate) fn zero() -> Version
+        ensures { result ≡ 0 ∷ [] }
+    {
+        Version {
+            numbers: [0u32; 8],
+            count: 1,
+        }
     }
 
     /// The text of the version: its numbers in decimal, with dots between them.

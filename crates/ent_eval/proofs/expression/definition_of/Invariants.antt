@@ -1,5 +1,5 @@
 use Rattle.std.proofs.Common.{◌≡◌, drop}
-use Rattle.ent_policy.specs.Typing.{definition_of}
+use Rattle.ent_policy.specs.Variables.{definition_of}
 use Rattle.ent_eval.proofs.expression.definition_of.Given as goal
 
 abbrev pub invariant-loop-definition : goal.invariant-loop-definition

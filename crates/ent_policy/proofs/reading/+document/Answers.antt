@@ -1,25 +1,16 @@
-use Rattle.std.proofs.Common.{◌≡◌, ◌+◌, ◌++◌, ◌∷◌, [], length, ◌∙◌, arith}
 use Rattle.std.proofs.lemmas.Iterator.Adapters.{YieldsList-from_vec}
-use Rattle.std.proofs.lemmas.Iterator.Consumers.{YieldsList-turn, YieldsList-end}
-use Rattle.std.proofs.lemmas.List.{length_push}
-use Rattle.std.proofs.lemmas.Result.{err_from_is_err_and}
-use Rattle.ent_policy.specs.Check.{tree_of}
-use Rattle.ent_policy.proofs.Members.{goes_on, ends, is_done}
+use Rattle.std.proofs.lemmas.Iterator.Consumers.{YieldsList-end}
+use Rattle.ent_policy.specs.Reading.{document_read}
+use Rattle.ent_policy.proofs.Firsts.{all_taken, fault_taken, value_taken}
 use Rattle.ent_policy.proofs.reading.+document.Goals as goal
 
-pub trees-loop-part-preserved : goal.trees-loop-part-preserved
-trees-loop-part-preserved s c =
-    let t = YieldsList-turn (YieldsList-from_vec {s = c.into_iter-part-iterator.result} c.args.raw (cc) (cc)) c.loop-part.yielded c.loop-part.part-iterator c.loop-part.yielded_by c.next.result c.next.new.self c.in-Some.part c.in-Some.is c.next.ensures.steps in
-    let longer : length (c.loop-part.yielded ++ c.in-Some.part ∷ []) ≡ length c.loop-part.yielded + 1 = length_push c.loop-part.yielded c.in-Some.part in
-    rw (c.in_ok-push.ensures.ok, longer) (goes_on tree_of c.loop-part.all c.args.raw (length c.loop-part.yielded) c.in-Some.part c.in_ok-tree.field-0 _ t.0 t.1 c.in_ok-tree.ensures c.loop-part.invariant)
+pub documents-loop-part-preserved : goal.documents-loop-part-preserved
+documents-loop-part-preserved s c = record {
+  values = value_taken document_read c.loop-part.yielded c.in-Some.part c.loop-part.value c.push.new.self c.in_ok-one.field-0 c.loop-part.invariant.values c.in_ok-one.ensures c.in_ok-push.ensures.ok;
+  faults = fault_taken document_read c.loop-part.yielded c.in-Some.part c.loop-part.fault c.earlier-fault.result c.in_ok-one.field-0 c.loop-part.invariant.faults c.in_ok-one.ensures c.earlier-fault.ensures;
+}
 
-pub trees-returns-in_err-tree : goal.trees-returns-in_err-tree
-trees-returns-in_err-tree s c =
-    let t = YieldsList-turn (YieldsList-from_vec {s = c.into_iter-part-iterator.result} c.args.raw (cc) (cc)) c.loop-part.yielded c.loop-part.part-iterator c.loop-part.yielded_by c.next.result c.next.new.self c.in-Some.part c.in-Some.is c.next.ensures.steps in
-    let p = err_from_is_err_and c.from_residual-in_err-tree.result c.from_residual-in_err-tree.ensures.1 in
-    rw (p.1, p.2) (ends tree_of c.in_err-tree.field-0.0 c.loop-part.all c.args.raw (length c.loop-part.yielded) c.in-Some.part _ t.0 t.1 c.in_err-tree.ensures c.loop-part.invariant)
-
-pub trees-returns : goal.trees-returns
-trees-returns s c =
+pub documents-returns : goal.documents-returns
+documents-returns s c =
     let t = YieldsList-end (YieldsList-from_vec {s = c.into_iter-part-iterator.result} c.args.raw (cc) (cc)) c.loop-part.yielded c.loop-part.part-iterator c.loop-part.yielded_by c.next.result c.next.new.self c.in-None.is c.next.ensures.steps in
-    is_done tree_of c.loop-part.all c.args.raw (length c.loop-part.yielded) _ (omega (arith, t.1)) c.loop-part.invariant
+    all_taken document_read c.args.raw c.loop-part.yielded c.loop-part.value c.loop-part.fault t.0 c.loop-part.invariant.values c.loop-part.invariant.faults

@@ -1,7 +1,10 @@
-use Rattle.std.proofs.Common.{◌≡◌, length, drop}
-use Rattle.ent_policy.specs.Check.{each_by, tree_of}
-use Rattle.ent_policy.proofs.Members.{with_front}
+use Rattle.std.proofs.Common.{◌≡◌, map}
+use Rattle.ent_policy.specs.First.{first_of}
+use Rattle.ent_policy.specs.Reading.{document_read}
 use Rattle.ent_policy.proofs.reading.+document.Given as goal
 
-abbrev pub invariant-trees-loop-part : goal.invariant-trees-loop-part
-invariant-trees-loop-part l = with_front l.all (each_by tree_of (drop (length l.yielded) l.fn.raw)) ≡ each_by tree_of l.fn.raw
+abbrev pub invariant-documents-loop-part : goal.invariant-documents-loop-part
+invariant-documents-loop-part l = record {
+  values : l.value ≡ map (λ x. (document_read x).value) l.yielded;
+  faults : l.fault ≡ first_of (map (λ x. (document_read x).fault) l.yielded);
+}

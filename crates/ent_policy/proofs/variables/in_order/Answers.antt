@@ -1,49 +1,54 @@
-use Rattle.std.proofs.Common.{◌≡◌, ◌++◌, ◌∷◌, [], ◌∙◌, List, Bor, ap, sym, length, length-append, arith}
-use Rattle.std.proofs.lemmas.List.{map_push, map-append}
-use Rattle.ent_policy.specs.declared.raw.RawVariableDefinition.{RawVariableDefinition}
-use Rattle.ent_policy.proofs.References.{falls, now_all, now_lengths, parted_first, parted_last, parted_ordered, parted_stuck}
+use Rattle.std.proofs.Common.{◌≡◌, ℕ, ◌+◌, ◌*◌, [], ◌∙◌, ◌<◌, Bor, ap, refl, sym, map, length, length-append, append-nil, arith}
+use Rattle.std.proofs.lemmas.Bool.Decides.{nat_tests}
+use Rattle.std.proofs.lemmas.List.{length-map, length_push, map_push, map-append, nil_from_length}
+use Rattle.std.proofs.lemmas.List.Elements.{All-nil}
+use Rattle.ent_policy.specs.declared.expression.VariableDefinition.{VariableDefinition}
+use Rattle.ent_policy.proofs.References.{IsStuck, parted_all, parted_not_all, parted_ordered, parted_stuck}
 use Rattle.ent_policy.proofs.variables.in_order.Goals as goal
 
 pub loop-definition-init : goal.loop-definition-init
-loop-definition-init c =
-    rw (c.new-ordered.ensures.items, c.new-stuck.ensures.items)
-    (parted_first c.args.definitions.now (now_all c.in_ok-pending.pending.items) c.new-known.result c.requires c.in_ok-pending.ensures c.new-known.ensures.empty)
+loop-definition-init c = rw (c.new-ordered.ensures.items, c.new-stuck.ensures.items) (record {
+  in_order = tt;
+  known_ids = λ q. rw c.new-known.ensures.empty refl;
+  parted = rw append-nil c.in_ok-pending.ensures;
+  are_stuck = All-nil (IsStuck c.new-known.result);
+})
 
 pub loop-definition-preserved-in-Continue-branch-4 : goal.loop-definition-preserved-in-Continue-branch-4
 loop-definition-preserved-in-Continue-branch-4 c =
-    let d = c.in-Some.definition in
-    let last : now_all c.loop-definition.pending.items ≡ now_all c.pop.new.self.items ++ d.now ∷ [] = rw c.in-Some.ensures.items (map_push (λ (x : Bor RawVariableDefinition). x.now) c.pop.new.self.items d) in
-    rw (
-      c.in_ok-push.ensures.items,
-      c.in_ok-append.ensures.items,
-      c.in_ok-append.ensures.other_items,
-      map_push (λ (x : Bor RawVariableDefinition). x.now) c.loop-definition.ordered.items d,
-      map-append (λ (x : Bor RawVariableDefinition). x.now) c.pop.new.self.items c.loop-definition.stuck.items,
-    )
-    (parted_ordered c.args.definitions.now (now_all c.loop-definition.ordered.items) c.loop-definition.known c.insert.new.self (now_all c.loop-definition.pending.items) (now_all c.loop-definition.stuck.items) (now_all c.pop.new.self.items)
-    d.now c.as_str.result last c.as_str.ensures c.in_ok-insert.ensures.updates (sym c.uses_only.ensures ∙ c.if-uses_only.true) c.loop-definition.invariant)
+    let now = λ (x : Bor VariableDefinition). x.now in
+    let l = c.loop-definition in
+    let before = rw (c.in-Some.ensures.items, map_push now c.pop.new.self.items c.in-Some.definition) at l.invariant in
+    rw (c.in_ok-push.ensures.items, c.in_ok-append.ensures.items, c.in_ok-append.ensures.other_items, map_push now l.ordered.items c.in-Some.definition, map-append now c.pop.new.self.items l.stuck.items)
+    (parted_ordered c.args.definitions.now c.requires (map now l.ordered.items) (map now c.pop.new.self.items) (map now l.stuck.items) c.in-Some.definition.now l.known c.insert.new.self c.as_str.result c.as_str.ensures
+    c.in_ok-insert.ensures.updates (sym c.uses_only.ensures ∙ c.if-uses_only.true) before)
 
 pub loop-definition-preserved : goal.loop-definition-preserved
 loop-definition-preserved c =
-    let d = c.in-Some.definition in
-    let last : now_all c.loop-definition.pending.items ≡ now_all c.pop.new.self.items ++ d.now ∷ [] = rw c.in-Some.ensures.items (map_push (λ (x : Bor RawVariableDefinition). x.now) c.pop.new.self.items d) in
-    rw (c.in_ok-push-2.ensures.items, map_push (λ (x : Bor RawVariableDefinition). x.now) c.loop-definition.stuck.items d)
-    (parted_stuck c.args.definitions.now (now_all c.loop-definition.ordered.items) c.loop-definition.known (now_all c.loop-definition.pending.items) (now_all c.loop-definition.stuck.items) (now_all c.pop.new.self.items)
-    d.now last (sym c.uses_only.ensures ∙ c.if-uses_only.false) c.loop-definition.invariant)
+    let now = λ (x : Bor VariableDefinition). x.now in
+    let l = c.loop-definition in
+    let before = rw (c.in-Some.ensures.items, map_push now c.pop.new.self.items c.in-Some.definition) at l.invariant in
+    rw (c.in_ok-push-2.ensures.items, map_push now l.stuck.items c.in-Some.definition)
+    (parted_stuck c.args.definitions.now (map now l.ordered.items) (map now c.pop.new.self.items) (map now l.stuck.items) c.in-Some.definition.now l.known (sym c.uses_only.ensures ∙ c.if-uses_only.false) before)
 
 pub loop-definition-smaller-in-Continue-branch-4 : goal.loop-definition-smaller-in-Continue-branch-4
 loop-definition-smaller-in-Continue-branch-4 c =
-    let n = now_lengths (now_all c.loop-definition.ordered.items) c.loop-definition.pending.items c.loop-definition.stuck.items (length c.args.definitions.now) c.loop-definition.invariant.lengths in
-    falls (length c.loop-definition.pending.items) (length c.loop-definition.stuck.items) (length c.pop.new.self.items) (length c.append.new.self.items) (length c.append.new.other.items) (length c.args.definitions.now)
-    (omega (arith, ap length c.in-Some.ensures.items, length-append c.pop.new.self.items (c.in-Some.definition ∷ [])))
-    (omega (arith, ap length c.in_ok-append.ensures.items, length-append c.pop.new.self.items c.loop-definition.stuck.items))
-    (ap length c.in_ok-append.ensures.other_items) n
+    let l = c.loop-definition in
+    falls (length l.pending.items) (length l.stuck.items) (length c.pop.new.self.items) (length c.append.new.self.items) (length c.append.new.other.items)
+    (ap length c.in-Some.ensures.items ∙ length_push c.pop.new.self.items c.in-Some.definition) (ap length c.in_ok-append.ensures.items ∙ length-append c.pop.new.self.items l.stuck.items) (ap length c.in_ok-append.ensures.other_items)
+  where
+    falls : (p s r q t : ℕ) → p ≡ r + 1 → q ≡ r + s → t ≡ 0 → (q + t) * (q + t) + q < (p + s) * (p + s) + p
+    falls p s r q t e f g = rw (e, f, g) (omega arith)
+
+pub returns-then-is_empty : goal.returns-then-is_empty
+returns-then-is_empty c =
+    let l = c.loop-definition in
+    let none : l.pending.items ≡ [] = nil_from_length l.pending.items (omega (arith, c.in_default.ensures.cases.0, l.pending.ok)) in
+    let no_stuck : l.stuck.items ≡ [] = nil_from_length l.stuck.items (grind (arith, nat_tests, l.stuck.ok)) in
+    parted_all c.args.definitions.now c.requires (map (λ x. x.now) l.ordered.items) l.known (rw (none, no_stuck) at l.invariant)
 
 pub returns : goal.returns
 returns c =
-    parted_last c.args.definitions.now (now_all c.loop-definition.ordered.items) c.loop-definition.known (now_all c.loop-definition.pending.items) (now_all c.loop-definition.stuck.items)
-    (ap now_all (none_left c.loop-definition.pending.items (omega (arith, c.in_default.ensures.cases.0, c.loop-definition.pending.ok)))) c.loop-definition.invariant
-  where
-    none_left : (xs : List (Bor RawVariableDefinition)) → length xs ≡ 0 → xs ≡ []
-    none_left [] e = cc
-    none_left (x ∷ xs) e = absurd cc
+    let l = c.loop-definition in
+    let none : l.pending.items ≡ [] = nil_from_length l.pending.items (omega (arith, c.in_default.ensures.cases.0, l.pending.ok)) in
+    parted_not_all c.args.definitions.now c.requires (map (λ x. x.now) l.ordered.items) (map (λ x. x.now) l.stuck.items) l.known (rw length-map (grind (arith, nat_tests, l.stuck.ok))) (rw none at l.invariant)

@@ -1,7 +1,8 @@
-use Rattle.std.proofs.Common.{◌∙◌, sym, ap, subst, arith}
+use Rattle.std.proofs.Common.{◌≡◌, ◌∙◌, Some, sym, ap, subst, arith}
 use Rattle.std.specs.Prelude.{IsSome}
 use Rattle.std.proofs.lemmas.Result.{IfOk-weaker, on_ok_weaker}
 use Rattle.ent_functions.specs.Applied.{applied}
+use Rattle.ent_policy.specs.Variables.{definition_of}
 use Rattle.ent_eval.specs.Expression.{evaluated_of, meaning}
 use Rattle.ent_eval.specs.LooksOf.{looks_of}
 use Rattle.ent_eval.specs.Noted.{noted}
@@ -41,17 +42,20 @@ application-returns-clause-value g t c =
 pub variable-expression-requires : goal.variable-expression-requires
 variable-expression-requires g t c κs within =
     let left = has_reference c.args.definitions.now c.args.references c.args.id.now c.requires.typed in
-    let falls = worth-falls c.args.definitions.now c.args.references c.args.id.now c.in-Some.definition.now (sym c.in-Some.ensures) left in
-    (omega (arith, falls), (within, subst IsSome (definition_type c.args.definitions.now c.args.references c.args.id.now c.in-Some.definition.now (sym c.in-Some.ensures) c.requires.typed) c.requires.typed))
+    let found : definition_of c.args.definitions.now c.args.id.now ≡ Some c.in-Some.definition.now = sym c.in-Some.ensures in
+    let falls = worth-falls c.args.definitions.now c.args.references c.args.id.now c.in-Some.definition.now found left in
+    (omega (arith, falls), (within, subst IsSome (definition_type c.args.definitions.now c.args.references c.args.id.now c.in-Some.definition.now found c.requires.typed) c.requires.typed))
 
 pub variable-returns-clause-value : goal.variable-returns-clause-value
 variable-returns-clause-value g t c =
-    IfOk-weaker c.expression.result _ _ (λ v is. is ∙ ap (λ p. p.value) (sym (definition_part c.args.definitions.now c.args.references c.args.id.now c.in-Some.definition.now (sym c.in-Some.ensures)
+    let found : definition_of c.args.definitions.now c.args.id.now ≡ Some c.in-Some.definition.now = sym c.in-Some.ensures in
+    IfOk-weaker c.expression.result _ _ (λ v is. is ∙ ap (λ p. p.value) (sym (definition_part c.args.definitions.now c.args.references c.args.id.now c.in-Some.definition.now found
     (looks_of g.P.Policies.documents c.args.self.now.pdp.now) c.args.self.now.request.now (has_reference c.args.definitions.now c.args.references c.args.id.now c.requires.typed)))) c.expression.ensures.value
 
 pub variable-returns-clause-reads : goal.variable-returns-clause-reads
 variable-returns-clause-reads g t c =
-    on_ok_weaker c.expression.result (λ is. is ∙ ap (λ p. noted c.args.reads.now p.reads) (sym (definition_part c.args.definitions.now c.args.references c.args.id.now c.in-Some.definition.now (sym c.in-Some.ensures)
+    let found : definition_of c.args.definitions.now c.args.id.now ≡ Some c.in-Some.definition.now = sym c.in-Some.ensures in
+    on_ok_weaker c.expression.result (λ is. is ∙ ap (λ p. noted c.args.reads.now p.reads) (sym (definition_part c.args.definitions.now c.args.references c.args.id.now c.in-Some.definition.now found
     (looks_of g.P.Policies.documents c.args.self.now.pdp.now) c.args.self.now.request.now (has_reference c.args.definitions.now c.args.references c.args.id.now c.requires.typed)))) c.expression.ensures.reads
 
 pub variable-returns-clause-typed : goal.variable-returns-clause-typed

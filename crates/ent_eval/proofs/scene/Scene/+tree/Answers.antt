@@ -4,7 +4,7 @@ use Rattle.ent_eval.specs.LooksOf.{looks_of}
 use Rattle.ent_eval.specs.Node.{tree_part}
 use Rattle.ent_eval.specs.Noted.{noted}
 use Rattle.ent_eval.proofs.Children.{last_child, next_child}
-use Rattle.ent_eval.proofs.Sets.{only-part, set-reads, set-typed, shared-part}
+use Rattle.ent_eval.proofs.Sets.{only-part, set-fit, set-reads, shared-part}
 use Rattle.ent_eval.proofs.scene.Scene.+tree.Goals as goal
 
 pub children-returns-in-Stop-clause-value : goal.children-returns-in-Stop-clause-value
@@ -45,7 +45,7 @@ children_under-returns-clause-reads g t c =
     on_ok_weaker c.only_one.result (λ is. is ∙ ap (λ p. noted c.args.reads.now p.reads) (only-part (looks_of g.P.Policies.documents c.args.self.now.pdp.now) c.args.self.now.request.now c.args.path.now c.args.set.now c.as_slice-in-OnlyOne.result.now c.as_slice-in-OnlyOne-2.result.now c.in-OnlyOne.is (c.as_slice-in-OnlyOne.ensures ∙ c.in_ok-here.ensures) c.as_slice-in-OnlyOne-2.ensures)) c.only_one.ensures.reads
 
 pub set-set_after-requires : goal.set-set_after-requires
-set-set_after-requires g t c κs within = (omega arith, (within, (set-typed c.args.set.now c.requires).1))
+set-set_after-requires g t c κs within = let fit = (set-fit c.args.set.now c.requires).1 in (omega arith, (within, (fit.1, fit.0)))
 
 pub set-returns-clause-reads : goal.set-returns-clause-reads
 set-returns-clause-reads g t c =

@@ -1,27 +1,30 @@
-use Rattle.std.proofs.Common.{◌∙◌, sym, ap, arith}
-use Rattle.ent_policy.specs.Typing.{is_typed}
+use Rattle.std.proofs.Common.{[], ◌∷◌, ◌++◌, ◌∙◌, ap, subst}
+use Rattle.ent_combine.specs.Choose.{HasSeen, progress_at_target}
 use Rattle.ent_eval.specs.LooksOf.{looks_of}
 use Rattle.ent_eval.specs.Node.{tree_target}
-use Rattle.ent_eval.specs.Noted.{noted}
-use Rattle.ent_eval.specs.Only.{too_many}
-use Rattle.ent_eval.proofs.Choices.{within_more}
-use Rattle.ent_eval.proofs.Typing.{all_taken}
-use Rattle.std.proofs.lemmas.List.{length-take-le}
+use Rattle.ent_eval.specs.declared.only.Only.TheVariants as only
+use Rattle.ent_eval.proofs.Choices.{next_choice, room, stop_reads, stop_value}
 use Rattle.ent_eval.proofs.scene.Scene.choose.Goals as goal
 
-pub slice_bounds-choose_among-end : goal.slice_bounds-choose_among-end
-slice_bounds-choose_among-end g c = sym (length-take-le 256 c.args.children.now (omega (arith, c.if-children-le-MOST.false)))
+pub take-requires : goal.take-requires
+take-requires g c =
+    room (tree_target (looks_of g.P.Policies.documents c.args.self.now.pdp.now) c.args.self.now.request.now) c.args.children.now c.loop-child.child-index c.loop-child.chooser c.args.reads.now c.loop-child.reads c.loop-child.invariant
+    c.loop-child-test.true c.requires.room
 
-pub choose_among-requires-2-clause-typed : goal.choose_among-requires-2-clause-typed
-choose_among-requires-2-clause-typed g c = all_taken is_typed 256 c.args.children.now c.requires
+pub returns-in-Stop-clause-value : goal.returns-in-Stop-clause-value
+returns-in-Stop-clause-value g c =
+    ap only.Bad c.status_of.ensures ∙ stop_value (tree_target (looks_of g.P.Policies.documents c.args.self.now.pdp.now) c.args.self.now.request.now) c.args.children.now c.loop-child.child-index c.loop-child.chooser c.args.reads.now c.loop-child.reads c.loop-child.invariant c.child-item.result c.in_ok-targeted.targeted c.take.new.self c.take.result c.target_of.new.reads
+    c.loop-child-test.true c.child-item.is c.in_ok-targeted.ensures.value c.in_ok-targeted.ensures.reads
+    (λ ts has. subst (λ r. HasSeen c.take.new.self (ts ++ r ∷ [])) c.result_of.ensures (c.take.ensures.seen ts has)) (λ ts has. c.take.ensures.progress ts has ∙ ap (progress_at_target ts) c.result_of.ensures) c.in-Stop.is
 
-pub choose_among-requires-2-clause-room : goal.choose_among-requires-2-clause-room
-choose_among-requires-2-clause-room g c = let long = length-take-le 256 c.args.children.now (omega (arith, c.if-children-le-MOST.false)) in omega (arith, long)
+pub returns-in-Stop-clause-reads : goal.returns-in-Stop-clause-reads
+returns-in-Stop-clause-reads g c =
+    stop_reads (tree_target (looks_of g.P.Policies.documents c.args.self.now.pdp.now) c.args.self.now.request.now) c.args.children.now c.loop-child.child-index c.loop-child.chooser c.args.reads.now c.loop-child.reads c.loop-child.invariant c.child-item.result c.in_ok-targeted.targeted c.take.new.self c.take.result c.target_of.new.reads
+    c.loop-child-test.true c.child-item.is c.in_ok-targeted.ensures.value c.in_ok-targeted.ensures.reads
+    (λ ts has. subst (λ r. HasSeen c.take.new.self (ts ++ r ∷ [])) c.result_of.ensures (c.take.ensures.seen ts has)) (λ ts has. c.take.ensures.progress ts has ∙ ap (progress_at_target ts) c.result_of.ensures) c.in-Stop.is
 
-pub returns-clause-value : goal.returns-clause-value
-returns-clause-value g c =
-    c.too_many.ensures ∙ ap too_many c.in_ok-only.ensures.value ∙ ap (λ p. p.value) (sym (within_more (tree_target (looks_of g.P.Policies.documents c.args.self.now.pdp.now) c.args.self.now.request.now) c.args.children.now (omega (arith, c.if-children-le-MOST.false))))
-
-pub returns-clause-reads : goal.returns-clause-reads
-returns-clause-reads g c =
-    c.in_ok-only.ensures.reads ∙ ap (λ p. noted c.args.reads.now p.reads) (sym (within_more (tree_target (looks_of g.P.Policies.documents c.args.self.now.pdp.now) c.args.self.now.request.now) c.args.children.now (omega (arith, c.if-children-le-MOST.false))))
+pub loop-child-preserved : goal.loop-child-preserved
+loop-child-preserved g c =
+    next_choice (tree_target (looks_of g.P.Policies.documents c.args.self.now.pdp.now) c.args.self.now.request.now) c.args.children.now c.loop-child.child-index c.loop-child.chooser c.args.reads.now c.loop-child.reads c.loop-child.invariant c.child-item.result c.in_ok-targeted.targeted c.take.new.self c.take.result c.target_of.new.reads
+    c.loop-child-test.true c.child-item.is c.in_ok-targeted.ensures.value c.in_ok-targeted.ensures.reads
+    (λ ts has. subst (λ r. HasSeen c.take.new.self (ts ++ r ∷ [])) c.result_of.ensures (c.take.ensures.seen ts has)) (λ ts has. c.take.ensures.progress ts has ∙ ap (progress_at_target ts) c.result_of.ensures) c.in_default.is

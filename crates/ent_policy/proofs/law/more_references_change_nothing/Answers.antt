@@ -1,0 +1,8 @@
+use Rattle.ent_policy.proofs.References.{more_references}
+use Rattle.ent_policy.proofs.law.more_references_change_nothing.Goals as goal
+
+pub returns-clause-counts : goal.returns-clause-counts
+returns-clause-counts c = more_references
+
+pub returns-clause-types : goal.returns-clause-types
+returns-clause-types c = more_references

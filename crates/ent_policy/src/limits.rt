@@ -1,0 +1,245 @@
+//! The limits of a document's parts: lengths of names and lists, and names that stand twice.
+
+ghost use Rattle.std.specs.Prelude.{◌≡◌, IfOk, length, map};
+ghost use Rattle.ent_policy.specs.First.{first_of};
+ghost use Rattle.ent_policy.specs.Limits.{designator_fault, expression_fault, filled_fault, has_double, is_bad_name, length_fault, limit_fault, maybe_fault, name_fault, policy_fault, target_fault};
+
+use crate::document::{AllOf, AnyOf, Designator, Match, Policy, Rule, Target, Tree};
+use crate::expression::{Expression, VariableDefinition};
+use crate::fault::DocFault;
+use crate::first::{earlier, first_of, if_so};
+use std::alloc::{AllocError, Global};
+use std::collections::BTreeSet;
+
+/// The most members that a list may have.
+const LONGEST: usize = 256;
+
+/// A part of a document that has limits.
+trait Limited {
+    ghost use Rattle.std.specs.Prelude.{◌≡◌, Option};
+    ghost use Rattle.ent_policy.specs.declared.fault.DocFault.{DocFault};
+
+    ghost exceeds: { Self → Option DocFault };
+
+    /// The first limit that is exceeded in the part.
+    fn fault(&self) -> Option<DocFault>
+        ensures { result ≡ exceeds self.now };
+}
+
+/// The first limit that is exceeded in one of the parts.
+fn fault_in<L: Limited>(parts: &[L]) -> Option<DocFault>
+    ensures { result ≡ first_of (map L.exceeds parts.now) }
+{
+    let mut first = None;
+    for part in parts {
+        first = earlier(first, part.fault());
+    }
+    first
+}
+
+/// Whether an identifier has no byte or more than 256.
+pub(crate) fn is_bad_name(name: &str) -> bool
+    ensures { result ≡ is_bad_name name.now }
+{
+    name.len() == 0 || name.len() > 256
+}
+
+fn name_fault(name: &str) -> Option<DocFault>
+    ensures { result ≡ name_fault name.now }
+{
+    if_so(is_bad_name(name), DocFault::Identifier)
+}
+
+fn length_fault<T>(parts: &[T]) -> Option<DocFault>
+    ensures { result ≡ length_fault parts.now }
+{
+    if_so(parts.len() > LONGEST, DocFault::Size)
+}
+
+fn filled_fault<T>(parts: &[T]) -> Option<DocFault>
+    ensures { result ≡ filled_fault parts.now }
+{
+    if parts.len() == 0 {
+        return Some(DocFault::Form);
+    }
+    length_fault(parts)
+}
+
+#[tactic(auto, unfolding(crate::specs::Limits::designator_fault))]
+fn designator_fault(designator: &Designator) -> Option<DocFault>
+    ensures { result ≡ designator_fault designator.now }
+{
+    let issuer = match &designator.issuer {
+        None => None,
+        Some(issuer) => name_fault(issuer.as_str()),
+    };
+    first_of(&[
+        name_fault(designator.category.as_str()),
+        name_fault(designator.attribute.as_str()),
+        issuer,
+    ])
+}
+
+#[cycle(expression)]
+#[tactic(auto, using(crate::proofs::Exceeded::limits_of_apply))]
+fn expression_fault(expression: &Expression) -> Option<DocFault>
+    ensures { result ≡ expression_fault expression.now }
+{
+    match expression {
+        Expression::Value(_) | Expression::Function(_) => None,
+        Expression::Designator(designator) => designator_fault(designator),
+        Expression::Variable(id) => name_fault(id.as_str()),
+        Expression::Apply(_, arguments) => {
+            let arguments = arguments.as_slice();
+            earlier(length_fault(arguments), argument_fault(arguments))
+        }
+    }
+}
+
+#[cycle(expression)]
+fn argument_fault(arguments: &[Expression]) -> Option<DocFault>
+    ensures { result ≡ first_of (map expression_fault arguments.now) }
+{
+    let mut first = None;
+    for argument in arguments {
+        first = earlier(first, expression_fault(argument));
+    }
+    first
+}
+
+impl Limited for Match {
+    ghost use Rattle.ent_policy.specs.Limits.{match_fault};
+
+    ghost exceeds = { match_fault };
+
+    #[tactic(auto, unfolding(crate::specs::Limits::match_fault))]
+    fn fault(&self) -> Option<DocFault> {
+        designator_fault(&self.designator)
+    }
+}
+
+impl Limited for AllOf {
+    ghost use Rattle.ent_policy.specs.Limits.{all_of_fault};
+
+    ghost exceeds = { all_of_fault };
+
+    #[tactic(auto, unfolding(crate::specs::Limits::all_of_fault))]
+    fn fault(&self) -> Option<DocFault> {
+        let matches = self.matches.as_slice();
+        earlier(filled_fault(matches), fault_in(matches))
+    }
+}
+
+impl Limited for AnyOf {
+    ghost use Rattle.ent_policy.specs.Limits.{any_of_fault};
+
+    ghost exceeds = { any_of_fault };
+
+    #[tactic(auto, unfolding(crate::specs::Limits::any_of_fault))]
+    fn fault(&self) -> Option<DocFault> {
+        let all_of = self.all_of.as_slice();
+        earlier(filled_fault(all_of), fault_in(all_of))
+    }
+}
+
+#[tactic(auto, unfolding(crate::specs::Limits::target_fault))]
+fn target_fault(target: &Target) -> Option<DocFault>
+    ensures { result ≡ target_fault target.now }
+{
+    let any_of = target.any_of.as_slice();
+    earlier(length_fault(any_of), fault_in(any_of))
+}
+
+impl Limited for VariableDefinition {
+    ghost use Rattle.ent_policy.specs.Limits.{definition_fault};
+
+    ghost exceeds = { definition_fault };
+
+    #[tactic(auto, unfolding(crate::specs::Limits::definition_fault))]
+    fn fault(&self) -> Option<DocFault> {
+        let own = name_fault(self.id.as_str());
+        earlier(own, expression_fault(&self.expression))
+    }
+}
+
+impl Limited for Rule {
+    ghost use Rattle.ent_policy.specs.Limits.{rule_fault};
+
+    ghost exceeds = { rule_fault };
+
+    #[tactic(auto, unfolding(crate::specs::Limits::rule_fault))]
+    fn fault(&self) -> Option<DocFault> {
+        let condition = match &self.condition {
+            None => None,
+            Some(condition) => expression_fault(condition),
+        };
+        first_of(&[
+            name_fault(self.id.as_str()),
+            target_fault(&self.target),
+            condition,
+        ])
+    }
+}
+
+/// Whether two rules have the same identifier.
+fn has_double_rule(alloc: Global, rules: &[Rule]) -> Result<bool, AllocError>
+    ensures { IfOk result (λ b. b ≡ has_double (map (λ r. r.id) rules.now)) }
+{
+    let mut seen = BTreeSet::new(alloc);
+    for rule in rules {
+        if !seen.insert(rule.id.as_str())? {
+            return Ok(true);
+        }
+    }
+    Ok(false)
+}
+
+#[tactic(auto, unfolding(crate::specs::Limits::policy_fault))]
+fn policy_fault(alloc: Global, policy: &Policy) -> Result<Option<DocFault>, AllocError>
+    ensures { IfOk result (λ f. f ≡ policy_fault policy.now) }
+{
+    let variables = policy.variables.as_slice();
+    let rules = policy.rules.as_slice();
+    let double = has_double_rule(alloc, rules)?;
+    Ok(first_of(&[
+        name_fault(policy.id.as_str()),
+        if_so(double, DocFault::Identifier),
+        length_fault(variables),
+        length_fault(rules),
+        target_fault(&policy.target),
+        fault_in(variables),
+        fault_in(rules),
+    ]))
+}
+
+/// The first limit that is exceeded in a document.
+#[cycle(tree)]
+#[tactic(auto, using(crate::proofs::Exceeded::limits_of_set))]
+pub(crate) fn limit_fault(alloc: Global, tree: &Tree) -> Result<Option<DocFault>, AllocError>
+    ensures { IfOk result (λ f. f ≡ limit_fault tree.now) }
+{
+    match tree {
+        Tree::Policy(policy) => policy_fault(alloc, policy),
+        Tree::Set(set) => {
+            let children = set.children.as_slice();
+            let inside = child_fault(alloc, children)?;
+            Ok(first_of(&[
+                name_fault(set.id.as_str()),
+                length_fault(children),
+                target_fault(&set.target),
+                inside,
+            ]))
+        }
+    }
+}
+
+#[cycle(tree)]
+fn child_fault(alloc: Global, children: &[Tree]) -> Result<Option<DocFault>, AllocError>
+    ensures { IfOk result (λ f. f ≡ first_of (map limit_fault children.now)) }
+{
+    let mut first = None;
+    for child in children {
+        first = earlier(first, limit_fault(alloc, child)?);
+    }
+    Ok(first)
+}
