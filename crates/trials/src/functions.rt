@@ -10,7 +10,7 @@ use std::process::Abort;
 use std::test::Fail;
 
 /// Functions of the first version of the standard, their arguments, and what they come to.
-const OF_INTEGERS: [(&str, &[i64], Result<i64, Fault>); 10] = [
+const OF_INTEGERS: &[(&str, &[i64], Result<i64, Fault>)] = &[
     ("integer-add", &[i64::MAX, 1], Err(Fault::Overflow)),
     ("integer-add", &[i64::MAX, 1, -1], Err(Fault::Overflow)),
     ("integer-subtract", &[i64::MIN, 1], Err(Fault::Overflow)),
@@ -24,7 +24,7 @@ const OF_INTEGERS: [(&str, &[i64], Result<i64, Fault>); 10] = [
 ];
 
 /// Functions of a date and a month, and the day that they come to.
-const OF_DATES: [(&str, &str, Result<&str, Fault>); 3] = [
+const OF_DATES: &[(&str, &str, Result<&str, Fault>)] = &[
     ("subtract", "2024-03-31", Ok("2024-02-29")),
     ("add", "9999-12-01", Err(Fault::DateRange)),
     ("subtract", "0001-01-31", Err(Fault::DateRange)),
@@ -81,7 +81,7 @@ fn bag(rt: &impl Abort, alloc: Global, given: &[i64]) -> Result<Vec<Arg>, Fail> 
 #[test]
 fn integers(rt: HostRuntime) -> Result<(), Fail> {
     let alloc = rt.alloc();
-    for (name, given, want) in OF_INTEGERS {
+    for &(name, given, want) in OF_INTEGERS {
         let id = format!(in alloc; "urn:oasis:names:tc:xacml:1.0:function:{name}")?;
         let arguments = single(alloc, numbers(alloc, given)?)?;
         let answer = call(&rt, alloc, id.as_str(), arguments.as_slice())?;
@@ -107,7 +107,7 @@ fn day_and_month(alloc: Global, date: &str) -> Result<Vec<Arg>, Fail> {
 #[test]
 fn dates(rt: HostRuntime) -> Result<(), Fail> {
     let alloc = rt.alloc();
-    for (name, date, want) in OF_DATES {
+    for &(name, date, want) in OF_DATES {
         let id = format!(in alloc;
             "urn:oasis:names:tc:xacml:3.0:function:date-{name}-yearMonthDuration"
         )?;

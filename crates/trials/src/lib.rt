@@ -3,10 +3,22 @@
 #![tactic(auto)]
 
 #[cfg(test)]
+mod checking;
+#[cfg(test)]
 mod combining;
+#[cfg(test)]
+mod documents;
+#[cfg(test)]
+mod evaluation;
 #[cfg(test)]
 mod functions;
 #[cfg(test)]
 mod policies;
 #[cfg(test)]
+mod serving;
+#[cfg(test)]
+mod table;
+#[cfg(test)]
 mod values;
+#[cfg(test)]
+mod words;

@@ -1,16 +1,16 @@
 //! Versions, references, and what `check` makes of documents without a fault.
 
-use ent_combine::RuleAlg;
+use crate::documents::document;
+use ent_combine::{PolicyAlg, RuleAlg};
 use ent_policy::{
-    DocKey, Kind, Policy, PolicySet, RawDocument, RawPolicy, RawTarget, Reference, Tree, Version,
-    check,
+    DocKey, Document, Kind, RawDocument, RawPolicy, RawTarget, Reference, Tree, Version, check,
 };
 use ent_values::{Items, Text};
 use std::alloc::{AllocError, Global};
 use std::test::Fail;
 
 /// Texts of versions, from the earliest on, with their numbers and how they are written.
-const VERSIONS: [(&str, &[u32], &str); 6] = [
+const VERSIONS: &[(&str, &[u32], &str)] = &[
     ("01.2", &[1, 2], "1.2"),
     ("1.2.0", &[1, 2, 0], "1.2.0"),
     ("1.9", &[1, 9], "1.9"),
@@ -30,7 +30,7 @@ fn version(text: &str) -> Result<Version, Fail> {
 #[test]
 fn versions_have_an_order(rt: HostRuntime) -> Result<(), Fail> {
     let mut last = version("0")?;
-    for (text, numbers, written) in VERSIONS {
+    for &(text, numbers, written) in VERSIONS {
         let read = version(text)?;
         assert_eq!(rt; read.numbers(), numbers);
         assert_eq!(rt; read.text(rt.alloc())?.as_str(), written);
@@ -72,11 +72,40 @@ fn is_key(
     Ok(is_that && key.copy(alloc)? == *key)
 }
 
-/// The policy of a tree.
-fn policy_of(tree: &Tree) -> Result<&Policy, Fail> {
+/// Whether a document has that key.
+fn has_key(
+    alloc: Global,
+    document: &Document,
+    kind: Kind,
+    id: &str,
+    numbers: &[u32],
+) -> Result<bool, Fail> {
+    is_key(alloc, &document.key(alloc)?, kind, id, numbers)
+}
+
+/// Whether a tree is a policy of version 1.0 and of that algorithm, with so many rules and as many variables.
+fn is_policy(tree: &Tree, algorithm: RuleAlg, count: usize) -> bool {
     match tree {
-        Tree::Policy(policy) => Ok(policy),
-        Tree::Set(_) => Err(Fail::new("a set")),
+        Tree::Policy(policy) => {
+            policy.version.numbers() == [1, 0].as_slice()
+                && policy.algorithm == algorithm
+                && policy.rules.len() == count
+                && policy.variables.len() == count
+        }
+        Tree::Set(_) => false,
+    }
+}
+
+/// Whether a tree is a set of the algorithm that is only for one, and its first child is a policy that denies first.
+fn is_set(tree: &Tree) -> bool {
+    match tree {
+        Tree::Set(set) => match set.children.as_slice().first() {
+            Some(child) => {
+                set.algorithm == PolicyAlg::OnlyOne && is_policy(child, RuleAlg::DenyOverrides, 1)
+            }
+            None => false,
+        },
+        Tree::Policy(_) => false,
     }
 }
 
@@ -101,13 +130,23 @@ fn least(alloc: Global) -> Result<RawPolicy, AllocError> {
     })
 }
 
+/// The least policy as a document.
+fn least_document(alloc: Global) -> Result<Document, Fail> {
+    Ok(check(alloc, RawDocument::Policy(least(alloc)?))?)
+}
+
 #[test]
 fn a_sound_policy(rt: HostRuntime) -> Result<(), Fail> {
-    let alloc = rt.alloc();
-    let document = check(alloc, RawDocument::Policy(least(alloc)?))?;
-    let key = document.key(alloc)?;
-    assert!(rt; is_key(alloc, &key, Kind::Policy, "p", &[1, 0])?);
-    let policy = policy_of(document.tree())?;
-    assert!(rt; policy.algorithm == RuleAlg::DenyUnlessPermit && policy.rules.is_empty());
+    let document = least_document(rt.alloc())?;
+    assert!(rt; is_policy(document.tree(), RuleAlg::DenyUnlessPermit, 0));
+    assert!(rt; has_key(rt.alloc(), &document, Kind::Policy, "p", &[1, 0])?);
+    Ok(())
+}
+
+#[test]
+fn a_sound_set(rt: HostRuntime) -> Result<(), Fail> {
+    let document = document(rt.alloc(), SET)?;
+    assert!(rt; is_set(document.tree()));
+    assert!(rt; has_key(rt.alloc(), &document, Kind::PolicySet, "s", &[2])?);
     Ok(())
 }

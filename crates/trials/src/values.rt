@@ -5,7 +5,7 @@ use std::alloc::{AllocError, Global};
 use std::test::Fail;
 
 /// The types with their names.
-const NAMES: [(&str, DataType); 6] = [
+const NAMES: &[(&str, DataType)] = &[
     ("string", DataType::Text),
     ("boolean", DataType::Boolean),
     ("integer", DataType::Integer),
@@ -16,7 +16,7 @@ const NAMES: [(&str, DataType); 6] = [
 
 #[test]
 fn type_names(rt: HostRuntime) {
-    for (name, datatype) in NAMES {
+    for &(name, datatype) in NAMES {
         assert_eq!(rt; DataType::from_name(name), Some(datatype));
         assert_eq!(rt; datatype.short_name(), name);
         assert_eq!(rt; DataType::from_name(datatype.uri()), Some(datatype));
@@ -30,7 +30,7 @@ fn type_names(rt: HostRuntime) {
 }
 
 /// Texts with what the value that each spells is written as, in the order of the values, which come after the empty string.
-const WRITTEN: [(DataType, &str, &str); 21] = [
+const WRITTEN: &[(DataType, &str, &str)] = &[
     (DataType::Text, " a\"b ", " a\"b "),
     (DataType::Text, "Z", "Z"),
     (DataType::Text, "a", "a"),
@@ -62,16 +62,29 @@ const WRITTEN: [(DataType, &str, &str); 21] = [
     ),
 ];
 
+/// Whether the text spells a value of that type, its copy too, that is written so.
+fn is_written(alloc: Global, datatype: DataType, read: &str, written: &str) -> Result<bool, Fail> {
+    let value = Value::parse(alloc, datatype, read)?;
+    let is_equal = value.datatype() == datatype && value.copy(alloc)? == value;
+    Ok(is_equal && value.text(alloc)?.as_str() == written)
+}
+
 #[test]
 fn values_are_read_and_written(rt: HostRuntime) -> Result<(), Fail> {
-    let alloc = rt.alloc();
-    for (datatype, read, written) in WRITTEN {
-        let value = Value::parse(alloc, datatype, read)?;
-        assert_eq!(rt; value.datatype(), datatype);
-        assert_eq!(rt; value.text(alloc)?.as_str(), written);
-        assert!(rt; value.copy(alloc)? == value, "{read}");
+    for &(datatype, read, written) in WRITTEN {
+        assert!(rt; is_written(rt.alloc(), datatype, read, written)?, "{read}");
     }
-    assert!(rt; Value::parse(alloc, DataType::Integer, "+007")? == Value::Integer(7));
+    Ok(())
+}
+
+/// The integer that the text spells.
+fn integer(alloc: Global, text: &str) -> Result<Value, Fail> {
+    Ok(Value::parse(alloc, DataType::Integer, text)?)
+}
+
+#[test]
+fn integers_have_a_sign_and_zeros(rt: HostRuntime) -> Result<(), Fail> {
+    assert!(rt; integer(rt.alloc(), "+007")? == Value::Integer(7));
     Ok(())
 }
 
@@ -80,7 +93,7 @@ fn values_are_read_and_written(rt: HostRuntime) -> Result<(), Fail> {
 fn values_have_an_order(rt: HostRuntime) -> Result<(), Fail> {
     let alloc = rt.alloc();
     let mut last = Value::parse(alloc, DataType::Text, "")?;
-    for (datatype, text, _) in WRITTEN {
+    for &(datatype, text, _) in WRITTEN {
         let value = Value::parse(alloc, datatype, text)?;
         assert!(rt; last < value && last != value, "{text}");
         last = value;

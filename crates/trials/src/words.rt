@@ -1,7 +1,7 @@
 //! What the command line takes, what is said of words that it does not, and the statuses.
 
 use ent_program::{FILE, command, words_status};
-use std::alloc::Global;
+use std::alloc::{AllocError, Global};
 use std::test::Fail;
 
 const HELP: &str = "\
@@ -75,21 +75,32 @@ Usage: review <COMMAND>
 For more information, try '--help'.
 ";
 
-/// What is said of these words, behind the program's name, and the exit status for it, unless the program takes them.
-fn said(alloc: Global, words: &[&str]) -> Result<Option<(String, u8)>, Fail> {
+/// The words of a command line, with the program's name in front.
+fn line_of(alloc: Global, words: &[&str]) -> Result<Vec<String>, AllocError> {
     let mut all = Vec::new(alloc);
     all.push(String::from_str(alloc, "review")?)?;
     for word in words {
         all.push(String::from_str(alloc, word)?)?;
     }
+    Ok(all)
+}
+
+/// What is said of the words, and the exit status.
+fn told(alloc: Global, error: &clap::Error) -> Result<(String, u8), AllocError> {
+    Ok((error.to_string(alloc)?, words_status(error)))
+}
+
+/// What is said of these words, behind the program's name, and the exit status for it, unless the program takes them.
+fn said(alloc: Global, words: &[&str]) -> Result<Option<(String, u8)>, Fail> {
+    let all = line_of(alloc, words)?;
     match command(alloc)?.try_get_matches_from(all.as_slice()) {
         Ok(_) => Ok(None),
-        Err(error) => Ok(Some((error.to_string(alloc)?, words_status(&error)))),
+        Err(error) => Ok(Some(told(alloc, &error)?)),
     }
 }
 
 /// Words that ask for help or that can't be used, with what is said of them and the status.
-const SAID: [(&[&str], &str, u8); 7] = [
+const SAID: &[(&[&str], &str, u8)] = &[
     (&["--help"], HELP, 0),
     (&["serve", "--help"], HELP_OF_SERVE, 0),
     (&["check", "-h"], HELP_OF_CHECK, 0),
@@ -99,12 +110,18 @@ const SAID: [(&[&str], &str, u8); 7] = [
     (&["surve"], NO_SUCH_COMMAND, 1),
 ];
 
+/// Whether that text is said of these words, with that status.
+fn is_said(alloc: Global, words: &[&str], text: &str, status: u8) -> Result<bool, Fail> {
+    match said(alloc, words)? {
+        Some((given, its_status)) => Ok(given.as_str() == text && its_status == status),
+        None => Ok(false),
+    }
+}
+
 #[test]
 fn words_that_are_not_taken(rt: HostRuntime) -> Result<(), Fail> {
-    for (words, text, status) in SAID {
-        let (given, its_status) = said(rt.alloc(), words)?.ok_or("taken")?;
-        assert_eq!(rt; given.as_str(), text);
-        assert_eq!(rt; its_status, status);
+    for &(words, text, status) in SAID {
+        assert!(rt; is_said(rt.alloc(), words, text, status)?, "{text}");
     }
     Ok(())
 }
@@ -113,11 +130,8 @@ fn words_that_are_not_taken(rt: HostRuntime) -> Result<(), Fail> {
 fn commands_are_taken(rt: HostRuntime) -> Result<(), Fail> {
     let alloc = rt.alloc();
     assert!(rt; said(alloc, &["serve"])?.is_none());
-    let mut all = Vec::new(alloc);
-    for word in ["review", "check", "a"] {
-        all.push(String::from_str(alloc, word)?)?;
-    }
-    let matches = command(alloc)?.try_get_matches_from(all.as_slice())?;
+    let words = line_of(alloc, &["check", "a"])?;
+    let matches = command(alloc)?.try_get_matches_from(words.as_slice())?;
     let (name, asked) = matches.subcommand().ok_or("no subcommand")?;
     assert_eq!(rt; name, "check");
     assert_eq!(rt; asked.get_str(FILE), Some("a"));

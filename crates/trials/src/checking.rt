@@ -1,9 +1,9 @@
 //! What is said of the policy in a file, by readers and writers of several kinds, and the statuses.
 
-use crate::serving::Narrow;
+use crate::serving::{Narrow, padded};
 use ent_line::ServeFault;
 use ent_program::{FILE_LIMIT, check_from, check_status};
-use std::alloc::{AllocError, Global};
+use std::alloc::Global;
 use std::io;
 use std::io::{ErrorKind, Read};
 use std::test::Fail;
@@ -46,24 +46,26 @@ impl Read for Breaking<'_> {
     }
 }
 
-/// The text with spaces behind it, so many bytes in all.
-fn padded(alloc: Global, text: &str, length: usize) -> Result<Vec<u8>, AllocError> {
-    let mut bytes = Vec::new(alloc);
-    bytes.extend_from_slice(text.as_bytes())?;
-    bytes.resize(length, b' ')?;
-    Ok(bytes)
-}
-
-/// The line of a check, and the status for it.
-fn checked(rt: &(impl Eprint + AllocGlobal), mut text: &[u8]) -> Result<(Vec<u8>, u8), ServeFault> {
-    let alloc = rt.alloc();
+/// The line of a check, and whether the file passes.
+fn checked(alloc: Global, mut text: &[u8]) -> Result<(Vec<u8>, bool), ServeFault> {
     let mut line = Vec::new(alloc);
     let passed = check_from(alloc, &mut text, &mut line)?;
-    Ok((line, check_status(rt, Ok(passed))))
+    Ok((line, passed))
+}
+
+/// Whether that line is said of a file, and the status for it is that.
+fn is_said(
+    rt: &(impl Eprint + AllocGlobal),
+    text: &[u8],
+    want: &str,
+    status: u8,
+) -> Result<bool, ServeFault> {
+    let (line, passed) = checked(rt.alloc(), text)?;
+    Ok(line.as_slice() == want.as_bytes() && check_status(rt, Ok(passed)) == status)
 }
 
 /// Files with the line that is said of each, and the status.
-const VERDICTS: [(&str, &str, u8); 6] = [
+const VERDICTS: &[(&str, &str, u8)] = &[
     (POLICY, "ok Policy p3 1\n", 0),
     (SET, "ok PolicySet all of them 1.2\n", 0),
     ("", "refused 2\n", 1),
@@ -74,51 +76,62 @@ const VERDICTS: [(&str, &str, u8); 6] = [
 
 #[test]
 fn each_verdict_has_its_line_and_status(rt: HostRuntime) -> Result<(), Fail> {
-    for (text, line, status) in VERDICTS {
-        let (written, given) = checked(&rt, text.as_bytes())?;
-        assert!(rt; written.as_slice() == line.as_bytes(), "{line}");
-        assert_eq!(rt; given, status);
+    for &(text, line, status) in VERDICTS {
+        assert!(rt; is_said(&rt, text.as_bytes(), line, status)?, "{line}");
     }
     Ok(())
 }
 
+/// Lengths of files with the line that is said of each, and the status.
+const LENGTHS: &[(usize, &str, u8)] = &[
+    (FILE_LIMIT, "ok Policy p3 1\n", 0),
+    (FILE_LIMIT + 1, "refused 1\n", 1),
+];
+
 #[test]
 fn a_file_of_the_limit_is_read(rt: HostRuntime) -> Result<(), Fail> {
-    let text = padded(rt.alloc(), POLICY, FILE_LIMIT)?;
-    let (written, _) = checked(&rt, text.as_slice())?;
-    assert!(rt; written.as_slice() == b"ok Policy p3 1\n".as_slice());
-    let text = padded(rt.alloc(), POLICY, FILE_LIMIT + 1)?;
-    let (written, status) = checked(&rt, text.as_slice())?;
-    assert!(rt; written.as_slice() == b"refused 1\n".as_slice());
-    assert_eq!(rt; status, 1);
+    for &(length, line, status) in LENGTHS {
+        let text = padded(rt.alloc(), POLICY, length)?;
+        assert!(rt; is_said(&rt, text.as_slice(), line, status)?, "{line}");
+    }
     Ok(())
 }
 
-#[test]
-fn a_reader_that_breaks_has_no_verdict(rt: HostRuntime) -> Result<(), Fail> {
+/// What a check of a text comes to whose reader breaks behind it, and whether nothing is said of it.
+fn broken(alloc: Global, text: &str) -> (Result<bool, ServeFault>, bool) {
     let mut reader = Breaking {
-        text: POLICY.as_bytes(),
+        text: text.as_bytes(),
         interrupted: false,
     };
-    let mut line = Vec::new(rt.alloc());
-    let end = check_from(rt.alloc(), &mut reader, &mut line);
-    assert_eq!(rt; end, Err(ServeFault::Read));
-    assert!(rt; line.is_empty());
-    assert_eq!(rt; check_status(&rt, end), 2);
-    Ok(())
+    let mut line = Vec::new(alloc);
+    let end = check_from(alloc, &mut reader, &mut line);
+    (end, line.is_empty())
 }
 
 #[test]
-fn a_writer_that_breaks_holds_a_front(rt: HostRuntime) -> Result<(), Fail> {
+fn a_reader_that_breaks_has_no_verdict(rt: HostRuntime) {
+    let (end, is_silent) = broken(rt.alloc(), POLICY);
+    assert_eq!(rt; end, Err(ServeFault::Read));
+    assert!(rt; is_silent);
+    assert_eq!(rt; check_status(&rt, end), 2);
+}
+
+/// What a check of a text comes to whose writer takes so many bytes, and what it has taken.
+fn narrowed(alloc: Global, text: &str, room: usize) -> (Result<bool, ServeFault>, Vec<u8>) {
     let mut writer = Narrow {
-        taken: Vec::new(rt.alloc()),
-        room: 12,
+        taken: Vec::new(alloc),
+        room,
         flushes: true,
     };
-    let end = check_from(rt.alloc(), &mut POLICY.as_bytes(), &mut writer);
+    let end = check_from(alloc, &mut text.as_bytes(), &mut writer);
+    (end, writer.taken)
+}
+
+#[test]
+fn a_writer_that_breaks_holds_a_front(rt: HostRuntime) {
+    let (end, taken) = narrowed(rt.alloc(), POLICY, 12);
     assert_eq!(rt; end, Err(ServeFault::Write));
-    assert!(rt; writer.taken.as_slice() == b"ok Policy p3".as_slice());
+    assert!(rt; taken.as_slice() == "ok Policy p3".as_bytes());
     assert_eq!(rt; check_status(&rt, end), 2);
     assert_eq!(rt; check_status(&rt, Err(ServeFault::Memory)), 3);
-    Ok(())
 }

@@ -5,14 +5,19 @@ use ent_polform::{
     read_value, text_at, text_or_absent, write_document, write_value,
 };
 use ent_policy::{CheckFault, DocFault, Document, Expression, Kind, Tree};
-use ent_values::{DataType, Value, ValueFault};
+use ent_values::{DataType, Date, Value, ValueFault, YearMonth};
 use serde_json::Value as Json;
-use std::alloc::Global;
+use std::alloc::{AllocError, Global};
 use std::test::Fail;
 
 /// The JSON that the text spells.
 fn json_of(alloc: Global, text: &str) -> Result<Json, Fail> {
     Ok(Json::from_str(alloc, text)?)
+}
+
+/// The compact text of JSON.
+fn json_text(alloc: Global, json: &Json) -> Result<String, AllocError> {
+    json.to_string(alloc)
 }
 
 /// The document that the text spells.
@@ -22,7 +27,7 @@ pub(crate) fn document(alloc: Global, text: &str) -> Result<Document, Fail> {
 }
 
 /// Documents, and what they are written as.
-const WRITTEN: [(&str, &str); 4] = [
+const WRITTEN: &[(&str, &str)] = &[
     // Keys in another order, a description and an empty target.
     (
         r#"{"Policy":{"Version":"1","PolicyId":"p3","Description":"","RuleCombiningAlgId":"urn:oasis:names:tc:xacml:3.0:rule-combining-algorithm:deny-overrides","Target":{},"Rule":[{"RuleId":"ok","Effect":"Permit"}]}}"#,
@@ -46,7 +51,7 @@ const WRITTEN: [(&str, &str); 4] = [
 ];
 
 /// Documents as they are written.
-const IN_WRITTEN_FORM: [&str; 3] = [
+const IN_WRITTEN_FORM: &[&str] = &[
     // A policy with one rule.
     r#"{"Policy":{"PolicyId":"p3","Rule":[{"Effect":"Permit","RuleId":"ok"}],"RuleCombiningAlgId":"urn:oasis:names:tc:xacml:3.0:rule-combining-algorithm:deny-overrides","Version":"1"}}"#,
     // A target, a variable and a condition.
@@ -64,49 +69,63 @@ const EXAMPLE: (&str, &str) = (
 /// The compact text of what the document that the text spells is written as.
 fn written_again(alloc: Global, text: &str) -> Result<String, Fail> {
     let document = document(alloc, text)?;
-    Ok(write_document(alloc, &document)?.to_string(alloc)?)
+    Ok(json_text(alloc, &write_document(alloc, &document)?)?)
 }
 
 #[test]
 fn documents_are_written(rt: HostRuntime) -> Result<(), Fail> {
-    for (text, written) in WRITTEN {
+    for &(text, written) in WRITTEN {
         assert_eq!(rt; written_again(rt.alloc(), text)?.as_str(), written);
     }
-    for text in IN_WRITTEN_FORM {
+    Ok(())
+}
+
+#[test]
+fn written_documents_are_written_alike(rt: HostRuntime) -> Result<(), Fail> {
+    for &text in IN_WRITTEN_FORM {
         assert_eq!(rt; written_again(rt.alloc(), text)?.as_str(), text);
     }
-    assert_eq!(rt; written_again(rt.alloc(), EXAMPLE.0)?.as_str(), EXAMPLE.1);
+    Ok(())
+}
+
+#[test]
+fn the_example_is_written(rt: HostRuntime) -> Result<(), Fail> {
+    let (text, written) = EXAMPLE;
+    assert_eq!(rt; written_again(rt.alloc(), text)?.as_str(), written);
     Ok(())
 }
 
 /// The literal of the variable at that place of a policy.
-fn literal(document: &Document, place: usize) -> Result<&Value, Fail> {
-    let Tree::Policy(policy) = document.tree() else {
-        return Err(Fail::new("a set"));
+fn literal(tree: &Tree, place: usize) -> Option<&Value> {
+    let Tree::Policy(policy) = tree else {
+        return None;
     };
-    let variable = policy.variables.as_slice().get(place).ok_or("no variable")?;
-    match &variable.expression {
-        Expression::Value(value) => Ok(value),
-        _ => Err(Fail::new("no literal")),
+    match &policy.variables.as_slice().get(place)?.expression {
+        Expression::Value(value) => Some(value),
+        _ => None,
     }
+}
+
+/// Whether the variable at that place of the policy that the text spells has that literal.
+fn has_literal(alloc: Global, text: &str, place: usize, want: &Value) -> Result<bool, Fail> {
+    let document = document(alloc, text)?;
+    Ok(literal(document.tree(), place).is_some_and(|value| *value == *want))
 }
 
 #[test]
 fn literals_are_read_by_their_type(rt: HostRuntime) -> Result<(), Fail> {
-    let document = document(rt.alloc(), EXAMPLE.0)?;
-    assert!(rt; *literal(&document, 0)? == Value::Integer(7));
-    assert!(rt; *literal(&document, 1)? == Value::Boolean(true));
-    match (literal(&document, 2)?, literal(&document, 3)?) {
-        (Value::Date(day), Value::YearMonth(term)) => {
-            assert!(rt; day.day() == 28 && term.months() == 14)
-        }
-        _ => assert!(rt; false),
-    }
+    let (text, _) = EXAMPLE;
+    let day = Date::new(2025, 2, 28).ok_or("no day")?;
+    let term = YearMonth::new(14).ok_or("no term")?;
+    assert!(rt; has_literal(rt.alloc(), text, 0, &Value::Integer(7))?);
+    assert!(rt; has_literal(rt.alloc(), text, 1, &Value::Boolean(true))?);
+    assert!(rt; has_literal(rt.alloc(), text, 2, &Value::Date(day))?);
+    assert!(rt; has_literal(rt.alloc(), text, 3, &Value::YearMonth(term))?);
     Ok(())
 }
 
 /// JSON with a type, and what its value is written as, if it spells one.
-const VALUES: [(DataType, &str, Option<&str>); 19] = [
+const VALUES: &[(DataType, &str, Option<&str>)] = &[
     (DataType::Text, r#""a\"b""#, Some(r#""a\"b""#)),
     (DataType::AnyUri, r#""""#, Some(r#""""#)),
     (DataType::Boolean, "true", Some("true")),
@@ -128,11 +147,16 @@ const VALUES: [(DataType, &str, Option<&str>); 19] = [
     (DataType::YearMonth, "{}", None),
 ];
 
+/// The text of what a value is written as.
+fn value_text(alloc: Global, value: &Value) -> Result<String, AllocError> {
+    json_text(alloc, &write_value(alloc, value)?)
+}
+
 /// What the value that the text spells is written as, if it spells one.
 fn value_again(alloc: Global, datatype: DataType, text: &str) -> Result<Option<String>, Fail> {
     let json = json_of(alloc, text)?;
     match read_value(alloc, datatype, &json) {
-        Ok(value) => Ok(Some(write_value(alloc, &value)?.to_string(alloc)?)),
+        Ok(value) => Ok(Some(value_text(alloc, &value)?)),
         Err(ValueFault::BadValue) => Ok(None),
         Err(ValueFault::Memory) => Err(Fail::new("out of memory")),
     }
@@ -140,19 +164,15 @@ fn value_again(alloc: Global, datatype: DataType, text: &str) -> Result<Option<S
 
 #[test]
 fn values_are_read_and_written(rt: HostRuntime) -> Result<(), Fail> {
-    for (datatype, text, written) in VALUES {
+    for &(datatype, text, written) in VALUES {
         let again = value_again(rt.alloc(), datatype, text)?;
-        assert_eq!(rt;
-            again.as_ref().map(|again| again.as_str()),
-            written,
-            "{text}"
-        );
+        assert_eq!(rt; again.as_ref().map(String::as_str), written, "{text}");
     }
     Ok(())
 }
 
 /// JSON of references, all of which are to `p1`, or of none.
-const REFERENCES: [(&str, Result<Kind, DocFault>); 4] = [
+const REFERENCES: &[(&str, Result<Kind, DocFault>)] = &[
     (r#"{"PolicyIdReference":{"Id":"p1"}}"#, Ok(Kind::Policy)),
     (
         r#"{"PolicySetIdReference":{"Id":"p1"}}"#,
@@ -178,8 +198,72 @@ fn kind_of(alloc: Global, text: &str) -> Result<Result<Kind, DocFault>, Fail> {
 
 #[test]
 fn references_are_read(rt: HostRuntime) -> Result<(), Fail> {
-    for (text, kind) in REFERENCES {
+    for &(text, kind) in REFERENCES {
         assert_eq!(rt; kind_of(rt.alloc(), text)?, kind, "{text}");
+    }
+    Ok(())
+}
+
+/// Lists of keys, and whether the object below has no others.
+const KEYS: &[(&[&str], bool)] = &[
+    (&["none", "list", "text", "true", "more"], true),
+    (&["list", "text", "true"], false),
+];
+
+/// Keys with the text that stands there, and whether there is a text or nothing.
+const TEXTS: &[(&str, Option<&str>, bool)] = &[
+    ("text", Some("t"), true),
+    ("more", None, true),
+    ("list", None, false),
+    ("true", None, false),
+];
+
+/// Keys with the flag that stands there.
+const FLAGS: &[(&str, Option<bool>)] = &[
+    ("true", Some(true)),
+    ("more", Some(false)),
+    ("text", None),
+];
+
+/// Keys with the length of the list that stands there, and of one that isn't empty.
+const LISTS: &[(&str, Option<usize>, Option<usize>)] = &[
+    ("list", Some(1), Some(1)),
+    ("none", Some(0), None),
+    ("more", Some(0), None),
+    ("text", None, None),
+];
+
+/// The object whose members the tests look at.
+fn object(alloc: Global) -> Result<Json, Fail> {
+    json_of(alloc, r#"{"list":[1],"none":[],"text":"t","true":true}"#)
+}
+
+#[test]
+fn keys_of_objects(rt: HostRuntime) -> Result<(), Fail> {
+    let json = object(rt.alloc())?;
+    for &(keys, is_all) in KEYS {
+        assert!(rt; has_only(&json, keys) == is_all);
+    }
+    Ok(())
+}
+
+#[test]
+fn texts_of_objects(rt: HostRuntime) -> Result<(), Fail> {
+    let json = object(rt.alloc())?;
+    for &(key, text, is_text) in TEXTS {
+        assert!(rt;
+            text_at(&json, key) == text && text_or_absent(&json, key) == is_text,
+            "{key}"
+        );
+    }
+    Ok(())
+}
+
+#[test]
+fn flags_of_objects(rt: HostRuntime) -> Result<(), Fail> {
+    let json = object(rt.alloc())?;
+    for &(key, flag) in FLAGS {
+        assert!(rt; flag_at(&json, key) == flag, "{key}");
     }
     Ok(())
 }
@@ -189,36 +273,27 @@ fn length(list: Option<&[Json]>) -> Option<usize> {
 }
 
 #[test]
-fn members_of_objects(rt: HostRuntime) -> Result<(), Fail> {
-    let json = json_of(
-        rt.alloc(),
-        r#"{"list":[1],"none":[],"text":"t","true":true}"#,
-    )?;
-    assert!(rt; has_only(&json, &["none", "list", "text", "true", "more"]));
-    assert!(rt; !has_only(&json, &["list", "text", "true"]));
-    assert!(rt; text_at(&json, "text") == Some("t") && text_at(&json, "list").is_none());
-    assert!(rt; text_or_absent(&json, "text") && text_or_absent(&json, "more"));
-    assert!(rt; !text_or_absent(&json, "true"));
-    for (key, flag) in [("true", Some(true)), ("more", Some(false)), ("text", None)] {
-        assert_eq!(rt; flag_at(&json, key), flag);
+fn lists_of_objects(rt: HostRuntime) -> Result<(), Fail> {
+    let json = object(rt.alloc())?;
+    for &(key, any, filled) in LISTS {
+        let is_that = length(list_at(&json, key)) == any;
+        assert!(rt;
+            is_that && length(filled_list_at(&json, key)) == filled,
+            "{key}"
+        );
     }
     Ok(())
 }
 
+/// Whether that is the only key of the object that the text spells, or it has not just one.
+fn has_one_key(alloc: Global, text: &str, want: Option<&str>) -> Result<bool, Fail> {
+    let json = json_of(alloc, text)?;
+    Ok(one_member(&json).map(|member| member.0) == want)
+}
+
 #[test]
-fn lists_of_objects(rt: HostRuntime) -> Result<(), Fail> {
-    let json = json_of(rt.alloc(), r#"{"list":[1],"none":[],"text":"t"}"#)?;
-    for (key, any, filled) in [
-        ("list", Some(1), Some(1)),
-        ("none", Some(0), None),
-        ("more", Some(0), None),
-        ("text", None, None),
-    ] {
-        assert_eq!(rt; length(list_at(&json, key)), any);
-        assert_eq!(rt; length(filled_list_at(&json, key)), filled);
-    }
-    assert!(rt; one_member(&json).is_none());
-    let one = json_of(rt.alloc(), r#"{"key":"t"}"#)?;
-    assert_eq!(rt; one_member(&one).map(|member| member.0), Some("key"));
+fn only_members(rt: HostRuntime) -> Result<(), Fail> {
+    assert!(rt; has_one_key(rt.alloc(), r#"{"key":"t"}"#, Some("key"))?);
+    assert!(rt; has_one_key(rt.alloc(), r#"{"key":"t","more":1}"#, None)?);
     Ok(())
 }

@@ -1,0 +1,324 @@
+//! Serving readers and writers of several kinds, the longest line, and what faults are called.
+
+use ent_line::{Answering, LINE_LIMIT, Reply, ServeFault, Service, serve};
+use ent_table::Accepted;
+use std::alloc::{AllocError, Global};
+use std::io;
+use std::io::{BufRead, ErrorKind, Read, Write};
+use std::test::Fail;
+
+/// A state that counts its lines: an accepted line has their number as its serial and its own length as its changes.
+#[derive(Drop)]
+struct Tally {
+    alloc: Global,
+    lines: u64,
+}
+
+impl Answering for Tally {
+    ghost is_ready = { λ t. Unit {0} };
+
+    ghost World = { Unit {0} };
+
+    ghost world = { λ t. tt };
+
+    ghost answers = { λ v line a w. Unit {0} };
+
+    ghost long_lines_alike = { λ w v line other a p q h. h };
+
+    fn handle(&mut self, line: &[u8]) -> Reply {
+        self.lines = self.lines.saturating_add(1);
+        if line.len() > LINE_LIMIT {
+            return Reply::Refused(1, None);
+        }
+        match line.first() {
+            None => Reply::Refused(2, None),
+            Some(b'-') => Reply::Refused(6, Some(9)),
+            Some(b'"') => match String::from_str(self.alloc, "\"text\"") {
+                Ok(text) => Reply::Text(text),
+                Err(_) => Reply::Refused(15, None),
+            },
+            Some(_) => Reply::Accepted(Accepted {
+                serial: self.lines,
+                changes: line.len() as u64,
+            }),
+        }
+    }
+}
+
+/// A reader that shows so many bytes at a time. It is interrupted before each odd piece, and then ends or fails.
+#[derive(Drop)]
+struct Slow<'a> {
+    text: &'a [u8],
+    step: usize,
+    fails: bool,
+    interrupted: bool,
+}
+
+impl<'a> Slow<'a> {
+    fn new(text: &'a [u8], step: usize, fails: bool) -> Slow<'a> {
+        Slow {
+            text,
+            step,
+            fails,
+            interrupted: false,
+        }
+    }
+}
+
+impl Read for Slow<'_> {
+    fn read(&mut self, _buf: &mut [u8]) -> io::Result<usize> {
+        Ok(0)
+    }
+}
+
+impl BufRead for Slow<'_> {
+    fn fill_buf(&mut self) -> io::Result<&[u8]> {
+        self.interrupted = !self.interrupted;
+        if self.interrupted {
+            return Err(io::Error::from(ErrorKind::Interrupted));
+        }
+        if self.text.is_empty() && self.fails {
+            return Err(io::Error::from(ErrorKind::BrokenPipe));
+        }
+        let n = self.step.min(self.text.len());
+        Ok(&self.text[..n])
+    }
+
+    fn consume(&mut self, amount: usize) {
+        let n = amount.min(self.text.len());
+        self.text = &self.text[n..];
+    }
+}
+
+/// A writer that takes so many bytes, and then fails. It can be flushed where `flushes` is set.
+#[derive(Drop)]
+pub(crate) struct Narrow {
+    pub(crate) taken: Vec<u8>,
+    pub(crate) room: usize,
+    pub(crate) flushes: bool,
+}
+
+impl Write for Narrow {
+    fn write(&mut self, buf: &[u8]) -> io::Result<usize> {
+        let n = buf.len().min(self.room);
+        if n == 0 {
+            return Err(io::Error::from(ErrorKind::BrokenPipe));
+        }
+        self.taken.extend_from_slice(&buf[..n])?;
+        self.room -= n;
+        Ok(n)
+    }
+
+    fn flush(&mut self) -> io::Result<()> {
+        if self.flushes {
+            Ok(())
+        } else {
+            Err(io::Error::from(ErrorKind::BrokenPipe))
+        }
+    }
+}
+
+/// What is written for the text, the number of lines, and the number of lines that were handled.
+fn served(
+    alloc: Global,
+    text: &[u8],
+    step: usize,
+    fails: bool,
+) -> (Vec<u8>, Result<u64, ServeFault>, u64) {
+    let mut tally = Tally { alloc, lines: 0 };
+    let mut reader = Slow::new(text, step, fails);
+    let mut out = Vec::new(alloc);
+    let lines = serve(alloc, &mut tally, &mut reader, &mut out);
+    (out, lines, tally.lines)
+}
+
+/// A line of so many bytes, and after it a short one.
+fn long_line(alloc: Global, length: usize) -> Result<Vec<u8>, AllocError> {
+    let mut text = Vec::new(alloc);
+    text.resize(length, b'x')?;
+    text.extend_from_slice(b"\nab\n".as_slice())?;
+    Ok(text)
+}
+
+/// Whether the text, of which so many bytes are shown at a time, has that many lines and these replies.
+fn is_served(alloc: Global, text: &[u8], step: usize, number: u64, replies: &str) -> bool {
+    let (out, lines, handled) = served(alloc, text, step, false);
+    lines == Ok(number) && handled == number && out.as_slice() == replies.as_bytes()
+}
+
+#[test]
+fn serves_pieces(rt: HostRuntime) {
+    let text = "abc\n\n-\n\"q\"\ndefgh";
+    let replies =
+        "{\"changes\":3,\"serial\":1}\n{\"refused\":2}\n{\"refused\":6,\"sub\":9}\n\"text\"\n{\"changes\":5,\"serial\":5}\n";
+    for step in [1, 7, 1000] {
+        assert!(rt;
+            is_served(rt.alloc(), text.as_bytes(), step, 5, replies),
+            "{step}"
+        );
+    }
+}
+
+/// Texts with the number of their lines.
+const COUNTED: &[(&str, u64)] = &[
+    ("", 0),
+    ("\n", 1),
+    ("a", 1),
+    ("a\n", 1),
+    ("\n\nb", 3),
+    ("\r\n", 1),
+];
+
+#[test]
+fn counts_lines(rt: HostRuntime) {
+    for &(text, number) in COUNTED {
+        let (_, lines, handled) = served(rt.alloc(), text.as_bytes(), 2, false);
+        assert_eq!(rt; lines, Ok(number));
+        assert_eq!(rt; handled, number);
+    }
+}
+
+/// Lengths of a line, with the replies to it and to a short one behind it.
+const LENGTHS: &[(usize, &str)] = &[
+    (
+        LINE_LIMIT,
+        "{\"changes\":1048576,\"serial\":1}\n{\"changes\":2,\"serial\":2}\n",
+    ),
+    (LINE_LIMIT + 1, TOO_LONG),
+    (LINE_LIMIT + 2, TOO_LONG),
+    (LINE_LIMIT + 100_000, TOO_LONG),
+];
+
+const TOO_LONG: &str = "{\"refused\":1}\n{\"changes\":2,\"serial\":2}\n";
+
+#[test]
+fn reads_the_longest_line(rt: HostRuntime) -> Result<(), Fail> {
+    for &(length, replies) in LENGTHS {
+        let text = long_line(rt.alloc(), length)?;
+        assert!(rt;
+            is_served(rt.alloc(), text.as_slice(), 5000, 2, replies),
+            "{length}"
+        );
+    }
+    Ok(())
+}
+
+#[test]
+fn stops_at_a_read_fault(rt: HostRuntime) {
+    let (out, lines, handled) = served(rt.alloc(), "ab\ncd".as_bytes(), 2, true);
+    assert_eq!(rt; lines, Err(ServeFault::Read));
+    assert_eq!(rt; handled, 1);
+    assert!(rt; out.as_slice() == "{\"changes\":2,\"serial\":1}\n".as_bytes());
+}
+
+/// What is written of the replies to a text, the number of lines, and the number of lines that were handled, where the writer takes
+/// so many bytes.
+fn narrowed(
+    alloc: Global,
+    text: &str,
+    room: usize,
+    flushes: bool,
+) -> (Vec<u8>, Result<u64, ServeFault>, u64) {
+    let mut tally = Tally { alloc, lines: 0 };
+    let mut reader = Slow::new(text.as_bytes(), 9, false);
+    let mut narrow = Narrow {
+        taken: Vec::new(alloc),
+        room,
+        flushes,
+    };
+    let lines = serve(alloc, &mut tally, &mut reader, &mut narrow);
+    (narrow.taken, lines, tally.lines)
+}
+
+/// How many bytes a writer takes and whether it can be flushed, with how many it holds in the end, and how many lines were handled.
+const ROOMS: &[(usize, bool, usize, u64)] = &[
+    (24, true, 24, 1),
+    (25, true, 25, 2),
+    (30, true, 30, 2),
+    (90, false, 25, 1),
+];
+
+/// Whether a writer that takes so many bytes ends with a write fault, a front of the replies and so many lines handled.
+fn is_cut(alloc: Global, room: usize, flushes: bool, written: usize, number: u64) -> bool {
+    let (taken, lines, handled) = narrowed(alloc, "abc\ndef\nghi\n", room, flushes);
+    let is_front = taken.len() == written && REPLIES.as_bytes().starts_with(taken.as_slice());
+    is_front && lines == Err(ServeFault::Write) && handled == number
+}
+
+/// The replies to the first two of those lines.
+const REPLIES: &str = "{\"changes\":3,\"serial\":1}\n{\"changes\":3,\"serial\":2}\n";
+
+#[test]
+fn stops_at_a_write_fault(rt: HostRuntime) {
+    for &(room, flushes, written, number) in ROOMS {
+        assert!(rt;
+            is_cut(rt.alloc(), room, flushes, written, number),
+            "{room}"
+        );
+    }
+}
+
+/// Faults with what each is called.
+const NAMES: &[(ServeFault, &str)] = &[
+    (ServeFault::Read, "read fault"),
+    (ServeFault::Write, "write fault"),
+    (ServeFault::Memory, "out of memory"),
+];
+
+#[test]
+fn printed_faults(rt: HostRuntime) -> Result<(), Fail> {
+    for &(fault, name) in NAMES {
+        let printed = format!(in rt.alloc(); "{fault}")?;
+        assert_eq!(rt; printed.as_str(), name);
+    }
+    Ok(())
+}
+
+#[test]
+fn takes_its_memory_first(rt: HostRuntime) {
+    let (out, lines, handled) = served(rt.alloc(), "abc\n".as_bytes(), 2, false);
+    let is_refused = lines == Err(ServeFault::Memory);
+    assert_eq!(rt; handled, if is_refused { 0 } else { 1 });
+    assert!(rt; out.is_empty() || !is_refused);
+}
+
+/// The text with spaces behind it, so many bytes in all.
+pub(crate) fn padded(alloc: Global, text: &str, length: usize) -> Result<Vec<u8>, AllocError> {
+    let mut bytes = Vec::new(alloc);
+    bytes.extend_from_slice(text.as_bytes())?;
+    bytes.resize(length, b' ')?;
+    Ok(bytes)
+}
+
+/// The reply of a new service.
+fn reply_to(alloc: Global, line: &[u8]) -> Reply {
+    Service::new(alloc).handle(line)
+}
+
+/// Whether a reply is the report of an empty table.
+fn is_empty_table(reply: &Reply) -> bool {
+    match reply {
+        Reply::Text(text) => text.as_str() == "{\"table\":[]}",
+        _ => false,
+    }
+}
+
+/// Whether a reply refuses a line that is too long.
+fn is_too_long(reply: &Reply) -> bool {
+    matches!(reply, Reply::Refused(1, None))
+}
+
+/// Whether a line of so many bytes that asks for the table is told of it, and whether it is refused as too long.
+fn told(alloc: Global, length: usize) -> Result<(bool, bool), AllocError> {
+    let line = padded(alloc, "{\"do\":\"table\"}", length)?;
+    let reply = reply_to(alloc, line.as_slice());
+    Ok((is_empty_table(&reply), is_too_long(&reply)))
+}
+
+#[test]
+fn handles_the_longest_line(rt: HostRuntime) -> Result<(), Fail> {
+    for (length, want) in [(LINE_LIMIT, (true, false)), (LINE_LIMIT + 1, (false, true))] {
+        assert_eq!(rt; told(rt.alloc(), length)?, want);
+    }
+    Ok(())
+}
