@@ -1,8 +1,7 @@
 -- What holds of all keys of a set holds of all that were noted in it.
-use Rattle.std.proofs.Common.{◌≡◌, ℕ, ◌<◌, ◌≤◌, length, List, [], ◌∷◌, refl, sym, ap, subst}
+use Rattle.std.proofs.Common.{◌≡◌, ℕ, List, [], ◌∷◌, refl, sym, ap, subst}
 use Rattle.std.specs.List.{All, AllByRecursion}
 use Rattle.std.specs.BTreeSet.{insert_key}
-use Rattle.std.specs.Coded.{×_prop, le_prop}
 use Rattle.std.proofs.lemmas.List.Elements.{All-head, All-tail}
 use Rattle.std.specs.FinMap.{IsAntisymmetric, nat_cmp-IsAntisymmetric, slice_cmp-IsAntisymmetric}
 use Rattle.std.specs.Ordering.{match_ordering, nat_cmp}
@@ -18,26 +17,21 @@ use Rattle.ent_eval.specs.Noted.{noted, read_cmp, with_key}
 ids : IsAntisymmetric (slice_cmp nat_cmp)
 ids = slice_cmp-IsAntisymmetric nat_cmp-IsAntisymmetric
 
--- the id of a reference has 1 to 256 bytes
-abbrev pub IsName : List ℕ → Type 0
-IsName i = (0 < length i) × (length i ≤ 256)
+pub same_id : (k : Kind) (i j : List ℕ) → i ≡ j → Ref (record { kind = k; id = i }) ≡ Ref (record { kind = k; id = j })
+same_id k i j e = ap (λ id. Ref (record { kind = k; id = id })) e
 
-pub same_id : (k : Kind) (i j : List ℕ) → i ≡ j → (p : IsName i) (q : IsName j) → Ref (record { kind = k; id = i; named = p }) ≡ Ref (record { kind = k; id = j; named = q })
-same_id k i j e p = subst (λ x. (q : IsName x) → Ref (record { kind = k; id = i; named = p }) ≡ Ref (record { kind = k; id = x; named = q })) e (λ q. ap (λ n. Ref (record { kind = k; id = i; named = n })) (×_prop le_prop le_prop p q))
-
-same_reference : (a b : Kind) (i j : List ℕ) (p : IsName i) (q : IsName j) → read_cmp (Ref (record { kind = a; id = i; named = p })) (Ref (record { kind = b; id = j; named = q })) ≡ Equal
-    → Ref (record { kind = a; id = i; named = p }) ≡ Ref (record { kind = b; id = j; named = q })
-same_reference Policy Policy i j p q e = same_id Policy i j (ids i j e) p q
-same_reference Policy PolicySet i j p q e = absurd (cc)
-same_reference PolicySet Policy i j p q e = absurd (cc)
-same_reference PolicySet PolicySet i j p q e = same_id PolicySet i j (ids i j e) p q
+same_reference : (a b : Kind) (i j : List ℕ) → read_cmp (Ref (record { kind = a; id = i })) (Ref (record { kind = b; id = j })) ≡ Equal → Ref (record { kind = a; id = i }) ≡ Ref (record { kind = b; id = j })
+same_reference Policy Policy i j e = same_id Policy i j (ids i j e)
+same_reference Policy PolicySet i j e = absurd (cc)
+same_reference PolicySet Policy i j e = absurd (cc)
+same_reference PolicySet PolicySet i j e = same_id PolicySet i j (ids i j e)
 
 -- keys that tie are equal
 pub read_cmp-IsAntisymmetric : IsAntisymmetric read_cmp
 read_cmp-IsAntisymmetric Root Root e = refl
 read_cmp-IsAntisymmetric Root (Ref b) e = absurd (cc)
 read_cmp-IsAntisymmetric (Ref a) Root e = absurd (cc)
-read_cmp-IsAntisymmetric (Ref a) (Ref b) e = same_reference a.kind b.kind a.id b.id a.named b.named e
+read_cmp-IsAntisymmetric (Ref a) (Ref b) e = same_reference a.kind b.kind a.id b.id e
 
 pub all_with : {K : Type 0} (cmp : K → K → Ordering) → IsAntisymmetric cmp → (P : K → Type 0) (keys : List K) (key : K) → AllByRecursion P (insert_key cmp keys key) → AllByRecursion P keys × P key
 all_with cmp same P [] key h = (tt, h.0)

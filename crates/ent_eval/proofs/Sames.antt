@@ -24,7 +24,7 @@ use Rattle.ent_eval.specs.contracts.answer.WhyEntryPartialEq.TheImpl as entries
 use Rattle.ent_eval.specs.Finding.{same_document_key}
 use Rattle.ent_eval.specs.declared.key.ReadKey.{ReadKey}
 use Rattle.ent_eval.specs.declared.key.ReadKey.TheVariants.{Root, Ref}
-use Rattle.ent_eval.proofs.Keys.{IsName, same_id}
+use Rattle.ent_eval.proofs.Keys.{same_id}
 use Rattle.ent_eval.specs.Same.{same_answer, same_key}
 
 -- two tests decide two facts
@@ -126,15 +126,14 @@ id_in (Ref reference) = reference.id
 kinds-differ : Policy ≡ PolicySet → ⊥
 kinds-differ e = absurd (cc)
 
-reference-Decides : (a b : Kind) (i j : List ℕ) (p : IsName i) (q : IsName j)
-    → Decides (same_key (Ref (record { kind = a; id = i; named = p })) (Ref (record { kind = b; id = j; named = q }))) (Ref (record { kind = a; id = i; named = p }) ≡ Ref (record { kind = b; id = j; named = q }))
-reference-Decides Policy Policy i j p q = (λ h. same_id Policy i j ((bytes_eq-Decides i j).0 h) p q, λ e. (bytes_eq-Decides i j).1 (ap id_in e))
-reference-Decides Policy PolicySet i j p q = (λ h. absurd (cc), λ e. absurd (kinds-differ (ap kind_in e)))
-reference-Decides PolicySet Policy i j p q = (λ h. absurd (cc), λ e. absurd (kinds-differ (sym (ap kind_in e))))
-reference-Decides PolicySet PolicySet i j p q = (λ h. same_id PolicySet i j ((bytes_eq-Decides i j).0 h) p q, λ e. (bytes_eq-Decides i j).1 (ap id_in e))
+reference-Decides : (a b : Kind) (i j : List ℕ) → Decides (same_key (Ref (record { kind = a; id = i })) (Ref (record { kind = b; id = j }))) (Ref (record { kind = a; id = i }) ≡ Ref (record { kind = b; id = j }))
+reference-Decides Policy Policy i j = (λ h. same_id Policy i j ((bytes_eq-Decides i j).0 h), λ e. (bytes_eq-Decides i j).1 (ap id_in e))
+reference-Decides Policy PolicySet i j = (λ h. absurd (cc), λ e. absurd (kinds-differ (ap kind_in e)))
+reference-Decides PolicySet Policy i j = (λ h. absurd (cc), λ e. absurd (kinds-differ (sym (ap kind_in e))))
+reference-Decides PolicySet PolicySet i j = (λ h. same_id PolicySet i j ((bytes_eq-Decides i j).0 h), λ e. (bytes_eq-Decides i j).1 (ap id_in e))
 
 pub key-Decides : (a b : ReadKey) → Decides (same_key a b) (a ≡ b)
 key-Decides Root Root = (λ h. refl, λ e. refl)
 key-Decides Root (Ref b) = (λ h. absurd (cc), λ e. absurd (cc))
 key-Decides (Ref a) Root = (λ h. absurd (cc), λ e. absurd (cc))
-key-Decides (Ref a) (Ref b) = reference-Decides a.kind b.kind a.id b.id a.named b.named
+key-Decides (Ref a) (Ref b) = reference-Decides a.kind b.kind a.id b.id

@@ -114,8 +114,10 @@ fn is_named(reference: &Reference, document: &Document) -> bool
     ensures { result ≡ is_named reference.now document.now }
 {
     match document.tree() {
-        Tree::Policy(policy) => reference.kind == Kind::Policy && policy.id == reference.id,
-        Tree::Set(set) => reference.kind == Kind::PolicySet && set.id == reference.id,
+        Tree::Policy(policy) => reference.kind == Kind::Policy
+            && policy.id.as_str() == reference.id.as_str(),
+        Tree::Set(set) => reference.kind == Kind::PolicySet
+            && set.id.as_str() == reference.id.as_str(),
     }
 }
 

@@ -1,5 +1,4 @@
 pub mod FormLemmas
-pub mod ReferenceLemmas
 pub mod NestedLemmas
 pub mod MemberLemmas
 pub mod WrittenLemmas

@@ -1,29 +1,18 @@
 -- The values that JSON spells, where their data type is known.
-use Rattle.std.specs.Prelude.{ℤ, Bool, IsTrue, Option, Some, None, is_some, option_and_then}
+use Rattle.std.specs.Prelude.{IsTrue, Option, None, is_some, option_and_then}
 use Rattle.serde_json.specs.Data as json
 use Rattle.serde_json.specs.Data.{Data}
 use Rattle.serde_json.specs.Find.{as_i64, as_str}
 use Rattle.ent_values.specs.declared.datatype.DataType.{DataType}
-use Rattle.ent_values.specs.declared.datatype.DataType.TheVariants as types
 use Rattle.ent_values.specs.declared.value.Value.{Value}
-use Rattle.ent_values.specs.declared.value.Value.TheVariants as values
 use Rattle.ent_values.specs.Reading.{value_of}
-
--- true and false are values of type boolean alone
-abbrev pub boolean_in : DataType → Bool → Option Value
-boolean_in types.Boolean b = Some (values.Boolean b)
-boolean_in datatype b = None
-
--- a number is a value of type integer alone
-abbrev pub integer_in : DataType → ℤ → Option Value
-integer_in types.Integer z = Some (values.Integer z)
-integer_in datatype z = None
+use Rattle.ent_policy.specs.Reading.{boolean_as, integer_as}
 
 -- the value of that type: a text by the type's lexical form (appendix B.3), a boolean, or a whole number of 64 bits
 unfoldable pub value_in : DataType → Data → Option Value
 value_in datatype json.null = None
-value_in datatype (json.boolean b) = boolean_in datatype b
-value_in datatype (json.number n) = option_and_then (integer_in datatype) (as_i64 n)
+value_in datatype (json.boolean b) = boolean_as b datatype
+value_in datatype (json.number n) = option_and_then (λ z. integer_as z datatype) (as_i64 n)
 value_in datatype (json.string s) = value_of datatype s
 value_in datatype (json.array ds) = None
 value_in datatype (json.object ms) = None

@@ -5,20 +5,12 @@ ghost use Rattle.serde_json.specs.View.{view};
 ghost use Rattle.ent_policy.specs.Gives.{Gives};
 ghost use Rattle.ent_policy.specs.declared.fault.CheckFault.TheVariants.{Memory};
 ghost use Rattle.ent_polform.specs.Reading.{has_form};
-ghost use Rattle.ent_polform.specs.Reference.{kind_of, reference_by, reference_named, reference_of};
+ghost use Rattle.ent_polform.specs.Reference.{kind_of, reference_by, reference_of};
 
 use crate::objects::{has_only, one_member, required};
 use ent_policy::{CheckFault, DocFault, Kind, Reference};
-use ent_values::Text;
 use serde_json::Value;
 use std::alloc::Global;
-
-/// The reference of that kind and id.
-fn named(kind: Kind, id: Text) -> Option<Reference>
-    ensures { result ≡ reference_named kind id }
-{
-    Reference::new(kind, id)
-}
 
 /// The reference of that kind.
 #[tactic(auto, unfolding(crate::specs::Reference::reference_by))]
@@ -30,7 +22,7 @@ fn reference(alloc: Global, kind: Kind, body: &Value) -> Result<Reference, Check
         return Err(CheckFault::Doc(DocFault::Form));
     }
     let id = required(alloc, body, "Id")?;
-    let reference = named(kind, id).ok_or(DocFault::Identifier)?;
+    let reference = Reference::new(kind, id).ok_or(DocFault::Identifier)?;
     Ok(reference)
 }
 

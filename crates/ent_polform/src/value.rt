@@ -3,31 +3,12 @@
 ghost use Rattle.std.specs.Prelude.{◌≡◌, None, IfErr, IfOk, Some};
 ghost use Rattle.serde_json.specs.View.{view};
 ghost use Rattle.ent_values.specs.declared.fault.ValueFault.TheVariants.{BadValue, Memory};
-ghost use Rattle.ent_polform.specs.Values.{IsText, boolean_in, integer_in, value_in};
+ghost use Rattle.ent_polform.specs.Values.{IsText, value_in};
 
+use ent_policy::{boolean_as, integer_as};
 use ent_values::{DataType, Value, ValueFault};
 use serde_json::Value as Json;
 use std::alloc::Global;
-
-/// The value of that type that a boolean is.
-fn boolean(datatype: DataType, flag: bool) -> Option<Value>
-    ensures { result ≡ boolean_in datatype flag }
-{
-    match datatype {
-        DataType::Boolean => Some(Value::Boolean(flag)),
-        _ => None,
-    }
-}
-
-/// The value of that type that a whole number is.
-fn integer(datatype: DataType, number: i64) -> Option<Value>
-    ensures { result ≡ integer_in datatype number }
-{
-    match datatype {
-        DataType::Integer => Some(Value::Integer(number)),
-        _ => None,
-    }
-}
 
 /// The value of that type that a JSON value spells: a text by the type's lexical form (appendix B.3), a boolean where the type is
 /// boolean, a whole number of 64 bits where it is integer. A text is copied once.
@@ -43,9 +24,9 @@ pub fn read_value(alloc: Global, datatype: DataType, json: &Json) -> Result<Valu
 {
     match json {
         Json::String(text) => Value::parse(alloc, datatype, text.as_str()),
-        Json::Bool(flag) => boolean(datatype, *flag).ok_or(ValueFault::BadValue),
+        Json::Bool(flag) => boolean_as(*flag, datatype).ok_or(ValueFault::BadValue),
         Json::Number(number) => match number.as_i64() {
-            Some(whole) => integer(datatype, whole).ok_or(ValueFault::BadValue),
+            Some(whole) => integer_as(whole, datatype).ok_or(ValueFault::BadValue),
             None => Err(ValueFault::BadValue),
         },
         _ => Err(ValueFault::BadValue),

@@ -11,3 +11,5 @@ pub mod Same
 pub mod Written
 pub mod Ids
 pub mod References
+pub mod Telling
+pub mod Documents

@@ -1,9 +1,13 @@
 -- `==` decides whether kinds, versions, keys and references are equal.
-use Rattle.std.proofs.Common.{◌≡◌, ℕ, ◌<◌, ◌≤◌, List, length, Bool, true, false, ◌&&◌, ap, subst, refl, rules}
+use Rattle.std.proofs.Common.{◌≡◌, ℕ, List, rules}
 use Rattle.std.specs.Bool.{Decides}
-use Rattle.std.specs.Coded.{×_prop, le_prop}
 use Rattle.std.proofs.lemmas.Slice.Eq.{bytes_eq-Decides}
+use Rattle.ent_policy.proofs.Telling.{decided, decides, last, more, struct}
 use Rattle.ent_policy.specs.Same.{same_kind, same_key, same_reference, same_version}
+use Rattle.ent_policy.specs.contracts.key.DocKey as key
+use Rattle.ent_policy.specs.contracts.key.DocKeyEq.TheImpl.Laws as keys
+use Rattle.ent_policy.specs.contracts.key.Reference as reference
+use Rattle.ent_policy.specs.contracts.key.ReferenceEq.TheImpl.Laws as references
 use Rattle.ent_policy.specs.declared.key.DocKey.{DocKey}
 use Rattle.ent_policy.specs.declared.key.Kind.{Kind}
 use Rattle.ent_policy.specs.declared.key.Reference.{Reference}
@@ -14,42 +18,8 @@ same_kind-Decides a b = search rules
 pub same_version-Decides : (a b : List ℕ) → Decides (same_version a b) (a ≡ b)
 same_version-Decides a b = bytes_eq-Decides a b
 
-both : (a b : Bool) → (a && b) ≡ true → (a ≡ true) × (b ≡ true)
-both true true h = (refl, refl)
-both true false h = absurd cc
-both false b h = absurd cc
-
 pub same_key-Decides : (a b : DocKey) → Decides (same_key a b) (a ≡ b)
-same_key-Decides a b = (
-  λ e. let parts = both _ _ e in
-      let more = both _ _ parts.1 in
-      let kind = (same_kind-Decides a.kind b.kind).0 parts.0 in
-      let id = (bytes_eq-Decides a.id b.id).0 more.0 in
-      let version = (bytes_eq-Decides a.version b.version).0 more.1 in
-      λ i. record { kind = kind i; id = id i; version = version i },
-  λ e. let kind = (same_kind-Decides a.kind b.kind).1 (ap (λ (k : DocKey). k.kind) e) in
-      let id = (bytes_eq-Decides a.id b.id).1 (ap (λ (k : DocKey). k.id) e) in
-      let version = (bytes_eq-Decides a.version b.version).1 (ap (λ (k : DocKey). k.version) e) in
-      rw (kind, id, version) refl,
-)
-
--- the length that an id of a reference has
-abbrev Named : List ℕ → Type 0
-Named id = (0 < length id) × (length id ≤ 256)
-
--- a reference is known by its kind and its id
-alike : (a b : Reference) → a.kind ≡ b.kind → a.id ≡ b.id → a ≡ b
-alike a b kind id =
-    let make : Named a.id → Reference = λ named. record { kind = a.kind; id = a.id; named = named } in
-    let by_id : (named : Named b.id) → a ≡ record { kind = a.kind; id = b.id; named = named } =
-    subst (λ (x : List ℕ). (named : Named x) → a ≡ record { kind = a.kind; id = x; named = named }) id (λ named. ap make (×_prop le_prop le_prop a.named named)) in
-    subst (λ (k : Kind). a ≡ record { kind = k; id = b.id; named = b.named }) kind (by_id b.named)
+same_key-Decides = decides keys.laws-law (struct key.struct key.the_propositions (more (decided same_kind-Decides) (more (decided bytes_eq-Decides) (last (decided same_version-Decides)))))
 
 pub same_reference-Decides : (a b : Reference) → Decides (same_reference a b) (a ≡ b)
-same_reference-Decides a b = (
-  λ e. let parts = both _ _ e in
-      alike a b ((same_kind-Decides a.kind b.kind).0 parts.0) ((bytes_eq-Decides a.id b.id).0 parts.1),
-  λ e. let kind = (same_kind-Decides a.kind b.kind).1 (ap (λ (r : Reference). r.kind) e) in
-      let id = (bytes_eq-Decides a.id b.id).1 (ap (λ (r : Reference). r.id) e) in
-      rw (kind, id) refl,
-)
+same_reference-Decides = decides references.laws-law (struct reference.struct reference.the_propositions (more (decided same_kind-Decides) (last (decided bytes_eq-Decides))))

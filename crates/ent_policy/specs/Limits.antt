@@ -25,6 +25,10 @@ use Rattle.ent_policy.specs.First.{earlier, first_of, if_so}
 abbrev pub is_bad_name : List ℕ → Bool
 is_bad_name name = (length name == 0) || nat_lt 256 (length name)
 
+-- the name that a text is
+abbrev pub name_of : List ℕ → Option (List ℕ)
+name_of text = if is_bad_name text then None else Some text
+
 -- one that doesn't is a fault
 abbrev pub name_fault : List ℕ → Option DocFault
 name_fault name = if_so (is_bad_name name) Identifier

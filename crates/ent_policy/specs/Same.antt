@@ -1,10 +1,12 @@
--- Whether two kinds, versions, keys or references are the same, and that this test decides it.
+-- Whether two kinds, versions, keys, references or documents are the same, and that this test decides it.
 use Rattle.std.specs.Prelude.{◌≡◌, ℕ, List, Bool}
 use Rattle.std.specs.Bool.{Decides}
+use Rattle.ent_policy.specs.contracts.document.DocumentPartialEq.TheImpl as documents
 use Rattle.ent_policy.specs.contracts.key.DocKeyPartialEq.TheImpl as keys
 use Rattle.ent_policy.specs.contracts.key.KindPartialEq.TheImpl as kinds
 use Rattle.ent_policy.specs.contracts.key.ReferencePartialEq.TheImpl as references
 use Rattle.ent_policy.specs.contracts.version.VersionPartialEq.TheImpl as versions
+use Rattle.ent_policy.specs.declared.document.Tree.{Tree}
 use Rattle.ent_policy.specs.declared.key.DocKey.{DocKey}
 use Rattle.ent_policy.specs.declared.key.Kind.{Kind}
 use Rattle.ent_policy.specs.declared.key.Reference.{Reference}
@@ -25,6 +27,10 @@ same_key = (keys.ghosts).eq
 abbrev pub same_reference : Reference → Reference → Bool
 same_reference = (references.ghosts).eq
 
+-- what `==` of two documents answers
+abbrev pub same_document : Tree → Tree → Bool
+same_document = (documents.ghosts).eq
+
 -- it answers whether they are equal
 abbrev pub SameKindsAreEqual : Type 0
 SameKindsAreEqual = (a b : Kind) → Decides (same_kind a b) (a ≡ b)
@@ -40,3 +46,7 @@ SameKeysAreEqual = (a b : DocKey) → Decides (same_key a b) (a ≡ b)
 -- the same of references
 abbrev pub SameReferencesAreEqual : Type 0
 SameReferencesAreEqual = (a b : Reference) → Decides (same_reference a b) (a ≡ b)
+
+-- the same of documents
+abbrev pub SameDocumentsAreEqual : Type 0
+SameDocumentsAreEqual = (a b : Tree) → Decides (same_document a b) (a ≡ b)

@@ -58,7 +58,7 @@ pub struct Target {
 }
 
 /// A rule (section 5.21).
-#[derive(Debug, Drop)]
+#[derive(Debug, PartialEq, Eq, Drop)]
 pub struct Rule {
     pub id: Text,
     pub effect: Effect,
@@ -68,7 +68,7 @@ pub struct Rule {
 }
 
 /// A policy (section 5.14).
-#[derive(Debug, Drop)]
+#[derive(Debug, PartialEq, Eq, Drop)]
 pub struct Policy {
     pub id: Text,
     pub version: Version,
@@ -80,7 +80,7 @@ pub struct Policy {
 
 /// A policy set (section 5.1).
 #[cycle(tree)]
-#[derive(Debug, Drop)]
+#[derive(Debug, PartialEq, Eq, Drop)]
 pub struct PolicySet {
     pub id: Text,
     pub version: Version,
@@ -91,13 +91,14 @@ pub struct PolicySet {
 
 /// A policy or a policy set.
 #[cycle(tree)]
-#[derive(Debug, Drop)]
+#[derive(Debug, PartialEq, Eq, Drop)]
 pub enum Tree {
     Policy(Policy),
     Set(PolicySet),
 }
 
-/// A document that can be stored and evaluated. Only the checker makes one.
+/// A document that can be stored and evaluated. Only the checker makes one. `==` says whether two documents are equal: it takes no
+/// memory, and looks at no more than the smaller of the two.
 #[derive(Debug, Drop)]
 pub struct Document {
     tree: Tree,
@@ -117,6 +118,24 @@ impl Model for Document {
     ghost view = { λ d. d.tree };
 
     ghost invariant = { λ d. IsChecked d.tree };
+}
+
+impl PartialEq for Document {
+    ghost use Rattle.ent_policy.specs.contracts.document.TreePartialEq.TheImpl.Laws.{laws-law};
+
+    ghost eq = { ⟦<Tree as PartialEq>⟧.eq };
+
+    ghost laws = { laws-law };
+
+    fn eq(&self, other: &Document) -> bool {
+        self.tree == other.tree
+    }
+}
+
+impl Eq for Document {
+    ghost use Rattle.ent_policy.specs.contracts.document.TreeEq.TheImpl.Laws.{laws-law};
+
+    ghost laws = { laws-law };
 }
 
 impl Document {

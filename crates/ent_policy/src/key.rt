@@ -1,8 +1,8 @@
 //! Names of documents, and references to them.
 
-ghost use Rattle.std.specs.Prelude.{◌≡◌, ◌<◌, ◌≤◌, IfOk, IfSome, is_some, length, not};
+ghost use Rattle.std.specs.Prelude.{◌≡◌, IfOk};
 
-use crate::limits::is_bad_name;
+use crate::name::Name;
 use crate::version::Version;
 use ent_values::Text;
 use std::alloc::{AllocError, Global};
@@ -36,12 +36,11 @@ pub struct DocKey {
     pub version: Version,
 }
 
-/// Names a stored document: of that kind and id the most recent version (sections 5.10 and 5.11). The id has 1 to 256 bytes.
+/// Names a stored document: of that kind and id the most recent version (sections 5.10 and 5.11).
 #[derive(Debug, PartialEq, Eq, PartialOrd, Ord, Drop)]
 pub struct Reference {
     pub kind: Kind,
-    pub id: Text,
-    pub ghost named: { (0 < length id) × (length id ≤ 256) },
+    pub id: Name,
 }
 
 impl DocKey {
@@ -58,18 +57,16 @@ impl DocKey {
 }
 
 impl Reference {
-    ghost use Rattle.ent_policy.specs.Limits.{is_bad_name};
+    ghost use Rattle.ent_policy.specs.Key.{reference_to};
 
     /// The reference, unless the id is empty or has more than 256 bytes.
     pub fn new(kind: Kind, id: Text) -> Option<Reference>
-        ensures given { is_some result ≡ not (is_bad_name id) }
-        ensures kind { IfSome result (λ r. r.kind ≡ kind) }
-        ensures id { IfSome result (λ r. r.id ≡ id) }
+        ensures { result ≡ reference_to kind id }
     {
-        if is_bad_name(id.as_str()) {
-            return None;
-        }
-        Some(Reference { kind, id })
+        Some(Reference {
+            kind,
+            id: Name::new(id)?,
+        })
     }
 
     /// An equal reference.

@@ -1,16 +1,18 @@
-//! Laws of names, versions and variables.
+//! Laws of names, versions, documents and variables.
 
 ghost use Rattle.std.specs.Prelude.{ℕ, Option};
 ghost use Rattle.ent_functions.specs.declared.types.ArgType.{ArgType};
-ghost use Rattle.ent_policy.specs.Same.{SameKeysAreEqual, SameKindsAreEqual, SameReferencesAreEqual, SameVersionsAreEqual};
+ghost use Rattle.ent_policy.specs.Same.{SameDocumentsAreEqual, SameKeysAreEqual, SameKindsAreEqual, SameReferencesAreEqual, SameVersionsAreEqual};
 ghost use Rattle.ent_policy.specs.Variables.{MoreReferencesChangeNothing};
 
-/// A law, with nothing to run: `==` of two kinds, of two versions, of two keys and of two references says whether they are equal.
+/// A law, with nothing to run: `==` of two kinds, of two versions, of two keys, of two references and of two documents says
+/// whether they are equal.
 pub fn same_is_equal()
     ensures kinds { SameKindsAreEqual }
     ensures versions { SameVersionsAreEqual }
     ensures keys { SameKeysAreEqual }
     ensures references { SameReferencesAreEqual }
+    ensures documents { SameDocumentsAreEqual }
 {}
 
 /// A law, with nothing to run: what is counted of a variable that leads to an end, and its type, are the same through more references.

@@ -12,6 +12,7 @@ mod law;
 mod limits;
 mod literals;
 mod measure;
+mod name;
 mod raw;
 mod read;
 mod reading;
@@ -26,6 +27,8 @@ pub use expression::{Expression, VariableDefinition};
 pub use fault::{CheckFault, DocFault};
 pub use key::{DocKey, Kind, Reference};
 pub use law::{more_references_change_nothing, same_is_equal};
+pub use literals::{boolean_as, integer_as};
+pub use name::Name;
 pub use raw::{
     RawAllOf, RawAnyOf, RawDesignator, RawDocument, RawExpression, RawLiteral, RawMatch, RawPolicy,
     RawPolicySet, RawRule, RawTarget, RawValue, RawVariableDefinition,

@@ -54,7 +54,8 @@ fn text_as(alloc: Global, text: Text, datatype: DataType) -> Result<Option<Value
     }
 }
 
-fn boolean_as(boolean: bool, datatype: DataType) -> Option<Value>
+/// The value of a type that a JSON boolean is: `None`, unless the type is boolean.
+pub fn boolean_as(boolean: bool, datatype: DataType) -> Option<Value>
     ensures { result ≡ boolean_as boolean datatype }
 {
     match datatype {
@@ -63,7 +64,8 @@ fn boolean_as(boolean: bool, datatype: DataType) -> Option<Value>
     }
 }
 
-fn integer_as(integer: i64, datatype: DataType) -> Option<Value>
+/// The value of a type that a JSON number is: `None`, unless the type is integer.
+pub fn integer_as(integer: i64, datatype: DataType) -> Option<Value>
     ensures { result ≡ integer_as integer datatype }
 {
     match datatype {

@@ -3,7 +3,7 @@
 use crate::documents::document;
 use ent_combine::{IndKind, Outcome};
 use ent_eval::{Answer, Evaluation, Pdp, Policies, ReadKey, Reads, Request, Status, WhyEntry};
-use ent_policy::{DocKey, Kind, Reference, Version};
+use ent_policy::{DocKey, Kind, Name, Reference, Version};
 use ent_values::{Items, Text};
 use std::alloc::{AllocError, Global};
 use std::test::Fail;
@@ -178,7 +178,7 @@ fn writing_is_not_decided(rt: HostRuntime) -> Result<(), Fail> {
 }
 
 /// Sets the root to the policy of that id, or to none, and gives the id of the old one.
-fn replace_root(alloc: Global, pdp: &mut Pdp, id: Option<&str>) -> Result<Option<Text>, Fail> {
+fn replace_root(alloc: Global, pdp: &mut Pdp, id: Option<&str>) -> Result<Option<Name>, Fail> {
     let root = match id {
         Some(id) => Some(reference(alloc, id)?),
         None => None,

@@ -42,24 +42,38 @@ fn add_policy(alloc: Global, review: &mut Review, module: usize) -> Result<Told,
     Ok(told(review, Edit::AddPolicy(module, document)))
 }
 
-/// A review of ann's and bob's reading of the plan.
-fn named(alloc: Global) -> Result<(Review, Told), Fail>
-    ensures { IfOk result (λ r. IsFresh ⟦<Documents as Policies>⟧.documents r.0) }
+/// The review with one more name.
+fn with_name(alloc: Global, mut review: Review, list: List, name: &str) -> Result<Review, Fail>
+    requires { IsFresh ⟦<Documents as Policies>⟧.documents review }
+    ensures { IfOk result (λ review. IsFresh ⟦<Documents as Policies>⟧.documents review) }
 {
-    let mut review = Review::new(alloc, Pdp::new(alloc), Limits::standard());
-    let _ann = add_name(alloc, &mut review, List::People, "ann")?;
-    let _read = add_name(alloc, &mut review, List::Actions, "read")?;
-    let _plan = add_name(alloc, &mut review, List::Resources, "plan")?;
-    let bob = add_name(alloc, &mut review, List::People, "bob")?;
-    Ok((review, bob))
+    let _told = add_name(alloc, &mut review, list, name)?;
+    Ok(review)
+}
+
+/// A review of ann's and bob's reading of the plan.
+fn named(alloc: Global) -> Result<Review, Fail>
+    ensures { IfOk result (λ review. IsFresh ⟦<Documents as Policies>⟧.documents review) }
+{
+    let empty = Review::new(alloc, Pdp::new(alloc), Limits::standard());
+    let ann = with_name(alloc, empty, List::People, "ann")?;
+    let reading = with_name(alloc, ann, List::Actions, "read")?;
+    let plan = with_name(alloc, reading, List::Resources, "plan")?;
+    with_name(alloc, plan, List::People, "bob")
+}
+
+/// Whether a name is among the people, and whether it is among the actions.
+fn listed(review: &Review, name: &str) -> (bool, bool) {
+    (
+        review.listed(List::People, name),
+        review.listed(List::Actions, name),
+    )
 }
 
 #[test]
 fn names_are_listed(rt: HostRuntime) -> Result<(), Fail> {
-    let (review, bob) = named(rt.alloc())?;
-    assert_eq!(rt; bob, Ok((4, 1)));
-    assert!(rt; review.listed(List::People, "bob"));
-    assert!(rt; !review.listed(List::Actions, "bob"));
+    let review = named(rt.alloc())?;
+    assert!(rt; listed(&review, "bob") == (true, false));
     assert!(rt; review.evaluations() == 2 && review.serial() == 4);
     Ok(())
 }
@@ -81,19 +95,27 @@ fn narrow() -> Limits
 fn full(alloc: Global) -> Result<Review, Fail>
     ensures { IfOk result (λ review. IsFresh ⟦<Documents as Policies>⟧.documents review) }
 {
-    let mut review = Review::new(alloc, Pdp::new(alloc), narrow());
-    let _ann = add_name(alloc, &mut review, List::People, "ann")?;
-    Ok(review)
+    let empty = Review::new(alloc, Pdp::new(alloc), narrow());
+    with_name(alloc, empty, List::People, "ann")
+}
+
+/// What one more person is answered.
+fn one_more_person(alloc: Global) -> Result<Told, Fail> {
+    let mut review = full(alloc)?;
+    add_name(alloc, &mut review, List::People, "")
+}
+
+/// What one more document is answered.
+fn one_more_document(alloc: Global) -> Result<Told, Fail> {
+    let mut review = full(alloc)?;
+    add_policy(alloc, &mut review, 7)
 }
 
 /// Where people and documents are as many as they may be, no more is the first refusal.
 #[test]
 fn limits(rt: HostRuntime) -> Result<(), Fail> {
-    let mut review = full(rt.alloc())?;
-    assert_eq!(rt; review.serial(), 1);
-    let more = add_name(rt.alloc(), &mut review, List::People, "")?;
-    assert_eq!(rt; more, Err(EditFault::Limit));
-    let document = add_policy(rt.alloc(), &mut review, 7)?;
-    assert_eq!(rt; document, Err(EditFault::Limit));
+    assert!(rt; full(rt.alloc())?.serial() == 1);
+    assert!(rt; one_more_person(rt.alloc())? == Err(EditFault::Limit));
+    assert!(rt; one_more_document(rt.alloc())? == Err(EditFault::Limit));
     Ok(())
 }

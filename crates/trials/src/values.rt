@@ -146,18 +146,40 @@ fn lists(rt: HostRuntime) -> Result<(), Fail> {
     Ok(())
 }
 
+/// A bag of two sevens.
+fn sevens(alloc: Global) -> Result<Bag, AllocError> {
+    let mut bag = Bag::new(alloc, DataType::Integer);
+    bag.push(Value::Integer(7))?;
+    bag.push(Value::Integer(7))?;
+    Ok(bag)
+}
+
+/// Whether a bag into which a seven was put is the bag of one seven.
+fn is_of_one(alloc: Global) -> Result<bool, AllocError> {
+    let mut bag = Bag::new(alloc, DataType::Integer);
+    bag.push(Value::Integer(7))?;
+    Ok(bag == Bag::of_one(alloc, Value::Integer(7))?)
+}
+
+/// Whether a bag is equal to its copy, and to the bag of the copy's values.
+fn is_copied(alloc: Global, bag: &Bag) -> Result<bool, AllocError> {
+    let copy = bag.copy(alloc)?;
+    let datatype = copy.datatype();
+    let is_equal = copy == *bag;
+    Ok(is_equal && Bag::of(datatype, copy.into_values()) == *bag)
+}
+
 #[test]
 fn bags(rt: HostRuntime) -> Result<(), Fail> {
-    let alloc = rt.alloc();
-    let mut bag = Bag::new(alloc, DataType::Integer);
-    assert!(rt; bag.is_empty());
-    bag.push(Value::Integer(7))?;
-    assert!(rt; bag == Bag::of_one(alloc, Value::Integer(7))?);
-    bag.push(Value::Integer(7))?;
+    assert!(rt; Bag::new(rt.alloc(), DataType::Integer).is_empty());
+    assert!(rt; is_of_one(rt.alloc())?);
+    let bag = sevens(rt.alloc())?;
     assert!(rt; bag.len() == 2 && bag.datatype() == DataType::Integer);
-    assert!(rt; bag.values()[1] == Value::Integer(7));
-    let copy = bag.copy(alloc)?;
-    assert!(rt; copy == bag);
-    assert!(rt; Bag::of(DataType::Integer, copy.into_values()) == bag);
+    assert!(rt;
+        bag.values()
+            .last()
+            .is_some_and(|value| *value == Value::Integer(7))
+    );
+    assert!(rt; is_copied(rt.alloc(), &bag)?);
     Ok(())
 }

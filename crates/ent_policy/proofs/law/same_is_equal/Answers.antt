@@ -1,3 +1,4 @@
+use Rattle.ent_policy.proofs.Documents.{same_document-Decides}
 use Rattle.ent_policy.proofs.Same.{same_key-Decides, same_kind-Decides, same_reference-Decides, same_version-Decides}
 use Rattle.ent_policy.proofs.law.same_is_equal.Goals as goal
 
@@ -12,3 +13,6 @@ returns-clause-keys c = same_key-Decides
 
 pub returns-clause-references : goal.returns-clause-references
 returns-clause-references c = same_reference-Decides
+
+pub returns-clause-documents : goal.returns-clause-documents
+returns-clause-documents c = same_document-Decides

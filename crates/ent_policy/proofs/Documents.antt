@@ -1,0 +1,163 @@
+-- `==` decides whether documents are equal.
+use denote.Enum.Bare.{sameb, same_true}
+use denote.Enum.Compared.{Each}
+use denote.Hole.Compared.{compared_is}
+use Rattle.std.proofs.Common.{◌≡◌, Bool, ◌&&◌, sym, ◌∙◌, subst}
+use Rattle.std.specs.Bool.{Decides}
+use Rattle.std.specs.Cmp.{booleans_Decides}
+use Rattle.std.specs.Cmp.Lexicographic.{pointwise}
+use Rattle.std.specs.Str.{bytes_eq}
+use Rattle.std.proofs.lemmas.Slice.Eq.{bytes_eq-Decides}
+use Rattle.ent_combine.specs.contracts.outcome.PolicyAlg as policy_alg
+use Rattle.ent_combine.specs.contracts.outcome.PolicyAlgPartialEq.TheImpl as policy_algs
+use Rattle.ent_combine.specs.contracts.outcome.RuleAlg as rule_alg
+use Rattle.ent_combine.specs.declared.outcome.PolicyAlg.{PolicyAlg}
+use Rattle.ent_functions.specs.contracts.function.Comparison as comparison
+use Rattle.ent_functions.specs.contracts.function.Element as element
+use Rattle.ent_functions.specs.contracts.function.Function as function
+use Rattle.ent_functions.specs.contracts.function.FunctionPartialEq.TheImpl as functions
+use Rattle.ent_functions.specs.contracts.function.Ordered as ordered
+use Rattle.ent_functions.specs.declared.function.Element.{Element}
+use Rattle.ent_functions.specs.declared.function.Function.{Function}
+use Rattle.ent_policy.specs.Same.{same_document}
+use Rattle.ent_policy.specs.contracts.document.AllOf as all_of
+use Rattle.ent_policy.specs.contracts.document.AnyOf as any_of
+use Rattle.ent_policy.specs.contracts.document.Designator as designator
+use Rattle.ent_policy.specs.contracts.document.DesignatorPartialEq.TheImpl as designators
+use Rattle.ent_policy.specs.contracts.document.Effect as effect
+use Rattle.ent_policy.specs.contracts.document.Match as match
+use Rattle.ent_policy.specs.contracts.document.Policy as policy
+use Rattle.ent_policy.specs.contracts.document.PolicyPartialEq.TheImpl as policies
+use Rattle.ent_policy.specs.contracts.document.Rule as rule
+use Rattle.ent_policy.specs.contracts.document.Target as target
+use Rattle.ent_policy.specs.contracts.document.TargetPartialEq.TheImpl as targets
+use Rattle.ent_policy.specs.contracts.document.Tree as tree
+use Rattle.ent_policy.specs.contracts.document.TreeEq.TheImpl.Laws as equivalence
+use Rattle.ent_policy.specs.contracts.document.TreePartialEq.TheImpl.Laws as trees
+use Rattle.ent_policy.specs.contracts.expression.Expression as expression
+use Rattle.ent_policy.specs.contracts.expression.ExpressionPartialEq.TheImpl.{ghosts}
+use Rattle.ent_policy.specs.contracts.expression.ExpressionPartialEq.TheImpl.Laws as expressions
+use Rattle.ent_policy.specs.contracts.expression.VariableDefinition as definition
+use Rattle.ent_policy.specs.declared.document.Designator.{Designator}
+use Rattle.ent_policy.specs.declared.document.Policy.{Policy}
+use Rattle.ent_policy.specs.declared.document.PolicySet.{PolicySet}
+use Rattle.ent_policy.specs.declared.document.Target.{Target}
+use Rattle.ent_policy.specs.declared.document.Tree.{Tree}
+use Rattle.ent_policy.specs.declared.document.Tree.TheBlock as block
+use Rattle.ent_policy.specs.declared.document.Tree.TheFolds.{ind-Tree, map-PolicySet, map-Tree}
+use Rattle.ent_policy.specs.declared.document.Tree.TheOpen.{PolicySet-F, Tree-F}
+use Rattle.ent_policy.specs.declared.document.Tree.TheViews.{out-roll-Tree, roll-PolicySet, roll-Tree}
+use Rattle.ent_policy.specs.declared.expression.Expression.{Expression}
+use Rattle.ent_policy.specs.declared.expression.Expression.TheBlock as expression_block
+use Rattle.ent_policy.specs.declared.expression.Expression.TheFolds.{ind-Expression, map-Expression}
+use Rattle.ent_policy.specs.declared.expression.Expression.TheOpen.{Expression-F}
+use Rattle.ent_policy.specs.declared.expression.Expression.TheViews.{out-roll-Expression, roll-Expression}
+use Rattle.std.proofs.lemmas.Bool.{and_parts}
+use Rattle.ent_policy.proofs.Same.{same_version-Decides}
+use Rattle.ent_policy.proofs.Telling.{Tells, Told, decided, decides, enum, last, list, listed, maybe, more, struct, variant}
+use Rattle.ent_values.proofs.Values.{same_type-Decides, same_value-Decides}
+use Rattle.ent_values.specs.Same.{same_value}
+
+one-tells : (v : Element × Unit {0}) → Tells (λ a b. sameb element.the_type a.0 b.0) v
+one-tells = last (same_true element.the_type tt)
+
+function-tells : (f : Function) → Tells (functions.ghosts).eq f
+function-tells =
+    enum function.enum _
+    (one-tells, (more (same_true comparison.the_type tt) (last (same_true ordered.the_type tt)), (one-tells, (one-tells, (one-tells, (one-tells, (one-tells, (one-tells, (one-tells, (one-tells, (one-tells, tt)))))))))))
+
+designator-tells : (d : Designator) → Tells (designators.ghosts).eq d
+designator-tells =
+    struct designator.struct designator.the_propositions
+    (more (decided bytes_eq-Decides) (more (decided bytes_eq-Decides) (more (decided same_type-Decides) (more (maybe (decided bytes_eq-Decides)) (last (decided booleans_Decides))))))
+
+target-tells : (t : Target) → Tells (targets.ghosts).eq t
+target-tells =
+    struct target.struct target.the_propositions (last (list
+    (struct any_of.struct any_of.the_propositions (last (list
+    (struct all_of.struct all_of.the_propositions (last (list
+    (struct match.struct match.the_propositions (more function-tells (more (decided same_value-Decides) (last designator-tells))))))))))))
+
+-- an expression is compared by its variant, and then by its fields
+abbrev same_expression : Expression → Expression → Bool
+same_expression = (ghosts).eq
+
+abbrev same_fields : Each Bool expression.enum.parts
+same_fields = (
+  λ a b. same_value a.0 b.0,
+  (λ a b. (designators.ghosts).eq a.0 b.0, (λ a b. bytes_eq a.0 b.0, (λ a b. (functions.ghosts).eq a.0 b.0 && pointwise same_expression a.1.0 b.1.0, (λ a b. (functions.ghosts).eq a.0 b.0, tt)))),
+)
+
+abbrev Told_expression : Type 0
+Told_expression = (e : Expression) × Tells same_expression e
+
+expression-layer : (y : Expression-F Told_expression) → Tells same_expression (roll-Expression (map-Expression Told_expression Expression (λ e. e.0) y))
+expression-layer y e h =
+    variant expression.enum same_fields (roll-Expression x) (subst (λ z. Told expression.enum.parts same_fields (expression_block.split-Expression expression_block.the_family z)) (sym (out-roll-Expression x)) (fields y))
+    e (sym (expressions.is (roll-Expression x) e) ∙ h)
+  where
+    x : Expression-F Expression
+    x = map-Expression Told_expression Expression (λ e. e.0) y
+
+    fields : (y : Expression-F Told_expression) → Told expression.enum.parts same_fields (expression_block.split-Expression expression_block.the_family (map-Expression Told_expression Expression (λ e. e.0) y))
+    fields (Expression-F.Value v) = last (decided same_value-Decides) (v, tt)
+    fields (Expression-F.Designator d) = last designator-tells (d, tt)
+    fields (Expression-F.Variable id) = last (decided bytes_eq-Decides) (id, tt)
+    fields (Expression-F.Apply f es) = λ w h. let p = and_parts _ _ h in λ i. (function-tells f w.0 p.0 i, (listed same_expression (λ e. e.0) (λ e. e.1) es w.1.0 p.1 i, tt))
+    fields (Expression-F.Function f) = last function-tells (f, tt)
+
+expression-tells : (e : Expression) → Tells same_expression e
+expression-tells = ind-Expression (Tells same_expression) (λ x y is. subst (λ z. Tells same_expression (roll-Expression z)) is (expression-layer y))
+
+policy-tells : (p : Policy) → Tells (policies.ghosts).eq p
+policy-tells =
+    struct policy.struct policy.the_propositions (more (decided bytes_eq-Decides) (more (decided same_version-Decides) (more (same_true rule_alg.the_type tt) (more target-tells (more
+    (list (struct definition.struct definition.the_propositions (more (decided bytes_eq-Decides) (last expression-tells))))
+    (last (list (struct rule.struct rule.the_propositions (more (decided bytes_eq-Decides) (more (same_true effect.the_type tt) (more target-tells (last (maybe expression-tells)))))))))))))
+
+algorithm-tells : (a : PolicyAlg) → Tells (policy_algs.ghosts).eq a
+algorithm-tells = enum policy_alg.enum _ (last (same_true rule_alg.the_type tt), tt)
+
+abbrev same_set : PolicySet → PolicySet → Bool
+same_set = trees.family block.member-PolicySet
+
+abbrev Told_tree : Type 0
+Told_tree = (t : Tree) × Tells same_document t
+
+abbrev Told_set : Type 0
+Told_set = (s : PolicySet) × Tells same_set s
+
+set-layer : (y : PolicySet-F Told_tree Told_set) → Tells same_set (roll-PolicySet (map-PolicySet Told_tree Told_set Tree PolicySet (λ t. t.0) (λ s. s.0) y))
+set-layer y s h =
+    let x = roll-PolicySet (map-PolicySet Told_tree Told_set Tree PolicySet (λ t. t.0) (λ s. s.0) y) in
+    let ids = and_parts _ _ (sym (compared_is _ _ _ _ _ _ trees.local block.member-PolicySet x s) ∙ h) in
+    let versions = and_parts _ _ ids.1 in
+    let algorithms = and_parts _ _ versions.1 in
+    let others = and_parts _ _ algorithms.1 in
+    λ i. record {
+      id = (bytes_eq-Decides y.id s.id).0 ids.0 i;
+      version = (same_version-Decides y.version s.version).0 versions.0 i;
+      algorithm = algorithm-tells y.algorithm s.algorithm algorithms.0 i;
+      target = target-tells y.target s.target others.0 i;
+      children = listed same_document (λ t. t.0) (λ t. t.1) y.children s.children others.1 i;
+    }
+
+abbrev same_kept : Each Bool tree.enum.parts
+same_kept = (λ a b. (policies.ghosts).eq a.0 b.0, (λ a b. same_set a.0 b.0, tt))
+
+tree-layer : (y : Tree-F Told_tree Told_set) → Tells same_document (roll-Tree (map-Tree Told_tree Told_set Tree PolicySet (λ t. t.0) (λ s. s.0) y))
+tree-layer y t h =
+    variant tree.enum same_kept (roll-Tree x) (subst (λ z. Told tree.enum.parts same_kept (block.split-Tree block.the_family z)) (sym (out-roll-Tree x)) (kept y)) t (sym (trees.is (roll-Tree x) t) ∙ h)
+  where
+    x : Tree-F Tree PolicySet
+    x = map-Tree Told_tree Told_set Tree PolicySet (λ t. t.0) (λ s. s.0) y
+
+    kept : (y : Tree-F Told_tree Told_set) → Told tree.enum.parts same_kept (block.split-Tree block.the_family (map-Tree Told_tree Told_set Tree PolicySet (λ t. t.0) (λ s. s.0) y))
+    kept (Tree-F.Policy p) = last policy-tells (p, tt)
+    kept (Tree-F.Set s) = λ w h i. (s.1 w.0 h i, tt)
+
+tree-tells : (t : Tree) → Tells same_document t
+tree-tells = ind-Tree (Tells same_document) (Tells same_set) (λ x y is. subst (λ z. Tells same_document (roll-Tree z)) is (tree-layer y)) (λ x y is. subst (λ z. Tells same_set (roll-PolicySet z)) is (set-layer y))
+
+pub same_document-Decides : (a b : Tree) → Decides (same_document a b) (a ≡ b)
+same_document-Decides = decides equivalence.laws-law tree-tells
