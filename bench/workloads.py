@@ -155,6 +155,66 @@ def decided_before_many():
     yield from decided(200)
 
 
+def version_of(number, version, effect='Permit'):
+    """A policy of one resource in one of its versions."""
+    rules = [{'RuleId': f'r{i}', 'Effect': effect, 'Target': action_is(ACTIONS[(number + i) % 4])} for i in range(2)]
+    document = policy(f'p{number}', rules, Target=resource_is(RESOURCES[number * 2]))
+    document['Policy']['Version'] = f'1.{version}'
+    return document
+
+
+def references():
+    """65,536 cells under a set of 32 references to policies of 8 versions each, and then 200 replaced policies that the table uses."""
+    for number in range(32):
+        for version in range(8):
+            yield line('policy.add', document=version_of(number, version))
+    children = [{'PolicyIdReference': {'Id': f'p{number}', 'Version': '1.+'}} for number in range(32)]
+    yield line('policy.add', document={'PolicySet': {
+        'PolicySetId': 's', 'Version': '1', 'PolicyCombiningAlgId': POLICY_ALGORITHM + 'deny-overrides', 'Children': children}})
+    yield line('root.set', reference={'PolicySetIdReference': {'Id': 's'}})
+    yield from lists()
+    for i in range(200):
+        yield line('policy.replace', document=version_of(i % 32, 7, 'Deny' if i // 32 % 2 == 0 else 'Permit'))
+
+
+def stored_many():
+    """1,024 documents of one rule each, stored in no order of their ids, without a table."""
+    for number in range(1024):
+        yield line('policy.add', document=policy(f'p{number * 7919 % 1024}', [{'RuleId': 'r', 'Effect': 'Permit'}]))
+
+
+def row(entity, attribute, values, category='AccessSubject', **keys):
+    return line('attr.set', category=category, entity=entity, attribute=attribute, type='string', values=values, **keys)
+
+
+def attributes():
+    """65,536 cells under 20 rules with conditions over three attributes each, of 1,000 rows; then 200 rows set anew, and 20 names dropped and added."""
+    def has(category, attribute, text):
+        return apply('string-is-in', value(text), bag(category, attribute))
+    for i, person in enumerate(PEOPLE):
+        yield row(person, 'department', [f'd{i % 20}'])
+        yield row(person, 'level', [f'l{i % 5}'])
+    for i, resource in enumerate(RESOURCES):
+        yield row(resource, 'owner', [f'd{i % 20}'], 'Resource', module=i % 2)
+    for i in range(424):
+        yield row(f'somebody-{i}', 'department', ['d0'])
+    rules = [{'RuleId': f'r{i}', 'Effect': 'Permit', 'Condition': apply(
+        'and', has(SUBJECT, 'department', f'd{i}'), has(SUBJECT, 'level', f'l{i % 5}'), has(RESOURCE, 'owner', f'd{i}'))} for i in range(20)]
+    yield from stored(policy('p', rules), 'p')
+    yield from lists()
+    for i in range(200):
+        yield row(PEOPLE[i], 'department', [f'd{(i + 1) % 20}'])
+    for i in range(20):
+        yield line('person.drop', name=PEOPLE[i])
+        yield line('person.add', name=PEOPLE[i])
+
+
+def rows_many():
+    """100,000 rows set in two modules, in no order of their entities, without a table."""
+    for i in range(100_000):
+        yield row(f'entity-{i * 7919 % 50_000}', f'a{i // 50_000}', ['x'], module=i % 2)
+
+
 ALL = {
     'one-policy': one_policy,
     'hundred-conditions': hundred_conditions,
@@ -163,4 +223,8 @@ ALL = {
     'combined-sets': combined_sets,
     'decided-alone': decided_alone,
     'decided-before-many': decided_before_many,
+    'references': references,
+    'stored-many': stored_many,
+    'attributes': attributes,
+    'rows-many': rows_many,
 }

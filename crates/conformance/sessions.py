@@ -3,7 +3,8 @@
 
     sessions.py [--check]
 
-A file sessions/SUBJECT.txt holds sessions. A line `# name` begins one, with a service of its own. A line `> ` with what is sent stands before
+A file sessions/SUBJECT.txt holds sessions. A line `# name` begins one, with a service of its own over two modules of attributes and two of policies; a line
+`# name N` begins one over N of each, from 1 to 4. A line `> ` with what is sent stands before
 a line `< ` with its reply; `--` begins a comment, and an empty line means nothing. The text is sent as it stands, but for what stands in «»:
 
     «N*TEXT»    N copies of TEXT             №      in TEXT: the number of the copy, from 0
@@ -49,7 +50,7 @@ def sessions_of(path):
             line = None
         elif line is not None or mark not in ('#', '>', '--', '') or mark == '>' and not sessions:
             sys.exit(f'{path}:{number}: this can\'t stand here: {text[:80]}')
-        elif mark == '#':
+        elif mark == '#' and re.fullmatch('[a-z0-9_]+( [1-4])?', rest):
             sessions.append((rest, []))
         elif mark == '>':
             line = sent(rest)
@@ -97,7 +98,7 @@ def main():
         heading = f'# {name}\n'.encode()
         lines += heading + b''.join(line + b'\n' for line, _ in pairs)
         replies += heading + b''.join(reply + b'\n' for _, reply in pairs)
-    doubled = len(sessions) - len({name for name, _ in sessions})
+    doubled = len(sessions) - len({name.split()[0] for name, _ in sessions})
     stale = doubled > 0
     for name, made in (('stdin', lines), ('stdout', replies)):
         path = os.path.join(HERE, name)

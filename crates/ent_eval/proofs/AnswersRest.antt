@@ -9,11 +9,13 @@ use Rattle.ent_combine.specs.declared.chooser.TargetResult.{TargetResult}
 use Rattle.ent_combine.specs.declared.outcome.PolicyAlg.{PolicyAlg}
 use Rattle.ent_combine.specs.declared.outcome.PolicyAlg.TheVariants.{Shared, OnlyOne}
 use Rattle.ent_combine.proofs.Choosing.{seen_targets_enough}
+use Rattle.ent_policy.specs.Children.{as_child}
+use Rattle.ent_policy.specs.declared.document.Child.{Child}
+use Rattle.ent_policy.specs.declared.document.Child.TheOpen.{Child-F, PolicySet-F}
+use Rattle.ent_policy.specs.declared.document.Child.TheFolds.{fold-roll-Child, fold-roll-PolicySet, ind-Child, map-Child, map-PolicySet}
+use Rattle.ent_policy.specs.declared.document.Child.TheViews.{roll-Child, roll-PolicySet}
 use Rattle.ent_policy.specs.declared.document.PolicySet.{PolicySet}
 use Rattle.ent_policy.specs.declared.document.Tree.{Tree}
-use Rattle.ent_policy.specs.declared.document.Tree.TheOpen.{Tree-F, PolicySet-F}
-use Rattle.ent_policy.specs.declared.document.Tree.TheFolds.{fold-roll-Tree, fold-roll-PolicySet, ind-Tree, map-Tree, map-PolicySet}
-use Rattle.ent_policy.specs.declared.document.Tree.TheViews.{roll-Tree, roll-PolicySet}
 use Rattle.ent_policy.specs.declared.key.DocKey.{DocKey}
 use Rattle.ent_policy.specs.declared.key.Kind.TheVariants as kind
 use Rattle.ent_policy.specs.declared.key.Reference.{Reference}
@@ -23,13 +25,13 @@ use Rattle.ent_eval.specs.declared.only.Only.TheVariants as only
 use Rattle.ent_eval.specs.declared.key.ReadKey.TheVariants.{Root, Ref}
 use Rattle.ent_eval.specs.declared.request.Request.{Request}
 use Rattle.ent_eval.specs.declared.target.Targeted.{Targeted}
-use Rattle.ent_eval.specs.Answer.{answer_part, found_part, looked_up, recorded, root_part}
+use Rattle.ent_eval.specs.Answer.{answer_part, looked_up, most_hops, recorded, root_part}
 use Rattle.ent_eval.specs.Judged.{nothing}
 use Rattle.ent_eval.specs.Law.{EqualLookUpsGiveEqualAnswers, IsSameLook}
 use Rattle.ent_eval.specs.Looks.{Looks}
-use Rattle.ent_eval.specs.Node.{Node, children_part, combined, node_of, set_node_of, set_step, tree_part, tree_step}
+use Rattle.ent_eval.specs.Node.{Node, child_step, children_part, combined, followed, found_node, node_with, refer, set_node_with, set_step}
 use Rattle.ent_eval.specs.Noted.{noted}
-use Rattle.ent_eval.specs.Only.{child_part, choice_part, chosen, only_one, result_of_target, results, seen_choice, spoils}
+use Rattle.ent_eval.specs.Only.{chosen_part, choice_part, chosen, only_one, result_of_target, results, seen_choice, spoils}
 use Rattle.ent_eval.specs.Part.{Part, after_look, without_look, reads_of, values}
 use Rattle.ent_eval.proofs.Keys.{all_noted, by_recursion}
 use Rattle.ent_eval.proofs.Rests.{AllRest, Rests, and_then-rests, combined-rests, element-rests, first_looks, later_looks, policy-rests, rests-by, target-rests}
@@ -89,28 +91,22 @@ place-rests s t part [] each place = λ h. refl
 place-rests s t part (x ∷ xs) each zero = each.0
 place-rests s t part (x ∷ xs) each (suc place) = place-rests s t part xs each.1 place
 
-child-rests : {X : Type 0} (s t : Looks) (part : Looks → X → Part Answer) (xs : List X) → AllRest s t part xs → (choice : Only) → Rests s t (λ u. child_part (map (part u) xs) choice)
-child-rests s t part xs each only.Nobody = λ h. refl
-child-rests s t part xs each (only.Child place) = place-rests s t part xs each place
-child-rests s t part xs each (only.Bad status) = λ h. refl
+chosen-rests : {X : Type 0} (s t : Looks) (part : Looks → X → Part Answer) (xs : List X) → AllRest s t part xs → (choice : Only) → Rests s t (λ u. chosen_part (map (part u) xs) choice)
+chosen-rests s t part xs each only.Nobody = λ h. refl
+chosen-rests s t part xs each (only.Child place) = place-rests s t part xs each place
+chosen-rests s t part xs each (only.Bad status) = λ h. refl
 
 only_one-rests : {X : Type 0} (s t : Looks) (target : Looks → X → Part Targeted) (part : Looks → X → Part Answer) (xs : List X) → AllRest s t target xs → AllRest s t part xs
     → Rests s t (λ u. only_one (map (target u) xs) (map (part u) xs))
 only_one-rests s t target part xs targets answers =
-    and_then-rests s t (λ u. choice_part (map (target u) xs)) (λ u. child_part (map (part u) xs)) (choice-rests s t target xs targets) (child-rests s t part xs answers)
+    and_then-rests s t (λ u. choice_part (map (target u) xs)) (λ u. chosen_part (map (part u) xs)) (choice-rests s t target xs targets) (chosen-rests s t part xs answers)
 
--- ---- policies and sets
+-- ---- policies, sets and references
 
 module _ (s t : Looks) (request : Request) where
   -- a node rests on its look-ups, by its target alone and as a whole
   abbrev BothRest : (Looks → Node) → Type 0
   BothRest node = Rests s t (λ u. (node u).target) × ((path : List DocKey) → Rests s t (λ u. (node u).answer path))
-
-  abbrev NodeRests : Tree → Type 0
-  NodeRests n = BothRest (λ u. node_of u request n)
-
-  abbrev SetRests : PolicySet → Type 0
-  SetRests p = BothRest (λ u. set_node_of u request p)
 
   both-by : (p q : Looks → Node) → ((u : Looks) → p u ≡ q u) → BothRest q → BothRest p
   both-by p q e rests = (
@@ -118,60 +114,83 @@ module _ (s t : Looks) (request : Request) where
     λ path. rests-by s t (λ u. (p u).answer path) (λ u. (q u).answer path) (λ u. ap (λ (n : Node). n.answer path) (e u)) (rests.1 path),
   )
 
-  node_rolls : (x : Tree-F Tree PolicySet) (u : Looks) → node_of u request (roll-Tree x) ≡ tree_step u request (map-Tree Tree PolicySet Node Node (node_of u request) (set_node_of u request) x)
-  node_rolls x u = fold-roll-Tree Node Node (tree_step u request) (set_step u request) x
+  -- where each reference does
+  module _ (refers : Looks → Reference → Node) (each : (r : Reference) → BothRest (λ u. refers u r)) where
+    abbrev node : Looks → Child → Node
+    node u = node_with u request (refers u)
 
-  set_rolls : (x : PolicySet-F Tree PolicySet) (u : Looks) → set_node_of u request (roll-PolicySet x) ≡ set_step u request (map-PolicySet Tree PolicySet Node Node (node_of u request) (set_node_of u request) x)
-  set_rolls x u = fold-roll-PolicySet Node Node (tree_step u request) (set_step u request) x
+    abbrev set_node : Looks → PolicySet → Node
+    set_node u = set_node_with u request (refers u)
 
-  node_layer : (y : Tree-F ((n : Tree) × NodeRests n) ((p : PolicySet) × SetRests p)) → NodeRests (roll-Tree (map-Tree ((n : Tree) × NodeRests n) ((p : PolicySet) × SetRests p) Tree PolicySet (λ e. e.0) (λ e. e.0) y))
-  node_layer (Tree-F.Policy policy) = both-by _ _ (node_rolls (Tree-F.Policy policy)) (target-rests s t request policy.target, λ path. policy-rests s t request path policy)
-  node_layer (Tree-F.Set set) = both-by _ _ (node_rolls (Tree-F.Set set.0)) set.1
+    abbrev ChildRests : Type 0
+    ChildRests = (c : Child) × BothRest (λ u. node u c)
 
-  each_target : (ns : List ((n : Tree) × NodeRests n)) → AllRest s t (λ u n. (node_of u request n).target) (map (λ e. e.0) ns)
-  each_target [] = tt
-  each_target (n ∷ ns) = (n.1.0, each_target ns)
+    abbrev SetRests : Type 0
+    SetRests = (p : PolicySet) × BothRest (λ u. set_node u p)
 
-  each_child : (here : List DocKey) (ns : List ((n : Tree) × NodeRests n)) → AllRest s t (λ u n. (node_of u request n).answer here) (map (λ e. e.0) ns)
-  each_child here [] = tt
-  each_child here (n ∷ ns) = (n.1.1 here, each_child here ns)
+    node_rolls : (x : Child-F Child PolicySet) (u : Looks) → node u (roll-Child x) ≡ child_step u request (refers u) (map-Child Child PolicySet Node Node (node u) (set_node u) x)
+    node_rolls x u = fold-roll-Child Node Node (child_step u request (refers u)) (set_step u request) x
 
-  children-rest : (algorithm : PolicyAlg) (here : List DocKey) (ns : List ((n : Tree) × NodeRests n)) → Rests s t (λ u. children_part algorithm (map (node_of u request) (map (λ e. e.0) ns)) here)
-  children-rest (Shared algorithm) here ns =
-      let children : List Tree = map (λ e. e.0) ns in
-      rests-by s t _ (λ u. combined algorithm (map (λ n. (node_of u request n).answer here) children)) (λ u. ap (combined algorithm) (map-map (node_of u request) (λ (n : Node). n.answer here) children))
-      (combined-rests s t algorithm (λ u n. (node_of u request n).answer here) children (each_child here ns))
-  children-rest OnlyOne here ns =
-      let children : List Tree = map (λ e. e.0) ns in
-      rests-by s t _ (λ u. only_one (map (λ n. (node_of u request n).target) children) (map (λ n. (node_of u request n).answer here) children))
-      (λ u. ap (λ ts. only_one ts (map (λ (n : Node). n.answer here) (map (node_of u request) children))) (map-map (node_of u request) (λ (n : Node). n.target) children)
-      ∙ ap (only_one (map (λ n. (node_of u request n).target) children)) (map-map (node_of u request) (λ (n : Node). n.answer here) children))
-      (only_one-rests s t (λ u n. (node_of u request n).target) (λ u n. (node_of u request n).answer here) children (each_target ns) (each_child here ns))
+    set_rolls : (x : PolicySet-F Child PolicySet) (u : Looks) → set_node u (roll-PolicySet x) ≡ set_step u request (map-PolicySet Child PolicySet Node Node (node u) (set_node u) x)
+    set_rolls x u = fold-roll-PolicySet Node Node (child_step u request (refers u)) (set_step u request) x
 
-  set_layer : (y : PolicySet-F ((n : Tree) × NodeRests n) ((p : PolicySet) × SetRests p)) → SetRests (roll-PolicySet (map-PolicySet ((n : Tree) × NodeRests n) ((p : PolicySet) × SetRests p) Tree PolicySet (λ e. e.0) (λ e. e.0) y))
-  set_layer y =
-      both-by _ _ (set_rolls (map-PolicySet ((n : Tree) × NodeRests n) ((p : PolicySet) × SetRests p) Tree PolicySet (λ e. e.0) (λ e. e.0) y)) (
-        target-rests s t request y.target,
-        λ path. element-rests s t request y.target (λ u. children_part y.algorithm (map (node_of u request) (map (λ e. e.0) y.children)) (path ++ record { kind = kind.PolicySet; id = y.id; version = y.version } ∷ []))
-            (children-rest y.algorithm (path ++ record { kind = kind.PolicySet; id = y.id; version = y.version } ∷ []) y.children),
-      )
+    node_layer : (y : Child-F ChildRests SetRests) → BothRest (λ u. node u (roll-Child (map-Child ChildRests SetRests Child PolicySet (λ e. e.0) (λ e. e.0) y)))
+    node_layer (Child-F.Policy policy) = both-by _ _ (node_rolls (Child-F.Policy policy)) (target-rests s t request policy.target, λ path. policy-rests s t request path policy)
+    node_layer (Child-F.Set set) = both-by _ _ (node_rolls (Child-F.Set set.0)) set.1
+    node_layer (Child-F.Reference reference) = both-by _ _ (node_rolls (Child-F.Reference reference)) (each reference)
 
-  node-rests : (n : Tree) → NodeRests n
-  node-rests = ind-Tree NodeRests SetRests (λ x y is. subst (λ z. NodeRests (roll-Tree z)) is (node_layer y)) (λ x y is. subst (λ z. SetRests (roll-PolicySet z)) is (set_layer y))
+    each_target : (ns : List ChildRests) → AllRest s t (λ u n. (node u n).target) (map (λ e. e.0) ns)
+    each_target [] = tt
+    each_target (n ∷ ns) = (n.1.0, each_target ns)
 
-tree-rests : (s t : Looks) (request : Request) (path : List DocKey) (document : Tree) → Rests s t (λ u. tree_part u request path document)
-tree-rests s t request path document = (node-rests s t request document).1 path
+    each_child : (here : List DocKey) (ns : List ChildRests) → AllRest s t (λ u n. (node u n).answer here) (map (λ e. e.0) ns)
+    each_child here [] = tt
+    each_child here (n ∷ ns) = (n.1.1 here, each_child here ns)
+
+    children-rest : (algorithm : PolicyAlg) (here : List DocKey) (ns : List ChildRests) → Rests s t (λ u. children_part algorithm (map (node u) (map (λ e. e.0) ns)) here)
+    children-rest (Shared algorithm) here ns =
+        let children : List Child = map (λ e. e.0) ns in
+        rests-by s t _ (λ u. combined algorithm (map (λ n. (node u n).answer here) children)) (λ u. ap (combined algorithm) (map-map (node u) (λ (n : Node). n.answer here) children))
+        (combined-rests s t algorithm (λ u n. (node u n).answer here) children (each_child here ns))
+    children-rest OnlyOne here ns =
+        let children : List Child = map (λ e. e.0) ns in
+        rests-by s t _ (λ u. only_one (map (λ n. (node u n).target) children) (map (λ n. (node u n).answer here) children))
+        (λ u. ap (λ ts. only_one ts (map (λ (n : Node). n.answer here) (map (node u) children))) (map-map (node u) (λ (n : Node). n.target) children)
+        ∙ ap (only_one (map (λ n. (node u n).target) children)) (map-map (node u) (λ (n : Node). n.answer here) children))
+        (only_one-rests s t (λ u n. (node u n).target) (λ u n. (node u n).answer here) children (each_target ns) (each_child here ns))
+
+    set_layer : (y : PolicySet-F ChildRests SetRests) → BothRest (λ u. set_node u (roll-PolicySet (map-PolicySet ChildRests SetRests Child PolicySet (λ e. e.0) (λ e. e.0) y)))
+    set_layer y =
+        both-by _ _ (set_rolls (map-PolicySet ChildRests SetRests Child PolicySet (λ e. e.0) (λ e. e.0) y)) (
+          target-rests s t request y.target,
+          λ path. element-rests s t request y.target (λ u. children_part y.algorithm (map (node u) (map (λ e. e.0) y.children)) (path ++ record { kind = kind.PolicySet; id = y.id; version = y.version } ∷ []))
+              (children-rest y.algorithm (path ++ record { kind = kind.PolicySet; id = y.id; version = y.version } ∷ []) y.children),
+        )
+
+    node-rests : (c : Child) → BothRest (λ u. node u c)
+    node-rests =
+        ind-Child (λ c. BothRest (λ u. node u c)) (λ p. BothRest (λ u. set_node u p)) (λ x y is. subst (λ z. BothRest (λ u. node u (roll-Child z))) is (node_layer y))
+        (λ x y is. subst (λ z. BothRest (λ u. set_node u (roll-PolicySet z))) is (set_layer y))
+
+    found-rests : (o : Option Tree) → BothRest (λ u. found_node (node u) o)
+    found-rests None = (λ h. refl, λ path h. refl)
+    found-rests (Some document) = node-rests (as_child document)
+
+    followed-rests : (r : Reference) → BothRest (λ u. followed u request (refers u) r)
+    followed-rests r = (
+      λ h. ap (λ o. after_look (Ref r) (found_node (node t) o).target) (sym h.0) ∙ ap (after_look (Ref r)) ((found-rests (s.document r)).0 h.1),
+      λ path h. ap (λ o. after_look (Ref r) ((found_node (node t) o).answer path)) (sym h.0) ∙ ap (after_look (Ref r)) ((found-rests (s.document r)).1 path h.1),
+    )
+
+  refer-rests : (hops : ℕ) (r : Reference) → BothRest (λ u. refer u request hops r)
+  refer-rests zero r = (λ h. refl, λ path h. refl)
+  refer-rests (suc hops) r = followed-rests (λ u. refer u request hops) (refer-rests hops) r
 
 -- ---- the answer
 
-found-rests : (s t : Looks) (request : Request) (o : Option Tree) → Rests s t (λ u. found_part u request o)
-found-rests s t request None h = refl
-found-rests s t request (Some document) h = tree-rests s t request [] document h
-
 root-rests : (s t : Looks) (request : Request) (root : Option Reference) → Rests s t (λ u. root_part u request root)
 root-rests s t request None h = refl
-root-rests s t request (Some r) h =
-    ap (λ o. after_look (Ref r) (found_part t request o)) (sym h.0) ∙ ap (after_look (Ref r)) (found-rests s t request (s.document r) h.1)
+root-rests s t request (Some r) h = (followed-rests s t request (λ u. refer u request most_hops) (refer-rests s t request most_hops) r).1 [] h
 
 answer-rests : (s t : Looks) (request : Request) → Rests s t (λ u. answer_part u request)
 answer-rests s t request h = ap (after_look Root) (ap (root_part t request) (sym h.0) ∙ root-rests s t request s.root h.1)

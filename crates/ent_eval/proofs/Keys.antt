@@ -1,37 +1,20 @@
 -- What holds of all keys of a set holds of all that were noted in it.
-use Rattle.std.proofs.Common.{◌≡◌, ℕ, List, [], ◌∷◌, refl, sym, ap, subst}
+use Rattle.std.proofs.Common.{◌≡◌, List, [], ◌∷◌, refl, sym, ap, subst, ◌∙◌}
 use Rattle.std.specs.List.{All, AllByRecursion}
 use Rattle.std.specs.BTreeSet.{insert_key}
 use Rattle.std.proofs.lemmas.List.Elements.{All-head, All-tail}
-use Rattle.std.specs.FinMap.{IsAntisymmetric, nat_cmp-IsAntisymmetric, slice_cmp-IsAntisymmetric}
-use Rattle.std.specs.Ordering.{match_ordering, nat_cmp}
-use Rattle.std.specs.Cmp.Lexicographic.{slice_cmp}
+use Rattle.std.specs.FinMap.{IsAntisymmetric}
+use Rattle.std.specs.Ordering.{is_eq, match_ordering}
 use Rattle.std.specs.declared.cmp.Ordering.{Ordering}
 use Rattle.std.specs.declared.cmp.Ordering.TheVariants.{Less, Equal, Greater}
-use Rattle.ent_policy.specs.declared.key.Kind.{Kind}
-use Rattle.ent_policy.specs.declared.key.Kind.TheVariants.{Policy, PolicySet}
+use Rattle.ent_eval.specs.contracts.key.ReadKeyOrd.TheImpl.Laws.{matches_eq-law}
 use Rattle.ent_eval.specs.declared.key.ReadKey.{ReadKey}
-use Rattle.ent_eval.specs.declared.key.ReadKey.TheVariants.{Root, Ref}
 use Rattle.ent_eval.specs.Noted.{noted, read_cmp, with_key}
-
-ids : IsAntisymmetric (slice_cmp nat_cmp)
-ids = slice_cmp-IsAntisymmetric nat_cmp-IsAntisymmetric
-
-pub same_id : (k : Kind) (i j : List ℕ) → i ≡ j → Ref (record { kind = k; id = i }) ≡ Ref (record { kind = k; id = j })
-same_id k i j e = ap (λ id. Ref (record { kind = k; id = id })) e
-
-same_reference : (a b : Kind) (i j : List ℕ) → read_cmp (Ref (record { kind = a; id = i })) (Ref (record { kind = b; id = j })) ≡ Equal → Ref (record { kind = a; id = i }) ≡ Ref (record { kind = b; id = j })
-same_reference Policy Policy i j e = same_id Policy i j (ids i j e)
-same_reference Policy PolicySet i j e = absurd (cc)
-same_reference PolicySet Policy i j e = absurd (cc)
-same_reference PolicySet PolicySet i j e = same_id PolicySet i j (ids i j e)
+use Rattle.ent_eval.proofs.Sames.{key-Decides}
 
 -- keys that tie are equal
 pub read_cmp-IsAntisymmetric : IsAntisymmetric read_cmp
-read_cmp-IsAntisymmetric Root Root e = refl
-read_cmp-IsAntisymmetric Root (Ref b) e = absurd (cc)
-read_cmp-IsAntisymmetric (Ref a) Root e = absurd (cc)
-read_cmp-IsAntisymmetric (Ref a) (Ref b) e = same_reference a.kind b.kind a.id b.id e
+read_cmp-IsAntisymmetric a b tied = (key-Decides a b).0 (matches_eq-law a b ∙ ap is_eq tied)
 
 pub all_with : {K : Type 0} (cmp : K → K → Ordering) → IsAntisymmetric cmp → (P : K → Type 0) (keys : List K) (key : K) → AllByRecursion P (insert_key cmp keys key) → AllByRecursion P keys × P key
 all_with cmp same P [] key h = (tt, h.0)

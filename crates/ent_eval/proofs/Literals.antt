@@ -8,7 +8,7 @@ use Rattle.ent_values.specs.declared.value.Value.TheVariants as value
 use Rattle.ent_functions.specs.Applied.{applied, first_order}
 use Rattle.ent_functions.specs.Sets.{is_among}
 use Rattle.ent_functions.specs.Types.{bag_of as bag_type, boolean, first_order_type, result_type_of, same_type, value_of}
-use Rattle.ent_functions.specs.declared.arg.Arg.TheVariants.{One, Many}
+use Rattle.ent_functions.specs.declared.arg.Arg.TheVariants.{One}
 use Rattle.ent_functions.specs.declared.function.Element.{Element}
 use Rattle.ent_functions.specs.declared.function.Function.{Function}
 use Rattle.ent_functions.specs.declared.function.Function.TheVariants as functions
@@ -19,20 +19,15 @@ use Rattle.ent_policy.specs.declared.expression.Expression.TheVariants as expres
 use Rattle.ent_policy.specs.declared.expression.Expression.TheOpen.{Expression-F}
 use Rattle.ent_policy.specs.declared.expression.Expression.TheFolds.{fold-roll-Expression}
 use Rattle.ent_policy.specs.declared.expression.VariableDefinition.{VariableDefinition}
-use Rattle.ent_eval.specs.declared.answer.Status.TheVariants.{MissingAttribute}
 use Rattle.ent_eval.specs.declared.evaluated.Evaluated.{Evaluated}
-use Rattle.ent_eval.specs.declared.evaluated.Evaluated.TheVariants.{Known, Indeterminate}
+use Rattle.ent_eval.specs.declared.evaluated.Evaluated.TheVariants.{Known}
 use Rattle.ent_eval.specs.declared.request.Request.{Request}
 use Rattle.ent_eval.specs.Expression.{bag_of, decides, designated, is_result, meaning, meaning_step, result_of, variable_part}
 use Rattle.ent_eval.specs.Looks.{Looks}
-use Rattle.ent_eval.specs.Own.{own_values}
-use Rattle.ent_eval.specs.Part.{Part, without_look, reads_of, whole}
+use Rattle.ent_eval.specs.Own.{is_empty, own_values}
+use Rattle.ent_eval.specs.Part.{Part, without_look, mapped, reads_of, whole}
+use Rattle.ent_eval.specs.Sources.{source_part}
 use Rattle.ent_eval.specs.Typed.{HasType}
-
--- whether a literal is among the values of a designator, which may have to be present
-abbrev pub found_in : Designator → Value → List Value → Evaluated
-found_in d literal [] = if d.must_be_present then Indeterminate MissingAttribute else Known (One (value.Boolean false))
-found_in d literal (v ∷ vs) = Known (One (value.Boolean (is_among literal (v ∷ vs))))
 
 -- a value is no result of a function that no boolean decides
 goes-on : (f : Function) (v : Value) → ((b : Bool) → decides f b ≡ false) → is_result f (Known (One v)) ≡ false
@@ -43,15 +38,11 @@ goes-on f (value.Date t) none = refl
 goes-on f (value.AnyUri t) none = refl
 goes-on f (value.YearMonth t) none = refl
 
--- that is what is-in comes to
-pub found : (e : Element) (d : Designator) (literal : Value) (vs : List Value) → found_in d literal vs ≡ result_of (functions.IsIn e) (Known (One literal) ∷ bag_of d vs ∷ [])
+-- what is-in comes to for a bag that isn't empty
+pub found : (e : Element) (d : Designator) (literal : Value) (vs : List Value) → is_empty vs ≡ false → Known (One (value.Boolean (is_among literal vs))) ≡ result_of (functions.IsIn e) (Known (One literal) ∷ bag_of d vs ∷ [])
 unfolding applied first_order
-found e d literal [] = at d.must_be_present where
-  at : (b : Bool) → (if b then Indeterminate MissingAttribute else Known (One (value.Boolean false)))
-      ≡ result_of (functions.IsIn e) (Known (One literal) ∷ (if b then Indeterminate MissingAttribute else Known (Many (record { datatype = d.datatype; values = [] }))) ∷ [])
-  at true = rw (goes-on (functions.IsIn e) literal (λ b. refl)) refl
-  at false = rw (goes-on (functions.IsIn e) literal (λ b. refl)) refl
-found e d literal (v ∷ vs) = rw (goes-on (functions.IsIn e) literal (λ b. refl)) refl
+found e d literal [] some = absurd (cc)
+found e d literal (v ∷ vs) some = rw (goes-on (functions.IsIn e) literal (λ b. refl)) refl
 
 -- what equal comes to
 pub same : (e : Element) (v w : Value) → Known (One (value.Boolean (same_value v w))) ≡ result_of (functions.Equal e) (Known (One v) ∷ Known (One w) ∷ [])
@@ -74,6 +65,10 @@ module _ (looks : Looks) (request : Request) (definitions : List VariableDefinit
   unfolding Rattle.ent_policy.specs.declared.expression.Expression.TheViews.roll-Expression denote.Hole.Carrier.roll
   designator-part d = fold-roll-Expression (Part Evaluated) (meaning_step looks request (variable_part looks request definitions n)) (Expression-F.Designator d)
 
+  -- a designator for which the request has values of its own
+  own-part : (d : Designator) → is_empty (own_values d request) ≡ false → designated looks request d ≡ without_look (bag_of d (own_values d request))
+  own-part d some = ap (λ b. mapped (bag_of d) (if b then source_part looks request d else without_look (own_values d request))) some
+
   one : (e : Element) (d : Designator) (v : Value) → whole (is_result (functions.OneAndOnly e)) (result_of (functions.OneAndOnly e)) (without_look (bag_of d (v ∷ [])) ∷ []) ≡ without_look (Known (One v))
   unfolding applied first_order
   one e d v = refl
@@ -83,7 +78,7 @@ module _ (looks : Looks) (request : Request) (definitions : List VariableDefinit
       → whole (is_result f) (result_of f) (map (meaning looks request definitions n) given) ≡ without_look (Known (One v))
   only f e d v given f-is is own =
       ap (λ h. whole (is_result h) (result_of h) (map (meaning looks request definitions n) given)) f-is
-      ∙ ap (whole (is_result (functions.OneAndOnly e)) (result_of (functions.OneAndOnly e))) (ap (map (meaning looks request definitions n)) is ∙ ap (λ p. p ∷ []) (designator-part d))
+      ∙ ap (whole (is_result (functions.OneAndOnly e)) (result_of (functions.OneAndOnly e))) (ap (map (meaning looks request definitions n)) is ∙ ap (λ p. p ∷ []) (designator-part d ∙ own-part d (ap is_empty own)))
       ∙ ap (λ vs. whole (is_result (functions.OneAndOnly e)) (result_of (functions.OneAndOnly e)) (without_look (bag_of d vs) ∷ [])) own ∙ one e d v
 
 -- two parts for which nothing is looked up
@@ -105,10 +100,10 @@ module _ (looks : Looks) (request : Request) (definitions : List VariableDefinit
       ∙ ap (λ p. whole (is_result f) (result_of f) (without_look a ∷ p ∷ [])) second ∙ two_known (is_result f) (result_of f) a b
 
   pub is-in-part : (f : Function) (e : Element) (given : List Expression) (x y : Expression) (v : Value) (d : Designator) → f ≡ functions.IsIn e → given ≡ x ∷ y ∷ []
-      → meaning looks request definitions n x ≡ without_look (Known (One v)) → y ≡ expressions.Designator d
+      → meaning looks request definitions n x ≡ without_look (Known (One v)) → y ≡ expressions.Designator d → is_empty (own_values d request) ≡ false
       → whole (is_result f) (result_of f) (map (meaning looks request definitions n) given) ≡ without_look (result_of (functions.IsIn e) (Known (One v) ∷ bag_of d (own_values d request) ∷ []))
-  is-in-part f e given x y v d f-is is first second =
-      of_two f given x y (Known (One v)) (bag_of d (own_values d request)) is first (ap (meaning looks request definitions n) second ∙ designator-part looks request definitions n d)
+  is-in-part f e given x y v d f-is is first second some =
+      of_two f given x y (Known (One v)) (bag_of d (own_values d request)) is first (ap (meaning looks request definitions n) second ∙ designator-part looks request definitions n d ∙ own-part looks request definitions n d some)
       ∙ ap (λ g. without_look (result_of g (Known (One v) ∷ bag_of d (own_values d request) ∷ []))) f-is
 
   pub equal-part : (f : Function) (e : Element) (given : List Expression) (x y : Expression) (v w : Value) → f ≡ functions.Equal e → given ≡ x ∷ y ∷ []

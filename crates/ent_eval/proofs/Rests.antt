@@ -8,13 +8,16 @@ use Rattle.ent_combine.specs.Seen.{up_to_first}
 use Rattle.ent_combine.specs.declared.outcome.RuleAlg.{RuleAlg}
 use Rattle.ent_policy.specs.declared.document.AllOf.{AllOf}
 use Rattle.ent_policy.specs.declared.document.AnyOf.{AnyOf}
+use Rattle.ent_policy.specs.declared.document.Designator.{Designator}
 use Rattle.ent_policy.specs.declared.document.Match.{Match}
 use Rattle.ent_policy.specs.declared.document.Policy.{Policy}
 use Rattle.ent_policy.specs.declared.document.Rule.{Rule}
 use Rattle.ent_policy.specs.declared.document.Target.{Target}
 use Rattle.ent_policy.specs.declared.key.DocKey.{DocKey}
 use Rattle.ent_eval.specs.declared.answer.Answer.{Answer}
+use Rattle.ent_eval.specs.declared.key.ReadKey.TheVariants as key
 use Rattle.ent_eval.specs.declared.request.Request.{Request}
+use Rattle.ent_values.specs.declared.value.Value.{Value}
 use Rattle.ent_eval.specs.declared.target.Targeted.{Targeted}
 use Rattle.ent_eval.specs.declared.target.Targeted.TheVariants as is
 use Rattle.ent_functions.specs.declared.function.Function.{Function}
@@ -27,15 +30,17 @@ use Rattle.ent_policy.specs.declared.expression.VariableDefinition.{VariableDefi
 use Rattle.ent_policy.specs.declared.key.Kind.TheVariants as kind
 use Rattle.ent_eval.specs.declared.evaluated.Evaluated.{Evaluated}
 use Rattle.ent_eval.specs.declared.evaluated.Truth.{Truth}
-use Rattle.ent_eval.specs.Expression.{defined_part, is_result, meaning, meaning_step, meaning_with, result_of, variable_part}
+use Rattle.ent_eval.specs.Expression.{bag_of, defined_part, is_result, meaning, meaning_step, meaning_with, result_of, variable_part}
 use Rattle.ent_eval.specs.Gathered.{judged_by}
 use Rattle.ent_eval.specs.Judged.{judgement_of, stops, with_target}
 use Rattle.ent_eval.specs.Law.{IsSameLook}
 use Rattle.ent_eval.specs.Looks.{Looks}
 use Rattle.ent_eval.specs.Node.{children_after, combined, element, policy_part, rules_part}
-use Rattle.ent_eval.specs.Part.{Part, and_then, mapped, reads_of, seen_parts, values, whole}
+use Rattle.ent_eval.specs.Own.{is_empty, own_values}
+use Rattle.ent_eval.specs.Part.{Part, after_look, and_then, mapped, reads_of, seen_parts, values, whole, without_look}
 use Rattle.ent_eval.specs.Rule.{condition_part, decided, rule_after, rule_part, truth_of}
-use Rattle.ent_eval.specs.Target.{all_match, all_of_part, any_of_part, is_match, is_no_match, match_part, one_matches, target_part}
+use Rattle.ent_eval.specs.Sources.{asks_day, day_part, day_values, entity_of, entity_part, key_for, source_part, values_part}
+use Rattle.ent_eval.specs.Target.{all_match, all_of_part, any_of_part, is_match, is_no_match, match_part, matched, one_matches, target_part}
 use Rattle.ent_eval.proofs.Children.{judged_seen}
 
 -- a part is the same over both where its look-ups are
@@ -99,6 +104,28 @@ whole-rests s t stop part of_values enough xs each h =
     ∙ ap (λ ps. record { value = of_values (values ps); reads = reads_of ps }) same
     ∙ ap (λ v. record { value = v; reads = reads_of (seen_parts stop (map (part s) xs)) }) (sym (by_seen s))
 
+-- ---- values of designators
+
+module _ (s t : Looks) (request : Request) (d : Designator) where
+  day-rests : Rests s t day_part
+  day-rests h = ap (λ day. after_look key.Day (without_look (day_values day))) (sym h.0)
+
+  entity-rests : (entity : Option (List ℕ)) → Rests s t (λ u. entity_part u d entity)
+  entity-rests None h = refl
+  entity-rests (Some e) h = ap (λ vs. after_look (key.Attr (key_for d e)) (without_look vs)) (sym h.0)
+
+  source-rests : Rests s t (λ u. source_part u request d)
+  source-rests = at (asks_day d) where
+    at : (b : Bool) → Rests s t (λ u. if b then day_part u else entity_part u d (entity_of request d.category))
+    at true = day-rests
+    at false = entity-rests (entity_of request d.category)
+
+  values-rest : Rests s t (λ u. values_part u request d)
+  values-rest = at (own_values d request) where
+    at : (vs : List Value) → Rests s t (λ u. if is_empty vs then source_part u request d else without_look vs)
+    at [] = source-rests
+    at (v ∷ vs) = λ h. refl
+
 -- ---- targets
 
 all_match-seen : (ts : List Targeted) → all_match ts ≡ all_match (up_to_first is_no_match ts)
@@ -114,7 +141,7 @@ one_matches-seen ts = at (list_any is_match ts) refl where
   at false is = sym (ap one_matches (combining.whole is_match ts is))
 
 match-rests : (s t : Looks) (request : Request) (m : Match) → Rests s t (λ u. match_part u request m)
-match-rests s t request m h = refl
+match-rests s t request m = mapped-rests s t (matched m) (λ u. values_part u request m.designator) (values-rest s t request m.designator)
 
 all_of-rests : (s t : Looks) (request : Request) (a : AllOf) → Rests s t (λ u. all_of_part u request a)
 all_of-rests s t request a = whole-rests s t is_no_match (λ u m. match_part u request m) all_match all_match-seen a.matches (each-rests s t (λ u m. match_part u request m) (match-rests s t request) a.matches)
@@ -165,7 +192,7 @@ module _ (s t : Looks) (request : Request) (refer : Looks → List ℕ → Part 
 
   layer-rests : (y : Expression-F ((e : Expression) × MeaningRests e)) → MeaningRests (roll-Expression (map-Expression ((e : Expression) × MeaningRests e) Expression (λ e. e.0) y))
   layer-rests (Expression-F.Value v) = rests-by s t _ _ (meaning_rolls (Expression-F.Value v)) (λ h. refl)
-  layer-rests (Expression-F.Designator d) = rests-by s t _ _ (meaning_rolls (Expression-F.Designator d)) (λ h. refl)
+  layer-rests (Expression-F.Designator d) = rests-by s t _ _ (meaning_rolls (Expression-F.Designator d)) (mapped-rests s t (bag_of d) (λ u. values_part u request d) (values-rest s t request d))
   layer-rests (Expression-F.Variable id) = rests-by s t _ _ (meaning_rolls (Expression-F.Variable id)) (each id)
   layer-rests (Expression-F.Apply f arguments) =
       rests-by s t _ _ (meaning_rolls (Expression-F.Apply f (map (λ e. e.0) arguments)))

@@ -7,16 +7,17 @@ use Rattle.ent_combine.specs.declared.outcome.PolicyAlg.TheVariants.{Shared, Onl
 use Rattle.ent_combine.specs.declared.outcome.RuleAlg.{RuleAlg}
 use Rattle.ent_policy.specs.Typing.{target_is_typed}
 use Rattle.ent_policy.specs.Typing as typing
+use Rattle.ent_policy.specs.declared.document.Child.{Child}
+use Rattle.ent_policy.specs.declared.document.Child.TheFolds.{fold_out-PolicySet}
 use Rattle.ent_policy.specs.declared.document.PolicySet.{PolicySet}
-use Rattle.ent_policy.specs.declared.document.Tree.{Tree}
-use Rattle.ent_policy.specs.declared.document.Tree.TheFolds.{fold_out-PolicySet}
 use Rattle.ent_policy.specs.declared.key.DocKey.{DocKey}
 use Rattle.ent_policy.specs.declared.key.Kind.TheVariants as kind
 use Rattle.ent_eval.specs.declared.key.ReadKey.{ReadKey}
 use Rattle.ent_eval.specs.declared.request.Request.{Request}
 use Rattle.ent_eval.specs.declared.target.Targeted.{Targeted}
 use Rattle.ent_eval.specs.Looks.{Looks}
-use Rattle.ent_eval.specs.Node.{Node, children_after, children_part, combined, element, node_of, set_children, set_part, set_step, tree_part, tree_step, tree_target}
+use Rattle.ent_eval.specs.Hops.{children_combined, child_target, node_of, only_child, set_children, set_part}
+use Rattle.ent_eval.specs.Node.{Node, child_step, children_after, children_part, combined, element, refer, set_step}
 use Rattle.ent_eval.specs.Noted.{noted}
 use Rattle.ent_eval.specs.Only.{only_one}
 use Rattle.ent_eval.specs.Target.{target_part}
@@ -29,18 +30,18 @@ map-map f g [] = refl
 map-map f g (x ∷ xs) = ap (λ zs. g (f x) ∷ zs) (map-map f g xs)
 
 -- the children of a set as they are evaluated
-pub shared_children : (looks : Looks) (request : Request) (algorithm : RuleAlg) (children : List Tree) (here : List DocKey)
-    → children_part (Shared algorithm) (map (node_of looks request) children) here ≡ combined algorithm (map (tree_part looks request here) children)
-shared_children looks request algorithm children here = ap (combined algorithm) (map-map (node_of looks request) (λ (n : Node). n.answer here) children)
+pub shared_children : (looks : Looks) (request : Request) (hops : ℕ) (algorithm : RuleAlg) (children : List Child) (here : List DocKey)
+    → children_part (Shared algorithm) (map (node_of looks request hops) children) here ≡ children_combined looks request hops here algorithm children
+shared_children looks request hops algorithm children here = ap (combined algorithm) (map-map (node_of looks request hops) (λ (n : Node). n.answer here) children)
 
-pub only_children : (looks : Looks) (request : Request) (children : List Tree) (here : List DocKey)
-    → children_part OnlyOne (map (node_of looks request) children) here ≡ only_one (map (tree_target looks request) children) (map (tree_part looks request here) children)
-only_children looks request children here =
-    ap (λ ts. only_one ts (map (λ (n : Node). n.answer here) (map (node_of looks request) children))) (map-map (node_of looks request) (λ (n : Node). n.target) children)
-    ∙ ap (only_one (map (tree_target looks request) children)) (map-map (node_of looks request) (λ (n : Node). n.answer here) children)
+pub only_children : (looks : Looks) (request : Request) (hops : ℕ) (children : List Child) (here : List DocKey)
+    → children_part OnlyOne (map (node_of looks request hops) children) here ≡ only_child looks request hops here children
+only_children looks request hops children here =
+    ap (λ ts. only_one ts (map (λ (n : Node). n.answer here) (map (node_of looks request hops) children))) (map-map (node_of looks request hops) (λ (n : Node). n.target) children)
+    ∙ ap (only_one (map (child_target looks request hops) children)) (map-map (node_of looks request hops) (λ (n : Node). n.answer here) children)
 
-pub set_out : (looks : Looks) (request : Request) (path : List DocKey) (set : PolicySet) → set_part looks request path set ≡ element (target_part looks request set.target) (set_children looks request path set)
-set_out looks request path set = ap (λ (n : Node). n.answer path) (fold_out-PolicySet Node Node (tree_step looks request) (set_step looks request) set)
+pub set_out : (looks : Looks) (request : Request) (hops : ℕ) (path : List DocKey) (set : PolicySet) → set_part looks request hops path set ≡ element (target_part looks request set.target) (set_children looks request hops path set)
+set_out looks request hops path set = ap (λ (n : Node). n.answer path) (fold_out-PolicySet Node Node (child_step looks request (refer looks request hops)) (set_step looks request) set)
 
 all_map : {X : Type 0} (p : X → Bool) (xs : List X) → list_all (λ b. b) (map p xs) ≡ list_all p xs
 all_map p [] = refl
@@ -52,32 +53,32 @@ few n h = grind (arith, nat_tests)
 -- the target and the children of a set that can be evaluated
 pub set-fit : (set : PolicySet) → set_is_fit set ≡ true → (target_is_typed set.target ≡ true) × ((length set.children ≤ 256) × (list_all is_fit set.children ≡ true))
 set-fit set fit =
-    let out : set_is_fit set ≡ (target_is_typed set.target && (nat_le (length (map is_fit set.children)) 256 && list_all (λ b. b) (map is_fit set.children))) = fold_out-PolicySet Bool Bool typing.tree_step fit_step set in
+    let out : set_is_fit set ≡ (target_is_typed set.target && (nat_le (length (map is_fit set.children)) 256 && list_all (λ b. b) (map is_fit set.children))) = fold_out-PolicySet Bool Bool typing.child_step fit_step set in
     let parts = both_true (target_is_typed set.target) (nat_le (length (map is_fit set.children)) 256 && list_all (λ b. b) (map is_fit set.children)) (sym out ∙ fit) in
     let inside = both_true (nat_le (length (map is_fit set.children)) 256) (list_all (λ b. b) (map is_fit set.children)) parts.1 in
     let short : length (map is_fit set.children) ≤ 256 = few (length (map is_fit set.children)) inside.0 in
     (parts.0, (subst (λ n. n ≤ 256) (length-map set.children is_fit) short, sym (all_map is_fit set.children) ∙ inside.1))
 
 -- the set's reads, after its target and its children
-pub set-reads : (looks : Looks) (request : Request) (path : List DocKey) (set : PolicySet) (t : Targeted) (keys first next : List ReadKey) → t ≡ (target_part looks request set.target).value
-    → first ≡ noted keys (target_part looks request set.target).reads → next ≡ noted first (children_after (set_children looks request path set) t).reads → next ≡ noted keys (set_part looks request path set).reads
-set-reads looks request path set t keys first next t-is first-is is =
-    is ∙ ap (λ s. noted first (children_after (set_children looks request path set) s).reads) t-is
-    ∙ ap (λ ks. noted ks (children_after (set_children looks request path set) (target_part looks request set.target).value).reads) first-is
-    ∙ noted_both keys (target_part looks request set.target).reads _ ∙ ap (λ p. noted keys p.reads) (sym (set_out looks request path set))
+pub set-reads : (looks : Looks) (request : Request) (hops : ℕ) (path : List DocKey) (set : PolicySet) (t : Targeted) (keys first next : List ReadKey) → t ≡ (target_part looks request set.target).value
+    → first ≡ noted keys (target_part looks request set.target).reads → next ≡ noted first (children_after (set_children looks request hops path set) t).reads → next ≡ noted keys (set_part looks request hops path set).reads
+set-reads looks request hops path set t keys first next t-is first-is is =
+    is ∙ ap (λ s. noted first (children_after (set_children looks request hops path set) s).reads) t-is
+    ∙ ap (λ ks. noted ks (children_after (set_children looks request hops path set) (target_part looks request set.target).value).reads) first-is
+    ∙ noted_both keys (target_part looks request set.target).reads _ ∙ ap (λ p. noted keys p.reads) (sym (set_out looks request hops path set))
 
 -- the children of a set, by its algorithm
-pub shared-part : (looks : Looks) (request : Request) (path : List DocKey) (set : PolicySet) (algorithm : RuleAlg) (here : List DocKey) (children : List Tree) → set.algorithm ≡ Shared algorithm
-    → here ≡ path ++ record { kind = kind.PolicySet; id = set.id; version = set.version } ∷ [] → children ≡ set.children → combined algorithm (map (tree_part looks request here) children) ≡ set_children looks request path set
-shared-part looks request path set algorithm here children by here-is children-is =
-    sym (shared_children looks request algorithm children here) ∙ ap (λ ts. children_part (Shared algorithm) (map (node_of looks request) ts) here) children-is
-    ∙ ap (children_part (Shared algorithm) (map (node_of looks request) set.children)) here-is
-    ∙ ap (λ a. children_part a (map (node_of looks request) set.children) (path ++ record { kind = kind.PolicySet; id = set.id; version = set.version } ∷ [])) (sym by)
+pub shared-part : (looks : Looks) (request : Request) (hops : ℕ) (path : List DocKey) (set : PolicySet) (algorithm : RuleAlg) (here : List DocKey) (children : List Child) → set.algorithm ≡ Shared algorithm
+    → here ≡ path ++ record { kind = kind.PolicySet; id = set.id; version = set.version } ∷ [] → children ≡ set.children → children_combined looks request hops here algorithm children ≡ set_children looks request hops path set
+shared-part looks request hops path set algorithm here children by here-is children-is =
+    sym (shared_children looks request hops algorithm children here) ∙ ap (λ ts. children_part (Shared algorithm) (map (node_of looks request hops) ts) here) children-is
+    ∙ ap (children_part (Shared algorithm) (map (node_of looks request hops) set.children)) here-is
+    ∙ ap (λ a. children_part a (map (node_of looks request hops) set.children) (path ++ record { kind = kind.PolicySet; id = set.id; version = set.version } ∷ [])) (sym by)
 
-pub only-part : (looks : Looks) (request : Request) (path : List DocKey) (set : PolicySet) (here : List DocKey) (children : List Tree) → set.algorithm ≡ OnlyOne
+pub only-part : (looks : Looks) (request : Request) (hops : ℕ) (path : List DocKey) (set : PolicySet) (here : List DocKey) (children : List Child) → set.algorithm ≡ OnlyOne
     → here ≡ path ++ record { kind = kind.PolicySet; id = set.id; version = set.version } ∷ [] → children ≡ set.children
-    → only_one (map (tree_target looks request) children) (map (tree_part looks request here) children) ≡ set_children looks request path set
-only-part looks request path set here children by here-is children-is =
-    sym (only_children looks request children here) ∙ ap (λ ts. children_part OnlyOne (map (node_of looks request) ts) here) children-is
-    ∙ ap (children_part OnlyOne (map (node_of looks request) set.children)) here-is
-    ∙ ap (λ a. children_part a (map (node_of looks request) set.children) (path ++ record { kind = kind.PolicySet; id = set.id; version = set.version } ∷ [])) (sym by)
+    → only_child looks request hops here children ≡ set_children looks request hops path set
+only-part looks request hops path set here children by here-is children-is =
+    sym (only_children looks request hops children here) ∙ ap (λ ts. children_part OnlyOne (map (node_of looks request hops) ts) here) children-is
+    ∙ ap (children_part OnlyOne (map (node_of looks request hops) set.children)) here-is
+    ∙ ap (λ a. children_part a (map (node_of looks request hops) set.children) (path ++ record { kind = kind.PolicySet; id = set.id; version = set.version } ∷ [])) (sym by)

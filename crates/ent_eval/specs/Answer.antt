@@ -1,26 +1,24 @@
 -- The answer to a request, and the look-ups that it rests on.
-use Rattle.std.specs.Prelude.{List, [], Option, Some, None}
-use Rattle.ent_policy.specs.declared.document.Tree.{Tree}
+use Rattle.std.specs.Prelude.{ℕ, List, [], Option, Some, None}
 use Rattle.ent_policy.specs.declared.key.Reference.{Reference}
 use Rattle.ent_eval.specs.declared.answer.Answer.{Answer}
 use Rattle.ent_eval.specs.declared.key.ReadKey.{ReadKey}
-use Rattle.ent_eval.specs.declared.key.ReadKey.TheVariants.{Root, Ref}
+use Rattle.ent_eval.specs.declared.key.ReadKey.TheVariants.{Root}
 use Rattle.ent_eval.specs.declared.request.Request.{Request}
-use Rattle.ent_eval.specs.Judged.{nothing, unresolved}
+use Rattle.ent_eval.specs.Judged.{nothing}
 use Rattle.ent_eval.specs.Looks.{Looks}
-use Rattle.ent_eval.specs.Node.{tree_part}
+use Rattle.ent_eval.specs.Node.{followed, refer}
 use Rattle.ent_eval.specs.Noted.{noted}
 use Rattle.ent_eval.specs.Part.{Part, without_look, after_look}
 
--- the document that a reference found, if it found one
-abbrev pub found_part : Looks → Request → Option Tree → Part Answer
-found_part looks request None = without_look unresolved
-found_part looks request (Some t) = tree_part looks request [] t
+-- on each path from the root at most six references are followed; the seventh looks nothing up
+abbrev pub most_hops : ℕ
+most_hops = 6
 
--- the root's document, if there is a root
+-- the root's document, if there is a root, which counts as none of the six
 abbrev pub root_part : Looks → Request → Option Reference → Part Answer
 root_part looks request None = without_look nothing
-root_part looks request (Some reference) = after_look (Ref reference) (found_part looks request (looks.document reference))
+root_part looks request (Some reference) = (followed looks request (refer looks request most_hops) reference).answer []
 
 -- the answer, with its look-ups, of which the first is the root
 abbrev pub answer_part : Looks → Request → Part Answer

@@ -20,17 +20,17 @@ use Rattle.ent_eval.specs.declared.evaluated.Evaluated.{Evaluated}
 use Rattle.ent_eval.specs.declared.evaluated.Evaluated.TheVariants.{Known, Indeterminate}
 use Rattle.ent_eval.specs.declared.request.Request.{Request}
 use Rattle.ent_eval.specs.Looks.{Looks}
-use Rattle.ent_eval.specs.Own.{own_values}
-use Rattle.ent_eval.specs.Part.{Part, without_look, whole}
+use Rattle.ent_eval.specs.Part.{Part, without_look, mapped, whole}
+use Rattle.ent_eval.specs.Sources.{values_part}
 
 -- the bag of a designator, which is Indeterminate if it is empty and a value must be present (section 7.3.5)
 abbrev pub bag_of : Designator → List Value → Evaluated
 bag_of d [] = if d.must_be_present then Indeterminate MissingAttribute else Known (Many (record { datatype = d.datatype; values = [] }))
 bag_of d (v ∷ vs) = Known (Many (record { datatype = d.datatype; values = v ∷ vs }))
 
--- a designator: the request's own values
+-- a designator
 abbrev pub designated : Looks → Request → Designator → Part Evaluated
-designated looks request d = without_look (bag_of d (own_values d request))
+designated looks request d = mapped (bag_of d) (values_part looks request d)
 
 -- whether a boolean is the result whatever the other arguments are: True of `or`, False of `and` (appendix A.3.5)
 abbrev pub decides : Function → Bool → Bool

@@ -18,7 +18,7 @@ use Rattle.ent_eval.specs.declared.target.Targeted.TheVariants.{Match, NoMatch, 
 abbrev pub nothing : Answer
 nothing = record { decision = NotApplicable; status = Okay; why = [] }
 
--- what a reference comes to that finds no document (section 7.15)
+-- what a reference comes to that isn't resolved (section 7.15)
 abbrev pub unresolved : Answer
 unresolved = record { decision = Ind DP; status = ProcessingError; why = [] }
 

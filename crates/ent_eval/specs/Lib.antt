@@ -1,9 +1,12 @@
 pub mod Answer
 pub mod Expression
-pub mod Finding
 pub mod Gathered
+pub mod Held
+pub mod Lending
+pub mod Hops
 pub mod Judged
 pub mod Law
+pub mod Left
 pub mod Listed
 pub mod Looks
 pub mod LooksOf
@@ -14,5 +17,8 @@ pub mod Own
 pub mod Part
 pub mod Rule
 pub mod Same
+pub mod Sources
 pub mod Target
 pub mod Typed
+pub mod Uncopied
+pub mod Uris

@@ -1,9 +1,10 @@
 -- The request of a cell of the table (sections 5.42, 5.44 and 5.46).
-use Rattle.std.specs.Prelude.{◌≡◌, ℕ, List, [], ◌∷◌, ◌++◌, None, codes, false, take}
+use Rattle.std.specs.Prelude.{◌≡◌, ℕ, List, [], ◌∷◌, ◌++◌, None, false, take}
 use Rattle.ent_values.specs.declared.datatype.DataType.TheVariants as types
 use Rattle.ent_values.specs.declared.value.Value.TheVariants as value
 use Rattle.ent_eval.specs.declared.request.Category.{Category}
 use Rattle.ent_eval.specs.declared.request.Request.{Request}
+use Rattle.ent_eval.specs.Uris as uris
 
 -- a category with one attribute of one text, without an issuer, which isn't to be in the result
 abbrev pub named : List ℕ → List ℕ → List ℕ → Category
@@ -12,19 +13,14 @@ named category attribute text = record {
   attributes = record { id = attribute; issuer = None; bag = record { datatype = types.Text; values = value.Text text ∷ [] }; included = false } ∷ [];
 }
 
--- a resource by its id (appendix B.6)
+-- a resource by its id
 abbrev pub about : List ℕ → Category
-about resource =
-    named (codes "urn:oasis:names:tc:xacml:3.0:attribute-category:resource") (codes "urn:oasis:names:tc:xacml:1.0:resource:resource-id") resource
+about resource = named uris.resource uris.resource_id resource
 
--- a person, an action and a resource by their ids (appendix B.2 and B.4 to B.6)
+-- a person, an action and a resource by their ids
 abbrev pub listed : List ℕ → List ℕ → List ℕ → Request
 listed person action resource = record {
-  categories =
-      named (codes "urn:oasis:names:tc:xacml:1.0:subject-category:access-subject") (codes "urn:oasis:names:tc:xacml:1.0:subject:subject-id") person
-      ∷ named (codes "urn:oasis:names:tc:xacml:3.0:attribute-category:action") (codes "urn:oasis:names:tc:xacml:1.0:action:action-id") action
-      ∷ about resource
-      ∷ [];
+  categories = named uris.access_subject uris.subject_id person ∷ named uris.action uris.action_id action ∷ about resource ∷ [];
 }
 
 -- the same of another resource, which takes the place of the third category and of all behind it

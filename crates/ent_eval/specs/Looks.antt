@@ -1,9 +1,14 @@
 -- Look-ups: all that an evaluation asks of what is held.
-use Rattle.std.specs.Prelude.{Option}
+use Rattle.std.specs.Prelude.{List, Option}
+use Rattle.ent_values.specs.Calendar.{Day}
+use Rattle.ent_values.specs.declared.value.Value.{Value}
+use Rattle.ent_finder.specs.declared.row.AttrKey.{AttrKey}
 use Rattle.ent_policy.specs.declared.document.Tree.{Tree}
 use Rattle.ent_policy.specs.declared.key.Reference.{Reference}
 
--- the root, and the document that a reference names, if there is one
+-- the root, the document that a reference names, if there is one, the values that a key names, and the day, if one is set
 pub record Looks : Type 0 where
   pub root : Option Reference
   pub document : Reference → Option Tree
+  pub values : AttrKey → List Value
+  pub day : Option Day

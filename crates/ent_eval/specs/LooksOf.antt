@@ -1,10 +1,20 @@
--- The look-ups that a decision point gives.
-use Rattle.std.specs.Prelude.{List}
-use Rattle.ent_policy.specs.declared.document.Tree.{Tree}
+-- What a decision point holds, and the look-ups that it gives.
+use Rattle.std.specs.Prelude.{List, map}
+use Rattle.ent_finder.specs.Rows.{Source, filled_source}
+use Rattle.ent_finder.specs.Slots.{Slots, held}
 use Rattle.ent_eval.specs.declared.pdp.Pdp.{Pdp}
-use Rattle.ent_eval.specs.Finding.{most_recent}
+use Rattle.ent_eval.specs.Held.{Held, looks_in}
 use Rattle.ent_eval.specs.Looks.{Looks}
 
--- its root, and by each reference the most recent of the documents that it holds
-abbrev pub looks_of : {P : Type 0} → (P → List Tree) → Pdp P → Looks
-looks_of documents pdp = record { root = pdp.root; document = λ reference. most_recent reference (documents pdp.policies) }
+-- its root, what its modules hold, where an empty slot or row counts as none, and its day
+abbrev pub held_by : {A P : Type 0} → (A → List Source) → (P → List Slots) → Pdp A P → Held
+held_by sources slots pdp = record {
+  root = pdp.root;
+  modules = map held (slots pdp.policies);
+  sources = map filled_source (sources pdp.attributes);
+  day = pdp.day;
+}
+
+-- the look-ups in that
+abbrev pub looks_of : {A P : Type 0} → (A → List Source) → (P → List Slots) → Pdp A P → Looks
+looks_of sources slots pdp = looks_in (held_by sources slots pdp)

@@ -1,23 +1,31 @@
--- What a policy or a policy set comes to (sections 7.12 and 7.13).
-use Rattle.std.specs.Prelude.{List, [], ◌∷◌, ◌++◌, map}
+-- What a policy, a policy set or a reference comes to (sections 7.12, 7.13 and 7.15).
+use Rattle.std.specs.Prelude.{ℕ, zero, suc, List, [], ◌∷◌, ◌++◌, map, Option, Some, None}
 use Rattle.ent_combine.specs.declared.outcome.RuleAlg.{RuleAlg}
 use Rattle.ent_combine.specs.declared.outcome.PolicyAlg.{PolicyAlg}
 use Rattle.ent_combine.specs.declared.outcome.PolicyAlg.TheVariants.{Shared, OnlyOne}
 use Rattle.ent_policy.specs.declared.document.Policy.{Policy}
 use Rattle.ent_policy.specs.declared.document.PolicySet.{PolicySet}
+use Rattle.ent_policy.specs.declared.document.Rule.{Rule}
 use Rattle.ent_policy.specs.declared.document.Tree.{Tree}
-use Rattle.ent_policy.specs.declared.document.Tree.TheFolds.{fold-PolicySet, fold-Tree}
-use Rattle.ent_policy.specs.declared.document.Tree.TheOpen.{Tree-F, PolicySet-F}
+use Rattle.ent_policy.specs.declared.document.Child.{Child}
+use Rattle.ent_policy.specs.declared.document.Child.TheFolds.{fold-Child, fold-PolicySet}
+use Rattle.ent_policy.specs.declared.document.Child.TheOpen.{Child-F, PolicySet-F}
+use Rattle.ent_policy.specs.Children.{as_child}
+use Rattle.ent_policy.specs.declared.expression.VariableDefinition.{VariableDefinition}
 use Rattle.ent_policy.specs.declared.key.Kind.TheVariants as kind
-use Rattle.ent_eval.specs.Only.{only_one}
 use Rattle.ent_policy.specs.declared.key.DocKey.{DocKey}
+use Rattle.ent_policy.specs.declared.key.Reference.{Reference}
 use Rattle.ent_eval.specs.declared.answer.Answer.{Answer}
+use Rattle.ent_eval.specs.declared.answer.Status.TheVariants.{ProcessingError}
+use Rattle.ent_eval.specs.declared.key.ReadKey.{ReadKey}
+use Rattle.ent_eval.specs.declared.key.ReadKey.TheVariants.{Ref}
 use Rattle.ent_eval.specs.declared.request.Request.{Request}
 use Rattle.ent_eval.specs.declared.target.Targeted.{Targeted}
 use Rattle.ent_eval.specs.declared.target.Targeted.TheVariants.{Match, NoMatch, Indeterminate}
-use Rattle.ent_eval.specs.Judged.{judgement_of, nothing, stops, with_target}
+use Rattle.ent_eval.specs.Judged.{judgement_of, nothing, stops, unresolved, with_target}
 use Rattle.ent_eval.specs.Looks.{Looks}
-use Rattle.ent_eval.specs.Part.{Part, without_look, and_then, mapped, whole}
+use Rattle.ent_eval.specs.Only.{only_one}
+use Rattle.ent_eval.specs.Part.{Part, without_look, after_look, and_then, mapped, whole}
 use Rattle.ent_eval.specs.Rule.{rule_part}
 use Rattle.ent_eval.specs.Target.{target_part}
 
@@ -35,9 +43,13 @@ children_after children (Indeterminate status) = mapped (with_target (Indetermin
 abbrev pub element : Part Targeted → Part Answer → Part Answer
 element target children = and_then target (children_after children)
 
+-- rules among definitions, where `here` leads from the root to their policy
+abbrev pub rules_combined : Looks → Request → List VariableDefinition → List DocKey → RuleAlg → List Rule → Part Answer
+rules_combined looks request definitions here algorithm rules = combined algorithm (map (rule_part looks request definitions here) rules)
+
 -- the rules of a policy, where `here` leads from the root to the policy
 abbrev pub rules_part : Looks → Request → List DocKey → Policy → Part Answer
-rules_part looks request here policy = combined policy.algorithm (map (rule_part looks request policy.variables here) policy.rules)
+rules_part looks request here policy = rules_combined looks request policy.variables here policy.algorithm policy.rules
 
 -- the rules of a policy, where `path` leads from the root to what the policy stands in
 abbrev pub policy_rules : Looks → Request → List DocKey → Policy → Part Answer
@@ -48,7 +60,7 @@ policy_rules looks request path policy =
 abbrev pub policy_part : Looks → Request → List DocKey → Policy → Part Answer
 policy_part looks request path policy = element (target_part looks request policy.target) (policy_rules looks request path policy)
 
--- a policy or a set: its target, and what it comes to by the path from the root to what it stands in
+-- a policy, a set or a reference: its target, and what it comes to by the path from the root to what it stands in
 pub record Node : Type 0 where
   pub target : Part Targeted
   pub answer : List DocKey → Part Answer
@@ -58,10 +70,11 @@ abbrev pub children_part : PolicyAlg → List Node → List DocKey → Part Answ
 children_part (Shared algorithm) children here = combined algorithm (map (λ (child : Node). child.answer here) children)
 children_part OnlyOne children here = only_one (map (λ (child : Node). child.target) children) (map (λ (child : Node). child.answer here) children)
 
--- one level of a document, with a set already seen
-abbrev pub tree_step : Looks → Request → Tree-F Node Node → Node
-tree_step looks request (Tree-F.Policy policy) = record { target = target_part looks request policy.target; answer = λ path. policy_part looks request path policy }
-tree_step looks request (Tree-F.Set set) = set
+-- one level of a child, where `refer` gives what a reference comes to, with a set already seen
+abbrev pub child_step : Looks → Request → (Reference → Node) → Child-F Node Node → Node
+child_step looks request refer (Child-F.Policy policy) = record { target = target_part looks request policy.target; answer = λ path. policy_part looks request path policy }
+child_step looks request refer (Child-F.Set set) = set
+child_step looks request refer (Child-F.Reference reference) = refer reference
 
 -- one level of a set, with its children already seen
 abbrev pub set_step : Looks → Request → PolicySet-F Node Node → Node
@@ -71,27 +84,34 @@ set_step looks request set = record {
       (children_part set.algorithm set.children (path ++ record { kind = kind.PolicySet; id = set.id; version = set.version } ∷ []));
 }
 
--- a document
-abbrev pub node_of : Looks → Request → Tree → Node
-node_of looks request = fold-Tree Node Node (tree_step looks request) (set_step looks request)
+-- a child, where `refer` gives what a reference comes to
+abbrev pub node_with : Looks → Request → (Reference → Node) → Child → Node
+node_with looks request refer = fold-Child Node Node (child_step looks request refer) (set_step looks request)
 
--- a set
-abbrev pub set_node_of : Looks → Request → PolicySet → Node
-set_node_of looks request = fold-PolicySet Node Node (tree_step looks request) (set_step looks request)
+-- a set, where `refer` gives what a reference comes to
+abbrev pub set_node_with : Looks → Request → (Reference → Node) → PolicySet → Node
+set_node_with looks request refer = fold-PolicySet Node Node (child_step looks request refer) (set_step looks request)
 
--- what a document comes to
-abbrev pub tree_part : Looks → Request → List DocKey → Tree → Part Answer
-tree_part looks request path t = (node_of looks request t).answer path
+-- ---- references
 
--- the target of a document
-abbrev pub tree_target : Looks → Request → Tree → Part Targeted
-tree_target looks request t = (node_of looks request t).target
+-- a reference that isn't resolved: its target is Indeterminate, and so is its decision (section 7.15)
+abbrev pub unresolved_node : Node
+unresolved_node = record { target = without_look (Indeterminate ProcessingError); answer = λ path. without_look unresolved }
 
--- the children of a set, where `path` leads from the root to what the set stands in
-abbrev pub set_children : Looks → Request → List DocKey → PolicySet → Part Answer
-set_children looks request path set =
-    children_part set.algorithm (map (node_of looks request) set.children) (path ++ record { kind = kind.PolicySet; id = set.id; version = set.version } ∷ [])
+-- the document that a reference names, if there is one
+abbrev pub found_node : (Child → Node) → Option Tree → Node
+found_node node None = unresolved_node
+found_node node (Some t) = node (as_child t)
 
--- what a set comes to
-abbrev pub set_part : Looks → Request → List DocKey → PolicySet → Part Answer
-set_part looks request path set = (set_node_of looks request set).answer path
+-- a node before which one key is looked up
+abbrev pub node_after_look : ReadKey → Node → Node
+node_after_look key n = record { target = after_look key n.target; answer = λ path. after_look key (n.answer path) }
+
+-- a reference that is followed, where `refer` gives what one in its document comes to: it adds nothing to the path, its document does
+abbrev pub followed : Looks → Request → (Reference → Node) → Reference → Node
+followed looks request refer reference = node_after_look (Ref reference) (found_node (node_with looks request refer) (looks.document reference))
+
+-- a reference, where this many may be followed on the way down from here: with none left nothing is looked up
+abbrev pub refer : Looks → Request → ℕ → Reference → Node
+refer looks request zero reference = unresolved_node
+refer looks request (suc hops) reference = followed looks request (refer looks request hops) reference

@@ -59,11 +59,11 @@ choice_part targets = record {
 }
 
 -- the chosen child alone is evaluated
-abbrev pub child_part : List (Part Answer) → Only → Part Answer
-child_part answers only.Nobody = without_look nothing
-child_part answers (only.Child place) = get_or answers place (without_look nothing)
-child_part answers (only.Bad status) = without_look (bad status)
+abbrev pub chosen_part : List (Part Answer) → Only → Part Answer
+chosen_part answers only.Nobody = without_look nothing
+chosen_part answers (only.Child place) = get_or answers place (without_look nothing)
+chosen_part answers (only.Bad status) = without_look (bad status)
 
 -- the only one of several children that applies, by their targets
 abbrev pub only_one : List (Part Targeted) → List (Part Answer) → Part Answer
-only_one targets answers = and_then (choice_part targets) (child_part answers)
+only_one targets answers = and_then (choice_part targets) (chosen_part answers)

@@ -62,7 +62,10 @@ rule_after condition path rule NoMatch = without_look nothing
 rule_after condition path rule (Indeterminate status) = without_look (decided path rule (truth.Indeterminate status))
 rule_after condition path rule Match = mapped (decided path rule) condition
 
+-- a rule under its target, among the policy's definitions
+abbrev pub rule_under : Looks → Request → List VariableDefinition → List DocKey → Rule → Targeted → Part Answer
+rule_under looks request definitions path rule = rule_after (condition_part looks request definitions rule.condition) path rule
+
 -- a rule of the policy at the end of a path, among the policy's definitions
 abbrev pub rule_part : Looks → Request → List VariableDefinition → List DocKey → Rule → Part Answer
-rule_part looks request definitions path rule =
-    and_then (target_part looks request rule.target) (rule_after (condition_part looks request definitions rule.condition) path rule)
+rule_part looks request definitions path rule = and_then (target_part looks request rule.target) (rule_under looks request definitions path rule)

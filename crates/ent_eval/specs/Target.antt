@@ -1,5 +1,5 @@
 -- Whether a target matches (sections 7.6 and 7.7).
-use Rattle.std.specs.Prelude.{List, [], ◌∷◌, Bool, true, false, if◌then◌else◌, map, find, unwrap_or}
+use Rattle.std.specs.Prelude.{List, [], ◌∷◌, Bool, true, false, if◌then◌else◌, Option, Some, None, map, find, unwrap_or}
 use Rattle.std.specs.List.{list_any}
 use Rattle.ent_values.specs.declared.value.Value.{Value}
 use Rattle.ent_functions.specs.Applied.{applied}
@@ -15,8 +15,8 @@ use Rattle.ent_eval.specs.declared.request.Request.{Request}
 use Rattle.ent_eval.specs.declared.target.Targeted.{Targeted}
 use Rattle.ent_eval.specs.declared.target.Targeted.TheVariants as is
 use Rattle.ent_eval.specs.Looks.{Looks}
-use Rattle.ent_eval.specs.Own.{own_values}
-use Rattle.ent_eval.specs.Part.{Part, without_look, whole}
+use Rattle.ent_eval.specs.Part.{Part, mapped, whole}
+use Rattle.ent_eval.specs.Sources.{values_part}
 
 -- whether a function of a literal and a value is True (appendix A.3). On two values a function that gives a boolean has no fault
 abbrev pub is_true : Function → Value → Value → Bool
@@ -26,6 +26,11 @@ is_true function literal value = comes_true (applied function (One literal ∷ O
 abbrev pub matched : Match → List Value → Targeted
 matched m [] = if m.designator.must_be_present then is.Indeterminate MissingAttribute else is.NoMatch
 matched m (v ∷ vs) = if list_any (is_true m.function m.literal) (v ∷ vs) then is.Match else is.NoMatch
+
+-- a match of the request's own values, if it has any
+abbrev pub own_match : Match → List Value → Option Targeted
+own_match m [] = None
+own_match m (v ∷ vs) = Some (matched m (v ∷ vs))
 
 -- whether it is a match
 abbrev pub is_match : Targeted → Bool
@@ -56,7 +61,7 @@ one_matches ts = if list_any is_match ts then is.Match else first_indeterminate 
 
 -- a match (section 7.6)
 abbrev pub match_part : Looks → Request → Match → Part Targeted
-match_part looks request m = without_look (matched m (own_values m.designator request))
+match_part looks request m = mapped (matched m) (values_part looks request m.designator)
 
 -- an all-of element, up to its first match that is False (section 7.7)
 abbrev pub all_of_part : Looks → Request → AllOf → Part Targeted

@@ -1,5 +1,5 @@
 -- The types of what expressions come to.
-use Rattle.std.specs.Prelude.{◌≡◌, ℕ, ◌+◌, ◌*◌, max, List, [], ◌∷◌, Bool, true, ◌&&◌, Option, Some, length, nat_le}
+use Rattle.std.specs.Prelude.{◌≡◌, ℕ, ◌+◌, ◌*◌, max, List, [], ◌∷◌, Bool, true, ◌&&◌, Option, Some, option_and_then, length, map, nat_le}
 use Rattle.std.specs.List.{list_all}
 use Rattle.ent_values.specs.declared.datatype.DataType.{DataType}
 use Rattle.ent_values.specs.declared.value.Value.{Value}
@@ -11,17 +11,21 @@ use Rattle.ent_functions.specs.declared.types.ArgType.{ArgType}
 use Rattle.ent_functions.specs.declared.types.ArgType.TheVariants.{One}
 use Rattle.ent_policy.specs.declared.expression.Expression.{Expression, size-Expression}
 use Rattle.ent_policy.specs.declared.expression.VariableDefinition.{VariableDefinition}
-use Rattle.ent_policy.specs.Typing.{is_boolean, target_is_typed, tree_step, type_with, variable_type}
+use Rattle.ent_policy.specs.Typing.{all_typed, child_step, is_boolean, target_is_typed, type_with, variable_type}
+use Rattle.ent_policy.specs.declared.document.Child.{Child}
+use Rattle.ent_policy.specs.declared.document.Child.TheOpen.{PolicySet-F}
+use Rattle.ent_policy.specs.declared.document.Child.TheFolds.{fold-Child, fold-PolicySet}
 use Rattle.ent_policy.specs.declared.document.PolicySet.{PolicySet}
-use Rattle.ent_policy.specs.declared.document.Tree.{Tree}
-use Rattle.ent_policy.specs.declared.document.Tree.TheOpen.{PolicySet-F}
-use Rattle.ent_policy.specs.declared.document.Tree.TheFolds.{fold-PolicySet, fold-Tree}
 use Rattle.ent_eval.specs.declared.evaluated.Evaluated.{Evaluated}
 use Rattle.ent_eval.specs.declared.evaluated.Evaluated.TheVariants.{Known, Indeterminate}
 
 -- the type of an expression among definitions, through at most this many references
 abbrev pub type_of : List VariableDefinition → ℕ → Expression → Option ArgType
 type_of definitions n = type_with (variable_type definitions n)
+
+-- the type of a function of arguments, which are such expressions
+abbrev pub apply_type : List VariableDefinition → ℕ → Function → List Expression → Option ArgType
+apply_type definitions n function arguments = option_and_then (result_type_of function) (all_typed (map (type_of definitions n) arguments))
 
 -- it is Indeterminate or has that type
 abbrev pub HasType : Option ArgType → Evaluated → Type 0
@@ -45,10 +49,10 @@ worth definitions = 4 * deepest definitions + 8
 abbrev pub fit_step : PolicySet-F Bool Bool → Bool
 fit_step set = target_is_typed set.target && (nat_le (length set.children) 256 && list_all (λ child. child) set.children)
 
--- a document can be evaluated: each expression of it has its type, and no set has more than 256 children
-abbrev pub is_fit : Tree → Bool
-is_fit = fold-Tree Bool Bool tree_step fit_step
+-- a child can be evaluated: each expression of it has its type, and no set has more than 256 children
+abbrev pub is_fit : Child → Bool
+is_fit = fold-Child Bool Bool child_step fit_step
 
 -- a set can
 abbrev pub set_is_fit : PolicySet → Bool
-set_is_fit = fold-PolicySet Bool Bool tree_step fit_step
+set_is_fit = fold-PolicySet Bool Bool child_step fit_step

@@ -9,7 +9,7 @@ use ent_values::{Items, Text};
 use std::alloc::{AllocError, Global};
 
 /// Why a decision is Indeterminate (section 5.55 and appendix B.8), or that nothing went wrong.
-#[derive(Clone, Copy, Debug, PartialEq, Eq)]
+#[derive(Clone, Copy, PartialEq, Eq)]
 pub enum Status {
     Okay,
     /// A value that must be present isn't.
@@ -19,7 +19,7 @@ pub enum Status {
 }
 
 /// A rule that gave the decision, or an element that gave it by default.
-#[derive(Debug, PartialEq, Eq, Drop)]
+#[derive(PartialEq, Eq, Drop)]
 pub struct WhyEntry {
     /// The policies from the root on to the one in which the rule stands, or to the element.
     pub path: Items<DocKey>,
@@ -28,7 +28,7 @@ pub struct WhyEntry {
 }
 
 /// What a request is answered, or what one rule or policy comes to.
-#[derive(Debug, PartialEq, Eq, Drop)]
+#[derive(PartialEq, Eq, Drop)]
 pub struct Answer {
     pub decision: Outcome,
     /// `Okay` unless the decision is Indeterminate.
@@ -61,7 +61,7 @@ impl Answer {
         }
     }
 
-    // A root without a document.
+    // A reference that isn't resolved.
     pub(crate) fn unresolved(alloc: Global) -> Answer
         ensures { result ≡ unresolved }
     {
@@ -146,7 +146,7 @@ fn copied_why(alloc: Global, why: &[WhyEntry]) -> Result<Items<WhyEntry>, AllocE
 }
 
 // An equal optional text.
-fn copied_text(alloc: Global, text: &Option<Text>) -> Result<Option<Text>, AllocError>
+pub(crate) fn copied_text(alloc: Global, text: &Option<Text>) -> Result<Option<Text>, AllocError>
     ensures { IfOk result (λ t. t ≡ text.now) }
 {
     match text {

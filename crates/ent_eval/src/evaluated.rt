@@ -4,7 +4,7 @@ use crate::answer::Status;
 use ent_functions::Arg;
 
 /// What an expression comes to.
-#[derive(Debug, Drop)]
+#[derive(Drop)]
 pub(crate) enum Evaluated {
     /// A value, a bag, or a function as an argument.
     Known(Arg),
@@ -12,7 +12,7 @@ pub(crate) enum Evaluated {
 }
 
 /// What a condition comes to (section 7.9).
-#[derive(Clone, Copy, Debug)]
+#[derive(Clone, Copy)]
 pub(crate) enum Truth {
     True,
     False,

@@ -1,23 +1,22 @@
 //! What expressions come to.
 
-ghost use Rattle.std.specs.Prelude.{◌≡◌, IfOk, IsSome, MatchResult, OnOk, Some, map, option_and_then, true, false};
+ghost use Rattle.std.specs.Prelude.{◌≡◌, IfOk, IsSome, MatchResult, OnOk, Some, map, true, false};
 ghost use Rattle.std.specs.Option.{option_copied};
 ghost use Rattle.ent_functions.specs.Applied.{applied};
 ghost use Rattle.ent_functions.specs.Arguments.{type_of_arg};
 ghost use Rattle.ent_functions.specs.Types.{result_type_of};
 ghost use Rattle.ent_functions.specs.declared.types.ArgType.TheVariants.{Many};
-ghost use Rattle.ent_policy.specs.Typing.{all_typed, variable_type};
+ghost use Rattle.ent_policy.specs.Typing.{variable_type};
 ghost use Rattle.ent_policy.specs.Variables.{definition_of};
 ghost use Rattle.ent_eval.specs.Expression.{apply_part, evaluated_of, designated, is_result, meaning, settles, variable_part};
 ghost use Rattle.ent_eval.specs.declared.evaluated.Evaluated.TheVariants.{Known};
-ghost use Rattle.ent_eval.specs.LooksOf.{looks_of};
 ghost use Rattle.ent_eval.specs.Noted.{noted};
-ghost use Rattle.ent_eval.specs.Typed.{HasType, type_of};
+ghost use Rattle.ent_eval.specs.Typed.{HasType, apply_type, type_of};
 
 use crate::answer::Status;
 use crate::evaluated::Evaluated;
-use crate::own::{is_empty, own_bag};
-use crate::policies::Policies;
+use crate::look_ups::LookUps;
+use crate::own_bag::is_empty;
 use crate::reads::Reads;
 use crate::scene::Scene;
 use crate::uncopied::without_copies;
@@ -26,7 +25,7 @@ use ent_policy::{Designator, Expression, VariableDefinition};
 use ent_values::{Items, Text, Value};
 use std::alloc::{AllocError, Global};
 
-impl<P: Policies> Scene<'_, P> {
+impl<L: LookUps> Scene<'_, L> {
     // An expression among the definitions of its policy, through at most so many references. It has its type.
     #[cycle(expression)]
     pub(crate) fn expression(
@@ -37,8 +36,8 @@ impl<P: Policies> Scene<'_, P> {
         expression: &Expression,
     ) -> Result<Evaluated, AllocError>
         requires typed { IsSome (type_of definitions.now references expression.now) }
-        ensures value { IfOk result (λ v. v ≡ (meaning (looks_of P.documents self.now.pdp.now) self.now.request.now definitions.now references expression.now).value) }
-        ensures reads { OnOk result (reads.new ≡ noted reads.old (meaning (looks_of P.documents self.now.pdp.now) self.now.request.now definitions.now references expression.now).reads) }
+        ensures value { IfOk result (λ v. v ≡ (meaning (L.looks self.now.held.now) self.now.request.now definitions.now references expression.now).value) }
+        ensures reads { OnOk result (reads.new ≡ noted reads.old (meaning (L.looks self.now.held.now) self.now.request.now definitions.now references expression.now).reads) }
         ensures typed { IfOk result (λ v. HasType (type_of definitions.now references expression.now) v) }
     {
         match expression {
@@ -66,8 +65,8 @@ impl<P: Policies> Scene<'_, P> {
         id: &Text,
     ) -> Result<Evaluated, AllocError>
         requires typed { IsSome (variable_type definitions.now references id.now) }
-        ensures value { IfOk result (λ v. v ≡ (variable_part (looks_of P.documents self.now.pdp.now) self.now.request.now definitions.now references id.now).value) }
-        ensures reads { OnOk result (reads.new ≡ noted reads.old (variable_part (looks_of P.documents self.now.pdp.now) self.now.request.now definitions.now references id.now).reads) }
+        ensures value { IfOk result (λ v. v ≡ (variable_part (L.looks self.now.held.now) self.now.request.now definitions.now references id.now).value) }
+        ensures reads { OnOk result (reads.new ≡ noted reads.old (variable_part (L.looks self.now.held.now) self.now.request.now definitions.now references id.now).reads) }
         ensures typed { IfOk result (λ v. HasType (variable_type definitions.now references id.now) v) }
     {
         match definition_of(definitions, id) {
@@ -91,10 +90,10 @@ impl<P: Policies> Scene<'_, P> {
         function: Function,
         arguments: &[Expression],
     ) -> Result<Evaluated, AllocError>
-        requires typed { IsSome (option_and_then (result_type_of function) (all_typed (map (type_of definitions.now references) arguments.now))) }
-        ensures value { IfOk result (λ v. v ≡ (apply_part (looks_of P.documents self.now.pdp.now) self.now.request.now definitions.now references function arguments.now).value) }
-        ensures reads { OnOk result (reads.new ≡ noted reads.old (apply_part (looks_of P.documents self.now.pdp.now) self.now.request.now definitions.now references function arguments.now).reads) }
-        ensures typed { IfOk result (λ v. HasType (option_and_then (result_type_of function) (all_typed (map (type_of definitions.now references) arguments.now))) v) }
+        requires typed { IsSome (apply_type definitions.now references function arguments.now) }
+        ensures value { IfOk result (λ v. v ≡ (apply_part (L.looks self.now.held.now) self.now.request.now definitions.now references function arguments.now).value) }
+        ensures reads { OnOk result (reads.new ≡ noted reads.old (apply_part (L.looks self.now.held.now) self.now.request.now definitions.now references function arguments.now).reads) }
+        ensures typed { IfOk result (λ v. HasType (apply_type definitions.now references function arguments.now) v) }
     {
         if let Some(value) = without_copies(self.request, function, arguments) {
             return Ok(value);
@@ -110,17 +109,17 @@ impl<P: Policies> Scene<'_, P> {
         applied_to(self.alloc, function, evaluated.as_slice())
     }
 
-    // A designator. The request's own values are no look-up.
+    // A designator.
     fn designator(
         &self,
-        _reads: &mut Reads,
+        reads: &mut Reads,
         designator: &Designator,
     ) -> Result<Evaluated, AllocError>
-        ensures value { IfOk result (λ v. v ≡ (designated (looks_of P.documents self.now.pdp.now) self.now.request.now designator.now).value) }
-        ensures reads { OnOk result (_reads.new ≡ noted _reads.old (designated (looks_of P.documents self.now.pdp.now) self.now.request.now designator.now).reads) }
+        ensures value { IfOk result (λ v. v ≡ (designated (L.looks self.now.held.now) self.now.request.now designator.now).value) }
+        ensures reads { OnOk result (reads.new ≡ noted reads.old (designated (L.looks self.now.held.now) self.now.request.now designator.now).reads) }
         ensures typed { IfOk result (λ v. HasType (Some (Many designator.now.datatype)) v) }
     {
-        let bag = own_bag(self.alloc, self.request, designator)?;
+        let bag = self.values(reads, designator)?;
         if designator.must_be_present && is_empty(&bag) {
             return Ok(Evaluated::Indeterminate(Status::MissingAttribute));
         }

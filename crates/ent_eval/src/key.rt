@@ -2,16 +2,21 @@
 
 ghost use Rattle.std.specs.Prelude.{◌≡◌, IfOk};
 
+use ent_finder::AttrKey;
 use ent_policy::Reference;
 use std::alloc::{AllocError, Global};
 
-/// What a look-up asks for. Keys order by kind of look-up, references by kind and id.
-#[derive(Debug, PartialEq, Eq, PartialOrd, Ord, Drop)]
+/// What a look-up asks for. Keys order by kind of look-up, and references and keys of attributes as they do.
+#[derive(PartialEq, Eq, PartialOrd, Ord, Drop)]
 pub enum ReadKey {
     /// Which policy or policy set is the root.
     Root,
     /// Which document a reference names.
     Ref(Reference),
+    /// Which values of an entity a key names.
+    Attr(AttrKey),
+    /// Which day it is.
+    Day,
 }
 
 impl ReadKey {
@@ -22,6 +27,8 @@ impl ReadKey {
         match self {
             ReadKey::Root => Ok(ReadKey::Root),
             ReadKey::Ref(reference) => Ok(ReadKey::Ref(reference.copy(alloc)?)),
+            ReadKey::Attr(key) => Ok(ReadKey::Attr(key.copy(alloc)?)),
+            ReadKey::Day => Ok(ReadKey::Day),
         }
     }
 }

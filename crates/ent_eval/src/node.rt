@@ -1,17 +1,15 @@
 //! What a policy comes to.
 
-ghost use Rattle.std.specs.Prelude.{◌≡◌, IfOk, OnOk, map, true};
+ghost use Rattle.std.specs.Prelude.{◌≡◌, IfOk, OnOk, true};
 ghost use Rattle.std.specs.List.{list_all};
 ghost use Rattle.ent_policy.specs.Typing.{policy_is_typed, rule_is_typed};
 ghost use Rattle.ent_eval.specs.Judged.{under_target};
-ghost use Rattle.ent_eval.specs.LooksOf.{looks_of};
-ghost use Rattle.ent_eval.specs.Node.{children_after, combined, policy_part, policy_rules};
+ghost use Rattle.ent_eval.specs.Node.{children_after, policy_part, policy_rules, rules_combined};
 ghost use Rattle.ent_eval.specs.Noted.{noted};
-ghost use Rattle.ent_eval.specs.Rule.{rule_part};
 
 use crate::answer::{Answer, Status, path_to};
 use crate::gather::gather;
-use crate::policies::Policies;
+use crate::look_ups::LookUps;
 use crate::reads::Reads;
 use crate::scene::Scene;
 use crate::target::Targeted;
@@ -20,7 +18,7 @@ use ent_policy::{DocKey, Kind, Policy, Rule, VariableDefinition};
 use ent_values::Items;
 use std::alloc::{AllocError, Global};
 
-impl<P: Policies> Scene<'_, P> {
+impl<L: LookUps> Scene<'_, L> {
     // A policy, where the path leads from the root to what it stands in.
     #[tactic(auto, using(crate::proofs::Walk::noted_both, crate::proofs::Typing::both_true), unfolding(ent_policy::specs::Typing::policy_is_typed))]
     pub(crate) fn policy(
@@ -30,8 +28,8 @@ impl<P: Policies> Scene<'_, P> {
         policy: &Policy,
     ) -> Result<Answer, AllocError>
         requires { policy_is_typed policy.now ≡ true }
-        ensures value { IfOk result (λ a. a ≡ (policy_part (looks_of P.documents self.now.pdp.now) self.now.request.now path.now policy.now).value) }
-        ensures reads { OnOk result (reads.new ≡ noted reads.old (policy_part (looks_of P.documents self.now.pdp.now) self.now.request.now path.now policy.now).reads) }
+        ensures value { IfOk result (λ a. a ≡ (policy_part (L.looks self.now.held.now) self.now.request.now path.now policy.now).value) }
+        ensures reads { OnOk result (reads.new ≡ noted reads.old (policy_part (L.looks self.now.held.now) self.now.request.now path.now policy.now).reads) }
     {
         let targeted = self.target(reads, &policy.target)?;
         self.policy_after(reads, path, policy, targeted)
@@ -46,8 +44,8 @@ impl<P: Policies> Scene<'_, P> {
         targeted: Targeted,
     ) -> Result<Answer, AllocError>
         requires { list_all (rule_is_typed policy.now.variables) policy.now.rules ≡ true }
-        ensures value { IfOk result (λ a. a ≡ (children_after (policy_rules (looks_of P.documents self.now.pdp.now) self.now.request.now path.now policy.now) targeted).value) }
-        ensures reads { OnOk result (reads.new ≡ noted reads.old (children_after (policy_rules (looks_of P.documents self.now.pdp.now) self.now.request.now path.now policy.now) targeted).reads) }
+        ensures value { IfOk result (λ a. a ≡ (children_after (policy_rules (L.looks self.now.held.now) self.now.request.now path.now policy.now) targeted).value) }
+        ensures reads { OnOk result (reads.new ≡ noted reads.old (children_after (policy_rules (L.looks self.now.held.now) self.now.request.now path.now policy.now) targeted).reads) }
     {
         match targeted {
             Targeted::NoMatch => Ok(Answer::not_applicable(self.alloc)),
@@ -67,8 +65,8 @@ impl<P: Policies> Scene<'_, P> {
         policy: &Policy,
     ) -> Result<Answer, AllocError>
         requires { list_all (rule_is_typed policy.now.variables) policy.now.rules ≡ true }
-        ensures value { IfOk result (λ a. a ≡ (policy_rules (looks_of P.documents self.now.pdp.now) self.now.request.now path.now policy.now).value) }
-        ensures reads { OnOk result (reads.new ≡ noted reads.old (policy_rules (looks_of P.documents self.now.pdp.now) self.now.request.now path.now policy.now).reads) }
+        ensures value { IfOk result (λ a. a ≡ (policy_rules (L.looks self.now.held.now) self.now.request.now path.now policy.now).value) }
+        ensures reads { OnOk result (reads.new ≡ noted reads.old (policy_rules (L.looks self.now.held.now) self.now.request.now path.now policy.now).reads) }
     {
         let here = path_to(self.alloc, path, Kind::Policy, &policy.id, &policy.version)?;
         self.rules(
@@ -90,8 +88,8 @@ impl<P: Policies> Scene<'_, P> {
         rules: &[Rule],
     ) -> Result<Answer, AllocError>
         requires { list_all (rule_is_typed definitions.now) rules.now ≡ true }
-        ensures value { IfOk result (λ a. a ≡ (combined algorithm (map (rule_part (looks_of P.documents self.now.pdp.now) self.now.request.now definitions.now path.now) rules.now)).value) }
-        ensures reads { OnOk result (reads.new ≡ noted reads.old (combined algorithm (map (rule_part (looks_of P.documents self.now.pdp.now) self.now.request.now definitions.now path.now) rules.now)).reads) }
+        ensures value { IfOk result (λ a. a ≡ (rules_combined (L.looks self.now.held.now) self.now.request.now definitions.now path.now algorithm rules.now).value) }
+        ensures reads { OnOk result (reads.new ≡ noted reads.old (rules_combined (L.looks self.now.held.now) self.now.request.now definitions.now path.now algorithm rules.now).reads) }
     {
         let mut gathering = gather(self.alloc, algorithm);
         for rule in rules {

@@ -3,7 +3,7 @@
 use crate::answer::Status;
 
 /// Which child is the only one whose target matches (appendix C.9).
-#[derive(Clone, Copy, Debug)]
+#[derive(Clone, Copy)]
 pub(crate) enum Only {
     /// None of them.
     Nobody,

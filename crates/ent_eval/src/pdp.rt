@@ -1,58 +1,91 @@
 //! The decision point.
 
-ghost use Rattle.std.specs.Prelude.{◌≡◌, ◌≢◌, ◌+◌, ◌-◌, ◌^◌, min, List, [], ◌∷◌, ◌++◌, None, IfOk, OnErr, OnOk};
+ghost use Rattle.std.specs.Prelude.{◌≡◌, ◌+◌, ◌-◌, ◌^◌, min, None, IfOk};
+ghost use Rattle.std.specs.Borrow.{sem};
 ghost use Rattle.ent_eval.specs.Answer.{answer, recorded};
+ghost use Rattle.ent_eval.specs.Lending.{LendsAttributes, LendsPolicies};
 ghost use Rattle.ent_eval.specs.LooksOf.{looks_of};
-ghost use Rattle.ent_policy.specs.declared.document.Tree.{Tree};
 
 use crate::answer::Answer;
-use crate::policies::{Documents, Policies};
+use crate::look_ups::LookUps;
 use crate::reads::Reads;
 use crate::request::Request;
 use crate::scene::Scene;
+use ent_finder::{AttrKey, AttributeFinder, Attributes, Policies, PolicyFinder};
 use ent_policy::{Document, Reference};
+use ent_values::{Bag, Date};
 use std::alloc::{AllocError, Global};
 use std::mem;
 
-/// Answers requests by the documents that it holds, from the root on, and counts the evaluations.
-#[derive(Debug, Drop)]
-pub struct Pdp<P = Documents> {
+/// Answers requests by the documents that its policies hold, from the root on, by the values that its attributes hold, and by the day,
+/// and counts the evaluations.
+#[derive(Drop)]
+pub struct Pdp<A = AttributeFinder, P = PolicyFinder> {
     alloc: Global,
+    attributes: A,
     policies: P,
     root: Option<Reference>,
+    day: Option<Date>,
     evaluations: u128,
 }
 
 /// The answer to a request, and the look-ups that it rests on.
-#[derive(Debug, Drop)]
+#[derive(Drop)]
 pub struct Evaluation {
     pub answer: Answer,
     pub reads: Reads,
 }
 
-impl Pdp<Documents> {
-    /// A decision point without documents and without a root. Nothing is allocated.
-    pub fn new(alloc: Global) -> Pdp<Documents>
-        ensures documents { ⟦<Documents as Policies>⟧.documents result.policies ≡ [] }
+impl<A: Attributes, P: Policies> LookUps for Pdp<A, P> {
+    ghost looks = { λ pdp. looks_of A.sources P.slots pdp };
+
+    fn root(&self) -> &Option<Reference> {
+        &self.root
+    }
+
+    fn document(&self, reference: &Reference) -> Option<&Document> {
+        let (_, document) = self.policies.resolve(reference)?;
+        Some(document)
+    }
+
+    fn values(&self, key: &AttrKey, bag: &mut Bag) -> Result<(), AllocError> {
+        self.attributes.look(key, bag)
+    }
+
+    fn day(&self) -> Option<Date> {
+        self.day
+    }
+}
+
+impl<A: Attributes, P: Policies> Pdp<A, P> {
+    /// A decision point over these values of attributes and the documents of these policies, without a root and a day. Nothing is
+    /// allocated.
+    pub fn new(alloc: Global, attributes: A, policies: P) -> Pdp<A, P>
+        ensures attributes { result.attributes ≡ attributes }
+        ensures policies { result.policies ≡ policies }
         ensures root { result.root ≡ None }
+        ensures day { result.day ≡ None }
         ensures evaluations { result.evaluations ≡ 0 }
     {
         Pdp {
             alloc,
-            policies: Documents::new(alloc),
+            attributes,
+            policies,
             root: None,
+            day: None,
             evaluations: 0,
         }
     }
-}
 
-impl<P: Policies> Pdp<P> {
     /// The answer to a request (section 7), and the look-ups that it rests on, each once.
+    ///
+    /// On each path from the root at most six references are followed. One more, or one that finds no document, is Indeterminate
+    /// (section 7.15).
     ///
     /// Each call counts, also one that is refused for want of memory. It changes nothing but the count.
     pub fn evaluate(&mut self, request: &Request) -> Result<Evaluation, AllocError>
-        ensures answer { IfOk result (λ e. e.answer ≡ answer (looks_of P.documents self.old) request.now) }
-        ensures reads { IfOk result (λ e. e.reads ≡ recorded (looks_of P.documents self.old) request.now) }
+        ensures answer { IfOk result (λ e. e.answer ≡ answer (looks_of A.sources P.slots self.old) request.now) }
+        ensures reads { IfOk result (λ e. e.reads ≡ recorded (looks_of A.sources P.slots self.old) request.now) }
         ensures counted { self.new.evaluations ≡ min (self.old.evaluations + 1) (2 ^ 128 - 1) }
         ensures rest { self.new ≡ record self.old { evaluations = self.new.evaluations } }
     {
@@ -60,7 +93,7 @@ impl<P: Policies> Pdp<P> {
         let mut reads = Reads::new(self.alloc);
         let scene = Scene {
             alloc: self.alloc,
-            pdp: self,
+            held: self,
             request,
         };
         let answer = scene.answer(&mut reads)?;
@@ -81,11 +114,41 @@ impl<P: Policies> Pdp<P> {
         &self.root
     }
 
-    /// The documents.
+    /// The day, if one is set.
+    pub fn day(&self) -> Option<Date>
+        ensures { result ≡ self.now.day }
+    {
+        self.day
+    }
+
+    /// Where the values of attributes are held.
+    pub fn attributes(&self) -> &A
+        ensures { result.now ≡ self.now.attributes }
+    {
+        &self.attributes
+    }
+
+    /// Where the documents are held.
     pub fn policies(&self) -> &P
         ensures { result.now ≡ self.now.policies }
     {
         &self.policies
+    }
+
+    /// Lends where the values of attributes are held. Nothing else is changed through it.
+    pub fn attributes_mut(&mut self) -> &mut A
+        ensures* lends { sem 𝓛 (LendsAttributes A.row P.row self.entry result) }
+        ensures value { result.now ≡ self.old.attributes }
+    {
+        &mut self.attributes
+    }
+
+    /// Lends where the documents are held. Nothing else is changed through it.
+    pub fn policies_mut(&mut self) -> &mut P
+        ensures* lends { sem 𝓛 (LendsPolicies A.row P.row self.entry result) }
+        ensures value { result.now ≡ self.old.policies }
+    {
+        &mut self.policies
     }
 
     /// Sets the root, and gives the old one back. It takes no memory.
@@ -96,22 +159,11 @@ impl<P: Policies> Pdp<P> {
         mem::replace(&mut self.root, root)
     }
 
-    /// Puts a document last. After a refusal nothing is changed.
-    pub fn add(&mut self, document: Document) -> Result<(), AllocError>
-        ensures ok { OnOk result (P.documents self.new.policies ≡ P.documents self.old.policies ++ document ∷ []) }
-        ensures err { OnErr result (P.documents self.new.policies ≡ P.documents self.old.policies) }
-        ensures rest { self.new ≡ record self.old { policies = self.new.policies } }
+    /// Sets the day, or none, and gives the old one back. It takes no memory.
+    pub fn set_day(&mut self, day: Option<Date>) -> Option<Date>
+        ensures old { result ≡ self.old.day }
+        ensures new { self.new ≡ record self.old { day = day } }
     {
-        self.policies.add(document)?;
-        Ok(())
-    }
-
-    /// Takes the last document away, without memory.
-    pub fn undo_add(&mut self)
-        requires { P.documents self.old.policies ≢ [] }
-        ensures undone { (others : List Tree) (last : Tree) → P.documents self.old.policies ≡ others ++ last ∷ [] → P.documents self.new.policies ≡ others }
-        ensures rest { self.new ≡ record self.old { policies = self.new.policies } }
-    {
-        self.policies.undo_add();
+        mem::replace(&mut self.day, day)
     }
 }

@@ -9,7 +9,7 @@ use std::collections::BTreeSet;
 use std::marker::Model;
 
 /// The keys that were looked up, each once, in their order. A key takes time logarithmic in their number.
-#[derive(Debug, Drop)]
+#[derive(Drop)]
 pub struct Reads {
     keys: BTreeSet<ReadKey>,
 }

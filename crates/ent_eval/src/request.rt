@@ -3,12 +3,13 @@
 ghost use Rattle.std.specs.Prelude.{◌≡◌, IfOk, OnErr, OnOk, codes};
 ghost use Rattle.ent_eval.specs.Listed.{IsListedAgain, about, asked_of, listed, named};
 
+use crate::uris::{ACCESS_SUBJECT, ACTION, ACTION_ID, RESOURCE, RESOURCE_ID, SUBJECT_ID};
 use ent_values::{Bag, Items, Text, Value};
 use std::alloc::{AllocError, Global};
 use std::mem;
 
 /// An attribute of a request, with its values (sections 5.46 and 7.3).
-#[derive(Debug, PartialEq, Eq, Drop)]
+#[derive(PartialEq, Eq, Drop)]
 pub struct Attribute {
     pub id: Text,
     pub issuer: Option<Text>,
@@ -19,14 +20,14 @@ pub struct Attribute {
 }
 
 /// The attributes of one category (section 5.44).
-#[derive(Debug, PartialEq, Eq, Drop)]
+#[derive(PartialEq, Eq, Drop)]
 pub struct Category {
     pub id: Text,
     pub attributes: Items<Attribute>,
 }
 
 /// What is asked: the attributes of the subject, of the action, of the resource (section 5.42).
-#[derive(Debug, PartialEq, Eq, Drop)]
+#[derive(PartialEq, Eq, Drop)]
 pub struct Request {
     /// The categories, none of which stands twice.
     pub categories: Items<Category>,
@@ -43,18 +44,8 @@ impl Request {
         ensures { IfOk result (λ q. q ≡ listed person.now action.now resource.now) }
     {
         let mut categories = Items::with_capacity(alloc, 3)?;
-        categories.push(named(
-            alloc,
-            "urn:oasis:names:tc:xacml:1.0:subject-category:access-subject",
-            "urn:oasis:names:tc:xacml:1.0:subject:subject-id",
-            person,
-        )?)?;
-        categories.push(named(
-            alloc,
-            "urn:oasis:names:tc:xacml:3.0:attribute-category:action",
-            "urn:oasis:names:tc:xacml:1.0:action:action-id",
-            action,
-        )?)?;
+        categories.push(named(alloc, ACCESS_SUBJECT, SUBJECT_ID, person)?)?;
+        categories.push(named(alloc, ACTION, ACTION_ID, action)?)?;
         categories.push(about(alloc, resource)?)?;
         Ok(Request { categories })
     }
@@ -83,12 +74,7 @@ impl Request {
 fn about(alloc: Global, resource: &str) -> Result<Category, AllocError>
     ensures { IfOk result (λ c. c ≡ about resource.now) }
 {
-    named(
-        alloc,
-        "urn:oasis:names:tc:xacml:3.0:attribute-category:resource",
-        "urn:oasis:names:tc:xacml:1.0:resource:resource-id",
-        resource,
-    )
+    named(alloc, RESOURCE, RESOURCE_ID, resource)
 }
 
 // A category with one attribute of one text.

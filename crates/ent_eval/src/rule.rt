@@ -3,14 +3,13 @@
 ghost use Rattle.std.specs.Prelude.{◌≡◌, IfOk, OnOk, Some, true};
 ghost use Rattle.ent_functions.specs.Types.{boolean};
 ghost use Rattle.ent_policy.specs.Typing.{condition_is_typed, rule_is_typed};
-ghost use Rattle.ent_eval.specs.LooksOf.{looks_of};
 ghost use Rattle.ent_eval.specs.Noted.{noted};
-ghost use Rattle.ent_eval.specs.Rule.{condition_part, decided, decision_of, indeterminate_of, rule_after, rule_part, truth_of};
+ghost use Rattle.ent_eval.specs.Rule.{condition_part, decided, decision_of, indeterminate_of, rule_part, rule_under, truth_of};
 ghost use Rattle.ent_eval.specs.Typed.{HasType};
 
 use crate::answer::{Answer, Status, WhyEntry, copied_path};
 use crate::evaluated::{Evaluated, Truth};
-use crate::policies::Policies;
+use crate::look_ups::LookUps;
 use crate::reads::Reads;
 use crate::scene::Scene;
 use crate::target::Targeted;
@@ -20,7 +19,7 @@ use ent_policy::{DocKey, Effect, Expression, Rule, VariableDefinition};
 use ent_values::{Items, Value};
 use std::alloc::{AllocError, Global};
 
-impl<P: Policies> Scene<'_, P> {
+impl<L: LookUps> Scene<'_, L> {
     // A rule of the policy at the end of the path, among the policy's definitions.
     #[tactic(auto, using(crate::proofs::Walk::noted_both, crate::proofs::Typing::both_true), unfolding(ent_policy::specs::Typing::rule_is_typed))]
     pub(crate) fn rule(
@@ -31,8 +30,8 @@ impl<P: Policies> Scene<'_, P> {
         rule: &Rule,
     ) -> Result<Answer, AllocError>
         requires { rule_is_typed definitions.now rule.now ≡ true }
-        ensures value { IfOk result (λ a. a ≡ (rule_part (looks_of P.documents self.now.pdp.now) self.now.request.now definitions.now path.now rule.now).value) }
-        ensures reads { OnOk result (reads.new ≡ noted reads.old (rule_part (looks_of P.documents self.now.pdp.now) self.now.request.now definitions.now path.now rule.now).reads) }
+        ensures value { IfOk result (λ a. a ≡ (rule_part (L.looks self.now.held.now) self.now.request.now definitions.now path.now rule.now).value) }
+        ensures reads { OnOk result (reads.new ≡ noted reads.old (rule_part (L.looks self.now.held.now) self.now.request.now definitions.now path.now rule.now).reads) }
     {
         let targeted = self.target(reads, &rule.target)?;
         self.rule_after(reads, definitions, path, rule, targeted)
@@ -48,8 +47,8 @@ impl<P: Policies> Scene<'_, P> {
         targeted: Targeted,
     ) -> Result<Answer, AllocError>
         requires { condition_is_typed definitions.now rule.now.condition ≡ true }
-        ensures value { IfOk result (λ a. a ≡ (rule_after (condition_part (looks_of P.documents self.now.pdp.now) self.now.request.now definitions.now rule.now.condition) path.now rule.now targeted).value) }
-        ensures reads { OnOk result (reads.new ≡ noted reads.old (rule_after (condition_part (looks_of P.documents self.now.pdp.now) self.now.request.now definitions.now rule.now.condition) path.now rule.now targeted).reads) }
+        ensures value { IfOk result (λ a. a ≡ (rule_under (L.looks self.now.held.now) self.now.request.now definitions.now path.now rule.now targeted).value) }
+        ensures reads { OnOk result (reads.new ≡ noted reads.old (rule_under (L.looks self.now.held.now) self.now.request.now definitions.now path.now rule.now targeted).reads) }
     {
         match targeted {
             Targeted::NoMatch => Ok(Answer::not_applicable(self.alloc)),
@@ -72,8 +71,8 @@ impl<P: Policies> Scene<'_, P> {
         condition: &Option<Expression>,
     ) -> Result<Truth, AllocError>
         requires { condition_is_typed definitions.now condition.now ≡ true }
-        ensures value { IfOk result (λ t. t ≡ (condition_part (looks_of P.documents self.now.pdp.now) self.now.request.now definitions.now condition.now).value) }
-        ensures reads { OnOk result (reads.new ≡ noted reads.old (condition_part (looks_of P.documents self.now.pdp.now) self.now.request.now definitions.now condition.now).reads) }
+        ensures value { IfOk result (λ t. t ≡ (condition_part (L.looks self.now.held.now) self.now.request.now definitions.now condition.now).value) }
+        ensures reads { OnOk result (reads.new ≡ noted reads.old (condition_part (L.looks self.now.held.now) self.now.request.now definitions.now condition.now).reads) }
     {
         match condition {
             None => Ok(Truth::True),

@@ -1,21 +1,18 @@
 //! What functions come to that need no copy of their arguments.
 
-ghost use Rattle.std.specs.Prelude.{◌≡◌, ℕ, List, [], ◌∷◌, IfSome, IsSome, Some, map, option_and_then};
-ghost use Rattle.ent_functions.specs.Types.{boolean, result_type_of};
+ghost use Rattle.std.specs.Prelude.{◌≡◌, [], ◌∷◌, IfSome, Some};
+ghost use Rattle.ent_functions.specs.Types.{boolean};
 ghost use Rattle.ent_functions.specs.declared.function.Element.{Element};
 ghost use Rattle.ent_functions.specs.declared.function.Function.TheVariants as functions;
-ghost use Rattle.ent_policy.specs.Typing.{all_typed};
-ghost use Rattle.ent_policy.specs.declared.expression.VariableDefinition.{VariableDefinition};
-ghost use Rattle.ent_eval.specs.Expression.{bag_of, is_result, meaning, result_of};
-ghost use Rattle.ent_eval.specs.Looks.{Looks};
+ghost use Rattle.ent_eval.specs.Expression.{result_of};
 ghost use Rattle.ent_eval.specs.Own.{own_values};
-ghost use Rattle.ent_eval.specs.Part.{without_look, whole};
-ghost use Rattle.ent_eval.specs.Typed.{HasType, type_of};
+ghost use Rattle.ent_eval.specs.Typed.{HasType};
+ghost use Rattle.ent_eval.specs.Uncopied.{ComesTo, HasItsType, IsFound, IsOne};
 ghost use Rattle.ent_eval.specs.declared.evaluated.Evaluated.TheVariants.{Known};
 
-use crate::answer::Status;
 use crate::evaluated::Evaluated;
-use crate::own::{has_value, is_own, only_own};
+use crate::own::OwnValues;
+use crate::own_bag::{has_value, is_own, only_own};
 use crate::request::Request;
 use ent_functions::{Arg, Function};
 use ent_policy::{Designator, Expression};
@@ -28,14 +25,13 @@ pub(crate) fn without_copies(
     function: Function,
     arguments: &[Expression],
 ) -> Option<Evaluated>
-    ensures value { IfSome result (λ v. (looks : Looks) (definitions : List VariableDefinition) (references : ℕ) → v ≡ (whole (is_result function) (result_of function) (map (meaning looks request.now definitions references) arguments.now)).value) }
-    ensures reads { IfSome result (λ v. (looks : Looks) (definitions : List VariableDefinition) (references : ℕ) → (whole (is_result function) (result_of function) (map (meaning looks request.now definitions references) arguments.now)).reads ≡ []) }
-    ensures typed { IfSome result (λ v. (definitions : List VariableDefinition) (references : ℕ) → IsSome (option_and_then (result_type_of function) (all_typed (map (type_of definitions references) arguments.now))) → HasType (option_and_then (result_type_of function) (all_typed (map (type_of definitions references) arguments.now))) v) }
+    ensures value { IfSome result (ComesTo request.now function arguments.now) }
+    ensures typed { IfSome result (HasItsType function arguments.now) }
 {
     let (first, second) = two(arguments)?;
     match (function, second) {
         (Function::IsIn(_), Expression::Designator(designator)) => {
-            Some(found_in(request, seen(request, first)?, designator))
+            found_in(request, seen(request, first)?, designator)
         }
         (Function::Equal(_), _) => Some(compared(seen(request, first)?, seen(request, second)?)),
         _ => None,
@@ -44,7 +40,7 @@ pub(crate) fn without_copies(
 
 // What an expression comes to that is a literal, or the only value of a designator.
 fn seen<'a>(request: &'a Request, expression: &'a Expression) -> Option<&'a Value>
-    ensures { IfSome result (λ v. (looks : Looks) (definitions : List VariableDefinition) (references : ℕ) → meaning looks request.now definitions references expression.now ≡ without_look (Known (Arg.One v.now))) }
+    ensures { IfSome result (λ v. IsOne request.now expression.now v.now) }
 {
     match expression {
         Expression::Value(value) => Some(value),
@@ -61,12 +57,19 @@ fn only_of<'a>(
     function: Function,
     arguments: &'a [Expression],
 ) -> Option<&'a Value>
-    ensures { IfSome result (λ v. (looks : Looks) (definitions : List VariableDefinition) (references : ℕ) → whole (is_result function) (result_of function) (map (meaning looks request.now definitions references) arguments.now) ≡ without_look (Known (Arg.One v.now))) }
+    ensures { IfSome result (λ v. ComesTo request.now function arguments.now (Known (Arg.One v.now))) }
 {
     match function {
-        Function::OneAndOnly(_) => only_own(request, one_designator(arguments)?),
+        Function::OneAndOnly(_) => only_value(request, one_designator(arguments)?),
         _ => None,
     }
+}
+
+// The only value of the request's own for a designator, if there is exactly one.
+fn only_value<'a>(request: &'a Request, designator: &'a Designator) -> Option<&'a Value>
+    ensures { IfSome result (λ v. own_values designator.now request.now ≡ v.now ∷ []) }
+{
+    only_own(OwnValues::of(request, designator))
 }
 
 // The designator that is the only argument.
@@ -98,14 +101,15 @@ fn compared(first: &Value, second: &Value) -> Evaluated
     Evaluated::Known(Arg::One(Value::Boolean(first == second)))
 }
 
-// Whether a value is among the request's own.
+// Whether a value is among the request's own, if it has any.
 #[tactic(auto, using(crate::proofs::Literals::found))]
-fn found_in(request: &Request, value: &Value, designator: &Designator) -> Evaluated
-    ensures typed { HasType (Some boolean) result }
-    ensures value { (element : Element) → result ≡ result_of (functions.IsIn element) (Known (Arg.One value.now) ∷ bag_of designator.now (own_values designator.now request.now) ∷ []) }
+fn found_in(request: &Request, value: &Value, designator: &Designator) -> Option<Evaluated>
+    ensures typed { IfSome result (λ v. HasType (Some boolean) v) }
+    ensures value { IfSome result (λ v. IsFound value.now designator.now (own_values designator.now request.now) v) }
 {
-    if designator.must_be_present && !has_value(request, designator) {
-        return Evaluated::Indeterminate(Status::MissingAttribute);
+    if !has_value(request, designator) {
+        return None;
     }
-    Evaluated::Known(Arg::One(Value::Boolean(is_own(request, designator, value))))
+    let found = is_own(request, designator, value);
+    Some(Evaluated::Known(Arg::One(Value::Boolean(found))))
 }

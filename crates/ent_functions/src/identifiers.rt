@@ -1,7 +1,8 @@
 //! The URIs that name the functions.
 
 ghost use Rattle.std.specs.Prelude.{◌≡◌, ◌++◌, ◌∷◌, [], IfOk, map, find, bytes_eq, flat_map};
-ghost use Rattle.ent_functions.specs.Identifiers.{element_word, ordered_word, comparison_word, prefix_of, type_word_of, operation_of, id_of, function_of, functions_at, comparisons_at, single_functions, all_elements, all_ordered, IdsReadBack};
+ghost use Rattle.ent_functions.specs.Identifiers.{element_word, ordered_word, comparison_word, prefix_of, type_word_of, operation_of, id_of};
+ghost use Rattle.ent_functions.specs.Identifiers.{function_of, functions_at, comparisons_at, single_functions, all_elements, all_ordered, IdsReadBack};
 
 use crate::function::{Comparison, Element, Function, Ordered};
 use ent_values::Text;

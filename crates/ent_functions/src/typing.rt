@@ -3,7 +3,8 @@
 ghost use Rattle.std.specs.Prelude.{◌≡◌, ◌==◌, [], ◌∷◌, map, count_by};
 ghost use Rattle.std.specs.List.{list_all};
 ghost use Rattle.std.specs.Cmp.Lexicographic.{pointwise};
-ghost use Rattle.ent_functions.specs.Types.{element_type, ordered_type, same_type, exactly, each, two_or_more, is_bag, one_of, seen_type, is_boolean, first_order_type, higher_order_type, result_type_of};
+ghost use Rattle.ent_functions.specs.Types.{element_type, ordered_type, same_type, exactly, each, two_or_more, is_bag};
+ghost use Rattle.ent_functions.specs.Types.{one_of, seen_type, is_boolean, first_order_type, higher_order_type, result_type_of};
 
 use crate::function::{Element, Function, Ordered};
 use crate::types::ArgType;

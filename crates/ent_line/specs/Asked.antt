@@ -1,20 +1,43 @@
 -- What a line asks for.
-use Rattle.std.specs.Prelude.{ℕ, ◌-◌, ◌^◌, List, [], ◌∷◌, Bool, true, false, nat_lt, if◌then◌else◌, Option, Some, None, option_and_then, Result, Ok, Err, codes, bytes_eq}
+use Rattle.std.specs.Prelude.{ℕ, ◌-◌, ◌^◌, ◌||◌, List, [], ◌∷◌, Bool, true, false, nat_lt, if◌then◌else◌, Option, Some, None, option_and_then, option_map, Result, Ok, Err, codes, bytes_eq}
 use Rattle.serde_json.specs.Data as json
-use Rattle.serde_json.specs.Data.{Data}
-use Rattle.serde_json.specs.Find.{get, as_number}
-use Rattle.ent_polform.specs.Objects.{◌>>=◌, need, must, has_only, text_at}
+use Rattle.serde_json.specs.Data.{Data, Items}
+use Rattle.serde_json.specs.Find.{get, as_array, as_number, as_str}
+use Rattle.ent_policy.specs.Key.{kind_word}
+use Rattle.ent_policy.specs.declared.key.Kind.{Kind}
+use Rattle.ent_policy.specs.declared.key.Kind.TheVariants.{Policy, PolicySet}
+use Rattle.ent_polform.specs.Objects.{◌>>=◌, need, must, has_only, text_at, text_or_absent}
+use Rattle.ent_eval.specs.Uris as uris
 use Rattle.ent_table.specs.Names.{Triple, triple_of}
 use Rattle.ent_table.specs.declared.edit.List.{List as Which}
 use Rattle.ent_table.specs.declared.edit.List.TheVariants as which
 
+-- a row as a line has it: its category's URI, its entity, its attribute, the name of its type, its issuer, if it has one, and its values
+pub record AskedRow : Type 0 where
+  pub category : List ℕ
+  pub entity : List ℕ
+  pub attribute : List ℕ
+  pub datatype : List ℕ
+  pub issuer : Option (List ℕ)
+  pub values : Items
+
 pub data Command : Type 0 where
   -- puts a name last in a list
   add_name : Which → List ℕ → Command
+  -- takes a name out of a list
+  drop_name : Which → List ℕ → Command
   -- stores a document in the module of that number
   add_policy : ℕ → Data → Command
+  -- puts a document in the place of the one with its kind, id and version, in the module of that number
+  replace_policy : ℕ → Data → Command
+  -- takes the document of that kind, id and version out of the module of that number
+  withdraw_policy : ℕ → Kind → List ℕ → List ℕ → Command
+  -- gives a row its values, in the module of that number
+  set_attribute : ℕ → AskedRow → Command
   -- sets the root to what a reference names
   set_root : Data → Command
+  -- sets the day to what a text writes, or to none
+  set_day : Option (List ℕ) → Command
   -- asks for all cells
   table : Command
   -- asks for one cell
@@ -27,7 +50,7 @@ abbrev pub part : {A : Type 0} → Option A → Result A ℕ
 part o = need 3 o
 
 -- what is asked where the object has no other keys than these
-abbrev pub keyed : List (List ℕ) → Data → Result Command ℕ → Result Command ℕ
+abbrev pub keyed : {A : Type 0} → List (List ℕ) → Data → Result A ℕ → Result A ℕ
 keyed keys d r = must 3 (has_only keys d) r
 
 -- whether a whole number is one of the sixteen sessions
@@ -52,20 +75,95 @@ abbrev pub module_of : Option Data → Option ℕ
 module_of None = Some 0
 module_of (Some d) = option_and_then module_number (as_number d)
 
+-- the kind of document that a word names
+abbrev pub kind_named : List ℕ → Option Kind
+kind_named word = if bytes_eq word (kind_word Policy) then Some Policy else (if bytes_eq word (kind_word PolicySet) then Some PolicySet else None)
+
+-- the URI of the category that a word or the URI itself names: of access-subject, resource or action
+abbrev pub category_named : List ℕ → Option (List ℕ)
+category_named word =
+    if bytes_eq word (codes "AccessSubject") || bytes_eq word uris.access_subject then Some uris.access_subject
+    else (if bytes_eq word (codes "Resource") || bytes_eq word uris.resource then Some uris.resource
+    else (if bytes_eq word (codes "Action") || bytes_eq word uris.action then Some uris.action else None))
+
+-- a text or null: what is there, or none
+abbrev pub text_or_null : Data → Option (Option (List ℕ))
+text_or_null json.null = Some None
+text_or_null d = option_map Some (as_str d)
+
+-- the first of two that is there
+abbrev pub either_of : {A : Type 0} → Option A → Option A → Option A
+either_of None other = other
+either_of (Some x) other = Some x
+
 -- ---- commands, each with its keys
 
 -- a name for a list
-unfoldable pub name_command : Which → Data → Result Command ℕ
-name_command list d = keyed (codes "do" ∷ codes "name" ∷ codes "session" ∷ []) d (do
-  name ← part (text_at (codes "name") d)
-  Ok (add_name list name))
+unfoldable pub name_for : Data → Result (List ℕ) ℕ
+name_for d = keyed (codes "do" ∷ codes "name" ∷ codes "session" ∷ []) d (part (text_at (codes "name") d))
 
--- a document for a module
-unfoldable pub policy_command : Data → Result Command ℕ
-policy_command d = keyed (codes "do" ∷ codes "document" ∷ codes "module" ∷ codes "session" ∷ []) d (do
+-- a name to be put last in a list
+unfoldable pub add_name_command : Which → Data → Result Command ℕ
+add_name_command list d = name_for d >>= λ name. Ok (add_name list name)
+
+-- a name to be taken out of a list
+unfoldable pub drop_name_command : Which → Data → Result Command ℕ
+drop_name_command list d = name_for d >>= λ name. Ok (drop_name list name)
+
+-- a row, whose issuer may be absent
+unfoldable pub row_of : Data → Result AskedRow ℕ
+row_of d = do
+  word ← part (text_at (codes "category") d)
+  category ← part (category_named word)
+  entity ← part (text_at (codes "entity") d)
+  attribute ← part (text_at (codes "attribute") d)
+  datatype ← part (text_at (codes "type") d)
+  values ← part (option_and_then as_array (get (codes "values") d))
+  must 3 (text_or_absent (codes "issuer") d)
+      (Ok (record { category = category; entity = entity; attribute = attribute; datatype = datatype; issuer = text_at (codes "issuer") d; values = values }))
+
+-- the keys of a row
+abbrev pub row_keys : List (List ℕ)
+row_keys =
+    codes "attribute" ∷ codes "category" ∷ codes "do" ∷ codes "entity" ∷ codes "issuer" ∷ codes "module" ∷ codes "session" ∷ codes "type" ∷ codes "values" ∷ []
+
+-- a row for a module
+unfoldable pub attribute_command : Data → Result Command ℕ
+attribute_command d = keyed row_keys d (do
+  number ← part (module_of (get (codes "module") d))
+  row ← row_of d
+  Ok (set_attribute number row))
+
+-- a day, or null for none
+unfoldable pub day_command : Data → Result Command ℕ
+day_command d = keyed (codes "day" ∷ codes "do" ∷ codes "session" ∷ []) d (do
+  day ← part (option_and_then text_or_null (get (codes "day") d))
+  Ok (set_day day))
+
+-- a document, and the number of the module that it is for
+unfoldable pub document_for : Data → Result (ℕ × Data) ℕ
+document_for d = keyed (codes "do" ∷ codes "document" ∷ codes "module" ∷ codes "session" ∷ []) d (do
   number ← part (module_of (get (codes "module") d))
   document ← part (get (codes "document") d)
-  Ok (add_policy number document))
+  Ok (number, document))
+
+-- a document to be stored
+unfoldable pub add_command : Data → Result Command ℕ
+add_command d = document_for d >>= λ x. Ok (add_policy x.0 x.1)
+
+-- a document to be stored in the place of another
+unfoldable pub replace_command : Data → Result Command ℕ
+replace_command d = document_for d >>= λ x. Ok (replace_policy x.0 x.1)
+
+-- what names the document to be withdrawn
+unfoldable pub withdraw_command : Data → Result Command ℕ
+withdraw_command d = keyed (codes "do" ∷ codes "id" ∷ codes "kind" ∷ codes "module" ∷ codes "session" ∷ codes "version" ∷ []) d (do
+  number ← part (module_of (get (codes "module") d))
+  word ← part (text_at (codes "kind") d)
+  kind ← part (kind_named word)
+  id ← part (text_at (codes "id") d)
+  version ← part (text_at (codes "version") d)
+  Ok (withdraw_policy number kind id version))
 
 -- a reference to the root
 unfoldable pub root_command : Data → Result Command ℕ
@@ -85,15 +183,41 @@ cell_command d = keyed (codes "action" ∷ codes "do" ∷ codes "person" ∷ cod
   resource ← part (text_at (codes "resource") d)
   Ok (cell (triple_of person action resource)))
 
--- what the edit of that name asks for
+-- what the edit of that name asks for, which adds a name
+unfoldable pub adding_named : List ℕ → Data → Option (Result Command ℕ)
+adding_named name d =
+    if bytes_eq name (codes "person.add") then Some (add_name_command which.People d)
+    else (if bytes_eq name (codes "action.add") then Some (add_name_command which.Actions d)
+    else (if bytes_eq name (codes "resource.add") then Some (add_name_command which.Resources d)
+    else None))
+
+-- what the edit of that name asks for, which drops a name
+unfoldable pub dropping_named : List ℕ → Data → Option (Result Command ℕ)
+dropping_named name d =
+    if bytes_eq name (codes "person.drop") then Some (drop_name_command which.People d)
+    else (if bytes_eq name (codes "action.drop") then Some (drop_name_command which.Actions d)
+    else (if bytes_eq name (codes "resource.drop") then Some (drop_name_command which.Resources d)
+    else None))
+
+-- what the edit of that name asks for, which sets something
+unfoldable pub setting_named : List ℕ → Data → Option (Result Command ℕ)
+setting_named name d =
+    if bytes_eq name (codes "root.set") then Some (root_command d)
+    else (if bytes_eq name (codes "day.set") then Some (day_command d)
+    else (if bytes_eq name (codes "attr.set") then Some (attribute_command d)
+    else None))
+
+-- what the edit of names, or of what is set, of that name asks for
 unfoldable pub edit_named : List ℕ → Data → Option (Result Command ℕ)
-edit_named name d =
-    if bytes_eq name (codes "person.add") then Some (name_command which.People d)
-    else (if bytes_eq name (codes "action.add") then Some (name_command which.Actions d)
-    else (if bytes_eq name (codes "resource.add") then Some (name_command which.Resources d)
-    else (if bytes_eq name (codes "policy.add") then Some (policy_command d)
-    else (if bytes_eq name (codes "root.set") then Some (root_command d)
-    else None))))
+edit_named name d = either_of (adding_named name d) (either_of (dropping_named name d) (setting_named name d))
+
+-- what the edit of documents of that name asks for
+unfoldable pub policy_named : List ℕ → Data → Option (Result Command ℕ)
+policy_named name d =
+    if bytes_eq name (codes "policy.add") then Some (add_command d)
+    else (if bytes_eq name (codes "policy.replace") then Some (replace_command d)
+    else (if bytes_eq name (codes "policy.withdraw") then Some (withdraw_command d)
+    else None))
 
 -- what the report of that name asks for
 unfoldable pub report_named : List ℕ → Data → Option (Result Command ℕ)
@@ -109,7 +233,7 @@ or_else (Some x) other = x
 
 -- what the command of that name asks for; refusal 4 where none has the name
 unfoldable pub command_of : List ℕ → Data → Result Command ℕ
-command_of name d = or_else (edit_named name d) (or_else (report_named name d) (Err 4))
+command_of name d = or_else (edit_named name d) (or_else (policy_named name d) (or_else (report_named name d) (Err 4)))
 
 -- what a line asks for, or the first of the refusals 3, 4 and 5 whose condition stands
 unfoldable pub request_of : Data → Result Command ℕ

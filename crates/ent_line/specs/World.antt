@@ -1,14 +1,15 @@
 -- The state that a service holds.
 use Rattle.std.specs.Prelude.{List}
-use Rattle.ent_policy.specs.declared.document.Tree.{Tree}
+use Rattle.ent_finder.specs.Rows.{Source}
+use Rattle.ent_finder.specs.Slots.{Slots}
 use Rattle.ent_table.specs.Review.{IsFresh, state_of}
 use Rattle.ent_table.specs.State.{State}
 use Rattle.ent_line.specs.declared.service.Service.{Service}
 
--- the state of the review whose policies mean these documents
-abbrev pub world_of : {P : Type 0} → (P → List Tree) → Service P → State
-world_of documents service = state_of documents service.review
+-- the state of the review whose modules of attributes mean these sources and whose modules of policies these slots
+abbrev pub world_of : {A P : Type 0} → (A → List Source) → (P → List Slots) → Service A P → State
+world_of sources slots service = state_of sources slots service.review
 
 -- its table is the fresh table
-abbrev pub IsReady : {P : Type 0} → (P → List Tree) → Service P → Type 0
-IsReady documents service = IsFresh documents service.review
+abbrev pub IsReady : {A P : Type 0} → (A → List Source) → (P → List Slots) → Service A P → Type 0
+IsReady sources slots service = IsFresh sources slots service.review

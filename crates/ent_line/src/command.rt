@@ -3,11 +3,13 @@
 ghost use Rattle.std.specs.Prelude.{◌≡◌, codes, option_map};
 ghost use Rattle.serde_json.specs.Find.{get};
 ghost use Rattle.serde_json.specs.View.{view};
-ghost use Rattle.ent_line.specs.Asked.{cell_command, command_of, edit_named, has_session, module_of, name_command, policy_command, report_named, request_of, root_command, table_command};
-ghost use Rattle.ent_line.specs.CommandView.{asked_view};
+ghost use Rattle.ent_line.specs.Asked.{add_command, add_name_command, adding_named, cell_command, command_of, document_for, drop_name_command, dropping_named, edit_named, has_session, kind_named, module_of, name_for, policy_named, replace_command, report_named, request_of, root_command, setting_named, table_command, withdraw_command};
+ghost use Rattle.ent_line.specs.CommandView.{asked_view, document_view, name_view};
 
+use crate::attribute_command::{AskedRow, attribute_command, day_command};
 use crate::refusal::{SHAPE, UNKNOWN_COMMAND, UNKNOWN_SESSION};
 use ent_polform::{has_only, text_at};
+use ent_policy::Kind;
 use ent_table::List;
 use serde_json::Value;
 
@@ -19,10 +21,20 @@ const SESSIONS: u64 = 16;
 pub(crate) enum Command<'a> {
     /// Puts a name last in a list.
     AddName(List, &'a str),
+    /// Takes a name out of a list.
+    DropName(List, &'a str),
     /// Stores a document in the module of that number.
     AddPolicy(usize, &'a Value),
+    /// Puts a document in the place of the one with its kind, id and version, in the module of that number.
+    ReplacePolicy(usize, &'a Value),
+    /// Takes the document of a kind, an id and a version out of the module of that number.
+    WithdrawPolicy(usize, Kind, &'a str, &'a str),
+    /// Gives a row its values, in the module of that number.
+    SetAttribute(usize, AskedRow<'a>),
     /// Sets the root to what a reference names.
     SetRoot(&'a Value),
+    /// Sets the day to what a text writes, or to none.
+    SetDay(Option<&'a str>),
     /// Asks for all cells.
     Table,
     /// Asks for the cell of a person, an action and a resource.
@@ -46,7 +58,7 @@ fn has_session(object: &Value) -> Option<bool>
 
 /// The number of the module, 0 if the key is absent. `None` if it is no whole number. A negative number is no module's, and
 /// neither is the greatest number, which stands for it.
-fn module_number(object: &Value) -> Option<usize>
+pub(crate) fn module_number(object: &Value) -> Option<usize>
     ensures { result ≡ module_of (get (codes "module") (view object.now)) }
 {
     match object.get("module") {
@@ -64,29 +76,96 @@ fn module_number(object: &Value) -> Option<usize>
     }
 }
 
-/// `person.add`, `action.add` and `resource.add`.
-#[tactic(auto, unfolding(crate::specs::Asked::name_command))]
-fn name_command(list: List, object: &Value) -> Result<Command<'_>, u8>
-    ensures { asked_view result ≡ name_command list (view object.now) }
+/// The name in a line.
+#[tactic(auto, unfolding(crate::specs::Asked::name_for))]
+fn name_for(object: &Value) -> Result<&str, u8>
+    ensures { name_view result ≡ name_for (view object.now) }
 {
     if !has_only(object, &["do", "name", "session"]) {
         return Err(SHAPE);
     }
-    let name = text_at(object, "name").ok_or(SHAPE)?;
+    text_at(object, "name").ok_or(SHAPE)
+}
+
+/// `person.add`, `action.add` and `resource.add`.
+#[tactic(auto, unfolding(crate::specs::Asked::add_name_command))]
+fn add_name_command(list: List, object: &Value) -> Result<Command<'_>, u8>
+    ensures { asked_view result ≡ add_name_command list (view object.now) }
+{
+    let name = name_for(object)?;
     Ok(Command::AddName(list, name))
 }
 
-/// `policy.add`.
-#[tactic(auto, unfolding(crate::specs::Asked::policy_command))]
-fn policy_command(object: &Value) -> Result<Command<'_>, u8>
-    ensures { asked_view result ≡ policy_command (view object.now) }
+/// `person.drop`, `action.drop` and `resource.drop`.
+#[tactic(auto, unfolding(crate::specs::Asked::drop_name_command))]
+fn drop_name_command(list: List, object: &Value) -> Result<Command<'_>, u8>
+    ensures { asked_view result ≡ drop_name_command list (view object.now) }
+{
+    let name = name_for(object)?;
+    Ok(Command::DropName(list, name))
+}
+
+/// The kind of document that a word names.
+fn kind_named(word: &str) -> Option<Kind>
+    ensures { result ≡ kind_named word.now }
+{
+    if word == Kind::Policy.word() {
+        return Some(Kind::Policy);
+    }
+    if word == Kind::PolicySet.word() {
+        return Some(Kind::PolicySet);
+    }
+    None
+}
+
+/// The document in a line, and the number of the module that it is for.
+#[tactic(auto, unfolding(crate::specs::Asked::document_for))]
+fn document_for(object: &Value) -> Result<(usize, &Value), u8>
+    ensures { document_view result ≡ document_for (view object.now) }
 {
     if !has_only(object, &["do", "document", "module", "session"]) {
         return Err(SHAPE);
     }
     let number = module_number(object).ok_or(SHAPE)?;
     let document = object.get("document").ok_or(SHAPE)?;
+    Ok((number, document))
+}
+
+/// `policy.add`.
+#[tactic(auto, unfolding(crate::specs::Asked::add_command))]
+fn add_command(object: &Value) -> Result<Command<'_>, u8>
+    ensures { asked_view result ≡ add_command (view object.now) }
+{
+    let (number, document) = document_for(object)?;
     Ok(Command::AddPolicy(number, document))
+}
+
+/// `policy.replace`.
+#[tactic(auto, unfolding(crate::specs::Asked::replace_command))]
+fn replace_command(object: &Value) -> Result<Command<'_>, u8>
+    ensures { asked_view result ≡ replace_command (view object.now) }
+{
+    let (number, document) = document_for(object)?;
+    Ok(Command::ReplacePolicy(number, document))
+}
+
+/// `policy.withdraw`.
+#[tactic(auto, unfolding(crate::specs::Asked::withdraw_command))]
+fn withdraw_command(object: &Value) -> Result<Command<'_>, u8>
+    ensures { asked_view result ≡ withdraw_command (view object.now) }
+{
+    if !has_only(
+        object,
+        &["do", "id", "kind", "module", "session", "version"],
+    ) {
+        return Err(SHAPE);
+    }
+    let number = module_number(object).ok_or(SHAPE)?;
+    let word = text_at(object, "kind").ok_or(SHAPE)?;
+    let kind = kind_named(word).ok_or(SHAPE)?;
+    let id = text_at(object, "id").ok_or(SHAPE)?;
+    let version = text_at(object, "version").ok_or(SHAPE)?;
+    Ok(Command::WithdrawPolicy(number, kind, id, version))
 }
 
 /// `root.set`.
@@ -126,25 +205,84 @@ fn cell_command(object: &Value) -> Result<Command<'_>, u8>
     Ok(Command::Cell(person, action, resource))
 }
 
-/// The edit of that name.
+/// The edit of that name that adds a name.
+#[tactic(auto, unfolding(crate::specs::Asked::adding_named))]
+fn adding_named<'a>(name: &str, object: &'a Value) -> Option<Result<Command<'a>, u8>>
+    ensures { option_map asked_view result ≡ adding_named name.now (view object.now) }
+{
+    if name == "person.add" {
+        return Some(add_name_command(List::People, object));
+    }
+    if name == "action.add" {
+        return Some(add_name_command(List::Actions, object));
+    }
+    if name == "resource.add" {
+        return Some(add_name_command(List::Resources, object));
+    }
+    None
+}
+
+/// The edit of that name that drops a name.
+#[tactic(auto, unfolding(crate::specs::Asked::dropping_named))]
+fn dropping_named<'a>(name: &str, object: &'a Value) -> Option<Result<Command<'a>, u8>>
+    ensures { option_map asked_view result ≡ dropping_named name.now (view object.now) }
+{
+    if name == "person.drop" {
+        return Some(drop_name_command(List::People, object));
+    }
+    if name == "action.drop" {
+        return Some(drop_name_command(List::Actions, object));
+    }
+    if name == "resource.drop" {
+        return Some(drop_name_command(List::Resources, object));
+    }
+    None
+}
+
+/// The edit of that name that sets something.
+#[tactic(auto, unfolding(crate::specs::Asked::setting_named))]
+fn setting_named<'a>(name: &str, object: &'a Value) -> Option<Result<Command<'a>, u8>>
+    ensures { option_map asked_view result ≡ setting_named name.now (view object.now) }
+{
+    if name == "root.set" {
+        return Some(root_command(object));
+    }
+    if name == "day.set" {
+        return Some(day_command(object));
+    }
+    if name == "attr.set" {
+        return Some(attribute_command(object));
+    }
+    None
+}
+
+/// The edit of names, or of what is set, of that name.
 #[tactic(auto, unfolding(crate::specs::Asked::edit_named))]
 fn edit_named<'a>(name: &str, object: &'a Value) -> Option<Result<Command<'a>, u8>>
     ensures { option_map asked_view result ≡ edit_named name.now (view object.now) }
 {
-    if name == "person.add" {
-        return Some(name_command(List::People, object));
+    if let Some(edit) = adding_named(name, object) {
+        return Some(edit);
     }
-    if name == "action.add" {
-        return Some(name_command(List::Actions, object));
+    if let Some(edit) = dropping_named(name, object) {
+        return Some(edit);
     }
-    if name == "resource.add" {
-        return Some(name_command(List::Resources, object));
-    }
+    setting_named(name, object)
+}
+
+/// The edit of documents of that name.
+#[tactic(auto, unfolding(crate::specs::Asked::policy_named))]
+fn policy_named<'a>(name: &str, object: &'a Value) -> Option<Result<Command<'a>, u8>>
+    ensures { option_map asked_view result ≡ policy_named name.now (view object.now) }
+{
     if name == "policy.add" {
-        return Some(policy_command(object));
+        return Some(add_command(object));
     }
-    if name == "root.set" {
-        return Some(root_command(object));
+    if name == "policy.replace" {
+        return Some(replace_command(object));
+    }
+    if name == "policy.withdraw" {
+        return Some(withdraw_command(object));
     }
     None
 }
@@ -169,6 +307,9 @@ fn command_named<'a>(name: &str, object: &'a Value) -> Result<Command<'a>, u8>
     ensures { asked_view result ≡ command_of name.now (view object.now) }
 {
     if let Some(edit) = edit_named(name, object) {
+        return edit;
+    }
+    if let Some(edit) = policy_named(name, object) {
         return edit;
     }
     if let Some(report) = report_named(name, object) {

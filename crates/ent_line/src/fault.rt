@@ -1,5 +1,6 @@
 //! Why serving ended early.
 
+use std::alloc::{AllocError, AllocFailed};
 use thiserror::Error;
 
 /// Why `serve` ended before the end of its input.
@@ -11,7 +12,29 @@ pub enum ServeFault {
     /// The writer failed. Of the last reply only a front was written.
     #[error("write fault")]
     Write,
-    /// There was no memory for the line buffer. Nothing was read.
+    /// There was no memory to begin with. Nothing was read.
     #[error("out of memory")]
     Memory,
+}
+
+impl From<AllocError> for ServeFault {
+    ghost use Rattle.std.specs.Prelude.{◌≡◌};
+    ghost use Rattle.ent_line.specs.declared.fault.ServeFault.TheVariants.{Memory};
+
+    ghost from_gives = { λ _ e. e ≡ Memory };
+
+    fn from(_: AllocError) -> ServeFault {
+        ServeFault::Memory
+    }
+}
+
+impl<T: Drop> From<AllocFailed<T>> for ServeFault {
+    ghost use Rattle.std.specs.Prelude.{◌≡◌};
+    ghost use Rattle.ent_line.specs.declared.fault.ServeFault.TheVariants.{Memory};
+
+    ghost from_gives = { λ _ e. e ≡ Memory };
+
+    fn from(_: AllocFailed<T>) -> ServeFault {
+        ServeFault::Memory
+    }
 }

@@ -12,7 +12,7 @@ use std::io::{BufRead, ErrorKind};
 pub const LINE_LIMIT: usize = 1_048_576;
 
 /// What one look at the reader's buffer gave.
-#[derive(Clone, Copy, Debug, PartialEq, Eq)]
+#[derive(Clone, Copy, PartialEq, Eq)]
 pub(crate) enum Piece {
     /// The input is at its end.
     End,

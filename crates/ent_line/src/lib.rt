@@ -2,6 +2,7 @@
 #![tactic(auto)]
 
 mod answering;
+mod attribute_command;
 mod cell;
 mod command;
 mod fault;

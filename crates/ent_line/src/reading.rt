@@ -1,12 +1,21 @@
 //! Reading JSON and the parts of commands.
 
-ghost use Rattle.std.specs.Prelude.{◌≡◌, IfOk, option_map};
-ghost use Rattle.serde_json.specs.View.{view};
+ghost use Rattle.std.specs.Prelude.{◌≡◌, IfOk, IfSome, option_map};
+ghost use Rattle.std.specs.Option.{IfNone};
+ghost use Rattle.serde_json.specs.View.{items_view, view};
+ghost use Rattle.ent_values.specs.Reading.{date_of};
+ghost use Rattle.ent_values.specs.Types.{datatype_of};
+ghost use Rattle.ent_values.specs.declared.datatype.DataType.TheVariants as types;
+ghost use Rattle.ent_values.specs.declared.value.Value.TheVariants as values;
 ghost use Rattle.ent_policy.specs.Gives.{Gives};
-ghost use Rattle.ent_line.specs.Step.{data_of, root_of};
+ghost use Rattle.ent_line.specs.CommandView.{row_view};
+ghost use Rattle.ent_line.specs.Step.{data_of, key_of_row, root_of, row_read, values_in};
 
-use ent_polform::read_reference;
+use crate::attribute_command::AskedRow;
+use ent_finder::RowKey;
+use ent_polform::{read_reference, read_value};
 use ent_policy::{CheckFault, Reference};
+use ent_values::{DataType, Date, Items, Text, Value as AttributeValue, ValueFault};
 use serde_json::Value;
 use std::alloc::{AllocError, Global};
 
@@ -34,4 +43,78 @@ pub(crate) fn read_root(alloc: Global, value: &Value) -> Result<Option<Reference
         return Ok(None);
     }
     Ok(Some(read_reference(alloc, value)?))
+}
+
+/// The day that a value is.
+fn day_of(value: &AttributeValue) -> Option<Date>
+    ensures day { IfSome result (λ day. value.now ≡ values.Date day) }
+    ensures none { IfNone result (datatype_of value.now ≡ types.Date → ⊥) }
+{
+    match value {
+        AttributeValue::Date(day) => Some(*day),
+        _ => None,
+    }
+}
+
+/// The day that a text writes.
+pub(crate) fn read_day(alloc: Global, text: &str) -> Option<Date>
+    ensures { result ≡ date_of text.now }
+{
+    match AttributeValue::parse(alloc, DataType::Date, text) {
+        Ok(value) => day_of(&value),
+        Err(_) => None,
+    }
+}
+
+/// The values of that type that JSON values spell. `None` if one spells none.
+fn read_values(
+    alloc: Global,
+    datatype: DataType,
+    values: &[Value],
+) -> Result<Option<Items<AttributeValue>>, AllocError>
+    ensures { IfOk result (λ o. o ≡ values_in datatype (items_view values.now)) }
+{
+    let mut items = Items::with_capacity(alloc, values.len())?;
+    for value in values {
+        match read_value(alloc, datatype, value) {
+            Ok(value) => items.push(value)?,
+            Err(ValueFault::BadValue) => return Ok(None),
+            Err(ValueFault::Memory) => return Err(AllocError),
+        }
+    }
+    Ok(Some(items))
+}
+
+/// The key of a row whose type was read.
+fn key_of_row(alloc: Global, row: AskedRow<'_>, datatype: DataType) -> Result<RowKey, AllocError>
+    ensures { IfOk result (λ k. k ≡ key_of_row (row_view row.entry) datatype) }
+{
+    let issuer = match row.issuer {
+        None => None,
+        Some(issuer) => Some(Text::from_str(alloc, issuer)?),
+    };
+    Ok(RowKey {
+        category: Text::from_str(alloc, row.category)?,
+        entity: Text::from_str(alloc, row.entity)?,
+        attribute: Text::from_str(alloc, row.attribute)?,
+        datatype,
+        issuer,
+    })
+}
+
+/// The key and the values of a row. `None` if its type or a value can't be read.
+#[tactic(auto, unfolding(crate::specs::Step::row_read))]
+pub(crate) fn read_row(
+    alloc: Global,
+    row: AskedRow<'_>,
+) -> Result<Option<(RowKey, Items<AttributeValue>)>, AllocError>
+    ensures { IfOk result (λ o. o ≡ row_read (row_view row.entry)) }
+{
+    let Some(datatype) = DataType::from_name(row.datatype) else {
+        return Ok(None);
+    };
+    match read_values(alloc, datatype, row.values)? {
+        None => Ok(None),
+        Some(values) => Ok(Some((key_of_row(alloc, row, datatype)?, values))),
+    }
 }

@@ -11,7 +11,7 @@ use itoa::Buffer;
 use std::io::Write;
 
 /// What a line is answered by. All but `Text` are written without memory.
-#[derive(Debug, Drop)]
+#[derive(Drop)]
 pub enum Reply {
     /// An edit was accepted, written as `{"changes":n,"serial":n}`.
     Accepted(Accepted),

@@ -1,27 +1,31 @@
 //! The service: a review that answers lines.
 
-ghost use Rattle.std.specs.Prelude.{◌≡◌, [], None, IfOk, OnErr, option_map};
+ghost use Rattle.std.specs.Prelude.{◌≡◌, IfOk, OnErr, option_map};
+ghost use Rattle.std.specs.Option.{option_copied};
 ghost use Rattle.serde_json.specs.View.{view};
-ghost use Rattle.ent_table.specs.Limits.{standard_limits};
 ghost use Rattle.ent_table.specs.Names.{triple_of};
 ghost use Rattle.ent_table.specs.Review.{IsFresh, state_of};
-ghost use Rattle.ent_table.specs.State.{initial};
 ghost use Rattle.ent_line.specs.Asked.{request_of};
-ghost use Rattle.ent_line.specs.CommandView.{command_view};
+ghost use Rattle.ent_line.specs.CommandView.{command_view, row_view};
 ghost use Rattle.ent_line.specs.Replies.{reply_view};
-ghost use Rattle.ent_line.specs.Step.{cell_told, data_of, edited, name_added, policy_added, requested, root_set, run, table_told, told};
+ghost use Rattle.ent_line.specs.Step.{attribute_set, cell_told, data_of, day_set, edited, name_added, name_dropped, policy_added, policy_replaced, policy_withdrawn, requested, root_set, run, table_told, told, unread, unread_row};
 ghost use Rattle.ent_line.specs.World.{IsReady, world_of};
 
 use crate::answering::Answering;
+use crate::attribute_command::AskedRow;
 use crate::cell::{one_cell_text, table_text};
 use crate::command::{Command, request};
 use crate::input::LINE_LIMIT;
-use crate::reading::{read_json, read_root};
-use crate::refusal::{NO_MEMORY, NOT_JSON, NOT_THERE, TOO_LONG, refused_document, refused_edit};
+use crate::reading::{read_day, read_json, read_root, read_row};
+use crate::refusal::{
+    BAD_VALUE, LIMIT, NO_MEMORY, NOT_JSON, NOT_THERE, RESERVED, TOO_LONG, refused_document,
+    refused_edit,
+};
 use crate::reply::Reply;
-use ent_eval::{Documents, Pdp, Policies};
+use ent_finder::{AttributeFinder, Attributes, Policies, PolicyFinder};
 use ent_polform::read_document;
-use ent_table::{Edit, Limits, List, Review};
+use ent_policy::{DocKey, Kind, Version};
+use ent_table::{Edit, LAST_SERIAL, List, MOST_VALUES, Review, is_reserved};
 use ent_values::Text;
 use serde_json::Value;
 use std::alloc::{AllocError, Global};
@@ -29,45 +33,33 @@ use std::alloc::{AllocError, Global};
 /// A review whose edits and reports are asked for by lines of JSON.
 ///
 /// A line is a JSON object with `do`, the name of a command, with the command's own keys, and with an optional `session`, a
-/// whole number from 0 to 15. The commands are `person.add`, `action.add` and `resource.add` with `name`; `policy.add` with
-/// `document` and an optional `module`, a whole number; `root.set` with `reference`, or null for none; `table`; and `cell` with
-/// `person`, `action` and `resource`. Each accepted line is one edit of the review, or a look at its table; a refused line
-/// changes nothing.
+/// whole number from 0 to 15. The commands are `person.add`, `action.add` and `resource.add`, and the same with `drop`, with `name`;
+/// `policy.add` and `policy.replace` with `document`, and `policy.withdraw` with `kind`, `id` and `version`, each with an optional
+/// `module`, a whole number; `attr.set` with `category`, `entity`, `attribute`, `type`, an optional `issuer`, `values` and an optional
+/// `module`; `root.set` with `reference` and `day.set` with `day`, or null for none; `table`; and `cell` with `person`, `action` and
+/// `resource`. Each accepted line is one edit of the review, or a look at its table; a refused line changes nothing.
 #[derive(Drop)]
-pub struct Service<P = Documents> {
+pub struct Service<A = AttributeFinder, P = PolicyFinder> {
     alloc: Global,
-    review: Review<P>,
+    review: Review<A, P>,
 }
 
-impl Service<Documents> {
-    /// A service without documents, root and names, under the standard limits.
-    pub fn new(alloc: Global) -> Service<Documents>
-        ensures ready { IsReady ⟦<Documents as Policies>⟧.documents result }
-        ensures world { world_of ⟦<Documents as Policies>⟧.documents result ≡ initial [] None standard_limits }
-    {
-        Service::over(
-            alloc,
-            Review::new(alloc, Pdp::new(alloc), Limits::standard()),
-        )
-    }
-}
-
-impl<P: Policies> Service<P> {
+impl<A: Attributes, P: Policies> Service<A, P> {
     /// A service over a review as it stands.
-    pub fn over(alloc: Global, review: Review<P>) -> Service<P>
-        requires { IsFresh P.documents review }
-        ensures ready { IsReady P.documents result }
-        ensures world { world_of P.documents result ≡ state_of P.documents review }
+    pub fn new(alloc: Global, review: Review<A, P>) -> Service<A, P>
+        requires { IsFresh A.sources P.slots review }
+        ensures ready { IsReady A.sources P.slots result }
+        ensures world { world_of A.sources P.slots result ≡ state_of A.sources P.slots review }
     {
         Service { alloc, review }
     }
 
     /// Makes an edit.
     fn edit(&mut self, edit: Edit) -> Result<Reply, AllocError>
-        requires { IsReady P.documents self.old }
-        ensures ready { IsReady P.documents self.new }
-        ensures ok { IfOk result (λ r. (reply_view r, world_of P.documents self.new) ≡ edited (world_of P.documents self.old) edit) }
-        ensures err { OnErr result (world_of P.documents self.new ≡ world_of P.documents self.old) }
+        requires { IsReady A.sources P.slots self.old }
+        ensures ready { IsReady A.sources P.slots self.new }
+        ensures ok { IfOk result (λ r. (reply_view r, world_of A.sources P.slots self.new) ≡ edited (world_of A.sources P.slots self.old) edit) }
+        ensures err { OnErr result (world_of A.sources P.slots self.new ≡ world_of A.sources P.slots self.old) }
     {
         match self.review.edit(edit) {
             Ok(accepted) => Ok(Reply::Accepted(accepted)),
@@ -78,22 +70,34 @@ impl<P: Policies> Service<P> {
     /// `person.add`, `action.add` and `resource.add`.
     #[tactic(auto, unfolding(crate::specs::Step::name_added))]
     fn add_name(&mut self, list: List, name: &str) -> Result<Reply, AllocError>
-        requires { IsReady P.documents self.old }
-        ensures ready { IsReady P.documents self.new }
-        ensures ok { IfOk result (λ r. (reply_view r, world_of P.documents self.new) ≡ name_added (world_of P.documents self.old) list name.now) }
-        ensures err { OnErr result (world_of P.documents self.new ≡ world_of P.documents self.old) }
+        requires { IsReady A.sources P.slots self.old }
+        ensures ready { IsReady A.sources P.slots self.new }
+        ensures ok { IfOk result (λ r. (reply_view r, world_of A.sources P.slots self.new) ≡ name_added (world_of A.sources P.slots self.old) list name.now) }
+        ensures err { OnErr result (world_of A.sources P.slots self.new ≡ world_of A.sources P.slots self.old) }
     {
         let name = Text::from_str(self.alloc, name)?;
         self.edit(Edit::AddName(list, name))
     }
 
+    /// `person.drop`, `action.drop` and `resource.drop`.
+    #[tactic(auto, unfolding(crate::specs::Step::name_dropped))]
+    fn drop_name(&mut self, list: List, name: &str) -> Result<Reply, AllocError>
+        requires { IsReady A.sources P.slots self.old }
+        ensures ready { IsReady A.sources P.slots self.new }
+        ensures ok { IfOk result (λ r. (reply_view r, world_of A.sources P.slots self.new) ≡ name_dropped (world_of A.sources P.slots self.old) list name.now) }
+        ensures err { OnErr result (world_of A.sources P.slots self.new ≡ world_of A.sources P.slots self.old) }
+    {
+        let name = Text::from_str(self.alloc, name)?;
+        self.edit(Edit::DropName(list, name))
+    }
+
     /// `policy.add`.
     #[tactic(auto, unfolding(crate::specs::Step::policy_added))]
     fn add_policy(&mut self, number: usize, document: &Value) -> Result<Reply, AllocError>
-        requires { IsReady P.documents self.old }
-        ensures ready { IsReady P.documents self.new }
-        ensures ok { IfOk result (λ r. (reply_view r, world_of P.documents self.new) ≡ policy_added (world_of P.documents self.old) number (view document.now)) }
-        ensures err { OnErr result (world_of P.documents self.new ≡ world_of P.documents self.old) }
+        requires { IsReady A.sources P.slots self.old }
+        ensures ready { IsReady A.sources P.slots self.new }
+        ensures ok { IfOk result (λ r. (reply_view r, world_of A.sources P.slots self.new) ≡ policy_added (world_of A.sources P.slots self.old) number (view document.now)) }
+        ensures err { OnErr result (world_of A.sources P.slots self.new ≡ world_of A.sources P.slots self.old) }
     {
         match read_document(self.alloc, document) {
             Ok(document) => self.edit(Edit::AddPolicy(number, document)),
@@ -101,13 +105,104 @@ impl<P: Policies> Service<P> {
         }
     }
 
+    /// `policy.replace`.
+    #[tactic(auto, unfolding(crate::specs::Step::policy_replaced))]
+    fn replace_policy(&mut self, number: usize, document: &Value) -> Result<Reply, AllocError>
+        requires { IsReady A.sources P.slots self.old }
+        ensures ready { IsReady A.sources P.slots self.new }
+        ensures ok { IfOk result (λ r. (reply_view r, world_of A.sources P.slots self.new) ≡ policy_replaced (world_of A.sources P.slots self.old) number (view document.now)) }
+        ensures err { OnErr result (world_of A.sources P.slots self.new ≡ world_of A.sources P.slots self.old) }
+    {
+        match read_document(self.alloc, document) {
+            Ok(document) => self.edit(Edit::ReplacePolicy(number, document)),
+            Err(fault) => refused_document(fault),
+        }
+    }
+
+    /// The refusal of a version or a day that can't be read.
+    fn unread(&self) -> u8
+        ensures { result ≡ unread (world_of A.sources P.slots self.now) }
+    {
+        if self.review.serial() >= LAST_SERIAL {
+            LIMIT
+        } else {
+            BAD_VALUE
+        }
+    }
+
+    /// `policy.withdraw`.
+    #[tactic(auto, unfolding(crate::specs::Step::policy_withdrawn))]
+    fn withdraw_policy(
+        &mut self,
+        number: usize,
+        kind: Kind,
+        id: &str,
+        version: &str,
+    ) -> Result<Reply, AllocError>
+        requires { IsReady A.sources P.slots self.old }
+        ensures ready { IsReady A.sources P.slots self.new }
+        ensures ok { IfOk result (λ r. (reply_view r, world_of A.sources P.slots self.new) ≡ policy_withdrawn (world_of A.sources P.slots self.old) number kind id.now version.now) }
+        ensures err { OnErr result (world_of A.sources P.slots self.new ≡ world_of A.sources P.slots self.old) }
+    {
+        let Some(version) = Version::parse(version) else {
+            return Ok(Reply::Refused(self.unread(), None));
+        };
+        let id = Text::from_str(self.alloc, id)?;
+        self.edit(Edit::WithdrawPolicy(number, DocKey { kind, id, version }))
+    }
+
+    /// The refusal of a row whose type or a value can't be read.
+    #[tactic(auto, using(crate::proofs::ReadLemmas::values_counted))]
+    fn unread_row(&self, row: AskedRow<'_>) -> u8
+        ensures { result ≡ unread_row (world_of A.sources P.slots self.now) (row_view row.entry) }
+    {
+        if self.review.serial() >= LAST_SERIAL || row.values.len() > MOST_VALUES {
+            LIMIT
+        } else if is_reserved(row.category, row.attribute) {
+            RESERVED
+        } else {
+            BAD_VALUE
+        }
+    }
+
+    /// `attr.set`.
+    #[tactic(auto, unfolding(crate::specs::Step::attribute_set))]
+    fn set_attribute(&mut self, number: usize, row: AskedRow<'_>) -> Result<Reply, AllocError>
+        requires { IsReady A.sources P.slots self.old }
+        ensures ready { IsReady A.sources P.slots self.new }
+        ensures ok { IfOk result (λ r. (reply_view r, world_of A.sources P.slots self.new) ≡ attribute_set (world_of A.sources P.slots self.old) number (row_view row.entry)) }
+        ensures err { OnErr result (world_of A.sources P.slots self.new ≡ world_of A.sources P.slots self.old) }
+    {
+        match read_row(self.alloc, row)? {
+            Some((key, values)) => self.edit(Edit::SetAttribute(number, key, values)),
+            None => Ok(Reply::Refused(self.unread_row(row), None)),
+        }
+    }
+
+    /// `day.set`.
+    #[tactic(auto, unfolding(crate::specs::Step::day_set))]
+    fn set_day(&mut self, day: Option<&str>) -> Result<Reply, AllocError>
+        requires { IsReady A.sources P.slots self.old }
+        ensures ready { IsReady A.sources P.slots self.new }
+        ensures ok { IfOk result (λ r. (reply_view r, world_of A.sources P.slots self.new) ≡ day_set (world_of A.sources P.slots self.old) (option_copied day.entry)) }
+        ensures err { OnErr result (world_of A.sources P.slots self.new ≡ world_of A.sources P.slots self.old) }
+    {
+        let Some(text) = day else {
+            return self.edit(Edit::SetDay(None));
+        };
+        match read_day(self.alloc, text) {
+            Some(day) => self.edit(Edit::SetDay(Some(day))),
+            None => Ok(Reply::Refused(self.unread(), None)),
+        }
+    }
+
     /// `root.set`.
     #[tactic(auto, unfolding(crate::specs::Step::root_set))]
     fn set_root(&mut self, reference: &Value) -> Result<Reply, AllocError>
-        requires { IsReady P.documents self.old }
-        ensures ready { IsReady P.documents self.new }
-        ensures ok { IfOk result (λ r. (reply_view r, world_of P.documents self.new) ≡ root_set (world_of P.documents self.old) (view reference.now)) }
-        ensures err { OnErr result (world_of P.documents self.new ≡ world_of P.documents self.old) }
+        requires { IsReady A.sources P.slots self.old }
+        ensures ready { IsReady A.sources P.slots self.new }
+        ensures ok { IfOk result (λ r. (reply_view r, world_of A.sources P.slots self.new) ≡ root_set (world_of A.sources P.slots self.old) (view reference.now)) }
+        ensures err { OnErr result (world_of A.sources P.slots self.new ≡ world_of A.sources P.slots self.old) }
     {
         match read_root(self.alloc, reference) {
             Ok(root) => self.edit(Edit::SetRoot(root)),
@@ -118,8 +213,8 @@ impl<P: Policies> Service<P> {
     /// `table`.
     #[tactic(auto, unfolding(crate::specs::Step::table_told))]
     fn table(&self) -> Result<Reply, AllocError>
-        requires { IsReady P.documents self.now }
-        ensures { IfOk result (λ r. reply_view r ≡ table_told (world_of P.documents self.now)) }
+        requires { IsReady A.sources P.slots self.now }
+        ensures { IfOk result (λ r. reply_view r ≡ table_told (world_of A.sources P.slots self.now)) }
     {
         let text = table_text(self.alloc, self.review.cells())?;
         Ok(Reply::Text(text))
@@ -128,8 +223,8 @@ impl<P: Policies> Service<P> {
     /// `cell`.
     #[tactic(auto, unfolding(crate::specs::Step::cell_told))]
     fn cell(&self, person: &str, action: &str, resource: &str) -> Result<Reply, AllocError>
-        requires { IsReady P.documents self.now }
-        ensures { IfOk result (λ r. reply_view r ≡ cell_told (world_of P.documents self.now) (triple_of person.now action.now resource.now)) }
+        requires { IsReady A.sources P.slots self.now }
+        ensures { IfOk result (λ r. reply_view r ≡ cell_told (world_of A.sources P.slots self.now) (triple_of person.now action.now resource.now)) }
     {
         match self.review.cell(person, action, resource) {
             None => Ok(Reply::Refused(NOT_THERE, None)),
@@ -143,15 +238,22 @@ impl<P: Policies> Service<P> {
     /// Does what a command asks for.
     #[tactic(auto, unfolding(crate::specs::Step::run))]
     fn run(&mut self, command: Command<'_>) -> Result<Reply, AllocError>
-        requires { IsReady P.documents self.old }
-        ensures ready { IsReady P.documents self.new }
-        ensures ok { IfOk result (λ r. (reply_view r, world_of P.documents self.new) ≡ run (world_of P.documents self.old) (command_view command.entry)) }
-        ensures err { OnErr result (world_of P.documents self.new ≡ world_of P.documents self.old) }
+        requires { IsReady A.sources P.slots self.old }
+        ensures ready { IsReady A.sources P.slots self.new }
+        ensures ok { IfOk result (λ r. (reply_view r, world_of A.sources P.slots self.new) ≡ run (world_of A.sources P.slots self.old) (command_view command.entry)) }
+        ensures err { OnErr result (world_of A.sources P.slots self.new ≡ world_of A.sources P.slots self.old) }
     {
         match command {
             Command::AddName(list, name) => self.add_name(list, name),
+            Command::DropName(list, name) => self.drop_name(list, name),
             Command::AddPolicy(number, document) => self.add_policy(number, document),
+            Command::ReplacePolicy(number, document) => self.replace_policy(number, document),
+            Command::WithdrawPolicy(number, kind, id, version) => {
+                self.withdraw_policy(number, kind, id, version)
+            }
+            Command::SetAttribute(number, row) => self.set_attribute(number, row),
             Command::SetRoot(reference) => self.set_root(reference),
+            Command::SetDay(day) => self.set_day(day),
             Command::Table => self.table(),
             Command::Cell(person, action, resource) => self.cell(person, action, resource),
         }
@@ -159,10 +261,10 @@ impl<P: Policies> Service<P> {
 
     /// Does what a JSON value asks for.
     fn answer(&mut self, value: &Value) -> Result<Reply, AllocError>
-        requires { IsReady P.documents self.old }
-        ensures ready { IsReady P.documents self.new }
-        ensures ok { IfOk result (λ r. (reply_view r, world_of P.documents self.new) ≡ requested (world_of P.documents self.old) (request_of (view value.now))) }
-        ensures err { OnErr result (world_of P.documents self.new ≡ world_of P.documents self.old) }
+        requires { IsReady A.sources P.slots self.old }
+        ensures ready { IsReady A.sources P.slots self.new }
+        ensures ok { IfOk result (λ r. (reply_view r, world_of A.sources P.slots self.new) ≡ requested (world_of A.sources P.slots self.old) (request_of (view value.now))) }
+        ensures err { OnErr result (world_of A.sources P.slots self.new ≡ world_of A.sources P.slots self.old) }
     {
         match request(value) {
             Ok(command) => self.run(command),
@@ -172,10 +274,10 @@ impl<P: Policies> Service<P> {
 
     /// Does what a line asks for that isn't too long.
     fn respond(&mut self, line: &[u8]) -> Result<Reply, AllocError>
-        requires { IsReady P.documents self.old }
-        ensures ready { IsReady P.documents self.new }
-        ensures ok { IfOk result (λ r. (reply_view r, world_of P.documents self.new) ≡ told (world_of P.documents self.old) (data_of line.now)) }
-        ensures err { OnErr result (world_of P.documents self.new ≡ world_of P.documents self.old) }
+        requires { IsReady A.sources P.slots self.old }
+        ensures ready { IsReady A.sources P.slots self.new }
+        ensures ok { IfOk result (λ r. (reply_view r, world_of A.sources P.slots self.new) ≡ told (world_of A.sources P.slots self.old) (data_of line.now)) }
+        ensures err { OnErr result (world_of A.sources P.slots self.new ≡ world_of A.sources P.slots self.old) }
     {
         match read_json(self.alloc, line)? {
             Some(value) => self.answer(&value),
@@ -184,18 +286,18 @@ impl<P: Policies> Service<P> {
     }
 }
 
-impl<P: Policies> Answering for Service<P> {
+impl<A: Attributes, P: Policies> Answering for Service<A, P> {
     ghost use Rattle.ent_table.specs.State.{State};
     ghost use Rattle.ent_line.specs.Step.{Answers};
     ghost use Rattle.ent_line.specs.LongLines.{long_lines_alike};
 
     ghost World = { State };
 
-    ghost world = { world_of P.documents };
+    ghost world = { world_of A.sources P.slots };
 
     ghost answers = { Answers };
 
-    ghost is_ready = { IsReady P.documents };
+    ghost is_ready = { IsReady A.sources P.slots };
 
     ghost long_lines_alike = { long_lines_alike };
 

@@ -2,6 +2,7 @@
 use Rattle.std.proofs.Common.{◌≡◌, None, Result, Ok, Err, IfOk, refl, sym, subst}
 use Rattle.serde_json.specs.Data.{Data}
 use Rattle.ent_policy.specs.Check.{IsChecked, checked, fault_of, tree_fault, whole_fault}
+use Rattle.ent_policy.specs.Children.{as_child}
 use Rattle.ent_policy.specs.Limits.{limit_fault}
 use Rattle.ent_policy.specs.Reading.{document_read}
 use Rattle.ent_policy.specs.declared.document.Tree.{Tree}
@@ -12,9 +13,9 @@ use Rattle.ent_polform.specs.Written.{written}
 use Rattle.ent_polform.proofs.Back.{Back}
 use Rattle.ent_polform.proofs.BackDocuments.{TreeReturns, document_back}
 
-no_limit : (t : Tree) → tree_fault t ≡ None → limit_fault t ≡ None
+no_limit : (t : Tree) → tree_fault t ≡ None → limit_fault (as_child t) ≡ None
 unfolding tree_fault
-no_limit t clean = (neither (limit_fault t) (whole_fault t) clean).0
+no_limit t clean = (neither (limit_fault (as_child t)) (whole_fault (as_child t)) clean).0
 
 -- what reads back as a tree without a fault is that document
 checked_again : (t : Tree) → tree_fault t ≡ None → Back (raw_of (written t)) document_read t → document_of (written t) ≡ Ok t

@@ -7,5 +7,7 @@ pub mod Back
 pub mod BackTargets
 pub mod BackExpressions
 pub mod BackPolicies
+pub mod ReferenceLemmas
+pub mod BackReferences
 pub mod BackDocuments
 pub mod BackWhole

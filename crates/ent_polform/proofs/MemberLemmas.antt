@@ -44,3 +44,15 @@ set_members id algorithm version None None = refl
 set_members id algorithm version None (Some target) = refl
 set_members id algorithm version (Some children) None = refl
 set_members id algorithm version (Some children) (Some target) = refl
+
+pub reference_members : (id : Data) (earliest latest version : Option Data) →
+    put_optional (codes "Version") version (put_optional (codes "LatestVersion") latest (put (codes "Id") id (put_optional (codes "EarliestVersion") earliest json.no_members)))
+    ≡ optional (codes "EarliestVersion") earliest (json.member (codes "Id") id (optional (codes "LatestVersion") latest (optional (codes "Version") version json.no_members)))
+reference_members id None None None = refl
+reference_members id None None (Some version) = refl
+reference_members id None (Some latest) None = refl
+reference_members id None (Some latest) (Some version) = refl
+reference_members id (Some earliest) None None = refl
+reference_members id (Some earliest) None (Some version) = refl
+reference_members id (Some earliest) (Some latest) None = refl
+reference_members id (Some earliest) (Some latest) (Some version) = refl

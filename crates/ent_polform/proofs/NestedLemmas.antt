@@ -9,12 +9,14 @@ use Rattle.serde_json.specs.View.{view, items_view}
 use Rattle.serde_json.specs.declared.value.Value.{Value}
 use Rattle.ent_policy.specs.declared.fault.DocFault.{DocFault}
 use Rattle.ent_policy.specs.declared.fault.DocFault.TheVariants as fault
-use Rattle.ent_policy.specs.declared.raw.RawDocument.{RawDocument}
+use Rattle.ent_policy.specs.declared.key.Kind.{Kind}
+use Rattle.ent_policy.specs.declared.raw.RawChild.{RawChild}
 use Rattle.ent_policy.specs.declared.raw.RawExpression.{RawExpression}
 use Rattle.ent_polform.specs.Objects.{◌>>=◌, alone, one_member, list_or_empty, list_at, each_by, list_by}
 use Rattle.ent_polform.specs.Reading.{part, within, nested}
 use Rattle.ent_polform.specs.Expressions.{apply_by, expression_named, expression_by, expression_of}
-use Rattle.ent_polform.specs.Form.{set_by, raw_named, raw_by, raw_of}
+use Rattle.ent_polform.specs.Form.{set_by, raw_named, child_named, child_by, child_of}
+use Rattle.ent_polform.specs.Reference.{kind_of}
 
 -- ---- what is found lies less deep
 
@@ -120,17 +122,18 @@ pub expression_of-step : (d : Data) → expression_of d ≡ expression_by expres
 unfolding expression_of
 expression_of-step d = nested-step expression_by (λ f g d h. member-agree (depth d) (expression_named f) (expression_named g) (one_member d) (λ m is. depth-one_member d m is) (λ k e lt. expression_named-agree (depth d) f g k e h lt)) d
 
--- ---- documents
+-- ---- children of sets
 
-set_by-agree : (n : ℕ) (f g : Data → Result RawDocument DocFault) (d : Data) → AgreeBelow n f g → depth d < n → set_by f d ≡ set_by g d
+set_by-agree : (n : ℕ) (f g : Data → Result RawChild DocFault) (d : Data) → AgreeBelow n f g → depth d < n → set_by f d ≡ set_by g d
 unfolding set_by
 set_by-agree n f g d h le = rw (list_by-agree n f g (list_at (codes "Children") d) h (λ ds is. omega (arith, depth-list_at (codes "Children") d ds is))) refl
 
-raw_named-agree : (n : ℕ) (f g : Data → Result RawDocument DocFault) (k : List ℕ) (d : Data) → AgreeBelow n f g → depth d < n → raw_named f k d ≡ raw_named g k d
+child_named-agree : (n : ℕ) (f g : Data → Result RawChild DocFault) (k : List ℕ) (d : Data) (o : Option Kind) → AgreeBelow n f g → depth d < n → child_named f k d o ≡ child_named g k d o
 unfolding raw_named
-raw_named-agree n f g k d h le = rw (set_by-agree n f g d h le) refl
+child_named-agree n f g k d (Some kind) h le = refl
+child_named-agree n f g k d None h le = rw (set_by-agree n f g d h le) refl
 
--- one level of a document
-pub raw_of-step : (d : Data) → raw_of d ≡ raw_by raw_of d
-unfolding raw_of
-raw_of-step d = nested-step raw_by (λ f g d h. member-agree (depth d) (raw_named f) (raw_named g) (one_member d) (λ m is. depth-one_member d m is) (λ k e lt. raw_named-agree (depth d) f g k e h lt)) d
+-- one level of a child
+pub child_of-step : (d : Data) → child_of d ≡ child_by child_of d
+unfolding child_of
+child_of-step d = nested-step child_by (λ f g d h. member-agree (depth d) (λ k e. child_named f k e (kind_of k)) (λ k e. child_named g k e (kind_of k)) (one_member d) (λ m is. depth-one_member d m is) (λ k e lt. child_named-agree (depth d) f g k e (kind_of k) h lt)) d

@@ -7,6 +7,9 @@ use Rattle.ent_policy.specs.declared.document.Effect.{Effect}
 use Rattle.ent_policy.specs.declared.document.Effect.TheVariants.{Permit, Deny}
 use Rattle.ent_policy.specs.declared.fault.DocFault.{DocFault}
 use Rattle.ent_policy.specs.declared.fault.DocFault.TheVariants as fault
+use Rattle.ent_policy.specs.declared.key.Kind.{Kind}
+use Rattle.ent_policy.specs.declared.raw.RawChild.{RawChild}
+use Rattle.ent_policy.specs.declared.raw.RawChild.TheVariants as child
 use Rattle.ent_policy.specs.declared.raw.RawDocument.{RawDocument}
 use Rattle.ent_policy.specs.declared.raw.RawDocument.TheVariants as raw
 use Rattle.ent_policy.specs.declared.raw.RawPolicy.{RawPolicy}
@@ -18,6 +21,7 @@ use Rattle.ent_policy.specs.Check.{checked}
 use Rattle.ent_polform.specs.Objects.{◌>>=◌, has_only, one_member, text_at, text_or_absent, list_at, list_by}
 use Rattle.ent_polform.specs.Reading.{part, formed, maybe, nested}
 use Rattle.ent_polform.specs.Expressions.{expression_of}
+use Rattle.ent_polform.specs.Reference.{kind_of, reference_by}
 use Rattle.ent_polform.specs.Targets.{target_or_empty}
 
 -- ---- rules and policies
@@ -56,7 +60,7 @@ policy_of d = formed (has_only (codes "Description" ∷ codes "PolicyId" ∷ cod
 -- ---- policy sets and documents
 
 -- a PolicySet (section 5.1) whose children f reads. Its description is not kept
-unfoldable pub set_by : (Data → Result RawDocument DocFault) → Data → Result RawPolicySet DocFault
+unfoldable pub set_by : (Data → Result RawChild DocFault) → Data → Result RawPolicySet DocFault
 set_by f d = formed (has_only (codes "Children" ∷ codes "Description" ∷ codes "PolicyCombiningAlgId" ∷ codes "PolicySetId" ∷ codes "Target" ∷ codes "Version" ∷ []) d && text_or_absent (codes "Description") d) (do
   id ← part (text_at (codes "PolicySetId") d)
   version ← part (text_at (codes "Version") d)
@@ -66,18 +70,32 @@ set_by f d = formed (has_only (codes "Children" ∷ codes "Description" ∷ code
   Ok (record { id = id; version = version; algorithm = algorithm; target = target; children = children }))
 
 -- the document of that key, any children read by f
-unfoldable pub raw_named : (Data → Result RawDocument DocFault) → List ℕ → Data → Result RawDocument DocFault
+unfoldable pub raw_named : (Data → Result RawChild DocFault) → List ℕ → Data → Result RawDocument DocFault
 raw_named f key d =
     if bytes_eq key (codes "Policy") then (policy_of d >>= λ p. Ok (raw.Policy p))
     else (if bytes_eq key (codes "PolicySet") then (set_by f d >>= λ s. Ok (raw.Set s)) else Err fault.Form)
 
--- one level of a document: an object with one key, any children read by f
-abbrev pub raw_by : (Data → Result RawDocument DocFault) → Data → Result RawDocument DocFault
-raw_by f d = part (one_member d) >>= λ m. raw_named f m.0 m.1
+-- a document as a child of a set
+abbrev pub as_child : RawDocument → RawChild
+as_child (raw.Policy p) = child.Policy p
+as_child (raw.Set s) = child.Set s
+
+-- the child of that key: a reference, if the key is one's, or else a document
+abbrev pub child_named : (Data → Result RawChild DocFault) → List ℕ → Data → Option Kind → Result RawChild DocFault
+child_named f key d (Some kind) = reference_by kind d >>= λ r. Ok (child.Reference r)
+child_named f key d None = raw_named f key d >>= λ document. Ok (as_child document)
+
+-- one level of a child: an object with one key, any children inside read by f
+abbrev pub child_by : (Data → Result RawChild DocFault) → Data → Result RawChild DocFault
+child_by f d = part (one_member d) >>= λ m. child_named f m.0 m.1 (kind_of m.0)
+
+-- a child of a set: a document or a reference
+unfoldable pub child_of : Data → Result RawChild DocFault
+child_of d = nested child_by d
 
 -- the document that a JSON value spells, or that its form is wrong
 unfoldable pub raw_of : Data → Result RawDocument DocFault
-raw_of d = nested raw_by d
+raw_of d = part (one_member d) >>= λ m. raw_named child_of m.0 m.1
 
 -- the document that a JSON value spells, or its first fault, one of form before every other
 unfoldable pub document_of : Data → Result Tree DocFault

@@ -2,8 +2,8 @@ pub mod Objects
 pub mod Reading
 pub mod Expressions
 pub mod Targets
-pub mod Form
 pub mod Reference
+pub mod Form
 pub mod Values
 pub mod Written
 pub mod ReadBack

@@ -7,15 +7,17 @@ use Rattle.ent_values.specs.ReadBack.{IsReadable}
 use Rattle.ent_values.specs.Types.{datatype_of}
 use Rattle.ent_values.specs.declared.value.Value.{Value}
 use Rattle.ent_policy.specs.Check.{IsChecked}
+use Rattle.ent_policy.specs.Children.{as_child}
 use Rattle.ent_policy.specs.declared.document.AllOf.{AllOf}
 use Rattle.ent_policy.specs.declared.document.AnyOf.{AnyOf}
+use Rattle.ent_policy.specs.declared.document.Child.{Child}
+use Rattle.ent_policy.specs.declared.document.Child.TheOpen.{Child-F, PolicySet-F}
+use Rattle.ent_policy.specs.declared.document.Child.TheFolds.{fold-Child}
 use Rattle.ent_policy.specs.declared.document.Match.{Match}
 use Rattle.ent_policy.specs.declared.document.Policy.{Policy}
 use Rattle.ent_policy.specs.declared.document.Rule.{Rule}
 use Rattle.ent_policy.specs.declared.document.Target.{Target}
 use Rattle.ent_policy.specs.declared.document.Tree.{Tree}
-use Rattle.ent_policy.specs.declared.document.Tree.TheOpen.{Tree-F, PolicySet-F}
-use Rattle.ent_policy.specs.declared.document.Tree.TheFolds.{fold-Tree}
 use Rattle.ent_policy.specs.declared.expression.Expression.{Expression}
 use Rattle.ent_policy.specs.declared.expression.Expression.TheOpen.{Expression-F}
 use Rattle.ent_policy.specs.declared.expression.Expression.TheFolds.{fold-Expression}
@@ -74,18 +76,23 @@ rule_values r = target_values r.target ++ flat_map expression_values (option_to_
 abbrev pub policy_values : Policy → List Value
 policy_values p = target_values p.target ++ (flat_map definition_values p.variables ++ flat_map rule_values p.rules)
 
--- the values in one level of a document, with those of a set already seen
-abbrev pub values_in_level : Tree-F (List Value) (List Value) → List Value
-values_in_level (Tree-F.Policy policy) = policy_values policy
-values_in_level (Tree-F.Set set) = set
+-- the values in one level of a child of a set, with those of a set already seen
+abbrev pub values_in_level : Child-F (List Value) (List Value) → List Value
+values_in_level (Child-F.Policy policy) = policy_values policy
+values_in_level (Child-F.Set set) = set
+values_in_level (Child-F.Reference reference) = []
 
 -- the values in a set
 abbrev pub values_in_set : PolicySet-F (List Value) (List Value) → List Value
 values_in_set set = target_values set.target ++ joined set.children
 
+-- the values in a child of a set
+abbrev pub child_values : Child → List Value
+child_values = fold-Child (List Value) (List Value) values_in_level values_in_set
+
 -- every value of a document
 abbrev pub document_values : Tree → List Value
-document_values = fold-Tree (List Value) (List Value) values_in_level values_in_set
+document_values t = child_values (as_child t)
 
 -- this JSON is read as that document, where no duration in it has more than 999,999,999 whole years
 abbrev pub ReadsBack : Tree → Data → Type 0

@@ -12,9 +12,14 @@ use Rattle.ent_values.specs.declared.value.Value.TheVariants as values
 use Rattle.ent_combine.specs.Identifiers.{rule_id_of, policy_id_of}
 use Rattle.ent_functions.specs.Identifiers.{id_of}
 use Rattle.ent_functions.specs.declared.function.Function.{Function}
+use Rattle.ent_policy.specs.Children.{as_child}
+use Rattle.ent_policy.specs.Patterns.{pattern_text}
 use Rattle.ent_policy.specs.Versions.{version_text}
 use Rattle.ent_policy.specs.declared.document.AllOf.{AllOf}
 use Rattle.ent_policy.specs.declared.document.AnyOf.{AnyOf}
+use Rattle.ent_policy.specs.declared.document.Child.{Child}
+use Rattle.ent_policy.specs.declared.document.Child.TheOpen.{Child-F, PolicySet-F}
+use Rattle.ent_policy.specs.declared.document.Child.TheFolds.{fold-Child}
 use Rattle.ent_policy.specs.declared.document.Designator.{Designator}
 use Rattle.ent_policy.specs.declared.document.Effect.{Effect}
 use Rattle.ent_policy.specs.declared.document.Effect.TheVariants.{Permit, Deny}
@@ -24,12 +29,13 @@ use Rattle.ent_policy.specs.declared.document.PolicySet.{PolicySet}
 use Rattle.ent_policy.specs.declared.document.Rule.{Rule}
 use Rattle.ent_policy.specs.declared.document.Target.{Target}
 use Rattle.ent_policy.specs.declared.document.Tree.{Tree}
-use Rattle.ent_policy.specs.declared.document.Tree.TheOpen.{Tree-F, PolicySet-F}
-use Rattle.ent_policy.specs.declared.document.Tree.TheFolds.{fold-Tree}
 use Rattle.ent_policy.specs.declared.expression.Expression.{Expression}
 use Rattle.ent_policy.specs.declared.expression.Expression.TheOpen.{Expression-F}
 use Rattle.ent_policy.specs.declared.expression.Expression.TheFolds.{fold-Expression}
 use Rattle.ent_policy.specs.declared.expression.VariableDefinition.{VariableDefinition}
+use Rattle.ent_policy.specs.declared.key.Reference.{Reference}
+use Rattle.ent_policy.specs.declared.pattern.PatternPart.{PatternPart}
+use Rattle.ent_polform.specs.Reference.{reference_key}
 
 -- ---- members
 
@@ -154,6 +160,23 @@ policy_written p = json.object (
 
 -- ---- policy sets and documents
 
+-- a version pattern (section 5.13)
+abbrev pub pattern_written : List PatternPart → Data
+pattern_written pattern = json.string (pattern_text pattern)
+
+-- the id and the constraints of a reference
+abbrev pub reference_body : Reference → Data
+reference_body r = json.object (
+    optional (codes "EarliestVersion") (option_map pattern_written r.constraints.earliest)
+    (json.member (codes "Id") (json.string r.id)
+    (optional (codes "LatestVersion") (option_map pattern_written r.constraints.latest)
+    (optional (codes "Version") (option_map pattern_written r.constraints.version)
+    json.no_members))))
+
+-- a PolicyIdReference (section 5.11) or a PolicySetIdReference (section 5.10)
+unfoldable pub reference_written : Reference → Data
+reference_written r = only_member (reference_key r.kind) (reference_body r)
+
 -- a PolicySet (section 5.1), with its children as they are written
 abbrev pub set_with : PolicySet-F Data Data → Data
 set_with s = json.object (
@@ -164,15 +187,20 @@ set_with s = json.object (
     (json.member (codes "Version") (json.string (version_text s.version))
     json.no_members)))))
 
--- one level of a document, with a set as it is written
-abbrev pub document_step : Tree-F Data Data → Data
-document_step (Tree-F.Policy policy) = only_member (codes "Policy") (policy_written policy)
-document_step (Tree-F.Set set) = only_member (codes "PolicySet") set
+-- one level of a child of a set, with a set as it is written
+abbrev pub child_step : Child-F Data Data → Data
+child_step (Child-F.Policy policy) = only_member (codes "Policy") (policy_written policy)
+child_step (Child-F.Set set) = only_member (codes "PolicySet") set
+child_step (Child-F.Reference reference) = reference_written reference
+
+-- a child of a set
+abbrev pub child_written : Child → Data
+child_written = fold-Child Data Data child_step set_with
 
 -- the JSON that a document is written as
 abbrev pub written : Tree → Data
-written = fold-Tree Data Data document_step set_with
+written t = child_written (as_child t)
 
 -- a PolicySet
 unfoldable pub set_written : PolicySet → Data
-set_written s = set_with (record { id = s.id; version = s.version; algorithm = s.algorithm; target = s.target; children = map written s.children })
+set_written s = set_with (record { id = s.id; version = s.version; algorithm = s.algorithm; target = s.target; children = map child_written s.children })

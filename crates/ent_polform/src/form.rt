@@ -3,15 +3,16 @@
 ghost use Rattle.std.specs.Prelude.{◌≡◌};
 ghost use Rattle.serde_json.specs.View.{items_view, view};
 ghost use Rattle.ent_policy.specs.Gives.{Gives};
-ghost use Rattle.ent_polform.specs.Form.{definition_of, document_of, effect_of, policy_of, raw_by, raw_of, rule_of, set_by};
+ghost use Rattle.ent_polform.specs.Form.{child_by, child_of, definition_of, document_of, effect_of, policy_of, raw_named, raw_of, rule_of, set_by};
 ghost use Rattle.ent_polform.specs.Objects.{each_by};
 
 use crate::expression::{condition_at, expression};
 use crate::objects::{has_only, list_at, one_member, required, text_at, text_or_absent};
+use crate::reference::{kind, reference};
 use crate::target::target_at;
 use ent_policy::{
-    CheckFault, DocFault, Document, Effect, RawDocument, RawPolicy, RawPolicySet, RawRule,
-    RawVariableDefinition, check,
+    CheckFault, DocFault, Document, Effect, RawChild, RawDocument, RawPolicy, RawPolicySet,
+    RawRule, RawVariableDefinition, check,
 };
 use ent_values::Items;
 use serde_json::Value;
@@ -124,10 +125,10 @@ fn policy(alloc: Global, object: &Value) -> Result<RawPolicy, CheckFault>
 }
 
 /// A PolicySet.
-#[cycle(document)]
+#[cycle(child)]
 #[tactic(auto, unfolding(crate::specs::Form::set_by))]
 fn set(alloc: Global, object: &Value) -> Result<RawPolicySet, CheckFault>
-    ensures { Gives result (set_by raw_of (view object.now)) }
+    ensures { Gives result (set_by child_of (view object.now)) }
 {
     let keys = [
         "Children",
@@ -147,7 +148,7 @@ fn set(alloc: Global, object: &Value) -> Result<RawPolicySet, CheckFault>
     let Some(values) = list_at(object, "Children") else {
         return Err(CheckFault::Doc(DocFault::Form));
     };
-    let children = documents(alloc, values)?;
+    let children = children(alloc, values)?;
     Ok(RawPolicySet {
         id,
         version,
@@ -157,50 +158,67 @@ fn set(alloc: Global, object: &Value) -> Result<RawPolicySet, CheckFault>
     })
 }
 
-/// Documents, one for each value.
-#[cycle(document)]
-fn documents(alloc: Global, values: &[Value]) -> Result<Items<RawDocument>, CheckFault>
-    ensures { Gives result (each_by raw_of (items_view values.now)) }
+/// Children, one for each value.
+#[cycle(child)]
+fn children(alloc: Global, values: &[Value]) -> Result<Items<RawChild>, CheckFault>
+    ensures { Gives result (each_by child_of (items_view values.now)) }
 {
     let mut all = Items::with_capacity(alloc, values.len())?;
     for value in values {
-        all.push(nested_document(alloc, value)?)?;
+        all.push(child(alloc, value)?)?;
     }
     Ok(all)
 }
 
-/// One level of a document.
-#[cycle(document)]
-#[tactic(auto, unfolding(crate::specs::Form::raw_named))]
-fn nested_document(alloc: Global, json: &Value) -> Result<RawDocument, CheckFault>
-    ensures { Gives result (raw_by raw_of (view json.now)) }
+/// One level of a child: a reference or a document.
+#[cycle(child)]
+fn child(alloc: Global, json: &Value) -> Result<RawChild, CheckFault>
+    ensures { Gives result (child_by child_of (view json.now)) }
 {
-    let Some((kind, body)) = one_member(json) else {
+    let Some((key, body)) = one_member(json) else {
         return Err(CheckFault::Doc(DocFault::Form));
     };
-    if kind == "Policy" {
+    if let Some(kind) = kind(key) {
+        return Ok(RawChild::Reference(reference(alloc, kind, body)?));
+    }
+    match document(alloc, key, body)? {
+        RawDocument::Policy(policy) => Ok(RawChild::Policy(policy)),
+        RawDocument::Set(set) => Ok(RawChild::Set(set)),
+    }
+}
+
+/// The document of that key.
+#[cycle(child)]
+#[tactic(auto, unfolding(crate::specs::Form::raw_named))]
+fn document(alloc: Global, key: &str, body: &Value) -> Result<RawDocument, CheckFault>
+    ensures { Gives result (raw_named child_of key.now (view body.now)) }
+{
+    if key == "Policy" {
         return Ok(RawDocument::Policy(policy(alloc, body)?));
     }
-    if kind == "PolicySet" {
+    if key == "PolicySet" {
         return Ok(RawDocument::Set(set(alloc, body)?));
     }
     Err(CheckFault::Doc(DocFault::Form))
 }
 
 /// The document that a JSON value spells, as read. The only fault that is found here is that of its form.
-pub(crate) fn raw_document(alloc: Global, json: &Value) -> Result<RawDocument, CheckFault>
+#[tactic(auto, unfolding(crate::specs::Form::raw_of))]
+fn raw_document(alloc: Global, json: &Value) -> Result<RawDocument, CheckFault>
     ensures { Gives result (raw_of (view json.now)) }
 {
-    nested_document(alloc, json)
+    let (key, body) = one_member(json).ok_or(DocFault::Form)?;
+    document(alloc, key, body)
 }
 
 /// The document that a JSON value spells: an object `{"Policy": {..}}` (section 5.14) or `{"PolicySet": {..}}` (section 5.1).
 ///
 /// A Policy has the keys PolicyId, Version and RuleCombiningAlgId, and may have Description, Target, VariableDefinition and Rule.
 /// A PolicySet has PolicySetId, Version and PolicyCombiningAlgId, and may have Description, Target and Children, a list of
-/// documents. A Rule has RuleId and Effect, and may have Description, Target and Condition, an expression. A VariableDefinition
-/// has VariableId and Expression. A Target may have AnyOf, a list of objects with AllOf, each a list of objects with Match;
-/// neither AllOf nor Match may be empty. A Match has MatchId, AttributeValue and AttributeDesignator.
+/// documents and references, the latter as [`crate::read_reference`] reads them. A Rule has RuleId and Effect, and may have
+/// Description, Target and Condition, an expression. A VariableDefinition has VariableId and Expression. A Target may have AnyOf, a
+/// list of objects with AllOf, each a list of objects with Match; neither AllOf nor Match may be empty. A Match has MatchId,
+/// AttributeValue and AttributeDesignator.
 ///
 /// An expression is an object with one key: AttributeValue {DataType?, Value}, AttributeDesignator {Category, AttributeId,
 /// DataType, Issuer?, MustBePresent?}, VariableReference {VariableId}, Apply {FunctionId, Arguments?} or Function {FunctionId}.

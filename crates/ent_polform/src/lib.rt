@@ -11,6 +11,7 @@ mod target;
 mod value;
 mod written_documents;
 mod written_expressions;
+mod written_references;
 mod written_targets;
 mod written_values;
 

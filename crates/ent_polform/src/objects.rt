@@ -1,6 +1,6 @@
 //! JSON objects: which keys they have, and what stands at a key.
 
-ghost use Rattle.std.specs.Prelude.{◌≡◌, IfErr, IsTrue, is_some, map, option_map};
+ghost use Rattle.std.specs.Prelude.{◌≡◌, IfErr, IfOk, IsTrue, is_some, map, option_map};
 ghost use Rattle.serde_json.specs.Find.{get};
 ghost use Rattle.serde_json.specs.View.{items_view, members_view, view};
 ghost use Rattle.ent_policy.specs.Gives.{Gives};
@@ -11,7 +11,7 @@ ghost use Rattle.ent_polform.specs.Objects.{among, filled_list_at, flag_at, has_
 use ent_policy::{CheckFault, DocFault};
 use ent_values::Text;
 use serde_json::{Map, Value};
-use std::alloc::Global;
+use std::alloc::{AllocError, Global};
 
 /// Whether the key is one of these.
 fn among(key: &str, keys: &[&str]) -> bool
@@ -114,6 +114,16 @@ pub(crate) fn required(alloc: Global, object: &Value, key: &str) -> Result<Text,
 {
     let text = text_at(object, key).ok_or(DocFault::Form)?;
     Ok(Text::from_str(alloc, text)?)
+}
+
+/// A copy of the text at the key, where a text stands there.
+pub(crate) fn copy_at(alloc: Global, object: &Value, key: &str) -> Result<Option<Text>, AllocError>
+    ensures { IfOk result (λ t. t ≡ text_at key.now (view object.now)) }
+{
+    match text_at(object, key) {
+        None => Ok(None),
+        Some(text) => Ok(Some(Text::from_str(alloc, text)?)),
+    }
 }
 
 /// A copy of the text at the key, where it is there.

@@ -5,53 +5,78 @@ ghost use Rattle.serde_json.specs.View.{view};
 ghost use Rattle.ent_policy.specs.Gives.{Gives};
 ghost use Rattle.ent_policy.specs.declared.fault.CheckFault.TheVariants.{Memory};
 ghost use Rattle.ent_polform.specs.Reading.{has_form};
-ghost use Rattle.ent_polform.specs.Reference.{kind_of, reference_by, reference_of};
+ghost use Rattle.ent_polform.specs.Reference.{has_reference_form, kind_of, reference_by, reference_key, reference_of};
 
-use crate::objects::{has_only, one_member, required};
-use ent_policy::{CheckFault, DocFault, Kind, Reference};
+use crate::objects::{copy_at, has_only, one_member, required, text_or_absent};
+use ent_policy::{CheckFault, DocFault, Kind, RawReference, Reference, check_reference};
 use serde_json::Value;
 use std::alloc::Global;
 
-/// The reference of that kind.
-#[tactic(auto, unfolding(crate::specs::Reference::reference_by))]
-fn reference(alloc: Global, kind: Kind, body: &Value) -> Result<Reference, CheckFault>
-    ensures reference { Gives result (reference_by kind (view body.now)) }
-    ensures memory { IfErr result (λ e. e ≡ Memory → IsTrue (has_form (reference_by kind (view body.now)))) }
+/// The key of a reference to a document of that kind.
+pub(crate) fn reference_key(kind: Kind) -> &'static str
+    ensures { result.now ≡ reference_key kind }
 {
-    if !has_only(body, &["Id"]) {
-        return Err(CheckFault::Doc(DocFault::Form));
+    match kind {
+        Kind::Policy => "PolicyIdReference",
+        Kind::PolicySet => "PolicySetIdReference",
     }
-    let id = required(alloc, body, "Id")?;
-    let reference = Reference::new(kind, id).ok_or(DocFault::Identifier)?;
-    Ok(reference)
 }
 
 /// The kind of document to which a reference of that key leads.
-fn kind(key: &str) -> Option<Kind>
+pub(crate) fn kind(key: &str) -> Option<Kind>
     ensures { result ≡ kind_of key.now }
 {
-    if key == "PolicyIdReference" {
+    if key == reference_key(Kind::Policy) {
         return Some(Kind::Policy);
     }
-    if key == "PolicySetIdReference" {
+    if key == reference_key(Kind::PolicySet) {
         return Some(Kind::PolicySet);
     }
     None
 }
 
-/// The reference that a JSON value spells: an object `{"PolicyIdReference": {"Id": id}}` (section 5.11) or
-/// `{"PolicySetIdReference": {"Id": id}}` (section 5.10).
+/// Whether the value has the keys of a reference, and texts at those that may be absent.
+fn has_reference_form(body: &Value) -> bool
+    ensures { result ≡ has_reference_form (view body.now) }
+{
+    has_only(body, &["EarliestVersion", "Id", "LatestVersion", "Version"])
+        && text_or_absent(body, "EarliestVersion")
+        && text_or_absent(body, "LatestVersion")
+        && text_or_absent(body, "Version")
+}
+
+/// A reference to a document of that kind, as read.
+#[tactic(auto, unfolding(crate::specs::Reference::reference_by))]
+pub(crate) fn reference(alloc: Global, kind: Kind, body: &Value) -> Result<RawReference, CheckFault>
+    ensures reference { Gives result (reference_by kind (view body.now)) }
+    ensures memory { IfErr result (λ e. e ≡ Memory → IsTrue (has_form (reference_by kind (view body.now)))) }
+{
+    if !has_reference_form(body) {
+        return Err(CheckFault::Doc(DocFault::Form));
+    }
+    Ok(RawReference {
+        kind,
+        id: required(alloc, body, "Id")?,
+        version: copy_at(alloc, body, "Version")?,
+        earliest: copy_at(alloc, body, "EarliestVersion")?,
+        latest: copy_at(alloc, body, "LatestVersion")?,
+    })
+}
+
+/// The reference that a JSON value spells: an object `{"PolicyIdReference": {..}}` (section 5.11) or
+/// `{"PolicySetIdReference": {..}}` (section 5.10). It has the key Id, and may have Version, EarliestVersion and LatestVersion,
+/// version patterns (section 5.13). Each of them is a text.
 ///
 /// # Errors
 ///
-/// [`DocFault::Form`] for any other value. [`DocFault::Identifier`] if the id has no byte or more than 256.
+/// [`DocFault::Form`] for any other value. Then the first fault that [`ent_policy::check_reference`] finds.
 /// [`CheckFault::Memory`] if memory runs out, never where the form is wrong.
-#[tactic(auto, unfolding(crate::specs::Reference::reference_of))]
+#[tactic(auto, unfolding(crate::specs::Reference::reference_of), using(crate::proofs::ReferenceLemmas::keeps_form))]
 pub fn read_reference(alloc: Global, json: &Value) -> Result<Reference, CheckFault>
     ensures reference { Gives result (reference_of (view json.now)) }
     ensures memory { IfErr result (λ e. e ≡ Memory → IsTrue (has_form (reference_of (view json.now)))) }
 {
     let (key, body) = one_member(json).ok_or(DocFault::Form)?;
     let kind = kind(key).ok_or(DocFault::Form)?;
-    reference(alloc, kind, body)
+    check_reference(alloc, reference(alloc, kind, body)?)
 }

@@ -3,12 +3,13 @@
 ghost use Rattle.std.specs.Prelude.{◌≡◌, IfOk, map};
 ghost use Rattle.serde_json.specs.View.{view};
 ghost use Rattle.ent_polform.specs.ReadBack.{ReadsBack};
-ghost use Rattle.ent_polform.specs.Written.{definition_written, effect_word, policy_written, rule_written, set_written, written};
+ghost use Rattle.ent_polform.specs.Written.{child_written, definition_written, effect_word, policy_written, rule_written, set_written, written};
 
 use crate::members::{filled, only_member, put_optional, put_text};
 use crate::written_expressions::{condition, expression};
+use crate::written_references::reference;
 use crate::written_targets::target;
-use ent_policy::{Document, Effect, Policy, PolicySet, Rule, Tree, VariableDefinition};
+use ent_policy::{Child, Document, Effect, Policy, PolicySet, Rule, Tree, VariableDefinition};
 use serde_json::{Map, Value as Json, json};
 use std::alloc::{AllocError, Global};
 
@@ -98,12 +99,12 @@ fn policy(alloc: Global, policy: &Policy) -> Result<Json, AllocError>
 }
 
 /// A PolicySet.
-#[cycle(document)]
+#[cycle(child)]
 #[tactic(auto, unfolding(crate::specs::Written::set_written), using(crate::proofs::MemberLemmas::set_members))]
 fn set(alloc: Global, set: &PolicySet) -> Result<Json, AllocError>
     ensures { IfOk result (λ v. view v ≡ set_written set.now) }
 {
-    let children = documents(alloc, set.children.as_slice())?;
+    let children = children(alloc, set.children.as_slice())?;
     let target = target(alloc, &set.target)?;
     let version = set.version.text(alloc)?;
     let mut members = Map::new(alloc);
@@ -120,20 +121,32 @@ fn set(alloc: Global, set: &PolicySet) -> Result<Json, AllocError>
     Ok(Json::Object(members))
 }
 
-/// Documents, one after the other.
-#[cycle(document)]
-fn documents(alloc: Global, all: &[Tree]) -> Result<Vec<Json>, AllocError>
-    ensures { IfOk result (λ vs. map view vs.items ≡ map written all.now) }
+/// Children, one after the other.
+#[cycle(child)]
+fn children(alloc: Global, all: &[Child]) -> Result<Vec<Json>, AllocError>
+    ensures { IfOk result (λ vs. map view vs.items ≡ map child_written all.now) }
 {
     let mut values = Vec::new(alloc);
     for one in all {
-        values.push(written(alloc, one)?)?;
+        values.push(child(alloc, one)?)?;
     }
     Ok(values)
 }
 
+/// A child of a set.
+#[cycle(child)]
+#[tactic(auto, using(crate::proofs::WrittenLemmas::set_is_written))]
+fn child(alloc: Global, child: &Child) -> Result<Json, AllocError>
+    ensures { IfOk result (λ v. view v ≡ child_written child.now) }
+{
+    match child {
+        Child::Policy(part) => only_member(alloc, "Policy", policy(alloc, part)?),
+        Child::Set(part) => only_member(alloc, "PolicySet", set(alloc, part)?),
+        Child::Reference(part) => reference(alloc, part),
+    }
+}
+
 /// A document.
-#[cycle(document)]
 #[tactic(auto, using(crate::proofs::WrittenLemmas::set_is_written))]
 fn written(alloc: Global, tree: &Tree) -> Result<Json, AllocError>
     ensures { IfOk result (λ v. view v ≡ written tree.now) }
@@ -146,8 +159,8 @@ fn written(alloc: Global, tree: &Tree) -> Result<Json, AllocError>
 
 /// The JSON that a document is written as, in the form that [`crate::read_document`] reads. Absent parts and empty lists are left
 /// out. A data type is written as its full URI, that of a value too; MustBePresent is always written; an integer is a number, a
-/// boolean is a boolean, and every other value and a version are their written texts. Reading it gives the document again, unless
-/// it holds a duration of more than 999,999,999 whole years.
+/// boolean is a boolean, and every other value, a version and a version pattern are their written texts. Reading it gives the
+/// document again, unless it holds a duration of more than 999,999,999 whole years.
 ///
 /// # Errors
 ///

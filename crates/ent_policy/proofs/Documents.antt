@@ -19,9 +19,12 @@ use Rattle.ent_functions.specs.contracts.function.FunctionPartialEq.TheImpl as f
 use Rattle.ent_functions.specs.contracts.function.Ordered as ordered
 use Rattle.ent_functions.specs.declared.function.Element.{Element}
 use Rattle.ent_functions.specs.declared.function.Function.{Function}
-use Rattle.ent_policy.specs.Same.{same_document}
+use Rattle.ent_policy.specs.Same.{same_document, same_reference}
 use Rattle.ent_policy.specs.contracts.document.AllOf as all_of
 use Rattle.ent_policy.specs.contracts.document.AnyOf as any_of
+use Rattle.ent_policy.specs.contracts.document.Child as child
+use Rattle.ent_policy.specs.contracts.document.ChildPartialEq.TheImpl as kept
+use Rattle.ent_policy.specs.contracts.document.ChildPartialEq.TheImpl.Laws as children
 use Rattle.ent_policy.specs.contracts.document.Designator as designator
 use Rattle.ent_policy.specs.contracts.document.DesignatorPartialEq.TheImpl as designators
 use Rattle.ent_policy.specs.contracts.document.Effect as effect
@@ -33,7 +36,6 @@ use Rattle.ent_policy.specs.contracts.document.Target as target
 use Rattle.ent_policy.specs.contracts.document.TargetPartialEq.TheImpl as targets
 use Rattle.ent_policy.specs.contracts.document.Tree as tree
 use Rattle.ent_policy.specs.contracts.document.TreeEq.TheImpl.Laws as equivalence
-use Rattle.ent_policy.specs.contracts.document.TreePartialEq.TheImpl.Laws as trees
 use Rattle.ent_policy.specs.contracts.expression.Expression as expression
 use Rattle.ent_policy.specs.contracts.expression.ExpressionPartialEq.TheImpl.{ghosts}
 use Rattle.ent_policy.specs.contracts.expression.ExpressionPartialEq.TheImpl.Laws as expressions
@@ -43,17 +45,18 @@ use Rattle.ent_policy.specs.declared.document.Policy.{Policy}
 use Rattle.ent_policy.specs.declared.document.PolicySet.{PolicySet}
 use Rattle.ent_policy.specs.declared.document.Target.{Target}
 use Rattle.ent_policy.specs.declared.document.Tree.{Tree}
-use Rattle.ent_policy.specs.declared.document.Tree.TheBlock as block
-use Rattle.ent_policy.specs.declared.document.Tree.TheFolds.{ind-Tree, map-PolicySet, map-Tree}
-use Rattle.ent_policy.specs.declared.document.Tree.TheOpen.{PolicySet-F, Tree-F}
-use Rattle.ent_policy.specs.declared.document.Tree.TheViews.{out-roll-Tree, roll-PolicySet, roll-Tree}
+use Rattle.ent_policy.specs.declared.document.Child.{Child}
+use Rattle.ent_policy.specs.declared.document.Child.TheBlock as block
+use Rattle.ent_policy.specs.declared.document.Child.TheFolds.{ind-PolicySet, map-Child, map-PolicySet}
+use Rattle.ent_policy.specs.declared.document.Child.TheOpen.{Child-F, PolicySet-F}
+use Rattle.ent_policy.specs.declared.document.Child.TheViews.{out-roll-Child, roll-Child, roll-PolicySet}
 use Rattle.ent_policy.specs.declared.expression.Expression.{Expression}
 use Rattle.ent_policy.specs.declared.expression.Expression.TheBlock as expression_block
 use Rattle.ent_policy.specs.declared.expression.Expression.TheFolds.{ind-Expression, map-Expression}
 use Rattle.ent_policy.specs.declared.expression.Expression.TheOpen.{Expression-F}
 use Rattle.ent_policy.specs.declared.expression.Expression.TheViews.{out-roll-Expression, roll-Expression}
 use Rattle.std.proofs.lemmas.Bool.{and_parts}
-use Rattle.ent_policy.proofs.Same.{same_version-Decides}
+use Rattle.ent_policy.proofs.Same.{reference-tells, same_version-Decides}
 use Rattle.ent_policy.proofs.Telling.{Tells, Told, decided, decides, enum, last, list, listed, maybe, more, struct, variant}
 use Rattle.ent_values.proofs.Values.{same_type-Decides, same_value-Decides}
 use Rattle.ent_values.specs.Same.{same_value}
@@ -119,18 +122,21 @@ algorithm-tells : (a : PolicyAlg) → Tells (policy_algs.ghosts).eq a
 algorithm-tells = enum policy_alg.enum _ (last (same_true rule_alg.the_type tt), tt)
 
 abbrev same_set : PolicySet → PolicySet → Bool
-same_set = trees.family block.member-PolicySet
+same_set = children.family block.member-PolicySet
 
-abbrev Told_tree : Type 0
-Told_tree = (t : Tree) × Tells same_document t
+abbrev same_child : Child → Child → Bool
+same_child = (kept.ghosts).eq
+
+abbrev Told_child : Type 0
+Told_child = (c : Child) × Tells same_child c
 
 abbrev Told_set : Type 0
 Told_set = (s : PolicySet) × Tells same_set s
 
-set-layer : (y : PolicySet-F Told_tree Told_set) → Tells same_set (roll-PolicySet (map-PolicySet Told_tree Told_set Tree PolicySet (λ t. t.0) (λ s. s.0) y))
+set-layer : (y : PolicySet-F Told_child Told_set) → Tells same_set (roll-PolicySet (map-PolicySet Told_child Told_set Child PolicySet (λ c. c.0) (λ s. s.0) y))
 set-layer y s h =
-    let x = roll-PolicySet (map-PolicySet Told_tree Told_set Tree PolicySet (λ t. t.0) (λ s. s.0) y) in
-    let ids = and_parts _ _ (sym (compared_is _ _ _ _ _ _ trees.local block.member-PolicySet x s) ∙ h) in
+    let x = roll-PolicySet (map-PolicySet Told_child Told_set Child PolicySet (λ c. c.0) (λ s. s.0) y) in
+    let ids = and_parts _ _ (sym (compared_is _ _ _ _ _ _ children.local block.member-PolicySet x s) ∙ h) in
     let versions = and_parts _ _ ids.1 in
     let algorithms = and_parts _ _ versions.1 in
     let others = and_parts _ _ algorithms.1 in
@@ -139,25 +145,29 @@ set-layer y s h =
       version = (same_version-Decides y.version s.version).0 versions.0 i;
       algorithm = algorithm-tells y.algorithm s.algorithm algorithms.0 i;
       target = target-tells y.target s.target others.0 i;
-      children = listed same_document (λ t. t.0) (λ t. t.1) y.children s.children others.1 i;
+      children = listed same_child (λ c. c.0) (λ c. c.1) y.children s.children others.1 i;
     }
 
-abbrev same_kept : Each Bool tree.enum.parts
-same_kept = (λ a b. (policies.ghosts).eq a.0 b.0, (λ a b. same_set a.0 b.0, tt))
+abbrev same_kept : Each Bool child.enum.parts
+same_kept = (λ a b. (policies.ghosts).eq a.0 b.0, (λ a b. same_set a.0 b.0, (λ a b. same_reference a.0 b.0, tt)))
 
-tree-layer : (y : Tree-F Told_tree Told_set) → Tells same_document (roll-Tree (map-Tree Told_tree Told_set Tree PolicySet (λ t. t.0) (λ s. s.0) y))
-tree-layer y t h =
-    variant tree.enum same_kept (roll-Tree x) (subst (λ z. Told tree.enum.parts same_kept (block.split-Tree block.the_family z)) (sym (out-roll-Tree x)) (kept y)) t (sym (trees.is (roll-Tree x) t) ∙ h)
+child-layer : (y : Child-F Told_child Told_set) → Tells same_child (roll-Child (map-Child Told_child Told_set Child PolicySet (λ c. c.0) (λ s. s.0) y))
+child-layer y c h =
+    variant child.enum same_kept (roll-Child x) (subst (λ z. Told child.enum.parts same_kept (block.split-Child block.the_family z)) (sym (out-roll-Child x)) (told y)) c (sym (children.is (roll-Child x) c) ∙ h)
   where
-    x : Tree-F Tree PolicySet
-    x = map-Tree Told_tree Told_set Tree PolicySet (λ t. t.0) (λ s. s.0) y
+    x : Child-F Child PolicySet
+    x = map-Child Told_child Told_set Child PolicySet (λ c. c.0) (λ s. s.0) y
 
-    kept : (y : Tree-F Told_tree Told_set) → Told tree.enum.parts same_kept (block.split-Tree block.the_family (map-Tree Told_tree Told_set Tree PolicySet (λ t. t.0) (λ s. s.0) y))
-    kept (Tree-F.Policy p) = last policy-tells (p, tt)
-    kept (Tree-F.Set s) = λ w h i. (s.1 w.0 h i, tt)
+    told : (y : Child-F Told_child Told_set) → Told child.enum.parts same_kept (block.split-Child block.the_family (map-Child Told_child Told_set Child PolicySet (λ c. c.0) (λ s. s.0) y))
+    told (Child-F.Policy p) = last policy-tells (p, tt)
+    told (Child-F.Set s) = λ w h i. (s.1 w.0 h i, tt)
+    told (Child-F.Reference r) = last reference-tells (r, tt)
+
+set-tells : (s : PolicySet) → Tells same_set s
+set-tells = ind-PolicySet (Tells same_child) (Tells same_set) (λ x y is. subst (λ z. Tells same_child (roll-Child z)) is (child-layer y)) (λ x y is. subst (λ z. Tells same_set (roll-PolicySet z)) is (set-layer y))
 
 tree-tells : (t : Tree) → Tells same_document t
-tree-tells = ind-Tree (Tells same_document) (Tells same_set) (λ x y is. subst (λ z. Tells same_document (roll-Tree z)) is (tree-layer y)) (λ x y is. subst (λ z. Tells same_set (roll-PolicySet z)) is (set-layer y))
+tree-tells = enum tree.enum _ (last policy-tells, (last set-tells, tt))
 
 pub same_document-Decides : (a b : Tree) → Decides (same_document a b) (a ≡ b)
 same_document-Decides = decides equivalence.laws-law tree-tells

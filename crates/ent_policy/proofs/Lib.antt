@@ -1,3 +1,4 @@
+pub mod Dotted
 pub mod Numbers
 pub mod WhatIsRead
 pub mod Wholes
@@ -9,6 +10,8 @@ pub mod Filling
 pub mod Extents
 pub mod Same
 pub mod Written
+pub mod Patterns
+pub mod Accepting
 pub mod Ids
 pub mod References
 pub mod Telling

@@ -1,8 +1,9 @@
--- `==` decides whether kinds, versions, keys and references are equal.
+-- `==` decides whether kinds, versions, patterns, keys and references are equal.
 use Rattle.std.proofs.Common.{◌≡◌, ℕ, List, rules}
 use Rattle.std.specs.Bool.{Decides}
 use Rattle.std.proofs.lemmas.Slice.Eq.{bytes_eq-Decides}
-use Rattle.ent_policy.proofs.Telling.{decided, decides, last, more, struct}
+use Rattle.ent_policy.proofs.Patterns.{same_constraints-Decides}
+use Rattle.ent_policy.proofs.Telling.{Tells, decided, decides, last, more, struct}
 use Rattle.ent_policy.specs.Same.{same_kind, same_key, same_reference, same_version}
 use Rattle.ent_policy.specs.contracts.key.DocKey as key
 use Rattle.ent_policy.specs.contracts.key.DocKeyEq.TheImpl.Laws as keys
@@ -21,5 +22,8 @@ same_version-Decides a b = bytes_eq-Decides a b
 pub same_key-Decides : (a b : DocKey) → Decides (same_key a b) (a ≡ b)
 same_key-Decides = decides keys.laws-law (struct key.struct key.the_propositions (more (decided same_kind-Decides) (more (decided bytes_eq-Decides) (last (decided same_version-Decides)))))
 
+pub reference-tells : (r : Reference) → Tells same_reference r
+reference-tells = struct reference.struct reference.the_propositions (more (decided same_kind-Decides) (more (decided bytes_eq-Decides) (last (decided same_constraints-Decides))))
+
 pub same_reference-Decides : (a b : Reference) → Decides (same_reference a b) (a ≡ b)
-same_reference-Decides = decides references.laws-law (struct reference.struct reference.the_propositions (more (decided same_kind-Decides) (last (decided bytes_eq-Decides))))
+same_reference-Decides = decides references.laws-law reference-tells

@@ -3,13 +3,15 @@ use Rattle.std.specs.Prelude.{if◌then◌else◌}
 use Rattle.std.proofs.Common.{◌≡◌, ℕ, ◌+◌, [], ◌∷◌, Bool, true, false, not, min, nat_eq, nat_lt, nat_le, Option, Some, None, Ok, refl, sym, ap, subst, ◌∙◌, arith}
 use Rattle.std.proofs.lemmas.Bool.Decides.{nat_tests}
 use Rattle.ent_policy.specs.Check.{IsChecked, checked, fault_of, tree_fault, unless_fault, whole_fault}
+use Rattle.ent_policy.specs.Children.{as_child}
 use Rattle.ent_policy.specs.Depths.{exceeds_depth}
 use Rattle.ent_policy.specs.First.{earlier, first_of, if_so, place}
 use Rattle.ent_policy.specs.Limits.{limit_fault}
 use Rattle.ent_policy.specs.Reading.{document_read}
-use Rattle.ent_policy.specs.Sizes.{nodes}
+use Rattle.ent_policy.specs.Sizes.{exceeds_size}
 use Rattle.ent_policy.specs.Typing.{is_typed}
 use Rattle.ent_policy.specs.Variables.{has_variable_fault}
+use Rattle.ent_policy.specs.declared.document.Child.{Child}
 use Rattle.ent_policy.specs.declared.document.Tree.{Tree}
 use Rattle.ent_policy.specs.declared.fault.DocFault.{DocFault}
 use Rattle.ent_policy.specs.declared.fault.DocFault.TheVariants.{Variable, Size, Depth, «Type»}
@@ -27,8 +29,8 @@ first_bad false false true = refl
 first_bad false false false = refl
 
 -- a bad variable comes before what else is wrong with the whole
-pub variable_first : (t : Tree) → has_variable_fault t ≡ true → Some Variable ≡ whole_fault t
-variable_first t bad = rw bad (first_bad (nat_lt 65536 (nodes t)) (exceeds_depth t) (not (is_typed t)))
+pub variable_first : (c : Child) → has_variable_fault c ≡ true → Some Variable ≡ whole_fault c
+variable_first c bad = rw bad (first_bad (exceeds_size c) (exceeds_depth c) (not (is_typed c)))
 
 cut_at : (limit n : ℕ) → nat_eq (min (limit + 1) n) (limit + 1) ≡ nat_lt limit n
 cut_at limit n = grind (arith, nat_tests)
@@ -82,6 +84,8 @@ not_typed false false true false h = absurd cc
 not_typed false false false false h = absurd cc
 
 -- and each expression in it has its type
-pub passed_typed : (t : Tree) → IsChecked t → is_typed t ≡ true
+pub passed_typed : (t : Tree) → IsChecked t → is_typed (as_child t) ≡ true
 unfolding tree_fault
-passed_typed t c = not_typed (has_variable_fault t) (nat_lt 65536 (nodes t)) (exceeds_depth t) (is_typed t) (neither (limit_fault t) (whole_fault t) (passed t c)).1
+passed_typed t c =
+    let w = as_child t in
+    not_typed (has_variable_fault w) (exceeds_size w) (exceeds_depth w) (is_typed w) (neither (limit_fault w) (whole_fault w) (passed t c)).1

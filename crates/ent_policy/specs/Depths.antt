@@ -3,9 +3,9 @@ use Rattle.std.specs.Prelude.{ℕ, ◌+◌, max, List, [], ◌∷◌, Bool, fals
 use Rattle.std.specs.List.{list_any}
 use Rattle.ent_policy.specs.declared.document.Policy.{Policy}
 use Rattle.ent_policy.specs.declared.document.Rule.{Rule}
-use Rattle.ent_policy.specs.declared.document.Tree.{Tree}
-use Rattle.ent_policy.specs.declared.document.Tree.TheOpen.{Tree-F, PolicySet-F}
-use Rattle.ent_policy.specs.declared.document.Tree.TheFolds.{fold-Tree}
+use Rattle.ent_policy.specs.declared.document.Child.{Child}
+use Rattle.ent_policy.specs.declared.document.Child.TheOpen.{Child-F, PolicySet-F}
+use Rattle.ent_policy.specs.declared.document.Child.TheFolds.{fold-Child}
 use Rattle.ent_policy.specs.declared.expression.Expression.{Expression}
 use Rattle.ent_policy.specs.declared.expression.Expression.TheOpen.{Expression-F}
 use Rattle.ent_policy.specs.declared.expression.Expression.TheFolds.{fold-Expression}
@@ -48,32 +48,34 @@ has_deep_expression p =
     list_any (λ (d : VariableDefinition). is_deep (defined_depth p.variables) d.expression) p.variables
     || list_any (λ (r : Rule). is_deep_condition (defined_depth p.variables) r.condition) p.rules
 
--- one level of a document, with a set already seen
-abbrev pub deep_in_tree : Tree-F Bool Bool → Bool
-deep_in_tree (Tree-F.Policy policy) = has_deep_expression policy
-deep_in_tree (Tree-F.Set set) = set
+-- one level of a child, with a set already seen
+abbrev pub deep_in_child : Child-F Bool Bool → Bool
+deep_in_child (Child-F.Policy policy) = has_deep_expression policy
+deep_in_child (Child-F.Set set) = set
+deep_in_child (Child-F.Reference reference) = false
 
 -- a set, with each child already seen
 abbrev pub deep_in_set : PolicySet-F Bool Bool → Bool
 deep_in_set set = list_any (λ child. child) set.children
 
--- some expression of the document is deeper than 16
-abbrev pub has_deep : Tree → Bool
-has_deep = fold-Tree Bool Bool deep_in_tree deep_in_set
+-- some expression of a child is deeper than 16
+abbrev pub has_deep : Child → Bool
+has_deep = fold-Child Bool Bool deep_in_child deep_in_set
 
--- one level of a document, with the depth of a set
-abbrev pub tree_depth_step : Tree-F ℕ ℕ → ℕ
-tree_depth_step (Tree-F.Policy policy) = 1
-tree_depth_step (Tree-F.Set depth) = depth
+-- one level of a child, with the depth of a set
+abbrev pub child_depth_step : Child-F ℕ ℕ → ℕ
+child_depth_step (Child-F.Policy policy) = 1
+child_depth_step (Child-F.Set depth) = depth
+child_depth_step (Child-F.Reference reference) = 1
 
 -- one level of a policy set: one more than its deepest child
 abbrev pub set_depth_step : PolicySet-F ℕ ℕ → ℕ
 set_depth_step set = 1 + greatest set.children
 
--- how deep policy sets stand in each other: a policy is 1, and so is a set without children
-abbrev pub depth : Tree → ℕ
-depth = fold-Tree ℕ ℕ tree_depth_step set_depth_step
+-- how deep policy sets stand in each other: a policy and a reference are 1, and so is a set without children
+abbrev pub depth : Child → ℕ
+depth = fold-Child ℕ ℕ child_depth_step set_depth_step
 
 -- an expression or a policy set is deeper than 16
-abbrev pub exceeds_depth : Tree → Bool
+abbrev pub exceeds_depth : Child → Bool
 exceeds_depth t = has_deep t || nat_lt 16 (depth t)

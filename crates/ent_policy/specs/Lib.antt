@@ -1,4 +1,6 @@
 pub mod Check
+pub mod Children
+pub mod Constraints
 pub mod Depths
 pub mod Fault
 pub mod First
@@ -6,7 +8,9 @@ pub mod Gives
 pub mod Key
 pub mod Limits
 pub mod Measure
+pub mod Names
 pub mod Order
+pub mod Patterns
 pub mod Reading
 pub mod Same
 pub mod Sizes

@@ -1,9 +1,9 @@
 -- The limits of a document's parts: which is exceeded first, each over the whole document.
 use Rattle.std.specs.Prelude.{ℕ, List, [], ◌∷◌, Bool, false, ◌==◌, ◌||◌, Option, Some, None, bytes_eq, if◌then◌else◌, length, map, nat_lt}
 use Rattle.std.specs.List.{list_any}
-use Rattle.ent_policy.specs.declared.document.Tree.{Tree}
-use Rattle.ent_policy.specs.declared.document.Tree.TheOpen.{Tree-F, PolicySet-F}
-use Rattle.ent_policy.specs.declared.document.Tree.TheFolds.{fold-Tree}
+use Rattle.ent_policy.specs.declared.document.Child.{Child}
+use Rattle.ent_policy.specs.declared.document.Child.TheOpen.{Child-F, PolicySet-F}
+use Rattle.ent_policy.specs.declared.document.Child.TheFolds.{fold-Child}
 use Rattle.ent_policy.specs.declared.document.Policy.{Policy}
 use Rattle.ent_policy.specs.declared.document.Rule.{Rule}
 use Rattle.ent_policy.specs.declared.document.Target.{Target}
@@ -18,18 +18,11 @@ use Rattle.ent_policy.specs.declared.expression.VariableDefinition.{VariableDefi
 use Rattle.ent_policy.specs.declared.fault.DocFault.{DocFault}
 use Rattle.ent_policy.specs.declared.fault.DocFault.TheVariants.{Form, Identifier, Size}
 use Rattle.ent_policy.specs.First.{earlier, first_of, if_so}
+use Rattle.ent_policy.specs.Names.{is_bad_name}
 
 -- ---- names and lists
 
--- an identifier has 1 to 256 bytes
-abbrev pub is_bad_name : List ℕ → Bool
-is_bad_name name = (length name == 0) || nat_lt 256 (length name)
-
--- the name that a text is
-abbrev pub name_of : List ℕ → Option (List ℕ)
-name_of text = if is_bad_name text then None else Some text
-
--- one that doesn't is a fault
+-- an identifier that has no byte or more than 256 is a fault
 abbrev pub name_fault : List ℕ → Option DocFault
 name_fault name = if_so (is_bad_name name) Identifier
 
@@ -108,15 +101,16 @@ unfoldable pub policy_fault : Policy → Option DocFault
 policy_fault p = first_of (name_fault p.id ∷ if_so (has_double_rule p.rules) Identifier ∷ length_fault p.variables ∷ length_fault p.rules
     ∷ target_fault p.target ∷ first_of (map definition_fault p.variables) ∷ first_of (map rule_fault p.rules) ∷ [])
 
--- of one level of a document, with those of a set already seen
-abbrev pub tree_limits : Tree-F (Option DocFault) (Option DocFault) → Option DocFault
-tree_limits (Tree-F.Policy policy) = policy_fault policy
-tree_limits (Tree-F.Set set) = set
+-- of one level of a child, with those of a set already seen: the identifier of a reference is a name
+abbrev pub child_limits : Child-F (Option DocFault) (Option DocFault) → Option DocFault
+child_limits (Child-F.Policy policy) = policy_fault policy
+child_limits (Child-F.Set set) = set
+child_limits (Child-F.Reference reference) = None
 
 -- of a set, with those of each child already seen
 abbrev pub set_limits : PolicySet-F (Option DocFault) (Option DocFault) → Option DocFault
 set_limits s = first_of (name_fault s.id ∷ length_fault s.children ∷ target_fault s.target ∷ first_of s.children ∷ [])
 
--- the first limit that is exceeded in a document
-abbrev pub limit_fault : Tree → Option DocFault
-limit_fault = fold-Tree (Option DocFault) (Option DocFault) tree_limits set_limits
+-- the first limit that is exceeded in a child
+abbrev pub limit_fault : Child → Option DocFault
+limit_fault = fold-Child (Option DocFault) (Option DocFault) child_limits set_limits

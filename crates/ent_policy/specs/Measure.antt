@@ -12,13 +12,13 @@ use Rattle.ent_policy.specs.declared.document.Match.{Match}
 use Rattle.ent_policy.specs.declared.document.Policy.{Policy}
 use Rattle.ent_policy.specs.declared.document.Rule.{Rule}
 use Rattle.ent_policy.specs.declared.document.Target.{Target}
-use Rattle.ent_policy.specs.declared.document.Tree.{Tree}
+use Rattle.ent_policy.specs.declared.document.Child.{Child}
 use Rattle.ent_policy.specs.declared.expression.Expression.{Expression}
 use Rattle.ent_policy.specs.declared.expression.VariableDefinition.{VariableDefinition}
 use Rattle.ent_policy.specs.declared.measure.Measured.{Measured}
 use Rattle.ent_policy.specs.declared.extent.Extent.{Extent}
 use Rattle.ent_policy.specs.Depths.{defined_depth, depth_with, greatest, has_deep, has_deep_expression}
-use Rattle.ent_policy.specs.Sizes.{defined_nodes, nodes, nodes_with, policy_nodes, target_nodes}
+use Rattle.ent_policy.specs.Sizes.{defined_nodes, nodes, nodes_with, policy_nodes, references, target_nodes}
 use Rattle.ent_policy.specs.Typing.{all_typed, held, is_boolean, is_typed, match_is_typed, policy_is_typed, target_is_typed, type_with, variable_type}
 use Rattle.ent_policy.specs.Variables.{has_bad_variable, has_variable_fault}
 
@@ -66,23 +66,23 @@ IsTable p (Some table) = (has_bad_variable p ≡ false) × IsTableOf p.variables
 
 -- nothing
 abbrev pub nothing : Extent
-nothing = record { nodes = 0; is_deep = false; is_typed = true }
+nothing = record { nodes = 0; references = 0; is_deep = false; is_typed = true }
 
 -- two parts together
 abbrev pub together : Extent → Extent → Extent
-together a b = record { nodes = min 65537 (a.nodes + b.nodes); is_deep = a.is_deep || b.is_deep; is_typed = a.is_typed && b.is_typed }
+together a b = record { nodes = min 65537 (a.nodes + b.nodes); references = min 33 (a.references + b.references); is_deep = a.is_deep || b.is_deep; is_typed = a.is_typed && b.is_typed }
 
 -- some parts together, of each of which we say what stands in it
 abbrev pub whole : {X : Type 0} → (X → Extent) → List X → Extent
 whole f parts = fold (λ all part. together all (f part)) nothing parts
 
--- what stands in a part, with its nodes up to the limit
-abbrev pub limited : ℕ → Bool → Bool → Extent
-limited nodes is_deep is_typed = record { nodes = min 65537 nodes; is_deep = is_deep; is_typed = is_typed }
+-- what stands in a part, with its nodes and references up to the limits
+abbrev pub limited : ℕ → ℕ → Bool → Bool → Extent
+limited nodes references is_deep is_typed = record { nodes = min 65537 nodes; references = min 33 references; is_deep = is_deep; is_typed = is_typed }
 
 -- a match has two nodes, its literal and its designator
 abbrev pub match_extent : Match → Extent
-match_extent m = record { nodes = 2; is_deep = false; is_typed = match_is_typed m }
+match_extent m = record { nodes = 2; references = 0; is_deep = false; is_typed = match_is_typed m }
 
 -- an AllOf
 abbrev pub all_of_extent : AllOf → Extent
@@ -94,11 +94,11 @@ any_of_extent a = whole all_of_extent a.all_of
 
 -- a target
 abbrev pub target_extent : Target → Extent
-target_extent t = limited (target_nodes t) false (target_is_typed t)
+target_extent t = limited (target_nodes t) 0 false (target_is_typed t)
 
 -- an expression, by what is measured of it and whether its type is right
 abbrev pub measured_extent : (Option ArgType → Bool) → Measured → Extent
-measured_extent is_right m = record { nodes = m.nodes; is_deep = m.depth == 17; is_typed = is_right m.datatype }
+measured_extent is_right m = record { nodes = m.nodes; references = 0; is_deep = m.depth == 17; is_typed = is_right m.datatype }
 
 -- a definition gives a value or a bag
 abbrev pub definition_extent : (List ℕ → Measured) → VariableDefinition → Extent
@@ -115,23 +115,23 @@ rule_extent refer r = together (target_extent r.target) (condition_extent refer 
 
 -- a policy
 abbrev pub policy_extent : Policy → Extent
-policy_extent p = limited (policy_nodes p) (has_deep_expression p) (policy_is_typed p)
+policy_extent p = limited (policy_nodes p) 0 (has_deep_expression p) (policy_is_typed p)
 
 -- of a policy, unless a variable of it is bad
 abbrev pub IsExtentOfPolicy : Policy → Option Extent → Type 0
 IsExtentOfPolicy p None = has_bad_variable p ≡ true
 IsExtentOfPolicy p (Some e) = (has_bad_variable p ≡ false) × (e ≡ policy_extent p)
 
--- a document
-abbrev pub tree_extent : Tree → Extent
-tree_extent t = limited (nodes t) (has_deep t) (is_typed t)
+-- a child of a set
+abbrev pub child_extent : Child → Extent
+child_extent c = limited (nodes c) (references c) (has_deep c) (is_typed c)
 
--- of a document, unless a variable of it is bad
-abbrev pub IsExtentOf : Tree → Option Extent → Type 0
-IsExtentOf t None = has_variable_fault t ≡ true
-IsExtentOf t (Some e) = (has_variable_fault t ≡ false) × (e ≡ tree_extent t)
+-- of a child, unless a variable of it is bad
+abbrev pub IsExtentOf : Child → Option Extent → Type 0
+IsExtentOf c None = has_variable_fault c ≡ true
+IsExtentOf c (Some e) = (has_variable_fault c ≡ false) × (e ≡ child_extent c)
 
--- of some documents
-abbrev pub IsExtentOfAll : List Tree → Option Extent → Type 0
-IsExtentOfAll ts None = list_any has_variable_fault ts ≡ true
-IsExtentOfAll ts (Some e) = (list_any has_variable_fault ts ≡ false) × (e ≡ whole tree_extent ts)
+-- of some children
+abbrev pub IsExtentOfAll : List Child → Option Extent → Type 0
+IsExtentOfAll cs None = list_any has_variable_fault cs ≡ true
+IsExtentOfAll cs (Some e) = (list_any has_variable_fault cs ≡ false) × (e ≡ whole child_extent cs)

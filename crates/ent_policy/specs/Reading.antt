@@ -1,6 +1,6 @@
 -- What is read of a document: its tree, and the first fault of a name or a value in it that can't be read. Where there is one, a
 -- stand-in is in its place, so that the other faults are looked for in the tree.
-use Rattle.std.specs.Prelude.{ℕ, ℤ, List, [], ◌∷◌, Bool, false, Option, Some, None, map, option_and_then}
+use Rattle.std.specs.Prelude.{ℕ, ℤ, List, [], ◌∷◌, Bool, false, Option, Some, None, map, codes, option_and_then}
 use Rattle.ent_values.specs.declared.datatype.DataType.{DataType}
 use Rattle.ent_values.specs.declared.datatype.DataType.TheVariants as types
 use Rattle.ent_values.specs.declared.value.Value.{Value}
@@ -15,6 +15,8 @@ use Rattle.ent_combine.specs.declared.outcome.PolicyAlg.TheVariants.{OnlyOne}
 use Rattle.ent_functions.specs.declared.function.Function.{Function}
 use Rattle.ent_functions.specs.declared.function.Function.TheVariants as functions
 use Rattle.ent_functions.specs.Identifiers.{function_of}
+use Rattle.ent_policy.specs.declared.document.Child.{Child}
+use Rattle.ent_policy.specs.declared.document.Child.TheVariants as child
 use Rattle.ent_policy.specs.declared.document.Tree.{Tree}
 use Rattle.ent_policy.specs.declared.document.Tree.TheVariants as tree
 use Rattle.ent_policy.specs.declared.document.PolicySet.{PolicySet}
@@ -31,8 +33,15 @@ use Rattle.ent_policy.specs.declared.expression.VariableDefinition.{VariableDefi
 use Rattle.ent_policy.specs.declared.fault.DocFault.{DocFault}
 use Rattle.ent_policy.specs.declared.fault.DocFault.TheVariants as faults
 use Rattle.ent_policy.specs.declared.raw.RawDocument.{RawDocument}
-use Rattle.ent_policy.specs.declared.raw.RawDocument.TheOpen.{RawDocument-F, RawPolicySet-F}
-use Rattle.ent_policy.specs.declared.raw.RawDocument.TheFolds.{fold-RawDocument}
+use Rattle.ent_policy.specs.declared.raw.RawDocument.TheVariants as raw
+use Rattle.ent_policy.specs.declared.raw.RawChild.{RawChild}
+use Rattle.ent_policy.specs.declared.raw.RawChild.TheOpen.{RawChild-F, RawPolicySet-F}
+use Rattle.ent_policy.specs.declared.raw.RawChild.TheFolds.{fold-RawChild}
+use Rattle.ent_policy.specs.declared.raw.RawReference.{RawReference}
+use Rattle.ent_policy.specs.declared.key.Reference.{Reference}
+use Rattle.ent_policy.specs.declared.pattern.PatternPart.{PatternPart}
+use Rattle.ent_policy.specs.declared.pattern.PatternPart.TheVariants.{Any}
+use Rattle.ent_policy.specs.declared.pattern.VersionConstraints.{VersionConstraints}
 use Rattle.ent_policy.specs.declared.raw.RawPolicy.{RawPolicy}
 use Rattle.ent_policy.specs.declared.raw.RawPolicySet.{RawPolicySet}
 use Rattle.ent_policy.specs.declared.raw.RawRule.{RawRule}
@@ -50,6 +59,8 @@ use Rattle.ent_policy.specs.declared.raw.RawLiteral.TheVariants as literals
 use Rattle.ent_policy.specs.declared.raw.RawValue.{RawValue}
 use Rattle.ent_policy.specs.declared.read.Read.{Read}
 use Rattle.ent_policy.specs.First.{earlier, first_of}
+use Rattle.ent_policy.specs.Names.{name_of}
+use Rattle.ent_policy.specs.Patterns.{pattern_of}
 use Rattle.ent_policy.specs.Versions.{version_of}
 
 -- ---- what is read
@@ -213,13 +224,33 @@ policy_read p = do
   rules ← each_read rule_read p.rules
   done (record { id = p.id; version = version; algorithm = algorithm; target = target; variables = variables; rules = rules })
 
--- one level of a document, with a set already read
-abbrev pub document_step : RawDocument-F (Read Tree) (Read PolicySet) → Read Tree
-document_step (RawDocument-F.Policy p) = made (λ policy. tree.Policy policy) (policy_read p)
-document_step (RawDocument-F.Set s) = made (λ set. tree.Set set) s
+-- a version pattern (section 5.13)
+abbrev pub pattern_read : List ℕ → Read (List PatternPart)
+pattern_read text = known (Any ∷ []) faults.Version (pattern_of text)
+
+-- the versions that a reference accepts
+unfoldable pub constraints_read : RawReference → Read VersionConstraints
+constraints_read r = do
+  version ← maybe_read pattern_read r.version
+  earliest ← maybe_read pattern_read r.earliest
+  latest ← maybe_read pattern_read r.latest
+  done (record { version = version; earliest = earliest; latest = latest })
+
+-- a reference (sections 5.10 and 5.11): its id is a name
+unfoldable pub reference_read : RawReference → Read Reference
+reference_read r = do
+  id ← known (codes "-") faults.Identifier (name_of r.id)
+  constraints ← constraints_read r
+  done (record { kind = r.kind; id = id; constraints = constraints })
+
+-- one level of a child, with a set already read
+abbrev pub child_step : RawChild-F (Read Child) (Read PolicySet) → Read Child
+child_step (RawChild-F.Policy p) = made (λ policy. child.Policy policy) (policy_read p)
+child_step (RawChild-F.Set s) = made (λ set. child.Set set) s
+child_step (RawChild-F.Reference r) = made (λ reference. child.Reference reference) (reference_read r)
 
 -- a set of that name and target, with its children as they are read
-abbrev pub set_of : List ℕ → List ℕ → List ℕ → RawTarget → Read (List Tree) → Read PolicySet
+abbrev pub set_of : List ℕ → List ℕ → List ℕ → RawTarget → Read (List Child) → Read PolicySet
 set_of id version algorithm target children = do
   version ← version_read version
   algorithm ← policy_algorithm_read algorithm
@@ -228,13 +259,18 @@ set_of id version algorithm target children = do
   done (record { id = id; version = version; algorithm = algorithm; target = target; children = children })
 
 -- a set, with each child already read
-abbrev pub set_step : RawPolicySet-F (Read Tree) (Read PolicySet) → Read PolicySet
+abbrev pub set_step : RawPolicySet-F (Read Child) (Read PolicySet) → Read PolicySet
 set_step s = set_of s.id s.version s.algorithm s.target (all_read s.children)
 
--- a document
-abbrev pub document_read : RawDocument → Read Tree
-document_read = fold-RawDocument (Read Tree) (Read PolicySet) document_step set_step
+-- a child of a set
+abbrev pub child_read : RawChild → Read Child
+child_read = fold-RawChild (Read Child) (Read PolicySet) child_step set_step
 
 -- a set
 abbrev pub set_read : RawPolicySet → Read PolicySet
-set_read s = set_of s.id s.version s.algorithm s.target (each_read document_read s.children)
+set_read s = set_of s.id s.version s.algorithm s.target (each_read child_read s.children)
+
+-- a document
+abbrev pub document_read : RawDocument → Read Tree
+document_read (raw.Policy p) = made (λ policy. tree.Policy policy) (policy_read p)
+document_read (raw.Set s) = made (λ set. tree.Set set) (set_read s)

@@ -1,14 +1,14 @@
--- How many nodes expressions and documents have.
-use Rattle.std.specs.Prelude.{ℕ, ◌+◌, ◌*◌, List, Option, Some, None, length, map}
+-- How many nodes expressions and documents have, and how many references.
+use Rattle.std.specs.Prelude.{ℕ, ◌+◌, ◌*◌, List, Bool, ◌||◌, Option, Some, None, length, map, nat_lt}
 use Rattle.std.specs.List.{sum}
 use Rattle.ent_policy.specs.declared.document.AllOf.{AllOf}
 use Rattle.ent_policy.specs.declared.document.AnyOf.{AnyOf}
 use Rattle.ent_policy.specs.declared.document.Policy.{Policy}
 use Rattle.ent_policy.specs.declared.document.Rule.{Rule}
 use Rattle.ent_policy.specs.declared.document.Target.{Target}
-use Rattle.ent_policy.specs.declared.document.Tree.{Tree}
-use Rattle.ent_policy.specs.declared.document.Tree.TheOpen.{Tree-F, PolicySet-F}
-use Rattle.ent_policy.specs.declared.document.Tree.TheFolds.{fold-Tree}
+use Rattle.ent_policy.specs.declared.document.Child.{Child}
+use Rattle.ent_policy.specs.declared.document.Child.TheOpen.{Child-F, PolicySet-F}
+use Rattle.ent_policy.specs.declared.document.Child.TheFolds.{fold-Child}
 use Rattle.ent_policy.specs.declared.expression.Expression.{Expression}
 use Rattle.ent_policy.specs.declared.expression.Expression.TheOpen.{Expression-F}
 use Rattle.ent_policy.specs.declared.expression.Expression.TheFolds.{fold-Expression}
@@ -54,15 +54,34 @@ policy_nodes p = target_nodes p.target
     + sum (map (λ (d : VariableDefinition). nodes_with (defined_nodes p.variables) d.expression) p.variables)
     + sum (map (rule_nodes (defined_nodes p.variables)) p.rules)
 
--- one level of a document, with the nodes of a set
-abbrev pub tree_nodes_step : Tree-F ℕ ℕ → ℕ
-tree_nodes_step (Tree-F.Policy policy) = policy_nodes policy
-tree_nodes_step (Tree-F.Set nodes) = nodes
+-- one level of a child, with the nodes of a set
+abbrev pub child_nodes_step : Child-F ℕ ℕ → ℕ
+child_nodes_step (Child-F.Policy policy) = policy_nodes policy
+child_nodes_step (Child-F.Set nodes) = nodes
+child_nodes_step (Child-F.Reference reference) = 0
 
 -- one level of a policy set, with the nodes of each child
 abbrev pub set_nodes_step : PolicySet-F ℕ ℕ → ℕ
 set_nodes_step set = target_nodes set.target + sum set.children
 
--- how many nodes a document has
-abbrev pub nodes : Tree → ℕ
-nodes = fold-Tree ℕ ℕ tree_nodes_step set_nodes_step
+-- how many nodes a child has
+abbrev pub nodes : Child → ℕ
+nodes = fold-Child ℕ ℕ child_nodes_step set_nodes_step
+
+-- one level of a child, with the references of a set
+abbrev pub child_references_step : Child-F ℕ ℕ → ℕ
+child_references_step (Child-F.Policy policy) = 0
+child_references_step (Child-F.Set references) = references
+child_references_step (Child-F.Reference reference) = 1
+
+-- one level of a policy set, with the references of each child
+abbrev pub set_references_step : PolicySet-F ℕ ℕ → ℕ
+set_references_step set = sum set.children
+
+-- how many references a child has, those of the sets in it included
+abbrev pub references : Child → ℕ
+references = fold-Child ℕ ℕ child_references_step set_references_step
+
+-- a document has more than 65,536 nodes or more than 32 references
+abbrev pub exceeds_size : Child → Bool
+exceeds_size c = nat_lt 65536 (nodes c) || nat_lt 32 (references c)

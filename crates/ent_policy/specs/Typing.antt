@@ -10,9 +10,9 @@ use Rattle.ent_policy.specs.declared.expression.Expression.{Expression}
 use Rattle.ent_policy.specs.declared.expression.Expression.TheOpen.{Expression-F}
 use Rattle.ent_policy.specs.declared.expression.Expression.TheFolds.{fold-Expression}
 use Rattle.ent_policy.specs.declared.expression.VariableDefinition.{VariableDefinition}
-use Rattle.ent_policy.specs.declared.document.Tree.{Tree}
-use Rattle.ent_policy.specs.declared.document.Tree.TheOpen.{Tree-F, PolicySet-F}
-use Rattle.ent_policy.specs.declared.document.Tree.TheFolds.{fold-Tree}
+use Rattle.ent_policy.specs.declared.document.Child.{Child}
+use Rattle.ent_policy.specs.declared.document.Child.TheOpen.{Child-F, PolicySet-F}
+use Rattle.ent_policy.specs.declared.document.Child.TheFolds.{fold-Child}
 use Rattle.ent_policy.specs.declared.document.Policy.{Policy}
 use Rattle.ent_policy.specs.declared.document.Rule.{Rule}
 use Rattle.ent_policy.specs.declared.document.Target.{Target}
@@ -102,15 +102,16 @@ rule_is_typed definitions r = target_is_typed r.target && condition_is_typed def
 unfoldable pub policy_is_typed : Policy → Bool
 policy_is_typed p = target_is_typed p.target && list_all (definition_is_typed p.variables) p.variables && list_all (rule_is_typed p.variables) p.rules
 
--- one level of a document, with each child already seen
-abbrev pub tree_step : Tree-F Bool Bool → Bool
-tree_step (Tree-F.Policy policy) = policy_is_typed policy
-tree_step (Tree-F.Set set) = set
+-- one level of a child, with a set already seen
+abbrev pub child_step : Child-F Bool Bool → Bool
+child_step (Child-F.Policy policy) = policy_is_typed policy
+child_step (Child-F.Set set) = set
+child_step (Child-F.Reference reference) = true
 
 -- a set's target and its children
 abbrev pub set_step : PolicySet-F Bool Bool → Bool
 set_step set = target_is_typed set.target && list_all (λ child. child) set.children
 
--- each expression of the document has its type
-abbrev pub is_typed : Tree → Bool
-is_typed = fold-Tree Bool Bool tree_step set_step
+-- each expression of a child has its type
+abbrev pub is_typed : Child → Bool
+is_typed = fold-Child Bool Bool child_step set_step

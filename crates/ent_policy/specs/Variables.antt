@@ -3,9 +3,9 @@ use Rattle.std.specs.Prelude.{◌≡◌, ℕ, zero, suc, List, [], ◌∷◌, Bo
 use Rattle.std.specs.List.{flat_map, list_any, list_all}
 use Rattle.ent_policy.specs.declared.document.Policy.{Policy}
 use Rattle.ent_policy.specs.declared.document.Rule.{Rule}
-use Rattle.ent_policy.specs.declared.document.Tree.{Tree}
-use Rattle.ent_policy.specs.declared.document.Tree.TheOpen.{Tree-F, PolicySet-F}
-use Rattle.ent_policy.specs.declared.document.Tree.TheFolds.{fold-Tree}
+use Rattle.ent_policy.specs.declared.document.Child.{Child}
+use Rattle.ent_policy.specs.declared.document.Child.TheOpen.{Child-F, PolicySet-F}
+use Rattle.ent_policy.specs.declared.document.Child.TheFolds.{fold-Child}
 use Rattle.ent_policy.specs.declared.expression.Expression.{Expression}
 use Rattle.ent_policy.specs.declared.expression.Expression.TheOpen.{Expression-F}
 use Rattle.ent_policy.specs.declared.expression.Expression.TheFolds.{fold-Expression}
@@ -82,15 +82,16 @@ has_bad_variable p = has_double (ids_of p.variables)
     || not (list_all (is_resolved p.variables) (ids_of p.variables))
     || not (list_all (is_resolved p.variables) (used p))
 
--- one level of a document, with a set already seen
-abbrev pub variables_of_tree : Tree-F Bool Bool → Bool
-variables_of_tree (Tree-F.Policy policy) = has_bad_variable policy
-variables_of_tree (Tree-F.Set set) = set
+-- one level of a child, with a set already seen
+abbrev pub variables_of_child : Child-F Bool Bool → Bool
+variables_of_child (Child-F.Policy policy) = has_bad_variable policy
+variables_of_child (Child-F.Set set) = set
+variables_of_child (Child-F.Reference reference) = false
 
 -- a set, with each child already seen
 abbrev pub variables_of_set : PolicySet-F Bool Bool → Bool
 variables_of_set set = list_any (λ child. child) set.children
 
--- some policy of the document has a variable that is defined twice, not at all, or through itself
-abbrev pub has_variable_fault : Tree → Bool
-has_variable_fault = fold-Tree Bool Bool variables_of_tree variables_of_set
+-- some policy of a child has a variable that is defined twice, not at all, or through itself
+abbrev pub has_variable_fault : Child → Bool
+has_variable_fault = fold-Child Bool Bool variables_of_child variables_of_set

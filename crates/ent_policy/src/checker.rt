@@ -1,24 +1,26 @@
 //! The checker, which makes documents.
 
 ghost use Rattle.std.specs.Prelude.{◌≡◌, IfOk};
-ghost use Rattle.ent_policy.specs.Check.{checked, tree_fault, whole_fault};
+ghost use Rattle.ent_policy.specs.Check.{checked, reference_checked, tree_fault, whole_fault};
+ghost use Rattle.ent_policy.specs.Children.{as_child};
 ghost use Rattle.ent_policy.specs.Gives.{Gives};
 
 use crate::document::{Document, Tree};
-use crate::extent::{depth, extent_of};
+use crate::extent::{TOO_LINKED, depth, extent_of};
 use crate::fault::{CheckFault, DocFault};
 use crate::first::{earlier, first_of, if_so};
+use crate::key::Reference;
 use crate::limits::limit_fault;
 use crate::measure::{TOO_DEEP, TOO_MANY};
-use crate::raw::RawDocument;
+use crate::raw::{RawDocument, RawReference};
 use crate::read::Read;
-use crate::reading::document;
+use crate::reading::{document, reference};
 use std::alloc::{AllocError, Global};
 
 /// The document that was read, or the one of its faults that stands first in the order of `DocFault`.
 ///
-/// Identifiers have 1 to 256 bytes, lists at most 256 members, a document at most 65,536 expressions, and expressions and
-/// policy sets nest at most 16 deep. Each expression has a type, also in definitions that aren't used: a match gives a boolean
+/// Identifiers have 1 to 256 bytes, lists at most 256 members, a document at most 65,536 expressions and 32 references, and
+/// expressions and policy sets nest at most 16 deep. Each expression has a type, also in definitions that aren't used: a match gives a boolean
 /// (section 7.6), and so does a condition (section 5.26). The texts are moved, not copied.
 #[tactic(auto, unfolding(crate::specs::Check::checked, crate::specs::Check::fault_of))]
 pub fn check(alloc: Global, raw: RawDocument) -> Result<Document, CheckFault>
@@ -28,6 +30,18 @@ pub fn check(alloc: Global, raw: RawDocument) -> Result<Document, CheckFault>
     match earlier(fault, tree_fault(alloc, &tree)?) {
         Some(fault) => Err(CheckFault::Doc(fault)),
         None => Ok(Document::new(tree)),
+    }
+}
+
+/// The reference that was read, or its first fault: an id that has no byte or more than 256, or a version pattern that can't be read.
+#[tactic(auto, unfolding(crate::specs::Check::reference_checked))]
+pub fn check_reference(alloc: Global, raw: RawReference) -> Result<Reference, CheckFault>
+    ensures { Gives result (reference_checked raw) }
+{
+    let Read { value, fault } = reference(alloc, raw)?;
+    match fault {
+        Some(fault) => Err(CheckFault::Doc(fault)),
+        None => Ok(value),
     }
 }
 
@@ -42,14 +56,15 @@ fn tree_fault(alloc: Global, tree: &Tree) -> Result<Option<DocFault>, AllocError
 
 /// The first fault of a tree as a whole.
 fn whole_fault(alloc: Global, tree: &Tree) -> Result<Option<DocFault>, AllocError>
-    ensures { IfOk result (λ f. f ≡ whole_fault tree.now) }
+    ensures { IfOk result (λ f. f ≡ whole_fault (as_child tree.now)) }
 {
     let Some(extent) = extent_of(alloc, tree)? else {
         return Ok(Some(DocFault::Variable));
     };
+    let is_large = extent.nodes == TOO_MANY || extent.references == TOO_LINKED;
     let is_deep = extent.is_deep || depth(tree) == TOO_DEEP;
     Ok(first_of(&[
-        if_so(extent.nodes == TOO_MANY, DocFault::Size),
+        if_so(is_large, DocFault::Size),
         if_so(is_deep, DocFault::Depth),
         if_so(!extent.is_typed, DocFault::Type),
     ]))

@@ -4,7 +4,7 @@ ghost use Rattle.std.specs.Prelude.{◌≡◌, IfOk};
 ghost use Rattle.ent_policy.specs.Key.{key_of};
 
 use crate::expression::{Expression, VariableDefinition};
-use crate::key::{DocKey, Kind};
+use crate::key::{DocKey, Kind, Reference};
 use crate::version::Version;
 use ent_combine::{PolicyAlg, RuleAlg};
 use ent_functions::Function;
@@ -13,14 +13,14 @@ use std::alloc::{AllocError, Global};
 use std::marker::Model;
 
 /// What a rule gives where it applies (section 5.22).
-#[derive(Clone, Copy, Debug, PartialEq, Eq)]
+#[derive(Clone, Copy, PartialEq, Eq)]
 pub enum Effect {
     Permit,
     Deny,
 }
 
 /// Names the values of an attribute (section 5.29).
-#[derive(Debug, PartialEq, Eq, Drop)]
+#[derive(PartialEq, Eq, Drop)]
 pub struct Designator {
     pub category: Text,
     pub attribute: Text,
@@ -32,7 +32,7 @@ pub struct Designator {
 }
 
 /// A test of a literal against each value of an attribute (section 5.9).
-#[derive(Debug, PartialEq, Eq, Drop)]
+#[derive(PartialEq, Eq, Drop)]
 pub struct Match {
     pub function: Function,
     pub literal: Value,
@@ -40,25 +40,25 @@ pub struct Match {
 }
 
 /// Matches all of which must be true (section 5.8).
-#[derive(Debug, PartialEq, Eq, Drop)]
+#[derive(PartialEq, Eq, Drop)]
 pub struct AllOf {
     pub matches: Items<Match>,
 }
 
 /// Alternatives of which one must match (section 5.7).
-#[derive(Debug, PartialEq, Eq, Drop)]
+#[derive(PartialEq, Eq, Drop)]
 pub struct AnyOf {
     pub all_of: Items<AllOf>,
 }
 
 /// The requests that a rule or a policy is meant for (section 5.6). An empty target matches every request.
-#[derive(Debug, PartialEq, Eq, Drop)]
+#[derive(PartialEq, Eq, Drop)]
 pub struct Target {
     pub any_of: Items<AnyOf>,
 }
 
 /// A rule (section 5.21).
-#[derive(Debug, PartialEq, Eq, Drop)]
+#[derive(PartialEq, Eq, Drop)]
 pub struct Rule {
     pub id: Text,
     pub effect: Effect,
@@ -68,7 +68,7 @@ pub struct Rule {
 }
 
 /// A policy (section 5.14).
-#[derive(Debug, PartialEq, Eq, Drop)]
+#[derive(PartialEq, Eq, Drop)]
 pub struct Policy {
     pub id: Text,
     pub version: Version,
@@ -80,18 +80,26 @@ pub struct Policy {
 
 /// A policy set (section 5.1).
 #[cycle(tree)]
-#[derive(Debug, PartialEq, Eq, Drop)]
+#[derive(PartialEq, Eq, Drop)]
 pub struct PolicySet {
     pub id: Text,
     pub version: Version,
     pub algorithm: PolicyAlg,
     pub target: Target,
-    pub children: Items<Tree>,
+    pub children: Items<Child>,
+}
+
+/// A child of a policy set: a policy, a set, or a reference to a stored document.
+#[cycle(tree)]
+#[derive(PartialEq, Eq, Drop)]
+pub enum Child {
+    Policy(Policy),
+    Set(PolicySet),
+    Reference(Reference),
 }
 
 /// A policy or a policy set.
-#[cycle(tree)]
-#[derive(Debug, PartialEq, Eq, Drop)]
+#[derive(PartialEq, Eq, Drop)]
 pub enum Tree {
     Policy(Policy),
     Set(PolicySet),
@@ -99,7 +107,7 @@ pub enum Tree {
 
 /// A document that can be stored and evaluated. Only the checker makes one. `==` says whether two documents are equal: it takes no
 /// memory, and looks at no more than the smaller of the two.
-#[derive(Debug, Drop)]
+#[derive(Drop)]
 pub struct Document {
     tree: Tree,
 }
@@ -141,6 +149,7 @@ impl Eq for Document {
 impl Document {
     ghost use Rattle.std.specs.Prelude.{None, true};
     ghost use Rattle.ent_policy.specs.Check.{IsChecked, tree_fault};
+    ghost use Rattle.ent_policy.specs.Children.{as_child};
     ghost use Rattle.ent_policy.specs.Typing.{is_typed};
 
     pub(crate) fn new(tree: Tree) -> Document
@@ -156,7 +165,7 @@ impl Document {
         ensures same { result.now ≡ self.now }
         ensures checked { IsChecked result.now }
         ensures sound { tree_fault result.now ≡ None }
-        ensures typed { is_typed result.now ≡ true }
+        ensures typed { is_typed (as_child result.now) ≡ true }
     {
         &self.tree
     }

@@ -5,7 +5,7 @@ use ent_functions::Function;
 use ent_values::{Items, Text, Value};
 
 /// What a condition computes (section 5.25).
-#[derive(Debug, PartialEq, Eq, Drop)]
+#[derive(PartialEq, Eq, Drop)]
 pub enum Expression {
     /// A literal (section 5.31).
     Value(Value),
@@ -20,7 +20,7 @@ pub enum Expression {
 }
 
 /// A name for an expression within one policy (section 5.23).
-#[derive(Debug, PartialEq, Eq, Drop)]
+#[derive(PartialEq, Eq, Drop)]
 pub struct VariableDefinition {
     pub id: Text,
     pub expression: Expression,

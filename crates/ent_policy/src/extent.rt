@@ -1,28 +1,35 @@
-//! What stands in policies and sets: how many nodes, whether an expression is too deep, and whether each has its type.
+//! What stands in policies and sets: how many nodes and references, whether an expression is too deep, and whether each has its type.
 
 ghost use Rattle.std.specs.Prelude.{◌≡◌, IfOk, map, min};
+ghost use Rattle.ent_policy.specs.Children.{as_child};
+ghost use Rattle.ent_policy.specs.declared.document.Child.TheVariants.{Set};
 ghost use Rattle.ent_policy.specs.Depths.{depth, greatest};
 ghost use Rattle.ent_policy.specs.Measure.{IsExtentOf, IsExtentOfAll, IsExtentOfPolicy, condition_extent, definition_extent, found, rule_extent, target_extent, together, whole};
 
-use crate::document::{AllOf, AnyOf, Match, Policy, Rule, Target, Tree};
+use crate::document::{AllOf, AnyOf, Child, Match, Policy, PolicySet, Rule, Target, Tree};
 use crate::expression::{Expression, VariableDefinition};
 use crate::measure::{Measured, TOO_DEEP, added, deeper, held, is_boolean, measure, table};
 use ent_functions::ArgType;
 use std::alloc::{AllocError, Global};
 use std::collections::BTreeMap;
 
-/// What stands in a part of a document: its nodes up to `TOO_MANY`, whether an expression is too deep, and whether each expression
-/// has its type.
+/// What stands in a part of a document: its nodes up to `TOO_MANY`, its references up to `TOO_LINKED`, whether an expression is too
+/// deep, and whether each expression has its type.
 #[derive(Clone, Copy, Drop)]
 pub(crate) struct Extent {
     pub(crate) nodes: usize,
+    pub(crate) references: usize,
     pub(crate) is_deep: bool,
     pub(crate) is_typed: bool,
 }
 
+/// References are counted up to this number, which is one more than a document may have.
+pub(crate) const TOO_LINKED: usize = 33;
+
 /// Nothing.
 const NOTHING: Extent = Extent {
     nodes: 0,
+    references: 0,
     is_deep: false,
     is_typed: true,
 };
@@ -34,6 +41,10 @@ impl Extent {
     {
         Extent {
             nodes: added(self.nodes, other.nodes),
+            references: self
+                .references
+                .saturating_add(other.references)
+                .min(TOO_LINKED),
             is_deep: self.is_deep || other.is_deep,
             is_typed: self.is_typed && other.is_typed,
         }
@@ -76,6 +87,7 @@ impl Extended for Match {
         ];
         Extent {
             nodes: 2,
+            references: 0,
             is_deep: false,
             is_typed: is_boolean(self.function.result_type(given.as_slice())),
         }
@@ -119,6 +131,7 @@ fn definition_extent(
     let one = measure(alloc, table, &definition.expression)?;
     Ok(Extent {
         nodes: one.nodes,
+        references: 0,
         is_deep: one.depth == TOO_DEEP,
         is_typed: held(one.datatype).is_some(),
     })
@@ -151,6 +164,7 @@ fn condition_extent(
             let one = measure(alloc, table, expression)?;
             Ok(Extent {
                 nodes: one.nodes,
+                references: 0,
                 is_deep: one.depth == TOO_DEEP,
                 is_typed: is_boolean(one.datatype),
             })
@@ -187,30 +201,51 @@ fn policy_extent(alloc: Global, policy: &Policy) -> Result<Option<Extent>, Alloc
 }
 
 /// What stands in a document; or `None`, if a variable of a policy is defined twice, not at all, or through itself.
-#[cycle(tree)]
-#[tactic(auto, using(crate::proofs::Extents::extent_of_policy, crate::proofs::Extents::bad_set, crate::proofs::Extents::set_whole))]
 pub(crate) fn extent_of(alloc: Global, tree: &Tree) -> Result<Option<Extent>, AllocError>
-    ensures { IfOk result (λ found. IsExtentOf tree.now found) }
+    ensures { IfOk result (λ found. IsExtentOf (as_child tree.now) found) }
 {
     match tree {
         Tree::Policy(policy) => policy_extent(alloc, policy),
-        Tree::Set(set) => {
-            let Some(children) = extent_of_children(alloc, set.children.as_slice())? else {
-                return Ok(None);
-            };
-            Ok(Some(target_extent(&set.target).and(children)))
+        Tree::Set(set) => set_extent(alloc, set),
+    }
+}
+
+/// What stands in a child of a set.
+#[cycle(child)]
+fn child_extent(alloc: Global, child: &Child) -> Result<Option<Extent>, AllocError>
+    ensures { IfOk result (λ found. IsExtentOf child.now found) }
+{
+    match child {
+        Child::Policy(policy) => policy_extent(alloc, policy),
+        Child::Set(set) => set_extent(alloc, set),
+        Child::Reference(_) => {
+            let mut one = NOTHING;
+            one.references = 1;
+            Ok(Some(one))
         }
     }
 }
 
+/// What stands in a set.
+#[cycle(child)]
+#[tactic(auto, using(crate::proofs::Extents::bad_set, crate::proofs::Extents::set_whole))]
+fn set_extent(alloc: Global, set: &PolicySet) -> Result<Option<Extent>, AllocError>
+    ensures { IfOk result (λ found. IsExtentOf (Set set.now) found) }
+{
+    let Some(children) = extent_of_children(alloc, set.children.as_slice())? else {
+        return Ok(None);
+    };
+    Ok(Some(target_extent(&set.target).and(children)))
+}
+
 /// What stands in the children of a set.
-#[cycle(tree)]
-fn extent_of_children(alloc: Global, children: &[Tree]) -> Result<Option<Extent>, AllocError>
+#[cycle(child)]
+fn extent_of_children(alloc: Global, children: &[Child]) -> Result<Option<Extent>, AllocError>
     ensures { IfOk result (λ found. IsExtentOfAll children.now found) }
 {
     let mut all = NOTHING;
     for child in children {
-        match extent_of(alloc, child)? {
+        match child_extent(alloc, child)? {
             None => return Ok(None),
             Some(one) => all = all.and(one),
         }
@@ -218,26 +253,42 @@ fn extent_of_children(alloc: Global, children: &[Tree]) -> Result<Option<Extent>
     Ok(Some(all))
 }
 
-/// How deep policy sets stand in each other, up to `TOO_DEEP`.
-#[cycle(depth)]
-#[tactic(auto, using(crate::proofs::Extents::depth_of_set))]
+/// How deep policy sets stand in each other in a document, up to `TOO_DEEP`.
 pub(crate) fn depth(tree: &Tree) -> usize
-    ensures { result ≡ min 17 (depth tree.now) }
+    ensures { result ≡ min 17 (depth (as_child tree.now)) }
 {
     match tree {
         Tree::Policy(_) => 1,
-        Tree::Set(set) => deeper(greatest_depth(set.children.as_slice())),
+        Tree::Set(set) => set_depth(set),
     }
 }
 
-/// The depth of the deepest of some documents, up to `TOO_DEEP`.
 #[cycle(depth)]
-fn greatest_depth(trees: &[Tree]) -> usize
-    ensures { result ≡ min 17 (greatest (map depth trees.now)) }
+fn child_depth(child: &Child) -> usize
+    ensures { result ≡ min 17 (depth child.now) }
+{
+    match child {
+        Child::Policy(_) | Child::Reference(_) => 1,
+        Child::Set(set) => set_depth(set),
+    }
+}
+
+#[cycle(depth)]
+#[tactic(auto, using(crate::proofs::Extents::depth_of_set))]
+fn set_depth(set: &PolicySet) -> usize
+    ensures { result ≡ min 17 (depth (Set set.now)) }
+{
+    deeper(greatest_depth(set.children.as_slice()))
+}
+
+/// The depth of the deepest of some children, up to `TOO_DEEP`.
+#[cycle(depth)]
+fn greatest_depth(children: &[Child]) -> usize
+    ensures { result ≡ min 17 (greatest (map depth children.now)) }
 {
     let mut most = 0;
-    for tree in trees {
-        most = depth(tree).max(most);
+    for child in children {
+        most = child_depth(child).max(most);
     }
     most
 }

@@ -13,7 +13,7 @@ pub enum DocFault {
     Form,
     #[error("an identifier is empty or has more than 256 bytes, or two rules of a policy have the same one")]
     Identifier,
-    #[error("a version isn't 1 to 8 numbers of at most 9 digits, with dots between them")]
+    #[error("a version isn't 1 to 8 numbers of at most 9 digits with dots between them, or a version pattern can't be read")]
     Version,
     #[error("a rule or policy combining algorithm is unknown")]
     Algorithm,
@@ -21,7 +21,7 @@ pub enum DocFault {
     Function,
     #[error("a variable is defined twice, not at all, or through itself")]
     Variable,
-    #[error("a list has more than 256 members, or the document has more than 65,536 expressions")]
+    #[error("a list has more than 256 members, or the document more than 65,536 expressions or 32 references")]
     Size,
     #[error("expressions or policy sets nest more than 16 deep")]
     Depth,

@@ -3,6 +3,7 @@
 ghost use Rattle.std.specs.Prelude.{◌≡◌, IfOk};
 
 use crate::name::Name;
+use crate::pattern::VersionConstraints;
 use crate::version::Version;
 use ent_values::Text;
 use std::alloc::{AllocError, Global};
@@ -29,18 +30,19 @@ impl Kind {
 }
 
 /// The name under which a document is stored. Keys order by kind, id and version.
-#[derive(Debug, PartialEq, Eq, PartialOrd, Ord, Drop)]
+#[derive(PartialEq, Eq, PartialOrd, Ord, Drop)]
 pub struct DocKey {
     pub kind: Kind,
     pub id: Text,
     pub version: Version,
 }
 
-/// Names a stored document: of that kind and id the most recent version (sections 5.10 and 5.11).
-#[derive(Debug, PartialEq, Eq, PartialOrd, Ord, Drop)]
+/// Names a stored document: of that kind and id the most recent version that meets the constraints (sections 5.10 and 5.11).
+#[derive(PartialEq, Eq, PartialOrd, Ord, Drop)]
 pub struct Reference {
     pub kind: Kind,
     pub id: Name,
+    pub constraints: VersionConstraints,
 }
 
 impl DocKey {
@@ -57,18 +59,6 @@ impl DocKey {
 }
 
 impl Reference {
-    ghost use Rattle.ent_policy.specs.Key.{reference_to};
-
-    /// The reference, unless the id is empty or has more than 256 bytes.
-    pub fn new(kind: Kind, id: Text) -> Option<Reference>
-        ensures { result ≡ reference_to kind id }
-    {
-        Some(Reference {
-            kind,
-            id: Name::new(id)?,
-        })
-    }
-
     /// An equal reference.
     pub fn copy(&self, alloc: Global) -> Result<Reference, AllocError>
         ensures { IfOk result (λ r. r ≡ self.now) }
@@ -76,6 +66,7 @@ impl Reference {
         Ok(Reference {
             kind: self.kind,
             id: self.id.copy(alloc)?,
+            constraints: self.constraints.copy(),
         })
     }
 }

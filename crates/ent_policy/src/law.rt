@@ -2,14 +2,15 @@
 
 ghost use Rattle.std.specs.Prelude.{ℕ, Option};
 ghost use Rattle.ent_functions.specs.declared.types.ArgType.{ArgType};
-ghost use Rattle.ent_policy.specs.Same.{SameDocumentsAreEqual, SameKeysAreEqual, SameKindsAreEqual, SameReferencesAreEqual, SameVersionsAreEqual};
+ghost use Rattle.ent_policy.specs.Same.{SameDocumentsAreEqual, SameKeysAreEqual, SameKindsAreEqual, SamePatternsAreEqual, SameReferencesAreEqual, SameVersionsAreEqual};
 ghost use Rattle.ent_policy.specs.Variables.{MoreReferencesChangeNothing};
 
-/// A law, with nothing to run: `==` of two kinds, of two versions, of two keys, of two references and of two documents says
-/// whether they are equal.
+/// A law, with nothing to run: `==` of two kinds, of two versions, of two version patterns, of two keys, of two references and of
+/// two documents says whether they are equal.
 pub fn same_is_equal()
     ensures kinds { SameKindsAreEqual }
     ensures versions { SameVersionsAreEqual }
+    ensures patterns { SamePatternsAreEqual }
     ensures keys { SameKeysAreEqual }
     ensures references { SameReferencesAreEqual }
     ensures documents { SameDocumentsAreEqual }

@@ -13,15 +13,16 @@ mod limits;
 mod literals;
 mod measure;
 mod name;
+mod pattern;
 mod raw;
 mod read;
 mod reading;
 mod variables;
 mod version;
 
-pub use checker::check;
+pub use checker::{check, check_reference};
 pub use document::{
-    AllOf, AnyOf, Designator, Document, Effect, Match, Policy, PolicySet, Rule, Target, Tree,
+    AllOf, AnyOf, Child, Designator, Document, Effect, Match, Policy, PolicySet, Rule, Target, Tree,
 };
 pub use expression::{Expression, VariableDefinition};
 pub use fault::{CheckFault, DocFault};
@@ -29,8 +30,11 @@ pub use key::{DocKey, Kind, Reference};
 pub use law::{more_references_change_nothing, same_is_equal};
 pub use literals::{boolean_as, integer_as};
 pub use name::Name;
+pub use pattern::{
+    PatternPart, VersionConstraints, VersionMatch, pattern_text_reads_back, what_a_pattern_accepts,
+};
 pub use raw::{
-    RawAllOf, RawAnyOf, RawDesignator, RawDocument, RawExpression, RawLiteral, RawMatch, RawPolicy,
-    RawPolicySet, RawRule, RawTarget, RawValue, RawVariableDefinition,
+    RawAllOf, RawAnyOf, RawChild, RawDesignator, RawDocument, RawExpression, RawLiteral, RawMatch,
+    RawPolicy, RawPolicySet, RawReference, RawRule, RawTarget, RawValue, RawVariableDefinition,
 };
 pub use version::{Version, text_reads_back};

@@ -1,10 +1,15 @@
 //! The limits of a document's parts: lengths of names and lists, and names that stand twice.
 
 ghost use Rattle.std.specs.Prelude.{◌≡◌, IfOk, length, map};
+ghost use Rattle.ent_policy.specs.Children.{as_child};
 ghost use Rattle.ent_policy.specs.First.{first_of};
-ghost use Rattle.ent_policy.specs.Limits.{designator_fault, expression_fault, filled_fault, has_double, is_bad_name, length_fault, limit_fault, maybe_fault, name_fault, policy_fault, target_fault};
+ghost use Rattle.ent_policy.specs.Names.{is_bad_name};
+ghost use Rattle.ent_policy.specs.Limits.{designator_fault, expression_fault, filled_fault, has_double, length_fault, limit_fault, maybe_fault, name_fault, policy_fault, target_fault};
+ghost use Rattle.ent_policy.specs.declared.document.Child.TheVariants.{Set};
 
-use crate::document::{AllOf, AnyOf, Designator, Match, Policy, Rule, Target, Tree};
+use crate::document::{
+    AllOf, AnyOf, Child, Designator, Match, Policy, PolicySet, Rule, Target, Tree,
+};
 use crate::expression::{Expression, VariableDefinition};
 use crate::fault::DocFault;
 use crate::first::{earlier, first_of, if_so};
@@ -213,33 +218,49 @@ fn policy_fault(alloc: Global, policy: &Policy) -> Result<Option<DocFault>, Allo
 }
 
 /// The first limit that is exceeded in a document.
-#[cycle(tree)]
-#[tactic(auto, using(crate::proofs::Exceeded::limits_of_set))]
 pub(crate) fn limit_fault(alloc: Global, tree: &Tree) -> Result<Option<DocFault>, AllocError>
-    ensures { IfOk result (λ f. f ≡ limit_fault tree.now) }
+    ensures { IfOk result (λ f. f ≡ limit_fault (as_child tree.now)) }
 {
     match tree {
         Tree::Policy(policy) => policy_fault(alloc, policy),
-        Tree::Set(set) => {
-            let children = set.children.as_slice();
-            let inside = child_fault(alloc, children)?;
-            Ok(first_of(&[
-                name_fault(set.id.as_str()),
-                length_fault(children),
-                target_fault(&set.target),
-                inside,
-            ]))
-        }
+        Tree::Set(set) => set_fault(alloc, set),
     }
 }
 
-#[cycle(tree)]
-fn child_fault(alloc: Global, children: &[Tree]) -> Result<Option<DocFault>, AllocError>
+/// The first limit that is exceeded in a child of a set. The identifier of a reference is a name.
+#[cycle(child)]
+fn child_fault(alloc: Global, child: &Child) -> Result<Option<DocFault>, AllocError>
+    ensures { IfOk result (λ f. f ≡ limit_fault child.now) }
+{
+    match child {
+        Child::Policy(policy) => policy_fault(alloc, policy),
+        Child::Set(set) => set_fault(alloc, set),
+        Child::Reference(_) => Ok(None),
+    }
+}
+
+#[cycle(child)]
+#[tactic(auto, using(crate::proofs::Exceeded::limits_of_set))]
+fn set_fault(alloc: Global, set: &PolicySet) -> Result<Option<DocFault>, AllocError>
+    ensures { IfOk result (λ f. f ≡ limit_fault (Set set.now)) }
+{
+    let children = set.children.as_slice();
+    let inside = fault_in_children(alloc, children)?;
+    Ok(first_of(&[
+        name_fault(set.id.as_str()),
+        length_fault(children),
+        target_fault(&set.target),
+        inside,
+    ]))
+}
+
+#[cycle(child)]
+fn fault_in_children(alloc: Global, children: &[Child]) -> Result<Option<DocFault>, AllocError>
     ensures { IfOk result (λ f. f ≡ first_of (map limit_fault children.now)) }
 {
     let mut first = None;
     for child in children {
-        first = earlier(first, limit_fault(alloc, child)?);
+        first = earlier(first, child_fault(alloc, child)?);
     }
     Ok(first)
 }

@@ -1,10 +1,10 @@
 //! Identifiers.
 
-ghost use Rattle.std.specs.Prelude.{◌≡◌, IfOk, Some, nat_eq, refl};
+ghost use Rattle.std.specs.Prelude.{◌≡◌, IfOk, Some, codes, nat_eq, refl};
 ghost use Rattle.std.specs.Cmp as Cmp;
 ghost use Rattle.std.specs.Cmp.Lexicographic.{nat_list_cmp_total, nat_list_eq_equiv, pointwise, slice_cmp, texts_po, texts_ties};
 ghost use Rattle.std.specs.Ordering.{nat_cmp};
-ghost use Rattle.ent_policy.specs.Limits.{name_of};
+ghost use Rattle.ent_policy.specs.Names.{name_of};
 
 use crate::limits::is_bad_name;
 use ent_values::Text;
@@ -13,14 +13,14 @@ use std::cmp::Ordering;
 use std::marker::Model;
 
 /// An identifier: a text of 1 to 256 bytes. Names order by their bytes.
-#[derive(Debug, Drop)]
+#[derive(Drop)]
 pub struct Name {
     text: Text,
 }
 
 impl Model for Name {
     ghost use Rattle.std.specs.Prelude.{◌≡◌, List, false, ℕ};
-    ghost use Rattle.ent_policy.specs.Limits.{is_bad_name};
+    ghost use Rattle.ent_policy.specs.Names.{is_bad_name};
 
     ghost Value = { List ℕ };
 
@@ -38,6 +38,15 @@ impl Name {
             return None;
         }
         Some(Name { text })
+    }
+
+    /// The name `-`.
+    pub(crate) fn dash(alloc: Global) -> Result<Name, AllocError>
+        ensures { IfOk result (λ n. n ≡ codes "-") }
+    {
+        Ok(Name {
+            text: Text::from_str(alloc, "-")?,
+        })
     }
 
     /// The name as a `&str`.

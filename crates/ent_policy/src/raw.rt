@@ -1,10 +1,11 @@
 //! Documents as they are read, before they are checked.
 
 use crate::document::Effect;
+use crate::key::Kind;
 use ent_values::{Items, Text};
 
 /// A literal as read: a JSON text, boolean or number.
-#[derive(Debug, Drop)]
+#[derive(Drop)]
 pub enum RawLiteral {
     Text(Text),
     Boolean(bool),
@@ -12,14 +13,14 @@ pub enum RawLiteral {
 }
 
 /// A value as read: its type by name, if it is given, and its literal.
-#[derive(Debug, Drop)]
+#[derive(Drop)]
 pub struct RawValue {
     pub datatype: Option<Text>,
     pub literal: RawLiteral,
 }
 
 /// Names the values of an attribute, as read: its type by name.
-#[derive(Debug, Drop)]
+#[derive(Drop)]
 pub struct RawDesignator {
     pub category: Text,
     pub attribute: Text,
@@ -29,7 +30,7 @@ pub struct RawDesignator {
 }
 
 /// An expression as read: functions by their identifiers.
-#[derive(Debug, Drop)]
+#[derive(Drop)]
 pub enum RawExpression {
     Value(RawValue),
     Designator(RawDesignator),
@@ -39,14 +40,14 @@ pub enum RawExpression {
 }
 
 /// A variable as read.
-#[derive(Debug, Drop)]
+#[derive(Drop)]
 pub struct RawVariableDefinition {
     pub id: Text,
     pub expression: RawExpression,
 }
 
 /// A match as read: the function by its identifier.
-#[derive(Debug, Drop)]
+#[derive(Drop)]
 pub struct RawMatch {
     pub function: Text,
     pub literal: RawValue,
@@ -54,25 +55,25 @@ pub struct RawMatch {
 }
 
 /// Matches all of which must be true, as read.
-#[derive(Debug, Drop)]
+#[derive(Drop)]
 pub struct RawAllOf {
     pub matches: Items<RawMatch>,
 }
 
 /// Alternatives of which one must match, as read.
-#[derive(Debug, Drop)]
+#[derive(Drop)]
 pub struct RawAnyOf {
     pub all_of: Items<RawAllOf>,
 }
 
 /// A target as read.
-#[derive(Debug, Drop)]
+#[derive(Drop)]
 pub struct RawTarget {
     pub any_of: Items<RawAnyOf>,
 }
 
 /// A rule as read.
-#[derive(Debug, Drop)]
+#[derive(Drop)]
 pub struct RawRule {
     pub id: Text,
     pub effect: Effect,
@@ -81,7 +82,7 @@ pub struct RawRule {
 }
 
 /// A policy as read: version and algorithm by their texts.
-#[derive(Debug, Drop)]
+#[derive(Drop)]
 pub struct RawPolicy {
     pub id: Text,
     pub version: Text,
@@ -91,20 +92,38 @@ pub struct RawPolicy {
     pub rules: Items<RawRule>,
 }
 
+/// A reference as read: its id and its version patterns by their texts.
+#[derive(Drop)]
+pub struct RawReference {
+    pub kind: Kind,
+    pub id: Text,
+    pub version: Option<Text>,
+    pub earliest: Option<Text>,
+    pub latest: Option<Text>,
+}
+
 /// A policy set as read: version and algorithm by their texts.
 #[cycle(raw)]
-#[derive(Debug, Drop)]
+#[derive(Drop)]
 pub struct RawPolicySet {
     pub id: Text,
     pub version: Text,
     pub algorithm: Text,
     pub target: RawTarget,
-    pub children: Items<RawDocument>,
+    pub children: Items<RawChild>,
+}
+
+/// A child of a policy set, as read.
+#[cycle(raw)]
+#[derive(Drop)]
+pub enum RawChild {
+    Policy(RawPolicy),
+    Set(RawPolicySet),
+    Reference(RawReference),
 }
 
 /// A document as read. Its form is right, but nothing else is known of it.
-#[cycle(raw)]
-#[derive(Debug, Drop)]
+#[derive(Drop)]
 pub enum RawDocument {
     Policy(RawPolicy),
     Set(RawPolicySet),

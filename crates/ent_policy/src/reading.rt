@@ -1,16 +1,23 @@
 //! From the parts of a document as read to those that are stored.
 
-ghost use Rattle.std.specs.Prelude.{◌≡◌, IfOk};
-ghost use Rattle.ent_policy.specs.Reading.{apply_read, designator_read, document_read, each_read, expression_read, function_read, maybe_read, policy_algorithm_read, policy_read, rule_algorithm_read, set_read, target_read, version_read};
+ghost use Rattle.std.specs.Prelude.{◌≡◌, IfOk, codes};
+ghost use Rattle.ent_policy.specs.Names.{name_of};
+ghost use Rattle.ent_policy.specs.declared.fault.DocFault.TheVariants.{Identifier};
+ghost use Rattle.ent_policy.specs.Reading.{apply_read, designator_read, child_read, constraints_read, document_read, each_read, expression_read, function_read, known, maybe_read, pattern_read, policy_algorithm_read, policy_read, reference_read, rule_algorithm_read, set_read, target_read, version_read};
 
-use crate::document::{AllOf, AnyOf, Designator, Match, Policy, PolicySet, Rule, Target, Tree};
+use crate::document::{
+    AllOf, AnyOf, Child, Designator, Match, Policy, PolicySet, Rule, Target, Tree,
+};
 use crate::expression::{Expression, VariableDefinition};
 use crate::fault::DocFault;
 use crate::first::{earlier, first_of};
+use crate::key::Reference;
 use crate::literals::value;
+use crate::name::Name;
+use crate::pattern::{PatternPart, VersionConstraints, VersionMatch};
 use crate::raw::{
-    RawAllOf, RawAnyOf, RawDesignator, RawDocument, RawExpression, RawMatch, RawPolicy,
-    RawPolicySet, RawRule, RawTarget, RawVariableDefinition,
+    RawAllOf, RawAnyOf, RawChild, RawDesignator, RawDocument, RawExpression, RawMatch, RawPolicy,
+    RawPolicySet, RawReference, RawRule, RawTarget, RawVariableDefinition,
 };
 use crate::read::{Read, Readable, done, each, known, made};
 use crate::version::Version;
@@ -264,9 +271,73 @@ fn policy(alloc: Global, raw: RawPolicy) -> Result<Read<Policy>, AllocError>
     })
 }
 
+fn pattern(text: &str) -> Read<VersionMatch>
+    ensures { result ≡ pattern_read text.now }
+{
+    known(
+        VersionMatch::any(),
+        DocFault::Version,
+        VersionMatch::parse(text),
+    )
+}
+
+fn maybe_pattern(text: &Option<Text>) -> Read<Option<VersionMatch>>
+    ensures { result ≡ maybe_read pattern_read text.now }
+{
+    match text {
+        None => done(None),
+        Some(text) => made(pattern(text.as_str()), |pattern| Some(pattern)),
+    }
+}
+
+#[tactic(auto, unfolding(crate::specs::Reading::constraints_read))]
+fn constraints(raw: &RawReference) -> Read<VersionConstraints>
+    ensures { result ≡ constraints_read raw.now }
+{
+    let version = maybe_pattern(&raw.version);
+    let earliest = maybe_pattern(&raw.earliest);
+    let latest = maybe_pattern(&raw.latest);
+    Read {
+        fault: first_of(&[version.fault, earliest.fault, latest.fault]),
+        value: VersionConstraints {
+            version: version.value,
+            earliest: earliest.value,
+            latest: latest.value,
+        },
+    }
+}
+
+/// The name, or a stand-in.
+fn name(alloc: Global, id: Text) -> Result<Read<Name>, AllocError>
+    ensures { IfOk result (λ r. r ≡ known (codes "-") Identifier (name_of id)) }
+{
+    match Name::new(id) {
+        None => Ok(Read {
+            value: Name::dash(alloc)?,
+            fault: Some(DocFault::Identifier),
+        }),
+        Some(name) => Ok(done(name)),
+    }
+}
+
+/// A reference.
+#[tactic(auto, unfolding(crate::specs::Reading::reference_read))]
+pub(crate) fn reference(alloc: Global, raw: RawReference) -> Result<Read<Reference>, AllocError>
+    ensures { IfOk result (λ r. r ≡ reference_read raw) }
+{
+    let constraints = constraints(&raw);
+    let id = name(alloc, raw.id)?;
+    Ok(Read {
+        fault: first_of(&[id.fault, constraints.fault]),
+        value: Reference {
+            kind: raw.kind,
+            id: id.value,
+            constraints: constraints.value,
+        },
+    })
+}
+
 /// A document.
-#[cycle(document)]
-#[tactic(auto, using(crate::proofs::WhatIsRead::set_is_read))]
 pub(crate) fn document(alloc: Global, raw: RawDocument) -> Result<Read<Tree>, AllocError>
     ensures { IfOk result (λ r. r ≡ document_read raw) }
 {
@@ -276,8 +347,26 @@ pub(crate) fn document(alloc: Global, raw: RawDocument) -> Result<Read<Tree>, Al
     }
 }
 
+/// A child of a set.
+#[cycle(child)]
+#[tactic(auto, using(crate::proofs::WhatIsRead::set_is_read))]
+fn child(alloc: Global, raw: RawChild) -> Result<Read<Child>, AllocError>
+    ensures { IfOk result (λ r. r ≡ child_read raw) }
+{
+    match raw {
+        RawChild::Policy(raw) => Ok(made(policy(alloc, raw)?, |policy| Child::Policy(policy))),
+        RawChild::Set(raw) => Ok(made(set(alloc, raw)?, |set| Child::Set(set))),
+        RawChild::Reference(raw) => {
+            Ok(made(
+                reference(alloc, raw)?,
+                |reference| Child::Reference(reference),
+            ))
+        }
+    }
+}
+
 /// A set.
-#[cycle(document)]
+#[cycle(child)]
 #[tactic(auto, unfolding(crate::specs::Reading::set_read))]
 fn set(alloc: Global, raw: RawPolicySet) -> Result<Read<PolicySet>, AllocError>
     ensures { IfOk result (λ r. r ≡ set_read raw) }
@@ -285,7 +374,7 @@ fn set(alloc: Global, raw: RawPolicySet) -> Result<Read<PolicySet>, AllocError>
     let version = version(raw.version.as_str());
     let algorithm = policy_algorithm(raw.algorithm.as_str());
     let target = target(alloc, raw.target)?;
-    let children = documents(alloc, raw.children)?;
+    let children = children(alloc, raw.children)?;
     Ok(Read {
         fault: first_of(&[version.fault, algorithm.fault, target.fault, children.fault]),
         value: PolicySet {
@@ -299,9 +388,9 @@ fn set(alloc: Global, raw: RawPolicySet) -> Result<Read<PolicySet>, AllocError>
 }
 
 /// The children of a set.
-#[cycle(document)]
-fn documents(alloc: Global, raw: Items<RawDocument>) -> Result<Read<Items<Tree>>, AllocError>
-    ensures { IfOk result (λ r. r ≡ each_read document_read raw) }
+#[cycle(child)]
+fn children(alloc: Global, raw: Items<RawChild>) -> Result<Read<Items<Child>>, AllocError>
+    ensures { IfOk result (λ r. r ≡ each_read child_read raw) }
 {
     let mut value = Items::with_capacity(alloc, raw.len())?;
     let mut fault = None;
@@ -309,7 +398,7 @@ fn documents(alloc: Global, raw: Items<RawDocument>) -> Result<Read<Items<Tree>>
         let Read {
             value: one,
             fault: found,
-        } = document(alloc, part)?;
+        } = child(alloc, part)?;
         value.push(one)?;
         fault = earlier(fault, found);
     }

@@ -1,12 +1,13 @@
 //! Versions of policies.
 
-ghost use Rattle.std.specs.Prelude.{◌≡◌, ◌∷◌, [], IfOk, Some, nat_eq, refl, string_bytes};
+ghost use Rattle.std.specs.Prelude.{◌≡◌, ◌∷◌, [], ◌++◌, IfOk, MatchOption, None, OnOk, Some, map, nat_eq, refl, string_bytes};
 ghost use Rattle.std.specs.Cmp as Cmp;
 ghost use Rattle.std.specs.Cmp.Lexicographic.{nat_list_cmp_total, nat_list_eq_equiv, pointwise, slice_cmp, texts_po, texts_ties};
 ghost use Rattle.std.specs.Ordering.{nat_cmp};
 ghost use Rattle.std.specs.Char.{is_ascii_digit};
-ghost use Rattle.std.specs.List.{list_all};
-ghost use Rattle.ent_policy.specs.Versions.{dotted, is_number, number_of, version_of, version_text, TextReadsBack};
+ghost use Rattle.std.specs.Fmt.{decimal};
+ghost use Rattle.std.specs.List.{join_with_byte, list_all};
+ghost use Rattle.ent_policy.specs.Versions.{behind_dot, dotted_of, is_number, number_of, version_of, version_text, IsSpelledBy, TextReadsBack};
 
 use ent_values::Text;
 use std::alloc::{AllocError, Global};
@@ -16,7 +17,7 @@ use std::marker::Model;
 /// The version of a policy or a policy set (section 5.12): 1 to 8 numbers, each of at most 9 digits.
 ///
 /// Versions compare number by number, and one that another begins with is the earlier of the two.
-#[derive(Debug, Drop)]
+#[derive(Drop)]
 pub struct Version {
     numbers: [u32; 8],
     count: usize,
@@ -48,7 +49,7 @@ fn is_number(piece: &str) -> bool
 }
 
 /// The value of 1 to 9 decimal digits.
-fn number(piece: &str) -> Option<u32>
+pub(crate) fn number(piece: &str) -> Option<u32>
     ensures { result ≡ number_of piece.now }
 {
     if !is_number(piece) {
@@ -57,14 +58,73 @@ fn number(piece: &str) -> Option<u32>
     piece.parse::<u32>().ok()
 }
 
-/// A number in decimal, behind a dot unless it is the first.
-fn dotted(alloc: Global, place: usize, number: u32) -> Result<String, AllocError>
-    ensures { IfOk result (λ s. string_bytes s ≡ dotted place number) }
-{
-    if place == 0 {
-        return format!(in alloc; "{number}");
+/// What may stand between two dots: a number of a version, or a part of a pattern.
+pub(crate) trait Piece: Copy {
+    ghost use Rattle.std.specs.Prelude.{List, Option, ℕ};
+
+    ghost spelled: { List ℕ → Option Self };
+
+    ghost spelling: { Self → List ℕ };
+
+    /// What a piece of a text spells, if it spells any.
+    fn read(piece: &str) -> Option<Self>
+        ensures { result ≡ spelled piece.now };
+
+    /// The text that spells it.
+    fn write(self, alloc: Global) -> Result<String, AllocError>
+        ensures { IfOk result (λ s. string_bytes s ≡ spelling self) };
+}
+
+impl Piece for u32 {
+    ghost spelled = { number_of };
+
+    ghost spelling = { decimal };
+
+    fn read(piece: &str) -> Option<u32> {
+        number(piece)
     }
-    format!(in alloc; ".{number}")
+
+    fn write(self, alloc: Global) -> Result<String, AllocError> {
+        format!(in alloc; "{self}")
+    }
+}
+
+/// What a text spells that has at most 8 pieces with dots between them, and how many there are. `blank` stands behind them.
+pub(crate) fn dotted<P: Piece>(text: &str, blank: P) -> Option<([P; 8], usize)>
+    ensures { MatchOption result (dotted_of P.spelled text.now ≡ None) (IsSpelledBy P.spelled text.now) }
+{
+    let mut parts = [blank; 8];
+    let mut count = 0;
+    for piece in text.split('.') {
+        if count == 8 {
+            return None;
+        }
+        parts[count] = P::read(piece)?;
+        count += 1;
+    }
+    Some((parts, count))
+}
+
+/// Puts a piece behind a text, and a dot before it unless it is the first.
+fn push_piece(text: &mut String, place: usize, piece: &str) -> Result<(), AllocError>
+    ensures { OnOk result (string_bytes text.new ≡ string_bytes text.old ++ behind_dot place piece.now) }
+{
+    if place > 0 {
+        text.push('.')?;
+    }
+    text.push_str(piece)
+}
+
+/// The text of these pieces, with dots between them.
+pub(crate) fn joined<P: Piece>(alloc: Global, parts: &[P]) -> Result<Text, AllocError>
+    ensures { IfOk result (λ t. t ≡ join_with_byte 46 (map P.spelling parts.now)) }
+{
+    let mut text = String::new(alloc);
+    for place in 0..parts.len() {
+        let piece = parts[place].write(alloc)?;
+        push_piece(&mut text, place, piece.as_str())?;
+    }
+    Ok(Text::new(text))
 }
 
 /// Law: the text of a version reads as that version.
@@ -78,15 +138,7 @@ impl Version {
     pub fn parse(text: &str) -> Option<Version>
         ensures { result ≡ version_of text.now }
     {
-        let mut numbers = [0u32; 8];
-        let mut count = 0;
-        for piece in text.split('.') {
-            if count == 8 {
-                return None;
-            }
-            numbers[count] = number(piece)?;
-            count += 1;
-        }
+        let (numbers, count) = dotted(text, 0u32)?;
         Some(Version { numbers, count })
     }
 
@@ -104,13 +156,7 @@ impl Version {
     pub fn text(&self, alloc: Global) -> Result<Text, AllocError>
         ensures { IfOk result (λ t. t ≡ version_text self.now) }
     {
-        let numbers = self.numbers();
-        let mut text = String::new(alloc);
-        for place in 0..numbers.len() {
-            let piece = dotted(alloc, place, numbers[place])?;
-            text.push_str(piece.as_str())?;
-        }
-        Ok(Text::new(text))
+        joined(alloc, self.numbers())
     }
 
     /// The numbers of the version, the first of them the most significant.

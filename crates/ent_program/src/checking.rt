@@ -32,7 +32,7 @@ pub(crate) enum FileFault {
 }
 
 /// What is said of a file.
-#[derive(Debug, Drop)]
+#[derive(Drop)]
 pub(crate) enum Verdict {
     /// The file holds a document of this kind, id and version, the version as it is written.
     Passed(Kind, Text, Text),

@@ -9,4 +9,4 @@ mod words;
 pub use checking::{FILE_LIMIT, check_from};
 pub use running::run;
 pub use status::{check_status, serve_status, status_of, words_status};
-pub use words::{FILE, command};
+pub use words::{ATTRIBUTE_MODULES, FILE, POLICY_MODULES, command};

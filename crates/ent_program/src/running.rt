@@ -1,32 +1,86 @@
 //! What the program does, over the runtime that it is started with.
 
-ghost use Rattle.std.specs.Prelude.{[], None};
-ghost use Rattle.ent_table.specs.Limits.{standard_limits};
-ghost use Rattle.ent_table.specs.State.{State, initial};
+ghost use Rattle.std.specs.Prelude.{◌≡◌, ◌≤◌, ◌+◌, ◌++◌, ◌∷◌, [], IfOk, OnOk, map, vec_len};
+ghost use Rattle.std.specs.FinMap.{empty};
+ghost use Rattle.ent_table.specs.State.{State};
 ghost use Rattle.ent_line.specs.Serving.{ServesUntil};
 ghost use Rattle.ent_line.specs.Step.{Answers};
+ghost use Rattle.ent_program.specs.Starting.{IsFew, categories, no_rows, start_of};
 
 use crate::checking::{Verdict, check, is_passed};
-use crate::status::{check_status, serve_status, status_of, words_status};
+use crate::status::{REFUSED, check_status, serve_status, status_of, words_status};
 use crate::words;
 use clap::ArgMatches;
 use clap::error::ErrorKind;
+use ent_eval::{ACCESS_SUBJECT, ACTION, Pdp, RESOURCE};
+use ent_finder::{
+    AttributeFinder, AttributeFinderModule, MapDocs, MapRows, PolicyFinder, PolicyFinderModule,
+};
 use ent_line::{ServeFault, Service, serve};
-use std::alloc::Global;
+use ent_table::{Limits, Review};
+use ent_values::{Items, Text};
+use std::alloc::{AllocError, Global};
 use std::fs::File;
 use std::io;
 use std::io::{BufRead, BufReader, BufWriter, Write};
 use std::rt::{Env, Files};
 
-/// Answers each line of the reader by one line into the writer, by a service that holds nothing before the first of them, and
-/// gives their number.
+/// The categories that a module of attributes supports.
+fn categories(alloc: Global) -> Result<Items<Text>, AllocError>
+    ensures { IfOk result (λ c. c ≡ categories) }
+{
+    let mut categories = Items::with_capacity(alloc, 3)?;
+    categories.push(Text::from_str(alloc, ACCESS_SUBJECT)?)?;
+    categories.push(Text::from_str(alloc, RESOURCE)?)?;
+    categories.push(Text::from_str(alloc, ACTION)?)?;
+    Ok(categories)
+}
+
+/// Puts a module of attributes last that has no rows.
+fn push_rowless(
+    modules: &mut Vec<Box<dyn AttributeFinderModule>>,
+    store: Box<dyn AttributeFinderModule>,
+) -> Result<(), AllocError>
+    requires { source store ≡ no_rows }
+    ensures sources { OnOk result (map (λ b. source b) modules.new.items ≡ map (λ b. source b) modules.old.items ++ no_rows ∷ []) }
+    ensures len { OnOk result (vec_len modules.new ≡ vec_len modules.old + 1) }
+{
+    modules.push(store)?;
+    Ok(())
+}
+
+/// Puts a module last that has no slots.
+fn push_empty(
+    modules: &mut Vec<Box<dyn PolicyFinderModule>>,
+    store: Box<dyn PolicyFinderModule>,
+) -> Result<(), AllocError>
+    requires { slots store ≡ empty }
+    ensures slots { OnOk result (map (λ b. slots b) modules.new.items ≡ map (λ b. slots b) modules.old.items ++ empty ∷ []) }
+    ensures len { OnOk result (vec_len modules.new ≡ vec_len modules.old + 1) }
+{
+    modules.push(store)?;
+    Ok(())
+}
+
+/// How many modules hold what a service answers by.
+#[derive(Clone, Copy)]
+struct Modules {
+    attributes: usize,
+    policies: usize,
+}
+
+/// Answers each line of the reader by one line into the writer, by a service whose modules, of those numbers, hold nothing before
+/// the first of them, and gives their number.
 fn serve_from<R: BufRead, W: Write>(
     alloc: Global,
+    count: Modules,
     reader: &mut R,
     writer: &mut W,
 ) -> Result<u64, ServeFault>
+    requires attributes { IsFew count.attributes }
+    requires policies { IsFew count.policies }
     ensures { (end : State) × ServesUntil Answers (record {
-      start = initial [] None standard_limits;
+      start = start_of count.attributes count.policies;
       end = end;
       unread = R.remaining reader.old;
       left = R.remaining reader.new;
@@ -34,12 +88,29 @@ fn serve_from<R: BufRead, W: Write>(
       holds = W.contents writer.new;
     }) result }
 {
-    let mut service = Service::new(alloc);
+    let mut attributes: Vec<Box<dyn AttributeFinderModule>> = Vec::new(alloc);
+    for _ in 0..count.attributes {
+        let store = MapRows::new(alloc, categories(alloc)?);
+        push_rowless(&mut attributes, Box::new(alloc, store)?)?;
+    }
+    let mut policies: Vec<Box<dyn PolicyFinderModule>> = Vec::new(alloc);
+    for _ in 0..count.policies {
+        push_empty(&mut policies, Box::new(alloc, MapDocs::new(alloc))?)?;
+    }
+    let pdp = Pdp::new(
+        alloc,
+        AttributeFinder::new(attributes),
+        PolicyFinder::new(policies),
+    );
+    let mut service = Service::new(alloc, Review::new(alloc, pdp, Limits::standard()));
     serve(alloc, &mut service, reader, writer)
 }
 
-/// Serves standard input to standard output.
-fn serve_input<R: Input + Print + AllocGlobal>(rt: &R) -> Result<u64, ServeFault> {
+/// Serves standard input to standard output, with modules of those numbers.
+fn serve_input<R: Input + Print + AllocGlobal>(rt: &R, modules: Modules) -> Result<u64, ServeFault>
+    requires attributes { IsFew modules.attributes }
+    requires policies { IsFew modules.policies }
+{
     let alloc = rt.alloc();
     let Ok(mut reader) = BufReader::new(alloc, rt.reader()) else {
         return Err(ServeFault::Memory);
@@ -47,7 +118,7 @@ fn serve_input<R: Input + Print + AllocGlobal>(rt: &R) -> Result<u64, ServeFault
     let Ok(mut writer) = BufWriter::new(alloc, io::writer(rt)) else {
         return Err(ServeFault::Memory);
     };
-    serve_from(alloc, &mut reader, &mut writer)
+    serve_from(alloc, modules, &mut reader, &mut writer)
 }
 
 /// Says on standard error why a file is refused, if it is.
@@ -73,6 +144,24 @@ fn check_file<R: Files + Print + Eprint + AllocGlobal>(
     Ok(is_passed(&verdict))
 }
 
+/// The number of modules that an option of `serve` gives. What the command line gives is from 1 to 4.
+fn number_of(asked: &ArgMatches<'_>, option: &str) -> usize
+    ensures { IsFew result }
+{
+    asked.get_one::<usize>(option).unwrap_or(1).clamp(1, 4)
+}
+
+/// How many modules `serve` is asked for.
+fn modules_asked(asked: &ArgMatches<'_>) -> Modules
+    ensures attributes { IsFew result.attributes }
+    ensures policies { IsFew result.policies }
+{
+    Modules {
+        attributes: number_of(asked, words::ATTRIBUTE_MODULES),
+        policies: number_of(asked, words::POLICY_MODULES),
+    }
+}
+
 /// Does what the words of the command line ask for, and gives the exit status.
 fn act<R: Files + Input + Print + Eprint + AllocGlobal>(rt: &R, matches: &ArgMatches<'_>) -> u8 {
     match matches.subcommand() {
@@ -80,7 +169,8 @@ fn act<R: Files + Input + Print + Eprint + AllocGlobal>(rt: &R, matches: &ArgMat
             let path = asked.get_str(words::FILE).unwrap_or("");
             check_status(rt, check_file(rt, path))
         }
-        _ => serve_status(rt, serve_input(rt)),
+        Some((_, asked)) => serve_status(rt, serve_input(rt, modules_asked(asked))),
+        None => REFUSED,
     }
 }
 

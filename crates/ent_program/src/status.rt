@@ -9,7 +9,7 @@ use ent_line::ServeFault;
 const OKAY: u8 = 0;
 
 /// The command line can't be used, or a file was refused.
-const REFUSED: u8 = 1;
+pub(crate) const REFUSED: u8 = 1;
 
 /// Reading or writing failed.
 const BROKEN: u8 = 2;

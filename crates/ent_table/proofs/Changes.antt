@@ -1,20 +1,18 @@
 -- How many answers an edit changes.
-use Rattle.std.proofs.Common.{◌≡◌, ℕ, zero, suc, ◌+◌, ◌*◌, ◌-◌, ◌≤◌, List, [], ◌∷◌, ◌++◌, length, map, Bool, true, false, Option, Some, None, refl, sym, ap, subst, ◌∙◌, arith, length-append, append-nil}
-use Rattle.std.specs.Prelude.{not, filter, if◌then◌else◌}
-use Rattle.std.proofs.lemmas.List.{length-map, map-append}
-use Rattle.std.proofs.lemmas.Grind.{flat_map-append}
+use Rattle.std.proofs.Common.{◌≡◌, ℕ, ◌+◌, List, [], ◌∷◌, ◌++◌, length, map, nat_eq, Bool, true, false, refl, sym, ap, subst, ◌∙◌, arith, length-append}
+use Rattle.std.specs.Prelude.{◌&&◌, not, filter}
+use Rattle.std.specs.Cmp.Lexicographic.{pointwise}
+use Rattle.std.proofs.lemmas.List.{length-map}
 use Rattle.ent_eval.specs.declared.answer.Answer.{Answer}
 use Rattle.ent_eval.specs.Same.{same_answer}
 use Rattle.ent_eval.proofs.Sames.{answer-Decides}
-use Rattle.ent_policy.specs.declared.key.Reference.{Reference}
 use Rattle.ent_table.specs.declared.edit.List.{List as Which}
 use Rattle.ent_table.specs.declared.edit.List.TheVariants as which
-use Rattle.ent_table.specs.Difference.{same_optional, differs, difference, changes, unlike_count}
-use Rattle.ent_table.specs.Names.{Names, Triple, triples, is_listed, has_name, list_of, with_name, with_actions}
-use Rattle.ent_table.specs.State.{State, answer_to, answer_at, fresh, fresh_row}
+use Rattle.ent_table.specs.Difference.{differs, changes, unlike_count}
+use Rattle.ent_table.specs.Names.{Names, Triple, triples, is_listed, has_name, list_of, others, with_list, with_name, without_name}
+use Rattle.ent_table.specs.State.{State, answer_to, fresh, fresh_with}
 use Rattle.ent_table.specs.Step.{next}
-use Rattle.ent_table.specs.Review.{growth}
-use Rattle.ent_table.proofs.Counts.{passing, AllPass, none_left, passing-not, passing-same, all_pass, known, listed_count, known-own, known-new, known-more, own_listed}
+use Rattle.ent_table.proofs.Counts.{passing, AllPass, none_left, passing-not, passing-same, all_pass, listed_count, has_others, known-own, known-new, known-more, known-others, own_listed}
 use Rattle.ent_table.proofs.Places.{length-all_triples}
 
 same_self : (a : Answer) → same_answer a a ≡ true
@@ -88,28 +86,77 @@ still_listed names which.Resources name =
     (listed_count (with_name which.Resources name names) names.resources names.actions names.people
     ∙ rw (known-more names.resources (name ∷ []), known-own names.people, known-own names.actions) (sym (length-all_triples names.actions names.resources names.people)))
 
-pub fresh-longer : (s : State) (list : Which) (name : List ℕ) → has_name name (list_of list s.names) ≡ false → length (fresh s) ≤ length (fresh (more_names s list name))
-fresh-longer s list name h =
-    let t = more_names s list name in
-    omega (arith, length-map (triples s.names) (answer_to s), length-map (triples t.names) (answer_to t), old_among s list name h, passing-not (is_listed s.names) (triples t.names))
+-- with a name more there are as many requests more as the name has
+sizes : (names : Names) (list : Which) (name : List ℕ) → length (triples (with_name list name names)) ≡ length (triples names) + length (triples (with_list list (name ∷ []) names))
+sizes names which.People name =
+    rw (length-all_triples names.actions names.resources (names.people ++ name ∷ []), length-all_triples names.actions names.resources names.people, length-all_triples names.actions names.resources (name ∷ []), length-append names.people (name ∷ [])) (grind arith)
+sizes names which.Actions name =
+    rw (length-all_triples (names.actions ++ name ∷ []) names.resources names.people, length-all_triples names.actions names.resources names.people, length-all_triples (name ∷ []) names.resources names.people, length-append names.actions (name ∷ [])) (grind arith)
+sizes names which.Resources name =
+    rw (length-all_triples names.actions (names.resources ++ name ∷ []) names.people, length-all_triples names.actions names.resources names.people, length-all_triples names.actions (name ∷ []) names.people, length-append names.resources (name ∷ [])) (grind arith)
 
-pub changes-name_added : (s : State) (list : Which) (name : List ℕ) → has_name name (list_of list s.names) ≡ false → changes s (more_names s list name) ≡ growth (fresh s) (fresh (more_names s list name))
+pub changes-name_added : (s : State) (list : Which) (name : List ℕ) → has_name name (list_of list s.names) ≡ false → changes s (more_names s list name) ≡ length (fresh_with s list (name ∷ []))
 changes-name_added s list name h =
     let t = more_names s list name in
     let first : passing (differs s t) (triples t.names) ≡ passing (λ x. not (is_listed s.names x)) (triples t.names) =
     passing-same (is_listed t.names) (differs s t) (λ x. not (is_listed s.names x)) (new_alone s list name) (triples t.names) (own_listed t.names) in
     let second : passing (λ x. not (is_listed t.names x)) (triples s.names) ≡ 0 = none_left (is_listed t.names) (triples s.names) (still_listed s.names list name) in
     parts s t
-    ∙ omega (arith, first, second, old_among s list name h, passing-not (is_listed s.names) (triples t.names), length-map (triples s.names) (answer_to s), length-map (triples t.names) (answer_to t))
+    ∙ omega (arith, first, second, old_among s list name h, passing-not (is_listed s.names) (triples t.names), sizes s.names list name, length-map (triples (with_list list (name ∷ []) s.names)) (answer_to s))
 
--- a person more puts that person's row last
-pub fresh-more_people : (s : State) (name : List ℕ) → fresh (more_names s which.People name) ≡ fresh s ++ fresh_row s name
-fresh-more_people s name =
-    let last : triples (with_name which.People name s.names) ≡ triples s.names ++ with_actions name s.names.actions s.names.resources =
-    flat_map-append (λ person. with_actions person s.names.actions s.names.resources) s.names.people (name ∷ [])
-    ∙ ap (λ (l : List Triple). triples s.names ++ l) (append-nil (with_actions name s.names.actions s.names.resources)) in
-    ap (map (answer_to s)) last ∙ map-append (answer_to s) (triples s.names) (with_actions name s.names.actions s.names.resources)
+-- ---- a name less
 
-pub changes-person_added : (s : State) (name : List ℕ) → has_name name s.names.people ≡ false → changes s (more_names s which.People name) ≡ length (fresh_row s name)
-changes-person_added s name h =
-    changes-name_added s which.People name h ∙ ap (growth (fresh s)) (fresh-more_people s name) ∙ omega (arith, length-append (fresh s) (fresh_row s name))
+-- the state without a name
+abbrev pub less_names : State → Which → List ℕ → State
+less_names s list name = next (record s { names = without_name list name s.names })
+
+both : (a b c : Bool) → (b ≡ true → c ≡ true) → (a && b) ≡ true → (a && c) ≡ true
+both true b c h e = h e
+both false b c h e = e
+
+first_of_both : (a b c : Bool) → (a ≡ true → b ≡ true) → (a && c) ≡ true → (b && c) ≡ true
+first_of_both true b c h e = rw (h refl) e
+first_of_both false b c h e = cc
+
+-- a name that is left was there
+was_there : (name x : List ℕ) (xs : List (List ℕ)) → has_name x (others name xs) ≡ true → has_name x xs ≡ true
+was_there name x xs h = by (not (pointwise nat_eq name x)) (sym (has_others name x xs) ∙ h) where
+  by : (b : Bool) → (b && has_name x xs) ≡ true → has_name x xs ≡ true
+  by true e = e
+  by false e = cc
+
+-- a request that is left was listed
+was_listed : (names : Names) (list : Which) (name : List ℕ) (x : Triple) → is_listed (without_name list name names) x ≡ true → is_listed names x ≡ true
+was_listed names which.People name x =
+    first_of_both (has_name x.person (others name names.people)) (has_name x.person names.people) (has_name x.action names.actions && has_name x.resource names.resources) (was_there name x.person names.people)
+was_listed names which.Actions name x =
+    both (has_name x.person names.people) (has_name x.action (others name names.actions) && has_name x.resource names.resources) (has_name x.action names.actions && has_name x.resource names.resources)
+    (first_of_both (has_name x.action (others name names.actions)) (has_name x.action names.actions) (has_name x.resource names.resources) (was_there name x.action names.actions))
+was_listed names which.Resources name x =
+    both (has_name x.person names.people) (has_name x.action names.actions && has_name x.resource (others name names.resources)) (has_name x.action names.actions && has_name x.resource names.resources)
+    (both (has_name x.action names.actions) (has_name x.resource (others name names.resources)) (has_name x.resource names.resources) (was_there name x.resource names.resources))
+
+-- and its answer stays
+rest_alike : (s : State) (list : Which) (name : List ℕ) (x : Triple) → is_listed (less_names s list name).names x ≡ true → differs s (less_names s list name) x ≡ not (is_listed (less_names s list name).names x)
+rest_alike s list name x h = rw (was_listed s.names list name x h, h, same_self (answer_to s x))
+
+-- how many of the old requests are left
+left_among : (names : Names) (list : Which) (name : List ℕ) → passing (is_listed (without_name list name names)) (triples names) ≡ length (triples (without_name list name names))
+left_among names which.People name =
+    listed_count (without_name which.People name names) names.resources names.actions names.people
+    ∙ rw (known-others name names.people, known-own names.actions, known-own names.resources) (sym (length-all_triples names.actions names.resources (others name names.people)))
+left_among names which.Actions name =
+    listed_count (without_name which.Actions name names) names.resources names.actions names.people
+    ∙ rw (known-others name names.actions, known-own names.people, known-own names.resources) (sym (length-all_triples (others name names.actions) names.resources names.people))
+left_among names which.Resources name =
+    listed_count (without_name which.Resources name names) names.resources names.actions names.people
+    ∙ rw (known-others name names.resources, known-own names.people, known-own names.actions) (sym (length-all_triples names.actions (others name names.resources) names.people))
+
+-- as many answers change as there are cells less
+pub changes-name_dropped : (s : State) (list : Which) (name : List ℕ) → changes s (less_names s list name) + length (fresh (less_names s list name)) ≡ length (fresh s)
+changes-name_dropped s list name =
+    let t = less_names s list name in
+    let first : passing (differs s t) (triples t.names) ≡ passing (λ x. not (is_listed t.names x)) (triples t.names) =
+    passing-same (is_listed t.names) (differs s t) (λ x. not (is_listed t.names x)) (rest_alike s list name) (triples t.names) (own_listed t.names) in
+    let none : passing (λ x. not (is_listed t.names x)) (triples t.names) ≡ 0 = none_left (is_listed t.names) (triples t.names) (own_listed t.names) in
+    omega (arith, parts s t, first, none, left_among s.names list name, passing-not (is_listed t.names) (triples s.names), length-map (triples s.names) (answer_to s), length-map (triples t.names) (answer_to t))

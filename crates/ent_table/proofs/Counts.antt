@@ -1,10 +1,9 @@
 -- How many of the requests of three lists are listed in three others.
-use Rattle.std.proofs.Common.{◌≡◌, ℕ, zero, suc, ◌+◌, ◌*◌, ◌-◌, ◌≤◌, List, [], ◌∷◌, ◌++◌, length, map, nat_eq, Bool, true, false, refl, sym, ap, subst, ◌∙◌, arith, length-append, append_assoc, append-nil}
-use Rattle.std.specs.Prelude.{◌&&◌, ◌||◌, not, filter, if◌then◌else◌}
-use Rattle.std.specs.List.{flat_map, list_any}
+use Rattle.std.proofs.Common.{◌≡◌, ℕ, ◌+◌, ◌*◌, ◌≤◌, List, [], ◌∷◌, ◌++◌, length, nat_eq, Bool, true, false, refl, sym, ap, subst, ◌∙◌, arith, length-append, append_assoc, append-nil}
+use Rattle.std.specs.Prelude.{◌||◌, ◌&&◌, not, filter, if◌then◌else◌}
 use Rattle.std.specs.Cmp.Lexicographic.{pointwise, bytes_decides}
 use Rattle.std.proofs.lemmas.List.Elements.{filter-append}
-use Rattle.ent_table.specs.Names.{Names, Triple, triple_of, with_resources, with_actions, all_triples, triples, is_listed, has_name}
+use Rattle.ent_table.specs.Names.{Names, with_resources, with_actions, all_triples, triples, is_listed, has_name, others}
 use Rattle.ent_table.proofs.Places.{length-all_triples}
 
 -- how many elements pass
@@ -107,7 +106,7 @@ listed_count names rs as_ (p ∷ ps) =
       by false e both here more = both ∙ (rw (here, more, e) (grind arith))
 
 -- a list has its own names
-has_own : (x : List ℕ) (before after : List (List ℕ)) → has_name x (before ++ x ∷ after) ≡ true
+pub has_own : (x : List ℕ) (before after : List (List ℕ)) → has_name x (before ++ x ∷ after) ≡ true
 has_own x [] after = rw ((bytes_decides x x).1 refl)
 has_own x (y ∷ before) after = by (pointwise nat_eq x y) (has_own x before after) where
   by : (b : Bool) → has_name x (before ++ x ∷ after) ≡ true → (b || has_name x (before ++ x ∷ after)) ≡ true
@@ -134,6 +133,41 @@ pub known-new : (xs : List (List ℕ)) (x : List ℕ) → has_name x xs ≡ fals
 known-new xs x h =
     let last : known xs (x ∷ []) ≡ 0 = rw h refl in
     passing-append (λ y. has_name y xs) xs (x ∷ []) ∙ omega (arith, known-own xs, last)
+
+-- a list without a name has the names that it had, but this one
+pub has_others : (name x : List ℕ) (xs : List (List ℕ)) → has_name x (others name xs) ≡ (not (pointwise nat_eq name x) && has_name x xs)
+has_others name x [] = by (pointwise nat_eq name x) where
+  by : (b : Bool) → false ≡ (not b && false)
+  by true = refl
+  by false = refl
+has_others name x (y ∷ xs) = by (pointwise nat_eq name y) (pointwise nat_eq x y) (pointwise nat_eq name x) refl refl refl (has_others name x xs) where
+  by : (b c d : Bool) → pointwise nat_eq name y ≡ b → pointwise nat_eq x y ≡ c → pointwise nat_eq name x ≡ d
+      → has_name x (others name xs) ≡ (not (pointwise nat_eq name x) && has_name x xs)
+      → has_name x (others name (y ∷ xs)) ≡ (not (pointwise nat_eq name x) && has_name x (y ∷ xs))
+  by true c true e f g h = rw (e, f, g) (rw g at h)
+  by true true false e f g h =
+      let same : name ≡ x = (bytes_decides name y).0 e ∙ sym ((bytes_decides x y).0 f) in
+      let bad : pointwise nat_eq name x ≡ true = (bytes_decides name x).1 same in
+      cc
+  by true false false e f g h = rw (e, f, g) (rw g at h)
+  by false true true e f g h =
+      let same : name ≡ y = (bytes_decides name x).0 g ∙ (bytes_decides x y).0 f in
+      let bad : pointwise nat_eq name y ≡ true = (bytes_decides name y).1 same in
+      cc
+  by false true false e f g h = rw (e, f, g)
+  by false false d e f g h = rw (e, f) h
+
+-- those that are left are counted
+pub known-others : (name : List ℕ) (xs : List (List ℕ)) → known (others name xs) xs ≡ length (others name xs)
+known-others name xs =
+    passing-same (λ x. has_name x xs) (λ x. has_name x (others name xs)) (λ x. not (pointwise nat_eq name x)) same xs (all_pass (λ x. has_name x xs) xs (known-own xs))
+  where
+    left : (b c : Bool) → c ≡ true → (b && c) ≡ b
+    left true c h = h
+    left false c h = refl
+
+    same : (x : List ℕ) → has_name x xs ≡ true → has_name x (others name xs) ≡ not (pointwise nat_eq name x)
+    same x h = has_others name x xs ∙ left (not (pointwise nat_eq name x)) (has_name x xs) h
 
 -- the requests of a state's own lists are all listed
 pub own_listed : (names : Names) → AllPass (is_listed names) (triples names)

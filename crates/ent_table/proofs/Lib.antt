@@ -1,7 +1,17 @@
 pub mod Changes
 pub mod Counts
+pub mod Exchanges
 pub mod Fills
+pub mod Grids
+pub mod Named
+pub mod Narrowed
 pub mod Places
+pub mod PlaceLemmas
+pub mod Rows
+pub mod Shapes
 pub mod Steps
+pub mod Tables
+pub mod Taken
 pub mod Texts
 pub mod Turns
+pub mod Woven

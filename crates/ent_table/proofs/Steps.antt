@@ -1,19 +1,21 @@
 -- What a test that found nothing says of an edit's step.
-use Rattle.std.proofs.Common.{◌≡◌, Bool, true, false, Result, Ok, Err, refl}
-use Rattle.std.specs.Prelude.{IsOk, ◌||◌, ◌&&◌, ◌==◌, nat_le, nat_lt, length}
-use Rattle.ent_eval.specs.Finding.{has_document}
+use Rattle.std.proofs.Common.{◌≡◌, ℕ, ◌<◌, ◌^◌, Bool, true, false, List, Option, Result, Ok, refl, ltb-true}
+use Rattle.std.specs.Prelude.{IsOk, ◌||◌, ◌&&◌, not, nat_le, length}
+use Rattle.ent_values.specs.Calendar.{Day}
 use Rattle.ent_policy.specs.Key.{key_of}
-use Rattle.ent_table.specs.declared.edit.EditFault.TheVariants.{AlreadyThere, Limit, BadValue, UnknownModule}
+use Rattle.ent_policy.specs.Names.{is_bad_name}
 use Rattle.ent_policy.specs.declared.document.Tree.{Tree}
-use Rattle.std.proofs.Common.{ℕ, List, Option, ◌<◌, ◌^◌}
+use Rattle.ent_policy.specs.declared.key.DocKey.{DocKey}
+use Rattle.ent_finder.specs.Slots.{document_count}
+use Rattle.ent_table.specs.declared.edit.EditFault.TheVariants.{NotThere, AlreadyThere, Limit, BadValue, UnknownModule}
 use Rattle.std.proofs.lemmas.Bool.{lt-leb, leb-false}
 use Rattle.ent_policy.specs.declared.key.Reference.{Reference}
 use Rattle.ent_table.specs.declared.edit.EditFault.{EditFault}
 use Rattle.ent_table.specs.declared.edit.List.{List as Which}
-use Rattle.ent_table.specs.Names.{has_name, list_of, with_name}
+use Rattle.ent_table.specs.Names.{has_name, list_of}
 use Rattle.ent_table.specs.State.{State}
-use Rattle.ent_table.specs.Step.{unless, name_added, document_added, root_set, with_document, next, is_last, exceeds, is_bad_name}
-use Rattle.ent_table.proofs.Changes.{more_names}
+use Rattle.ent_table.specs.Step.{unless, name_added, name_dropped, policy_added, policy_replaced, policy_withdrawn, root_set, day_set, next, holds, is_last, is_module, exceeds}
+use Rattle.ent_table.proofs.Changes.{less_names, more_names}
 
 three_pass : (a b c : Bool) (x y z : EditFault) (t : State) → IsOk (unless a x (unless b y (unless c z (Ok t)))) → (a ≡ false) × (unless a x (unless b y (unless c z (Ok t))) ≡ Ok t)
 three_pass true b c x y z t h = cc
@@ -26,14 +28,17 @@ pub name_passes : (s : State) (list : Which) (name : List ℕ) → IsOk (name_ad
 name_passes s list name h =
     three_pass (has_name name (list_of list s.names)) (is_last s || exceeds s list name) (is_bad_name name) AlreadyThere Limit BadValue (more_names s list name) h
 
--- the step adds a document that can be added
-pub document_passes : (s : State) (module_number : ℕ) (d : Tree) → IsOk (document_added s module_number d) → document_added s module_number d ≡ Ok (next (with_document s d))
-document_passes s module_number d h =
-    (three_pass ((module_number == 0) && has_document (key_of d) s.documents) (is_last s || nat_le s.limits.documents (length s.documents)) (nat_lt 0 module_number) AlreadyThere Limit UnknownModule (next (with_document s d)) h).1
-
 -- below the last serial a root is set
-pub root_passes : (s : State) (root : Option Reference) → s.serial < 2 ^ 63 → root_set s root ≡ Ok (next (record s { root = root }))
+pub root_passes : (s : State) (root : Option Reference) → s.serial < 2 ^ 63 → root_set s root ≡ Ok (next (record s { held = record s.held { root = root } }))
 root_passes s root h = rw (lt-leb (2 ^ 63) s.serial h) refl
+
+-- and a day
+pub day_passes : (s : State) (day : Option Day) → s.serial < 2 ^ 63 → day_set s day ≡ Ok (next (record s { held = record s.held { day = day } }))
+day_passes s day h = rw (lt-leb (2 ^ 63) s.serial h) refl
+
+-- below the last serial a name is taken out of its list, if it is there
+pub name_leaves : (s : State) (list : Which) (name : List ℕ) → has_name name (list_of list s.names) ≡ true → s.serial < 2 ^ 63 → name_dropped s list name ≡ Ok (less_names s list name)
+name_leaves s list name has h = rw (has, lt-leb (2 ^ 63) s.serial h) refl
 
 two_pass : (a b : Bool) (x y : EditFault) (r : Result State EditFault) → IsOk (unless a x (unless b y r)) → b ≡ false
 two_pass true b x y r h = cc
@@ -50,3 +55,45 @@ name_serial s list name h =
     leb-false (2 ^ 63) s.serial
     (first_false (is_last s) (exceeds s list name)
     (two_pass (has_name name (list_of list s.names)) (is_last s || exceeds s list name) AlreadyThere Limit (unless (is_bad_name name) BadValue (Ok (more_names s list name))) h))
+
+-- ---- documents
+
+no_fault : (a : Bool) (x : EditFault) (r : Result State EditFault) → IsOk (unless a x r) → (a ≡ false) × IsOk r
+no_fault true x r h = cc
+no_fault false x r h = (refl, h)
+
+second_false : (a b : Bool) → (a && b) ≡ false → a ≡ true → b ≡ false
+second_false true b h e = h
+second_false false b h e = cc
+
+not_false : (b : Bool) → not b ≡ false → b ≡ true
+not_false true h = refl
+not_false false h = cc
+
+-- a document that can be added has a module, and there its key is new
+pub added_is_new : (s : State) (number : ℕ) (d : Tree) → IsOk (policy_added s number d) → (number < length s.held.modules) × (holds s number (key_of d) ≡ false)
+added_is_new s number d h =
+    let first = no_fault (is_module s number && holds s number (key_of d)) AlreadyThere _ h in
+    let second = no_fault (is_last s || nat_le s.limits.documents (document_count s.held.modules)) Limit _ first.1 in
+    let third = no_fault (not (is_module s number)) UnknownModule _ second.1 in
+    let is = not_false (is_module s number) third.0 in
+    (ltb-true number (length s.held.modules) is, second_false (is_module s number) (holds s number (key_of d)) first.0 is)
+
+-- a document that can be replaced has a module, and there its key is held
+pub replaced_is_held : (s : State) (number : ℕ) (d : Tree) → IsOk (policy_replaced s number d) → (number < length s.held.modules) × (holds s number (key_of d) ≡ true)
+replaced_is_held s number d h =
+    let first = no_fault (is_module s number && not (holds s number (key_of d))) NotThere _ h in
+    let second = no_fault (is_last s) Limit _ first.1 in
+    let third = no_fault (not (is_module s number)) UnknownModule _ second.1 in
+    let is = not_false (is_module s number) third.0 in
+    (ltb-true number (length s.held.modules) is, not_false (holds s number (key_of d)) (second_false (is_module s number) (not (holds s number (key_of d))) first.0 is))
+
+-- so has one that can be withdrawn
+pub withdrawn_is_held : (s : State) (number : ℕ) (key : DocKey) → IsOk (policy_withdrawn s number key) → (number < length s.held.modules) × (holds s number key ≡ true)
+withdrawn_is_held s number key h =
+    let first = no_fault (is_module s number && not (holds s number key)) NotThere _ h in
+    let second = no_fault (is_last s) Limit _ first.1 in
+    let third = no_fault (is_bad_name key.id) BadValue _ second.1 in
+    let fourth = no_fault (not (is_module s number)) UnknownModule _ third.1 in
+    let is = not_false (is_module s number) fourth.0 in
+    (ltb-true number (length s.held.modules) is, not_false (holds s number key) (second_false (is_module s number) (not (holds s number key)) first.0 is))

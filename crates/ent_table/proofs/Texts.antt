@@ -1,11 +1,11 @@
 -- Names that are kept as `String`s are found by their bytes.
-use Rattle.std.proofs.Common.{◌≡◌, ℕ, ◌+◌, List, [], ◌∷◌, ◌++◌, length, map, nat_eq, Bool, true, false, ◌||◌, if◌then◌else◌, refl, sym, ap, ◌∙◌}
-use Rattle.std.specs.Prelude.{String, not, nat_lt, Option, Some, None, string_bytes}
+use Rattle.std.proofs.Common.{◌≡◌, ℕ, ◌+◌, List, [], ◌∷◌, ◌++◌, map, nat_eq, Bool, true, false, cond, ◌||◌, if◌then◌else◌, refl, sym, ap, ◌∙◌}
+use Rattle.std.specs.Prelude.{String, not, nat_lt, Some, None, string_bytes}
 use Rattle.std.specs.List.{list_any, position, position_or_len}
 use Rattle.std.specs.Cmp.Lexicographic.{pointwise}
 use Rattle.std.specs.String.{string_eq}
 use Rattle.std.proofs.lemmas.List.{length-map, map-append}
-use Rattle.indexmap.specs.IndexSet.{insert_key}
+use Rattle.indexmap.specs.IndexSet.{insert_key, remove_key}
 use Rattle.ent_table.specs.Names.{has_name, texts}
 
 any_of : {A B : Type 0} (p : B → Bool) (f : A → B) (xs : List A) → list_any (λ x. p (f x)) xs ≡ list_any p (map f xs)
@@ -29,3 +29,16 @@ text_place name keys =
 pub texts_with : {Z : Type 0} (k : String Z) (keys : List (String Z)) → has_name (string_bytes k) (texts keys) ≡ false → texts (insert_key string_eq keys k) ≡ texts keys ++ string_bytes k ∷ []
 texts_with k keys absent =
     ap (λ b. texts (if b then keys else keys ++ k ∷ [])) (has_text (string_bytes k) keys ∙ absent) ∙ map-append string_bytes keys (k ∷ [])
+
+cond_of : {A B : Type 0} (f : A → B) (b : Bool) (xs ys : List A) → map f (cond b xs ys) ≡ cond b (map f xs) (map f ys)
+cond_of f true xs ys = refl
+cond_of f false xs ys = refl
+
+removed_of : {A B : Type 0} (p : B → Bool) (f : A → B) (xs : List A) → map f (remove_key (λ x. p (f x)) xs) ≡ remove_key p (map f xs)
+removed_of p f [] = refl
+removed_of p f (x ∷ xs) =
+    cond_of f (p (f x)) xs (x ∷ remove_key (λ y. p (f y)) xs) ∙ ap (λ l. cond (p (f x)) (map f xs) (f x ∷ l)) (removed_of p f xs)
+
+-- one less
+pub texts_less : {Z : Type 0} (name : List ℕ) (keys : List (String Z)) → texts (remove_key (λ k. pointwise nat_eq name (string_bytes k)) keys) ≡ remove_key (pointwise nat_eq name) (texts keys)
+texts_less name keys = removed_of (pointwise nat_eq name) string_bytes keys

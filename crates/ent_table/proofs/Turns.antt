@@ -1,13 +1,12 @@
 -- What is left of a table after a turn to the next action or person.
-use Rattle.std.proofs.Common.{◌≡◌, ℕ, List, [], ◌∷◌, ◌++◌, length, refl, sym, ap, ◌∙◌, arith, append-nil}
+use Rattle.std.proofs.Common.{◌≡◌, ℕ, List, [], ◌∷◌, ◌++◌, refl, sym, ap, ◌∙◌}
 use Rattle.std.specs.List.{zip}
 use Rattle.ent_table.specs.Names.{Triple, with_resources, with_actions, all_triples}
 use Rattle.ent_table.specs.Left.{actions_left, people_left}
 
-pub zip_nothing : {A B : Type 0} (xs : List A) (ys : List B) → length ys ≡ 0 → zip xs ys ≡ []
+pub zip_nothing : {A B : Type 0} (xs : List A) (ys : List B) → ys ≡ [] → zip xs ys ≡ []
 zip_nothing [] ys e = refl
-zip_nothing (x ∷ xs) [] e = refl
-zip_nothing (x ∷ xs) (y ∷ ys) e = absurd (omega arith)
+zip_nothing (x ∷ xs) ys e = ap (zip (x ∷ xs)) e
 
 actions_left-all : (p : List ℕ) (actions resources : List (List ℕ)) → actions_left p actions resources resources ≡ with_actions p actions resources
 actions_left-all p [] resources = refl

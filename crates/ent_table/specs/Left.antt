@@ -1,5 +1,5 @@
 -- The cells that an iterator has left.
-use Rattle.std.specs.Prelude.{◌≡◌, ◌⊎◌, ℕ, List, [], ◌∷◌, ◌++◌}
+use Rattle.std.specs.Prelude.{◌≡◌, ◌⊎◌, ℕ, List, [], ◌∷◌, ◌++◌, drop}
 use Rattle.std.specs.List.{zip}
 use Rattle.ent_eval.specs.declared.answer.Answer.{Answer}
 use Rattle.ent_table.specs.declared.cells.Cells.{Cells}
@@ -20,9 +20,13 @@ people_left (person ∷ people) actions left all_actions resources = actions_lef
 abbrev pub requests_left : Cells → List Triple
 requests_left c = people_left (texts c.people.now) (texts c.actions.now) (texts c.resources.now) (texts c.all_actions.now) (texts c.all_resources.now)
 
--- the same, each with its answer
+-- the answers that are left
+abbrev pub answers_left : Cells → List Answer
+answers_left c = drop c.place c.answers.now
+
+-- the requests that are left, each with its answer
 abbrev pub cells_left : Cells → List (Triple × Answer)
-cells_left c = zip (requests_left c) c.cells.now
+cells_left c = zip (requests_left c) (answers_left c)
 
 -- an item as a request with its answer
 abbrev pub cell_of : Bor (List ℕ) × Bor (List ℕ) × Bor (List ℕ) × Bor Answer → Triple × Answer

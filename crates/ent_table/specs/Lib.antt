@@ -1,7 +1,11 @@
 pub mod Difference
+pub mod Grid
 pub mod Left
 pub mod Limits
 pub mod Names
+pub mod Place
 pub mod Review
+pub mod Shape
 pub mod State
 pub mod Step
+pub mod Table

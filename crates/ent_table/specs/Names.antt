@@ -1,5 +1,5 @@
 -- The three lists of names, and the requests that they make.
-use Rattle.std.specs.Prelude.{◌≡◌, ℕ, String, string_bytes, ◌*◌, List, [], ◌∷◌, ◌++◌, Bool, true, false, ◌&&◌, length, map, nat_eq, slice_get, Option, Some, None}
+use Rattle.std.specs.Prelude.{◌≡◌, ℕ, String, string_bytes, ◌*◌, List, [], ◌∷◌, ◌++◌, Bool, true, false, not, ◌&&◌, filter, length, map, nat_eq, slice_get, Option, Some, None}
 use Rattle.std.specs.Cmp.Lexicographic.{pointwise}
 use Rattle.std.specs.List.{flat_map, list_any}
 use Rattle.ent_table.specs.declared.edit.List.{List as Which}
@@ -24,11 +24,23 @@ list_of which.People names = names.people
 list_of which.Actions names = names.actions
 list_of which.Resources names = names.resources
 
+-- another list in place of one
+abbrev pub with_list : Which → List (List ℕ) → Names → Names
+with_list which.People xs names = record names { people = xs }
+with_list which.Actions xs names = record names { actions = xs }
+with_list which.Resources xs names = record names { resources = xs }
+
 -- a list with a name put last
 abbrev pub with_name : Which → List ℕ → Names → Names
-with_name which.People name names = record names { people = names.people ++ name ∷ [] }
-with_name which.Actions name names = record names { actions = names.actions ++ name ∷ [] }
-with_name which.Resources name names = record names { resources = names.resources ++ name ∷ [] }
+with_name list name names = with_list list (list_of list names ++ name ∷ []) names
+
+-- the names that are not this one, in their order
+abbrev pub others : List ℕ → List (List ℕ) → List (List ℕ)
+others name names = filter (λ x. not (pointwise nat_eq name x)) names
+
+-- a list without a name
+abbrev pub without_name : Which → List ℕ → Names → Names
+without_name list name names = with_list list (others name (list_of list names)) names
 
 -- whether a list has a name
 abbrev pub has_name : List ℕ → List (List ℕ) → Bool

@@ -1,27 +1,21 @@
 -- What a review holds, and the table that it stands for.
-use Rattle.std.specs.Prelude.{◌≡◌, ℕ, List, [], map, Option, Some, None, if◌then◌else◌}
-use Rattle.ent_policy.specs.declared.document.Tree.{Tree}
-use Rattle.ent_policy.specs.declared.key.Reference.{Reference}
+use Rattle.std.specs.Prelude.{ℕ, List, map, Option, Some, None, if◌then◌else◌}
 use Rattle.ent_eval.specs.declared.answer.Answer.{Answer}
 use Rattle.ent_eval.specs.Answer.{answer}
-use Rattle.ent_eval.specs.Looks.{Looks}
-use Rattle.ent_eval.specs.Finding.{most_recent}
+use Rattle.ent_eval.specs.Held.{Held, looks_in}
 use Rattle.ent_eval.specs.Listed.{listed}
+use Rattle.ent_eval.specs.Looks.{Looks}
 use Rattle.std.specs.List.{zip}
 use Rattle.ent_table.specs.declared.limits.Limits.{Limits}
-use Rattle.ent_table.specs.Names.{Names, Triple, triples, is_listed, no_names, with_actions}
+use Rattle.ent_table.specs.declared.edit.List.{List as Which}
+use Rattle.ent_table.specs.Names.{Names, Triple, triples, is_listed, no_names, with_list}
 
--- the documents, the root, the three lists, how many edits were accepted, and the limits
+-- what is held, the three lists, how many edits were accepted, and the limits
 pub record State : Type 0 where
-  pub documents : List Tree
-  pub root : Option Reference
+  pub held : Held
   pub names : Names
   pub serial : ℕ
   pub limits : Limits
-
--- what a state's look-ups give
-abbrev pub looks_at : State → Looks
-looks_at s = record { root = s.root; document = λ reference. most_recent reference s.documents }
 
 -- the answer to a request of the table, by what is looked up
 abbrev pub answer_by : Looks → Triple → Answer
@@ -29,23 +23,23 @@ answer_by looks t = answer looks (listed t.person t.action t.resource)
 
 -- the same, evaluated afresh in a state
 abbrev pub answer_to : State → Triple → Answer
-answer_to s t = answer_by (looks_at s) t
+answer_to s t = answer_by (looks_in s.held) t
 
 -- the fresh table: every listed request evaluated afresh, in list order
 abbrev pub fresh : State → List Answer
 fresh s = map (answer_to s) (triples s.names)
 
--- one person's part of it
-abbrev pub fresh_row : State → List ℕ → List Answer
-fresh_row s person = map (answer_to s) (with_actions person s.names.actions s.names.resources)
+-- the same for the requests with other names in place of a list
+abbrev pub fresh_with : State → Which → List (List ℕ) → List Answer
+fresh_with s list xs = map (answer_to s) (triples (with_list list xs s.names))
 
 -- the answer that a table has for a request: none where it isn't listed
 abbrev pub answer_at : State → Triple → Option Answer
 answer_at s t = if is_listed s.names t then Some (answer_to s t) else None
 
 -- a state with no names, at serial 0
-abbrev pub initial : List Tree → Option Reference → Limits → State
-initial documents root limits = record { documents = documents; root = root; names = no_names; serial = 0; limits = limits }
+abbrev pub initial : Held → Limits → State
+initial held limits = record { held = held; names = no_names; serial = 0; limits = limits }
 
 -- each listed request with its fresh answer, in list order
 abbrev pub table_of : State → List (Triple × Answer)

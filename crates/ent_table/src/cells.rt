@@ -3,9 +3,10 @@
 ghost use Rattle.std.specs.Prelude.{◌≡◌};
 ghost use Rattle.std.specs.Iterator.{YieldsFirstBy, item_count};
 ghost use Rattle.std.specs.List.{zip};
-ghost use Rattle.ent_table.specs.Left.{HasTurned, HasTurnedAction, cell_of, cells_left};
+ghost use Rattle.ent_table.specs.Left.{HasTurned, HasTurnedAction, answers_left, cell_of, cells_left};
 ghost use Rattle.ent_table.specs.Names.{all_triples, texts};
 
+use crate::grid::Grid;
 use ent_eval::Answer;
 
 /// The listed requests with their answers: person, action, resource and answer, people outermost, then actions, then resources.
@@ -17,7 +18,9 @@ pub struct Cells<'a> {
     resources: &'a [String],
     all_actions: &'a [String],
     all_resources: &'a [String],
-    cells: &'a [Answer],
+    // The answers, and the place of the next one.
+    answers: &'a Grid<Answer>,
+    place: usize,
 }
 
 impl<'a> Cells<'a> {
@@ -25,9 +28,9 @@ impl<'a> Cells<'a> {
         people: &'a [String],
         actions: &'a [String],
         resources: &'a [String],
-        cells: &'a [Answer],
+        answers: &'a Grid<Answer>,
     ) -> Cells<'a>
-        ensures { cells_left result ≡ zip (all_triples (texts people.now) (texts actions.now) (texts resources.now)) cells.now }
+        ensures { cells_left result ≡ zip (all_triples (texts people.now) (texts actions.now) (texts resources.now)) answers.now }
     {
         Cells {
             people,
@@ -35,7 +38,8 @@ impl<'a> Cells<'a> {
             resources,
             all_actions: actions,
             all_resources: resources,
-            cells,
+            answers,
+            place: 0,
         }
     }
 }
@@ -44,7 +48,7 @@ impl<'a> Cells<'a> {
     /// Turns to the next action, where no resource is left of this one.
     fn next_action(&mut self)
         ensures same { cells_left self.new ≡ cells_left self.old }
-        ensures cells { self.new.cells ≡ self.old.cells }
+        ensures answers { answers_left self.new ≡ answers_left self.old }
         ensures turned { HasTurnedAction self.new }
     {
         if !self.resources.is_empty() {
@@ -60,7 +64,7 @@ impl<'a> Cells<'a> {
     fn next_person(&mut self)
         requires { HasTurnedAction self.old }
         ensures same { cells_left self.new ≡ cells_left self.old }
-        ensures cells { self.new.cells ≡ self.old.cells }
+        ensures answers { answers_left self.new ≡ answers_left self.old }
         ensures turned { HasTurned self.new }
     {
         if !self.actions.is_empty() {
@@ -84,11 +88,11 @@ impl<'a> Iterator for Cells<'a> {
     fn next(&mut self) -> Option<(&'a str, &'a str, &'a str, &'a Answer)> {
         self.next_action();
         self.next_person();
-        let (answer, cells) = self.cells.split_first()?;
+        let (answer, place) = self.answers.next_from(self.place)?;
         let person = self.people.first()?;
         let action = self.actions.first()?;
         let (resource, resources) = self.resources.split_first()?;
-        self.cells = cells;
+        self.place = place;
         self.resources = resources;
         Some((person.as_str(), action.as_str(), resource.as_str(), answer))
     }

@@ -1,18 +1,29 @@
 //! How many cells of two tables differ.
 
-ghost use Rattle.std.specs.Prelude.{◌≡◌, length};
-ghost use Rattle.ent_table.specs.Difference.{unlike_count};
+ghost use Rattle.std.specs.Prelude.{◌≡◌, Some, length, option_copied};
+ghost use Rattle.ent_table.specs.Difference.{same_optional, unlike_count};
 
+use crate::grid::Grid;
 use ent_eval::Answer;
 
+/// Whether a cell has this answer.
+fn has(cell: Option<&Answer>, answer: &Answer) -> bool
+    ensures { result ≡ same_optional (option_copied cell.entry) (Some answer.now) }
+{
+    match cell {
+        Some(before) => *before == *answer,
+        None => false,
+    }
+}
+
 /// At how many places two tables of the same requests have different answers.
-pub(crate) fn unlike(before: &[Answer], after: &[Answer]) -> usize
+pub(crate) fn unlike(before: &Grid<Answer>, after: &[Answer]) -> usize
     requires { length before.now ≡ length after.now }
     ensures { result ≡ unlike_count before.now after.now }
 {
     let mut count = 0;
-    for (place, answer) in before.iter().enumerate() {
-        if *answer != after[place] {
+    for (place, answer) in after.iter().enumerate() {
+        if !has(before.get(place), answer) {
             count += 1;
         }
     }

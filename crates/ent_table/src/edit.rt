@@ -1,11 +1,12 @@
 //! Edits of what is reviewed, and what they are answered.
 
-use ent_policy::{Document, Reference};
-use ent_values::Text;
+use ent_finder::RowKey;
+use ent_policy::{DocKey, Document, Reference};
+use ent_values::{Date, Items, Text, Value};
 use thiserror::Error;
 
 /// One of the three lists whose names together make the requests of the table.
-#[derive(Clone, Copy, Debug, PartialEq, Eq)]
+#[derive(Clone, Copy, PartialEq, Eq)]
 pub enum List {
     People,
     Actions,
@@ -15,16 +16,26 @@ pub enum List {
 /// A change of what is reviewed.
 #[derive(Drop)]
 pub enum Edit {
-    /// Stores a document in the module of that number.
+    /// Stores a document in the module of that number, where no document has its key yet.
     AddPolicy(usize, Document),
+    /// Stores a document in the module of that number in place of the one with its key.
+    ReplacePolicy(usize, Document),
+    /// Takes the document with that key out of the module of that number.
+    WithdrawPolicy(usize, DocKey),
+    /// Gives the row of that key in the module of attributes of that number these values, or takes it away where there are none.
+    SetAttribute(usize, RowKey, Items<Value>),
     /// Puts a name last in a list.
     AddName(List, Text),
+    /// Takes a name out of a list. Those behind it move up.
+    DropName(List, Text),
     /// Sets the policy from which every request is evaluated, or none.
     SetRoot(Option<Reference>),
+    /// Sets the day of the environment, or none.
+    SetDay(Option<Date>),
 }
 
 /// An edit was made.
-#[derive(Clone, Copy, Debug, PartialEq, Eq)]
+#[derive(Clone, Copy, PartialEq, Eq)]
 pub struct Accepted {
     /// How many edits were accepted so far.
     pub serial: u64,

@@ -5,20 +5,21 @@ ghost use Rattle.ent_eval.specs.LooksOf.{looks_of};
 ghost use Rattle.ent_table.specs.Names.{all_triples, texts, with_actions, with_resources};
 ghost use Rattle.ent_table.specs.State.{answer_by};
 
-use ent_eval::{Answer, Pdp, Policies, Request};
+use ent_eval::{Answer, Pdp, Request};
+use ent_finder::{Attributes, Policies};
 use ent_values::Items;
 use std::alloc::{AllocError, Global};
 
 /// Appends the answers for a person and an action with each of the resources. One request serves for all of them.
-fn evaluate_resources<P: Policies>(
+fn evaluate_resources<A: Attributes, P: Policies>(
     alloc: Global,
-    pdp: &mut Pdp<P>,
+    pdp: &mut Pdp<A, P>,
     person: &str,
     action: &str,
     resources: &[String],
     cells: &mut Vec<Answer>,
 ) -> Result<(), AllocError>
-    ensures cells { OnOk result (cells.new.items ≡ cells.old.items ++ map (answer_by (looks_of P.documents pdp.old)) (with_resources person.now action.now (texts resources.now))) }
+    ensures cells { OnOk result (cells.new.items ≡ cells.old.items ++ map (answer_by (looks_of A.sources P.slots pdp.old)) (with_resources person.now action.now (texts resources.now))) }
     ensures rest { pdp.new ≡ record pdp.old { evaluations = pdp.new.evaluations } }
 {
     let mut request = Request::listed(alloc, person, action, "")?;
@@ -31,15 +32,15 @@ fn evaluate_resources<P: Policies>(
 }
 
 /// Appends the answers for a person with each of the actions and resources.
-fn evaluate_actions<P: Policies>(
+fn evaluate_actions<A: Attributes, P: Policies>(
     alloc: Global,
-    pdp: &mut Pdp<P>,
+    pdp: &mut Pdp<A, P>,
     person: &str,
     actions: &[String],
     resources: &[String],
     cells: &mut Vec<Answer>,
 ) -> Result<(), AllocError>
-    ensures cells { OnOk result (cells.new.items ≡ cells.old.items ++ map (answer_by (looks_of P.documents pdp.old)) (with_actions person.now (texts actions.now) (texts resources.now))) }
+    ensures cells { OnOk result (cells.new.items ≡ cells.old.items ++ map (answer_by (looks_of A.sources P.slots pdp.old)) (with_actions person.now (texts actions.now) (texts resources.now))) }
     ensures rest { pdp.new ≡ record pdp.old { evaluations = pdp.new.evaluations } }
 {
     for action in actions {
@@ -49,36 +50,20 @@ fn evaluate_actions<P: Policies>(
 }
 
 /// The answers to all requests of three lists, people outermost. There are `count` of them.
-pub(crate) fn evaluate_all<P: Policies>(
+pub(crate) fn evaluate_all<A: Attributes, P: Policies>(
     alloc: Global,
-    pdp: &mut Pdp<P>,
+    pdp: &mut Pdp<A, P>,
     people: &[String],
     actions: &[String],
     resources: &[String],
     count: usize,
 ) -> Result<Items<Answer>, AllocError>
-    ensures cells { IfOk result (λ v. v ≡ map (answer_by (looks_of P.documents pdp.old)) (all_triples (texts people.now) (texts actions.now) (texts resources.now))) }
+    ensures cells { IfOk result (λ v. v ≡ map (answer_by (looks_of A.sources P.slots pdp.old)) (all_triples (texts people.now) (texts actions.now) (texts resources.now))) }
     ensures rest { pdp.new ≡ record pdp.old { evaluations = pdp.new.evaluations } }
 {
     let mut cells = Vec::with_capacity(alloc, count)?;
     for person in people {
         evaluate_actions(alloc, pdp, person.as_str(), actions, resources, &mut cells)?;
     }
-    Ok(Items::from_vec(cells))
-}
-
-/// The answers for one person with each of the actions and resources.
-pub(crate) fn evaluate_person<P: Policies>(
-    alloc: Global,
-    pdp: &mut Pdp<P>,
-    person: &str,
-    actions: &[String],
-    resources: &[String],
-) -> Result<Items<Answer>, AllocError>
-    ensures cells { IfOk result (λ v. v ≡ map (answer_by (looks_of P.documents pdp.old)) (with_actions person.now (texts actions.now) (texts resources.now))) }
-    ensures rest { pdp.new ≡ record pdp.old { evaluations = pdp.new.evaluations } }
-{
-    let mut cells = Vec::new(alloc);
-    evaluate_actions(alloc, pdp, person, actions, resources, &mut cells)?;
     Ok(Items::from_vec(cells))
 }

@@ -1,15 +1,22 @@
 //! The review table: the answer to each listed request, kept right over every edit.
 #![tactic(auto)]
 
+mod attributes;
+mod blocks;
 mod cells;
 mod count;
 mod edit;
 mod fill;
+mod grid;
 mod limits;
 mod lists;
+mod names;
+mod policies;
 mod review;
+mod table;
 
+pub use attributes::{MOST_VALUES, is_reserved};
 pub use cells::Cells;
 pub use edit::{Accepted, Edit, EditFault, List};
 pub use limits::Limits;
-pub use review::Review;
+pub use review::{LAST_SERIAL, Review};

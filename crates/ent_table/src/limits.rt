@@ -4,7 +4,7 @@ ghost use Rattle.std.specs.Prelude.{◌≡◌};
 ghost use Rattle.ent_table.specs.Limits.{standard_limits};
 
 /// The most names, cells and documents that a review may have.
-#[derive(Clone, Copy, Debug, PartialEq, Eq)]
+#[derive(Clone, Copy)]
 pub struct Limits {
     pub people: usize,
     pub actions: usize,

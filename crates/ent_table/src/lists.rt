@@ -1,13 +1,40 @@
 //! The lists of people, actions and resources.
 
-ghost use Rattle.std.specs.Prelude.{◌≡◌, ◌<◌, ◌≤◌, false, length, OnErr, OnOk};
-ghost use Rattle.ent_table.specs.Names.{CountsWith, IsPlace, TakesLast, cell_count, has_name, list_of, no_names, texts, triple_of, with_name};
+ghost use Rattle.std.specs.Prelude.{◌≡◌, ◌*◌, ◌<◌, ◌≤◌, false, length, string_bytes, IfSome, OnErr, OnOk};
+ghost use Rattle.ent_policy.specs.Names.{is_bad_name};
+ghost use Rattle.ent_table.specs.Names.{CountsWith, IsPlace, TakesLast, cell_count, has_name, list_of, no_names, texts, triple_of, with_list, with_name};
+ghost use Rattle.ent_table.specs.Place.{IsTaken, blocks_of, names_in};
 
+use crate::blocks::Blocks;
 use crate::edit::List;
-use ent_values::Text;
 use indexmap::IndexSet;
 use std::alloc::{AllocError, Global};
 use std::marker::Model;
+
+/// Whether a name has no byte, or more than 256.
+pub(crate) fn is_bad_name(name: &str) -> bool
+    ensures { result ≡ is_bad_name name.now }
+{
+    name.is_empty() || name.len() > 256
+}
+
+/// The names of three lists, which together make requests.
+#[derive(Clone, Copy)]
+pub(crate) struct Requests<'a> {
+    pub(crate) people: &'a [String],
+    pub(crate) actions: &'a [String],
+    pub(crate) resources: &'a [String],
+}
+
+/// Takes a name out of a list, and tells where it stood. Those behind it move up. It takes no memory.
+fn take_out(names: &mut IndexSet<String>, name: &str) -> Option<usize>
+    ensures taken { IsTaken name.now (texts names.old.keys) (texts names.new.keys) result }
+    ensures few { length names.new.keys ≤ length names.old.keys }
+    ensures within { IfSome result (λ place. place < length names.old.keys) }
+{
+    let (place, _) = names.shift_remove_full(name)?;
+    Some(place)
+}
 
 /// The three lists, each in order of insertion and without doubles. A name is found by a `&str`, without memory.
 #[derive(Drop)]
@@ -55,6 +82,38 @@ impl Lists {
         }
     }
 
+    /// The names of all lists.
+    pub(crate) fn requests(&self) -> Requests<'_>
+        ensures { names_in result ≡ self.now }
+    {
+        Requests {
+            people: self.people.as_slice(),
+            actions: self.actions.as_slice(),
+            resources: self.resources.as_slice(),
+        }
+    }
+
+    /// The names of all lists, with other names in place of one list.
+    pub(crate) fn requests_with<'a>(&'a self, list: List, names: &'a [String]) -> Requests<'a>
+        ensures { names_in result ≡ with_list list (texts names.now) self.now }
+    {
+        let all = self.requests();
+        match list {
+            List::People => Requests {
+                people: names,
+                ..all
+            },
+            List::Actions => Requests {
+                actions: names,
+                ..all
+            },
+            List::Resources => Requests {
+                resources: names,
+                ..all
+            },
+        }
+    }
+
     /// Whether a list has the name.
     pub(crate) fn has(&self, list: List, name: &str) -> bool
         ensures { result ≡ has_name name.now (list_of list self.now) }
@@ -90,15 +149,42 @@ impl Lists {
         }
     }
 
+    /// Where the cells of one name of a list stand.
+    pub(crate) fn blocks(&self, list: List) -> Blocks
+        ensures blocks { result ≡ blocks_of list self.now }
+        ensures few { result.each ≤ 65536 }
+        ensures fit { result.count * result.each ≤ 65536 }
+    {
+        let people = self.people.as_slice().len();
+        let actions = self.actions.as_slice().len();
+        let resources = self.resources.as_slice().len();
+        match list {
+            List::People => Blocks {
+                count: 1,
+                width: people * (actions * resources),
+                each: actions * resources,
+            },
+            List::Actions => Blocks {
+                count: people,
+                width: actions * resources,
+                each: resources,
+            },
+            List::Resources => Blocks {
+                count: people * actions,
+                width: resources,
+                each: 1,
+            },
+        }
+    }
+
     /// Puts a name last that the list doesn't have. After a refusal the lists are as before.
     #[tactic(auto, using(crate::proofs::Texts::texts_with))]
-    pub(crate) fn push(&mut self, list: List, name: Text) -> Result<(), AllocError>
+    pub(crate) fn push(&mut self, list: List, name: String) -> Result<(), AllocError>
         requires room { length (list_of list self.old) < 256 }
-        requires absent { has_name name (list_of list self.old) ≡ false }
-        ensures ok { OnOk result (self.new ≡ with_name list name self.old) }
+        requires absent { has_name (string_bytes name) (list_of list self.old) ≡ false }
+        ensures ok { OnOk result (self.new ≡ with_name list (string_bytes name) self.old) }
         ensures err { OnErr result (self.new ≡ self.old) }
     {
-        let name = name.into_string();
         match list {
             List::People => {
                 self.people.insert(name)?;
@@ -127,6 +213,19 @@ impl Lists {
             List::Resources => {
                 let _ = self.resources.pop();
             }
+        }
+    }
+
+    /// Takes a name out of its list, and tells where it stood. Those behind it move up. It takes no memory.
+    pub(crate) fn remove(&mut self, list: List, name: &str) -> Option<usize>
+        ensures taken { IsTaken name.now (list_of list self.old) (list_of list self.new) result }
+        ensures rest { self.new ≡ with_list list (list_of list self.new) self.old }
+        ensures few { IfSome result (λ place. place < 256) }
+    {
+        match list {
+            List::People => take_out(&mut self.people, name),
+            List::Actions => take_out(&mut self.actions, name),
+            List::Resources => take_out(&mut self.resources, name),
         }
     }
 

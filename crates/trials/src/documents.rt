@@ -56,6 +56,8 @@ const IN_WRITTEN_FORM: &[&str] = &[
     r#"{"Policy":{"PolicyId":"p3","Rule":[{"Effect":"Permit","RuleId":"ok"}],"RuleCombiningAlgId":"urn:oasis:names:tc:xacml:3.0:rule-combining-algorithm:deny-overrides","Version":"1"}}"#,
     // A target, a variable and a condition.
     r#"{"Policy":{"PolicyId":"p","Rule":[{"Condition":{"Apply":{"Arguments":[{"Function":{"FunctionId":"urn:oasis:names:tc:xacml:1.0:function:integer-equal"}},{"AttributeValue":{"DataType":"http://www.w3.org/2001/XMLSchema#integer","Value":-7}},{"VariableReference":{"VariableId":"levels"}}],"FunctionId":"urn:oasis:names:tc:xacml:3.0:function:any-of"}},"Effect":"Deny","RuleId":"r"}],"RuleCombiningAlgId":"urn:oasis:names:tc:xacml:1.0:rule-combining-algorithm:first-applicable","Target":{"AnyOf":[{"AllOf":[{"Match":[{"AttributeDesignator":{"AttributeId":"cleared","Category":"subject","DataType":"http://www.w3.org/2001/XMLSchema#boolean","Issuer":"desk","MustBePresent":true},"AttributeValue":{"DataType":"http://www.w3.org/2001/XMLSchema#boolean","Value":true},"MatchId":"urn:oasis:names:tc:xacml:1.0:function:boolean-equal"}]}]}]},"VariableDefinition":[{"Expression":{"AttributeDesignator":{"AttributeId":"level","Category":"subject","DataType":"http://www.w3.org/2001/XMLSchema#integer","MustBePresent":false}},"VariableId":"levels"}],"Version":"1.10"}}"#,
+    // References with and without constraints.
+    r#"{"PolicySet":{"Children":[{"PolicyIdReference":{"EarliestVersion":"1.*","Id":"p","LatestVersion":"2.+","Version":"1.2.*"}},{"PolicySetIdReference":{"Id":"s"}}],"PolicyCombiningAlgId":"urn:oasis:names:tc:xacml:3.0:policy-combining-algorithm:deny-overrides","PolicySetId":"s","Version":"1"}}"#,
     // A set in a set.
     r#"{"PolicySet":{"Children":[{"PolicySet":{"PolicyCombiningAlgId":"urn:oasis:names:tc:xacml:1.0:policy-combining-algorithm:only-one-applicable","PolicySetId":"inner","Version":"2"}}],"PolicyCombiningAlgId":"urn:oasis:names:tc:xacml:3.0:policy-combining-algorithm:deny-overrides","PolicySetId":"outer","Version":"3"}}"#,
 ];
@@ -180,8 +182,16 @@ const REFERENCES: &[(&str, Result<Kind, DocFault>)] = &[
     ),
     ("null", Err(DocFault::Form)),
     (
-        r#"{"PolicyIdReference":{"Id":"p1","Version":"1.0"}}"#,
-        Err(DocFault::Form),
+        r#"{"PolicyIdReference":{"Id":"p1","Version":"1.*","LatestVersion":"1.+"}}"#,
+        Ok(Kind::Policy),
+    ),
+    (
+        r#"{"PolicyIdReference":{"Id":"","Version":"x"}}"#,
+        Err(DocFault::Identifier),
+    ),
+    (
+        r#"{"PolicyIdReference":{"Id":"p1","Version":"x"}}"#,
+        Err(DocFault::Version),
     ),
 ];
 

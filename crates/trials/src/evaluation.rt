@@ -1,9 +1,13 @@
-//! Evaluations: look-ups, answers and their copies, the count, and documents put in and taken away.
+//! Evaluations: look-ups, answers and their copies, the count; and documents exchanged in a module.
 
 use crate::documents::document;
 use ent_combine::{IndKind, Outcome};
-use ent_eval::{Answer, Evaluation, Pdp, Policies, ReadKey, Reads, Request, Status, WhyEntry};
-use ent_policy::{DocKey, Kind, Name, Reference, Version};
+use ent_eval::{Answer, Evaluation, Pdp, ReadKey, Reads, Request, Status, WhyEntry};
+use ent_finder::{
+    AttributeFinder, AttributeFinderModule, MapDocs, MapRows, Policies, PolicyFinder,
+    PolicyFinderModule,
+};
+use ent_policy::{DocKey, Kind, Name, Reference, Version, VersionConstraints, VersionMatch};
 use ent_values::{Items, Text};
 use std::alloc::{AllocError, Global};
 use std::test::Fail;
@@ -21,7 +25,11 @@ const BETWEEN: &str =
     r#"{"Policy":{"PolicyId":"p1","Version":"1.9","RuleCombiningAlgId":"urn:oasis:names:tc:xacml:3.0:rule-combining-algorithm:deny-unless-permit"}}"#;
 
 fn reference(alloc: Global, id: &str) -> Result<Reference, Fail> {
-    Ok(Reference::new(Kind::Policy, Text::from_str(alloc, id)?).ok_or("no name")?)
+    Ok(Reference {
+        kind: Kind::Policy,
+        id: Name::new(Text::from_str(alloc, id)?).ok_or("no name")?,
+        constraints: VersionConstraints::none(),
+    })
 }
 
 /// The key of a version of a policy.
@@ -39,18 +47,24 @@ fn key(alloc: Global, version: &str) -> Result<DocKey, Fail> {
     key_of(alloc, "p1", version)
 }
 
-/// Puts the document that the text spells last.
+/// Stores the document that the text spells in the first module.
 fn put(alloc: Global, pdp: &mut Pdp, text: &str) -> Result<(), Fail> {
-    Ok(pdp.add(document(alloc, text)?)?)
+    let document = document(alloc, text)?;
+    let key = document.key(alloc)?;
+    let mut slot = Some(document);
+    let policies = pdp.policies_mut();
+    if policies.len() == 0 {
+        return Err(Fail::new("no module"));
+    }
+    policies.swap_document(0, &key, &mut slot)?;
+    Ok(())
 }
 
-/// The decision point whose root is `p1`, which permits reading.
-fn pdp(alloc: Global) -> Result<Pdp, Fail> {
-    let root = reference(alloc, "p1")?;
-    let mut pdp = Pdp::new(alloc);
-    put(alloc, &mut pdp, PERMITTING)?;
-    let _none = pdp.set_root(Some(root));
-    Ok(pdp)
+/// Makes `p1`, which permits reading, the root.
+fn permit_reading(alloc: Global, pdp: &mut Pdp) -> Result<(), Fail> {
+    put(alloc, pdp, PERMITTING)?;
+    let _none = pdp.set_root(Some(reference(alloc, "p1")?));
+    Ok(())
 }
 
 /// The evaluation of what a person does with a resource.
@@ -70,14 +84,18 @@ fn reading(alloc: Global, pdp: &mut Pdp) -> Result<Evaluation, AllocError> {
     doing(alloc, pdp, "ann", "read", "plan")
 }
 
-/// The decision on it.
-fn decided(alloc: Global, pdp: &mut Pdp) -> Result<Outcome, AllocError> {
-    Ok(reading(alloc, pdp)?.answer.decision)
-}
-
-/// The evaluation of it by the decision point above.
+/// The evaluation of it where `p1` permits it.
 fn first_reading(alloc: Global) -> Result<Evaluation, Fail> {
-    let mut pdp = pdp(alloc)?;
+    let mut modules: Vec<Box<dyn PolicyFinderModule>> = Vec::new(alloc);
+    modules.push(Box::new(alloc, MapDocs::new(alloc))?)?;
+    let mut attributes: Vec<Box<dyn AttributeFinderModule>> = Vec::new(alloc);
+    attributes.push(Box::new(alloc, MapRows::new(alloc, Items::new(alloc)))?)?;
+    let mut pdp = Pdp::new(
+        alloc,
+        AttributeFinder::new(attributes),
+        PolicyFinder::new(modules),
+    );
+    permit_reading(alloc, &mut pdp)?;
     Ok(reading(alloc, &mut pdp)?)
 }
 
@@ -163,17 +181,26 @@ fn another_resource_is_asked_of(rt: HostRuntime) -> Result<(), Fail> {
     Ok(())
 }
 
-/// The decision on ann's writing of what is called as an action is.
-fn writing(alloc: Global, pdp: &mut Pdp) -> Result<Outcome, AllocError> {
+/// The decision on ann's writing of what is called as an action is, and how many evaluations that takes.
+fn writing(alloc: Global) -> Result<(Outcome, u128), Fail> {
+    let mut modules: Vec<Box<dyn PolicyFinderModule>> = Vec::new(alloc);
+    modules.push(Box::new(alloc, MapDocs::new(alloc))?)?;
+    let mut attributes: Vec<Box<dyn AttributeFinderModule>> = Vec::new(alloc);
+    attributes.push(Box::new(alloc, MapRows::new(alloc, Items::new(alloc)))?)?;
+    let mut pdp = Pdp::new(
+        alloc,
+        AttributeFinder::new(attributes),
+        PolicyFinder::new(modules),
+    );
+    permit_reading(alloc, &mut pdp)?;
     let request = asked_anew(alloc, "write", "read")?;
-    Ok(pdp.evaluate(&request)?.answer.decision)
+    let decision = pdp.evaluate(&request)?.answer.decision;
+    Ok((decision, pdp.evaluations()))
 }
 
 #[test]
 fn writing_is_not_decided(rt: HostRuntime) -> Result<(), Fail> {
-    let mut pdp = pdp(rt.alloc())?;
-    assert_eq!(rt; writing(rt.alloc(), &mut pdp)?, Outcome::NotApplicable);
-    assert_eq!(rt; pdp.evaluations(), 1);
+    assert!(rt; writing(rt.alloc())? == (Outcome::NotApplicable, 1));
     Ok(())
 }
 
@@ -197,79 +224,89 @@ const ROOTS: &[(Option<&str>, Outcome, Status, usize)] = &[
     (None, Outcome::NotApplicable, Status::Okay, 1),
 ];
 
+/// The id of the root before it is replaced, and whether the other one is the root then.
+fn replaced(alloc: Global) -> Result<(Option<Name>, bool), Fail> {
+    let mut modules: Vec<Box<dyn PolicyFinderModule>> = Vec::new(alloc);
+    modules.push(Box::new(alloc, MapDocs::new(alloc))?)?;
+    let mut attributes: Vec<Box<dyn AttributeFinderModule>> = Vec::new(alloc);
+    attributes.push(Box::new(alloc, MapRows::new(alloc, Items::new(alloc)))?)?;
+    let mut pdp = Pdp::new(
+        alloc,
+        AttributeFinder::new(attributes),
+        PolicyFinder::new(modules),
+    );
+    permit_reading(alloc, &mut pdp)?;
+    let old = replace_root(alloc, &mut pdp, Some("p2"))?;
+    Ok((old, *pdp.root() == Some(reference(alloc, "p2")?)))
+}
+
 #[test]
 fn roots_are_replaced(rt: HostRuntime) -> Result<(), Fail> {
-    let mut pdp = pdp(rt.alloc())?;
-    let old = replace_root(rt.alloc(), &mut pdp, Some("p2"))?;
-    assert!(rt; old.is_some_and(|old| old.as_str() == "p1"));
-    assert!(rt; *pdp.root() == Some(reference(rt.alloc(), "p2")?));
+    let (old, is_root) = replaced(rt.alloc())?;
+    assert!(rt; old.is_some_and(|old| old.as_str() == "p1") && is_root);
     Ok(())
 }
 
 /// The decision on reading with that root, its status, and how many look-ups it rests on.
-fn decided_by(
-    alloc: Global,
-    pdp: &mut Pdp,
-    root: Option<&str>,
-) -> Result<(Outcome, Status, usize), Fail> {
-    let _old = replace_root(alloc, pdp, root)?;
-    let Evaluation { answer, reads } = reading(alloc, pdp)?;
+fn decided_by(alloc: Global, root: Option<&str>) -> Result<(Outcome, Status, usize), Fail> {
+    let mut modules: Vec<Box<dyn PolicyFinderModule>> = Vec::new(alloc);
+    modules.push(Box::new(alloc, MapDocs::new(alloc))?)?;
+    let mut attributes: Vec<Box<dyn AttributeFinderModule>> = Vec::new(alloc);
+    attributes.push(Box::new(alloc, MapRows::new(alloc, Items::new(alloc)))?)?;
+    let mut pdp = Pdp::new(
+        alloc,
+        AttributeFinder::new(attributes),
+        PolicyFinder::new(modules),
+    );
+    permit_reading(alloc, &mut pdp)?;
+    let _old = replace_root(alloc, &mut pdp, root)?;
+    let Evaluation { answer, reads } = reading(alloc, &mut pdp)?;
     Ok((answer.decision, answer.status, reads.len()))
 }
 
 #[test]
 fn roots_decide(rt: HostRuntime) -> Result<(), Fail> {
-    let mut pdp = pdp(rt.alloc())?;
     for &(root, decision, status, count) in ROOTS {
-        let decided = decided_by(rt.alloc(), &mut pdp, root)?;
-        assert!(rt; decided == (decision, status, count));
+        assert!(rt; decided_by(rt.alloc(), root)? == (decision, status, count));
     }
-    assert_eq!(rt; pdp.evaluations(), 2);
     Ok(())
 }
 
-/// Takes the last document away, if there is one.
-fn take_away(pdp: &mut Pdp) {
-    if pdp.policies().len() > 0 {
-        pdp.undo_add();
-    }
+/// Stores a version of `p1` in a module, and gives its key.
+fn store(alloc: Global, module: &mut MapDocs, text: &str) -> Result<DocKey, Fail> {
+    let document = document(alloc, text)?;
+    let key = document.key(alloc)?;
+    let mut slot = Some(document);
+    module.swap_document(&key, &mut slot)?;
+    Ok(key)
 }
 
-/// A decision point with all three versions, of which so many are taken away again, the last first.
-fn pdp_without(alloc: Global, count: usize) -> Result<Pdp, Fail> {
-    let mut pdp = pdp(alloc)?;
-    put(alloc, &mut pdp, DENYING)?;
-    put(alloc, &mut pdp, BETWEEN)?;
-    for _ in 0..count {
-        take_away(&mut pdp);
-    }
-    Ok(pdp)
+/// The numbers of the version of `p1` that a reference finds in a module: the most recent one of two numbers or more.
+fn found(alloc: Global, module: &MapDocs) -> Result<Option<u32>, Fail> {
+    let mut wanted = reference(alloc, "p1")?;
+    wanted.constraints.version = VersionMatch::parse("1.+");
+    let Some(document) = module.find_reference(&wanted) else {
+        return Ok(None);
+    };
+    Ok(document.key(alloc)?.version.numbers().get(1).copied())
 }
 
-/// Whether a version of `p1` is held.
-fn holds(alloc: Global, pdp: &Pdp, version: &str) -> Result<bool, Fail> {
-    Ok(pdp.policies().holds(&key(alloc, version)?))
+/// What is found in a module with two versions of `p1`: at first, while the later one is taken out, and when it is put back.
+fn found_in_turn(alloc: Global) -> Result<[Option<u32>; 3], Fail> {
+    let mut module = MapDocs::new(alloc);
+    let _between = store(alloc, &mut module, BETWEEN)?;
+    let later = store(alloc, &mut module, DENYING)?;
+    let first = found(alloc, &module)?;
+    let mut out = None;
+    module.swap_document(&later, &mut out)?;
+    let without = found(alloc, &module)?;
+    module.swap_document(&later, &mut out)?;
+    Ok([first, without, found(alloc, &module)?])
 }
-
-/// Whether so many documents are held, with the first version of `p1`, and with the one that denies if told so.
-fn is_left(alloc: Global, pdp: &Pdp, count: usize, denies: bool) -> Result<bool, Fail> {
-    let is_first = holds(alloc, pdp, "1.0")? && !holds(alloc, pdp, "1")?;
-    Ok(is_first && holds(alloc, pdp, "1.10")? == denies && pdp.policies().len() == count)
-}
-
-/// How many versions are taken away, with the decision on reading, how many are left, and whether the one that denies is.
-const LEFT: &[(usize, Outcome, usize, bool)] = &[
-    (0, Outcome::Deny, 3, true),
-    (1, Outcome::Deny, 2, true),
-    (2, Outcome::Permit, 1, false),
-];
 
 #[test]
-fn versions_are_taken_away(rt: HostRuntime) -> Result<(), Fail> {
-    for &(count, decision, left, denies) in LEFT {
-        let mut pdp = pdp_without(rt.alloc(), count)?;
-        assert!(rt; is_left(rt.alloc(), &pdp, left, denies)?);
-        assert_eq!(rt; decided(rt.alloc(), &mut pdp)?, decision);
-    }
+fn a_second_swap_undoes_the_first(rt: HostRuntime) -> Result<(), Fail> {
+    let found = found_in_turn(rt.alloc())?;
+    assert!(rt; found == [Some(10), Some(9), Some(10)]);
     Ok(())
 }

@@ -1,9 +1,10 @@
-//! Versions, references, and what `check` makes of documents without a fault.
+//! Versions and their patterns, references, and what `check` makes of documents without a fault.
 
 use crate::documents::document;
 use ent_combine::{PolicyAlg, RuleAlg};
 use ent_policy::{
-    DocKey, Document, Kind, RawDocument, RawPolicy, RawTarget, Reference, Tree, Version, check,
+    Child, DocKey, Document, Kind, Name, Policy, RawDocument, RawPolicy, RawTarget, Reference,
+    Tree, Version, VersionConstraints, VersionMatch, check,
 };
 use ent_values::{Items, Text};
 use std::alloc::{AllocError, Global};
@@ -41,6 +42,84 @@ fn versions_have_an_order(rt: HostRuntime) -> Result<(), Fail> {
     Ok(())
 }
 
+/// What a constraint of a reference asks of a version.
+#[derive(Clone, Copy)]
+enum Asks {
+    Version,
+    Earliest,
+    Latest,
+}
+
+/// Versions, patterns, and whether a version meets a constraint with that pattern.
+const MET: &[(&str, Asks, &str, bool)] = &[
+    ("1.2.3", Asks::Version, "1.2.3", true),
+    ("1.2.3", Asks::Version, "1.*.3", true),
+    ("1.2.3", Asks::Version, "1.2.*", true),
+    ("1.2.3", Asks::Version, "1.+", true),
+    ("1.2.3", Asks::Version, "1.2", false),
+    ("1.2.3", Asks::Version, "1.2.3.+", false),
+    ("1.2.3", Asks::Earliest, "1.2", true),
+    ("1.2.3", Asks::Earliest, "1.2.3.0", false),
+    ("1.2.3", Asks::Latest, "1.2", false),
+    ("1.2.3", Asks::Latest, "1.*", false),
+    ("1.2.3", Asks::Latest, "1.+", true),
+    ("1", Asks::Earliest, "1.+", false),
+    ("1", Asks::Latest, "1.+", true),
+];
+
+fn constraints(asks: Asks, pattern: &str) -> VersionConstraints {
+    let pattern = VersionMatch::parse(pattern);
+    let mut constraints = VersionConstraints::none();
+    match asks {
+        Asks::Version => constraints.version = pattern,
+        Asks::Earliest => constraints.earliest = pattern,
+        Asks::Latest => constraints.latest = pattern,
+    }
+    constraints
+}
+
+#[test]
+fn versions_meet_patterns(rt: HostRuntime) -> Result<(), Fail> {
+    for &(text, asks, pattern, met) in MET {
+        let constraints = constraints(asks, pattern);
+        assert_eq!(rt; constraints.meets(&version(text)?), met, "{text} {pattern}");
+        assert!(rt; constraints.copy() == constraints);
+    }
+    assert!(rt; VersionConstraints::none().meets(&version("0")?));
+    Ok(())
+}
+
+/// Texts, and the patterns that they write, if they write one.
+const PATTERNS: &[(&str, Option<&str>)] = &[
+    ("01.*", Some("1.*")),
+    ("*", Some("*")),
+    ("+", Some("+")),
+    ("1.*.+", Some("1.*.+")),
+    ("1.2.3.4.5.6.7.+", Some("1.2.3.4.5.6.7.+")),
+    ("+.1", None),
+    ("1.+.2", None),
+    ("", None),
+    ("1.", None),
+    ("1*", None),
+    ("1.2.3.4.5.6.7.8.9", None),
+    ("1234567890", None),
+];
+
+#[test]
+fn patterns_are_read_and_written(rt: HostRuntime) -> Result<(), Fail> {
+    for &(text, written) in PATTERNS {
+        match (VersionMatch::parse(text), written) {
+            (None, None) => {}
+            (Some(read), Some(written)) => {
+                assert_eq!(rt; read.text(rt.alloc())?.as_str(), written);
+                assert!(rt; VersionMatch::parse(written) == Some(read.copy()));
+            }
+            _ => return Err(Fail::new("another pattern")),
+        }
+    }
+    Ok(())
+}
+
 #[test]
 fn references(rt: HostRuntime) -> Result<(), Fail> {
     let alloc = rt.alloc();
@@ -48,10 +127,13 @@ fn references(rt: HostRuntime) -> Result<(), Fail> {
         let mut id = Vec::new(alloc);
         id.resize(length, b'p')?;
         let id = Text::new(String::from_utf8(id)?);
-        let reference = Reference::new(Kind::Policy, id);
-        assert_eq!(rt; reference.is_some(), is_name, "{length}");
+        assert_eq!(rt; Name::new(id).is_some(), is_name, "{length}");
     }
-    let reference = Reference::new(Kind::Policy, text(alloc, "p")?).ok_or("p")?;
+    let reference = Reference {
+        kind: Kind::Policy,
+        id: Name::new(text(alloc, "p")?).ok_or("p")?,
+        constraints: constraints(Asks::Latest, "2.+"),
+    };
     assert!(rt; reference.copy(alloc)? == reference);
     Ok(())
 }
@@ -83,27 +165,22 @@ fn has_key(
     is_key(alloc, &document.key(alloc)?, kind, id, numbers)
 }
 
-/// Whether a tree is a policy of version 1.0 and of that algorithm, with so many rules and as many variables.
-fn is_policy(tree: &Tree, algorithm: RuleAlg, count: usize) -> bool {
-    match tree {
-        Tree::Policy(policy) => {
-            policy.version.numbers() == [1, 0].as_slice()
-                && policy.algorithm == algorithm
-                && policy.rules.len() == count
-                && policy.variables.len() == count
-        }
-        Tree::Set(_) => false,
-    }
+/// Whether a policy is of version 1.0 and of that algorithm, with so many rules and as many variables.
+fn is_policy(policy: &Policy, algorithm: RuleAlg, count: usize) -> bool {
+    policy.version.numbers() == [1, 0].as_slice()
+        && policy.algorithm == algorithm
+        && policy.rules.len() == count
+        && policy.variables.len() == count
 }
 
 /// Whether a tree is a set of the algorithm that is only for one, and its first child is a policy that denies first.
 fn is_set(tree: &Tree) -> bool {
     match tree {
         Tree::Set(set) => match set.children.as_slice().first() {
-            Some(child) => {
-                set.algorithm == PolicyAlg::OnlyOne && is_policy(child, RuleAlg::DenyOverrides, 1)
+            Some(Child::Policy(policy)) => {
+                set.algorithm == PolicyAlg::OnlyOne && is_policy(policy, RuleAlg::DenyOverrides, 1)
             }
-            None => false,
+            _ => false,
         },
         Tree::Policy(_) => false,
     }
@@ -138,7 +215,10 @@ fn least_document(alloc: Global) -> Result<Document, Fail> {
 #[test]
 fn a_sound_policy(rt: HostRuntime) -> Result<(), Fail> {
     let document = least_document(rt.alloc())?;
-    assert!(rt; is_policy(document.tree(), RuleAlg::DenyUnlessPermit, 0));
+    match document.tree() {
+        Tree::Policy(policy) => assert!(rt; is_policy(policy, RuleAlg::DenyUnlessPermit, 0)),
+        Tree::Set(_) => return Err(Fail::new("a set")),
+    }
     assert!(rt; has_key(rt.alloc(), &document, Kind::Policy, "p", &[1, 0])?);
     Ok(())
 }

@@ -1,13 +1,16 @@
 //! Reviews: edits and their refusals, cells and lists, under limits that no line can set.
 
-ghost use Rattle.std.specs.Prelude.{IfOk};
 ghost use Rattle.ent_table.specs.Limits.{IsStandardAtMost};
 ghost use Rattle.ent_table.specs.Review.{IsFresh};
 
 use crate::documents::document;
-use ent_eval::{Documents, Pdp, Policies};
+use ent_eval::Pdp;
+use ent_finder::{
+    AttributeFinder, AttributeFinderModule, Attributes, MapDocs, MapRows, Policies, PolicyFinder,
+    PolicyFinderModule,
+};
 use ent_table::{Accepted, Edit, EditFault, Limits, List, Review};
-use ent_values::Text;
+use ent_values::{Items, Text};
 use std::alloc::Global;
 use std::test::Fail;
 
@@ -19,47 +22,39 @@ const PERMITTING: &str =
 type Told = Result<(u64, u64), EditFault>;
 
 fn told(review: &mut Review, edit: Edit) -> Told
-    requires { IsFresh ⟦<Documents as Policies>⟧.documents review.old }
-    ensures { IsFresh ⟦<Documents as Policies>⟧.documents review.new }
+    requires { IsFresh ⟦<AttributeFinder as Attributes>⟧.sources ⟦<PolicyFinder as Policies>⟧.slots review.old }
+    ensures { IsFresh ⟦<AttributeFinder as Attributes>⟧.sources ⟦<PolicyFinder as Policies>⟧.slots review.new }
 {
     let Accepted { serial, changes } = review.edit(edit)?;
     Ok((serial, changes))
 }
 
 fn add_name(alloc: Global, review: &mut Review, list: List, name: &str) -> Result<Told, Fail>
-    requires { IsFresh ⟦<Documents as Policies>⟧.documents review.old }
-    ensures { IsFresh ⟦<Documents as Policies>⟧.documents review.new }
+    requires { IsFresh ⟦<AttributeFinder as Attributes>⟧.sources ⟦<PolicyFinder as Policies>⟧.slots review.old }
+    ensures { IsFresh ⟦<AttributeFinder as Attributes>⟧.sources ⟦<PolicyFinder as Policies>⟧.slots review.new }
 {
     let name = Text::from_str(alloc, name)?;
     Ok(told(review, Edit::AddName(list, name)))
 }
 
 fn add_policy(alloc: Global, review: &mut Review, module: usize) -> Result<Told, Fail>
-    requires { IsFresh ⟦<Documents as Policies>⟧.documents review.old }
-    ensures { IsFresh ⟦<Documents as Policies>⟧.documents review.new }
+    requires { IsFresh ⟦<AttributeFinder as Attributes>⟧.sources ⟦<PolicyFinder as Policies>⟧.slots review.old }
+    ensures { IsFresh ⟦<AttributeFinder as Attributes>⟧.sources ⟦<PolicyFinder as Policies>⟧.slots review.new }
 {
     let document = document(alloc, PERMITTING)?;
     Ok(told(review, Edit::AddPolicy(module, document)))
 }
 
-/// The review with one more name.
-fn with_name(alloc: Global, mut review: Review, list: List, name: &str) -> Result<Review, Fail>
-    requires { IsFresh ⟦<Documents as Policies>⟧.documents review }
-    ensures { IfOk result (λ review. IsFresh ⟦<Documents as Policies>⟧.documents review) }
+/// Lists ann and bob, reading, and the plan.
+fn list_names(alloc: Global, review: &mut Review) -> Result<(), Fail>
+    requires { IsFresh ⟦<AttributeFinder as Attributes>⟧.sources ⟦<PolicyFinder as Policies>⟧.slots review.old }
+    ensures { IsFresh ⟦<AttributeFinder as Attributes>⟧.sources ⟦<PolicyFinder as Policies>⟧.slots review.new }
 {
-    let _told = add_name(alloc, &mut review, list, name)?;
-    Ok(review)
-}
-
-/// A review of ann's and bob's reading of the plan.
-fn named(alloc: Global) -> Result<Review, Fail>
-    ensures { IfOk result (λ review. IsFresh ⟦<Documents as Policies>⟧.documents review) }
-{
-    let empty = Review::new(alloc, Pdp::new(alloc), Limits::standard());
-    let ann = with_name(alloc, empty, List::People, "ann")?;
-    let reading = with_name(alloc, ann, List::Actions, "read")?;
-    let plan = with_name(alloc, reading, List::Resources, "plan")?;
-    with_name(alloc, plan, List::People, "bob")
+    let _ann = add_name(alloc, review, List::People, "ann")?;
+    let _read = add_name(alloc, review, List::Actions, "read")?;
+    let _plan = add_name(alloc, review, List::Resources, "plan")?;
+    let _bob = add_name(alloc, review, List::People, "bob")?;
+    Ok(())
 }
 
 /// Whether a name is among the people, and whether it is among the actions.
@@ -70,11 +65,30 @@ fn listed(review: &Review, name: &str) -> (bool, bool) {
     )
 }
 
+/// Whether bob is among the people and the actions of a review of those names, how many requests were evaluated for it, and its
+/// serial.
+fn of_bob(alloc: Global) -> Result<((bool, bool), u128, u64), Fail> {
+    let mut modules: Vec<Box<dyn PolicyFinderModule>> = Vec::new(alloc);
+    modules.push(Box::new(alloc, MapDocs::new(alloc))?)?;
+    let mut attributes: Vec<Box<dyn AttributeFinderModule>> = Vec::new(alloc);
+    attributes.push(Box::new(alloc, MapRows::new(alloc, Items::new(alloc)))?)?;
+    let pdp = Pdp::new(
+        alloc,
+        AttributeFinder::new(attributes),
+        PolicyFinder::new(modules),
+    );
+    let mut review = Review::new(alloc, pdp, Limits::standard());
+    list_names(alloc, &mut review)?;
+    Ok((
+        listed(&review, "bob"),
+        review.evaluations(),
+        review.serial(),
+    ))
+}
+
 #[test]
 fn names_are_listed(rt: HostRuntime) -> Result<(), Fail> {
-    let review = named(rt.alloc())?;
-    assert!(rt; listed(&review, "bob") == (true, false));
-    assert!(rt; review.evaluations() == 2 && review.serial() == 4);
+    assert!(rt; of_bob(rt.alloc())? == ((true, false), 2, 4));
     Ok(())
 }
 
@@ -91,31 +105,42 @@ fn narrow() -> Limits
     }
 }
 
-/// A review in which ann is listed, and there is no room for a second person, nor for a document.
-fn full(alloc: Global) -> Result<Review, Fail>
-    ensures { IfOk result (λ review. IsFresh ⟦<Documents as Policies>⟧.documents review) }
-{
-    let empty = Review::new(alloc, Pdp::new(alloc), narrow());
-    with_name(alloc, empty, List::People, "ann")
-}
-
-/// What one more person is answered.
+/// What one more person is answered, where there is room for one.
 fn one_more_person(alloc: Global) -> Result<Told, Fail> {
-    let mut review = full(alloc)?;
+    let mut modules: Vec<Box<dyn PolicyFinderModule>> = Vec::new(alloc);
+    modules.push(Box::new(alloc, MapDocs::new(alloc))?)?;
+    let mut attributes: Vec<Box<dyn AttributeFinderModule>> = Vec::new(alloc);
+    attributes.push(Box::new(alloc, MapRows::new(alloc, Items::new(alloc)))?)?;
+    let pdp = Pdp::new(
+        alloc,
+        AttributeFinder::new(attributes),
+        PolicyFinder::new(modules),
+    );
+    let mut review = Review::new(alloc, pdp, narrow());
+    let _ann = add_name(alloc, &mut review, List::People, "ann")?;
     add_name(alloc, &mut review, List::People, "")
 }
 
-/// What one more document is answered.
-fn one_more_document(alloc: Global) -> Result<Told, Fail> {
-    let mut review = full(alloc)?;
-    add_policy(alloc, &mut review, 7)
+/// What one document is answered, where there is room for none.
+fn one_document(alloc: Global, module: usize) -> Result<Told, Fail> {
+    let mut modules: Vec<Box<dyn PolicyFinderModule>> = Vec::new(alloc);
+    modules.push(Box::new(alloc, MapDocs::new(alloc))?)?;
+    let mut attributes: Vec<Box<dyn AttributeFinderModule>> = Vec::new(alloc);
+    attributes.push(Box::new(alloc, MapRows::new(alloc, Items::new(alloc)))?)?;
+    let pdp = Pdp::new(
+        alloc,
+        AttributeFinder::new(attributes),
+        PolicyFinder::new(modules),
+    );
+    let mut review = Review::new(alloc, pdp, narrow());
+    add_policy(alloc, &mut review, module)
 }
 
-/// Where people and documents are as many as they may be, no more is the first refusal.
+/// Where people and documents are as many as they may be, no more is the first refusal, also for a module that isn't there.
 #[test]
 fn limits(rt: HostRuntime) -> Result<(), Fail> {
-    assert!(rt; full(rt.alloc())?.serial() == 1);
     assert!(rt; one_more_person(rt.alloc())? == Err(EditFault::Limit));
-    assert!(rt; one_more_document(rt.alloc())? == Err(EditFault::Limit));
+    assert!(rt; one_document(rt.alloc(), 0)? == Err(EditFault::Limit));
+    assert!(rt; one_document(rt.alloc(), 7)? == Err(EditFault::Limit));
     Ok(())
 }

@@ -21,10 +21,12 @@ Options:
 const HELP_OF_SERVE: &str = "\
 Serves commands on standard input, one line each, to standard output
 
-Usage: review serve
+Usage: review serve [OPTIONS]
 
 Options:
-  -h, --help  Print help
+      --attribute-modules <N>  How many modules hold values of attributes, from 1 to 4 [default: 2]
+      --policy-modules <N>     How many modules hold policies, from 1 to 4 [default: 2]
+  -h, --help                   Print help
 ";
 
 const HELP_OF_CHECK: &str = "\
@@ -61,6 +63,12 @@ const TWO_FILES: &str = "\
 error: unexpected argument 'b' found
 
 Usage: review check <FILE>
+
+For more information, try '--help'.
+";
+
+const FIVE_MODULES: &str = "\
+error: invalid value '5' for '--policy-modules <N>': 5 is not in 1..=4
 
 For more information, try '--help'.
 ";
@@ -107,6 +115,7 @@ const SAID: &[(&[&str], &str, u8)] = &[
     (&[], NO_COMMAND, 1),
     (&["check"], NO_FILE, 1),
     (&["check", "a", "b"], TWO_FILES, 1),
+    (&["serve", "--policy-modules", "5"], FIVE_MODULES, 1),
     (&["surve"], NO_SUCH_COMMAND, 1),
 ];
 
@@ -130,6 +139,7 @@ fn words_that_are_not_taken(rt: HostRuntime) -> Result<(), Fail> {
 fn commands_are_taken(rt: HostRuntime) -> Result<(), Fail> {
     let alloc = rt.alloc();
     assert!(rt; said(alloc, &["serve"])?.is_none());
+    assert!(rt; said(alloc, &["serve", "--policy-modules", "4"])?.is_none());
     let words = line_of(alloc, &["check", "a"])?;
     let matches = command(alloc)?.try_get_matches_from(words.as_slice())?;
     let (name, asked) = matches.subcommand().ok_or("no subcommand")?;

@@ -1,25 +1,18 @@
 use Rattle.std.proofs.Common.{◌∙◌, sym, ap}
+use Rattle.std.proofs.lemmas.Option.{IfSome_then}
+use Rattle.ent_eval.specs.Part.{without_look}
 use Rattle.ent_eval.proofs.Literals.{equal-part, is-in-part}
 use Rattle.ent_eval.proofs.uncopied.without_copies.Goals as goal
 
 pub returns-in_ok-seen-in-IsIn-Designator-clause-value : goal.returns-in_ok-seen-in-IsIn-Designator-clause-value
-returns-in_ok-seen-in-IsIn-Designator-clause-value c = λ looks definitions references.
-    c.found_in.ensures.value c.in-IsIn-Designator.field-0-0 ∙ sym (ap (λ p. p.value) (is-in-part looks c.args.request.now definitions references c.args.function c.in-IsIn-Designator.field-0-0 c.args.arguments.now c.in_ok-first.first.now c.in_ok-first.second.now
-    c.in_ok-seen-in-IsIn-Designator.field-0.now c.in-IsIn-Designator.designator c.in-IsIn-Designator.is-0 c.in_ok-first.ensures (c.in_ok-seen-in-IsIn-Designator.ensures looks definitions references) c.in-IsIn-Designator.is-1))
-
-pub returns-in_ok-seen-in-IsIn-Designator-clause-reads : goal.returns-in_ok-seen-in-IsIn-Designator-clause-reads
-returns-in_ok-seen-in-IsIn-Designator-clause-reads c = λ looks definitions references.
-    ap (λ p. p.reads) (is-in-part looks c.args.request.now definitions references c.args.function c.in-IsIn-Designator.field-0-0 c.args.arguments.now c.in_ok-first.first.now c.in_ok-first.second.now
-    c.in_ok-seen-in-IsIn-Designator.field-0.now c.in-IsIn-Designator.designator c.in-IsIn-Designator.is-0 c.in_ok-first.ensures (c.in_ok-seen-in-IsIn-Designator.ensures looks definitions references) c.in-IsIn-Designator.is-1)
+returns-in_ok-seen-in-IsIn-Designator-clause-value c = IfSome_then c.found_in.result c.found_in.ensures.value (λ v is looks definitions references.
+    is-in-part looks c.args.request.now definitions references c.args.function c.in-IsIn-Designator.field-0-0 c.args.arguments.now c.in_ok-first.first.now c.in_ok-first.second.now
+    c.in_ok-seen-in-IsIn-Designator.field-0.now c.in-IsIn-Designator.designator c.in-IsIn-Designator.is-0 c.in_ok-first.ensures (c.in_ok-seen-in-IsIn-Designator.ensures looks definitions references) c.in-IsIn-Designator.is-1 is.0
+    ∙ ap without_look (sym (is.1 c.in-IsIn-Designator.field-0-0)))
 
 pub returns-in_ok-seen-in-Equal-default-2-clause-value : goal.returns-in_ok-seen-in-Equal-default-2-clause-value
 returns-in_ok-seen-in-Equal-default-2-clause-value c = λ looks definitions references.
-    c.compared.ensures.value c.in-Equal-default.field-0-0 ∙ sym (ap (λ p. p.value) (equal-part looks c.args.request.now definitions references c.args.function c.in-Equal-default.field-0-0 c.args.arguments.now c.in_ok-first.first.now c.in_ok-first.second.now
+    equal-part looks c.args.request.now definitions references c.args.function c.in-Equal-default.field-0-0 c.args.arguments.now c.in_ok-first.first.now c.in_ok-first.second.now
     c.in_ok-seen-in-Equal-default.field-0.now c.in_ok-seen-in-Equal-default-2.field-0.now c.in-Equal-default.is-0 c.in_ok-first.ensures
-    (c.in_ok-seen-in-Equal-default.ensures looks definitions references) (c.in_ok-seen-in-Equal-default-2.ensures looks definitions references)))
-
-pub returns-in_ok-seen-in-Equal-default-2-clause-reads : goal.returns-in_ok-seen-in-Equal-default-2-clause-reads
-returns-in_ok-seen-in-Equal-default-2-clause-reads c = λ looks definitions references.
-    ap (λ p. p.reads) (equal-part looks c.args.request.now definitions references c.args.function c.in-Equal-default.field-0-0 c.args.arguments.now c.in_ok-first.first.now c.in_ok-first.second.now
-    c.in_ok-seen-in-Equal-default.field-0.now c.in_ok-seen-in-Equal-default-2.field-0.now c.in-Equal-default.is-0 c.in_ok-first.ensures
-    (c.in_ok-seen-in-Equal-default.ensures looks definitions references) (c.in_ok-seen-in-Equal-default-2.ensures looks definitions references))
+    (c.in_ok-seen-in-Equal-default.ensures looks definitions references) (c.in_ok-seen-in-Equal-default-2.ensures looks definitions references)
+    ∙ ap without_look (sym (c.compared.ensures.value c.in-Equal-default.field-0-0))

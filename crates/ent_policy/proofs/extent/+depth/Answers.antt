@@ -2,7 +2,7 @@ use Rattle.ent_policy.specs.Depths.{depth}
 use Rattle.ent_policy.proofs.Arguments.{greatest_more}
 use Rattle.ent_policy.proofs.extent.+depth.Goals as goal
 
-pub greatest_depth-loop-tree-preserved : goal.greatest_depth-loop-tree-preserved
-greatest_depth-loop-tree-preserved t c =
-    greatest_more 17 depth c.args.trees.now c.loop-tree.tree-index c.tree-item.result c.loop-tree.most c.depth.result c.max-most.result
-    c.loop-tree-test.true c.tree-item.is c.loop-tree.invariant c.depth.ensures c.max-most.ensures
+pub greatest_depth-loop-child-preserved : goal.greatest_depth-loop-child-preserved
+greatest_depth-loop-child-preserved t c =
+    greatest_more 17 depth c.args.children.now c.loop-child.child-index c.child-item.result c.loop-child.most c.child_depth.result c.max-most.result
+    c.loop-child-test.true c.child-item.is c.loop-child.invariant c.child_depth.ensures c.max-most.ensures

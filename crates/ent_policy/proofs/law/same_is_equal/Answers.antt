@@ -1,4 +1,5 @@
 use Rattle.ent_policy.proofs.Documents.{same_document-Decides}
+use Rattle.ent_policy.proofs.Patterns.{same_pattern-Decides}
 use Rattle.ent_policy.proofs.Same.{same_key-Decides, same_kind-Decides, same_reference-Decides, same_version-Decides}
 use Rattle.ent_policy.proofs.law.same_is_equal.Goals as goal
 
@@ -7,6 +8,9 @@ returns-clause-kinds c = same_kind-Decides
 
 pub returns-clause-versions : goal.returns-clause-versions
 returns-clause-versions c = same_version-Decides
+
+pub returns-clause-patterns : goal.returns-clause-patterns
+returns-clause-patterns c = same_pattern-Decides
 
 pub returns-clause-keys : goal.returns-clause-keys
 returns-clause-keys c = same_key-Decides

@@ -6,6 +6,6 @@ use Rattle.ent_table.proofs.fill.evaluate_actions.Given as goal
 
 abbrev pub invariant-loop-action : goal.invariant-loop-action
 invariant-loop-action g l = record {
-  cells : l.cells.items ≡ l.fn.cells.items ++ map (answer_by (looks_of g.P.Policies.documents l.fn.pdp)) (with_actions l.person (texts (take l.action-index l.actions)) (texts l.resources));
+  cells : l.cells.items ≡ l.fn.cells.items ++ map (answer_by (looks_of g.A.Attributes.sources g.P.Policies.slots l.fn.pdp)) (with_actions l.person (texts (take l.action-index l.actions)) (texts l.resources));
   rest : l.pdp ≡ record l.fn.pdp { evaluations = l.pdp.evaluations };
 }

@@ -6,6 +6,6 @@ use Rattle.ent_table.proofs.fill.evaluate_all.Given as goal
 
 abbrev pub invariant-loop-person : goal.invariant-loop-person
 invariant-loop-person g l = record {
-  cells : l.cells.items ≡ map (answer_by (looks_of g.P.Policies.documents l.fn.pdp)) (all_triples (texts (take l.person-index l.people)) (texts l.actions) (texts l.resources));
+  cells : l.cells.items ≡ map (answer_by (looks_of g.A.Attributes.sources g.P.Policies.slots l.fn.pdp)) (all_triples (texts (take l.person-index l.people)) (texts l.actions) (texts l.resources));
   rest : l.pdp ≡ record l.fn.pdp { evaluations = l.pdp.evaluations };
 }

@@ -1,4 +1,4 @@
-use Rattle.std.proofs.Common.{◌≡◌, ◌+◌, ◌++◌, ◌∷◌, [], map, take, ap, sym, ◌∙◌, rules}
+use Rattle.std.proofs.Common.{◌≡◌, ◌+◌, ◌++◌, ◌∷◌, [], take, ◌∙◌, rules}
 use Rattle.std.specs.Prelude.{string_bytes}
 use Rattle.ent_eval.specs.LooksOf.{looks_of}
 use Rattle.ent_eval.specs.Answer.{answer}
@@ -10,12 +10,12 @@ use Rattle.ent_table.proofs.fill.evaluate_resources.Goals as goal
 
 pub loop-resource-preserved : goal.loop-resource-preserved
 loop-resource-preserved g c =
-    let looks = looks_of g.P.Policies.documents c.args.pdp.now in
+    let looks = looks_of g.A.Attributes.sources g.P.Policies.slots c.args.pdp.now in
     let resources = c.args.resources.now in
     let resource = c.resource-item.result in
     let is : c.in_ok-evaluation.evaluation.answer ≡ answer_by looks (triple_of c.args.person.now c.args.action.now (string_bytes resource)) =
     c.in_ok-evaluation.ensures.answer
-    ∙ (λ t. answer (looks_of g.P.Policies.documents (c.loop-resource.invariant.rest t)) (c.in_ok-ask_of.ensures.ok t))
+    ∙ (λ t. answer (looks_of g.A.Attributes.sources g.P.Policies.slots (c.loop-resource.invariant.rest t)) (c.in_ok-ask_of.ensures.ok t))
     ∙ (λ t. answer looks (record { categories = c.loop-resource.invariant.request t ++ about (c.as_str.ensures.value t) ∷ [] }))
     in
     let more = one_more_text resources c.loop-resource.resource-index resource c.loop-resource-test.true c.resource-item.is in

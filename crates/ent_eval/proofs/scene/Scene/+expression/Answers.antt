@@ -4,7 +4,6 @@ use Rattle.std.proofs.lemmas.Result.{IfOk-weaker, on_ok_weaker}
 use Rattle.ent_functions.specs.Applied.{applied}
 use Rattle.ent_policy.specs.Variables.{definition_of}
 use Rattle.ent_eval.specs.Expression.{evaluated_of, meaning}
-use Rattle.ent_eval.specs.LooksOf.{looks_of}
 use Rattle.ent_eval.specs.Noted.{noted}
 use Rattle.ent_eval.specs.Typed.{HasType, type_of}
 use Rattle.ent_eval.proofs.Arguments.{all-value, next_argument, settled-reads, settled-type, settled-value}
@@ -13,13 +12,13 @@ use Rattle.ent_eval.proofs.scene.Scene.+expression.Goals as goal
 
 pub application-returns-in-Err-clause-value : goal.application-returns-in-Err-clause-value
 application-returns-in-Err-clause-value g t c =
-    c.in-Err.ensures.0 ∙ settled-value c.args.function (meaning (looks_of g.P.Policies.documents c.args.self.now.pdp.now) c.args.self.now.request.now c.args.definitions.now c.args.references) (type_of c.args.definitions.now c.args.references)
+    c.in-Err.ensures.0 ∙ settled-value c.args.function (meaning (g.L.LookUps.looks c.args.self.now.held.now) c.args.self.now.request.now c.args.definitions.now c.args.references) (type_of c.args.definitions.now c.args.references)
     c.args.arguments.now c.loop-argument.argument-index c.loop-argument.evaluated c.args.reads.now c.loop-argument.reads c.argument-item.result c.in_ok-value.value
     c.loop-argument-test.true c.argument-item.is c.loop-argument.invariant c.in_ok-value.ensures.value c.in-Err.ensures.1
 
 pub application-returns-in-Err-clause-reads : goal.application-returns-in-Err-clause-reads
 application-returns-in-Err-clause-reads g t c =
-    settled-reads c.args.function (meaning (looks_of g.P.Policies.documents c.args.self.now.pdp.now) c.args.self.now.request.now c.args.definitions.now c.args.references) (type_of c.args.definitions.now c.args.references)
+    settled-reads c.args.function (meaning (g.L.LookUps.looks c.args.self.now.held.now) c.args.self.now.request.now c.args.definitions.now c.args.references) (type_of c.args.definitions.now c.args.references)
     c.args.arguments.now c.loop-argument.argument-index c.loop-argument.evaluated c.args.reads.now c.loop-argument.reads c.argument-item.result c.in_ok-value.value c.expression.new.reads
     c.loop-argument-test.true c.argument-item.is c.loop-argument.invariant c.in_ok-value.ensures.value c.in-Err.ensures.1 c.in_ok-value.ensures.reads
 
@@ -29,14 +28,14 @@ application-returns-in-Err-clause-typed g t c =
 
 pub application-loop-argument-preserved : goal.application-loop-argument-preserved
 application-loop-argument-preserved g t c =
-    next_argument c.args.function (meaning (looks_of g.P.Policies.documents c.args.self.now.pdp.now) c.args.self.now.request.now c.args.definitions.now c.args.references) (type_of c.args.definitions.now c.args.references)
+    next_argument c.args.function (meaning (g.L.LookUps.looks c.args.self.now.held.now) c.args.self.now.request.now c.args.definitions.now c.args.references) (type_of c.args.definitions.now c.args.references)
     c.args.arguments.now c.loop-argument.argument-index c.loop-argument.evaluated c.args.reads.now c.loop-argument.reads c.argument-item.result c.in_ok-value.value c.in-Ok.argument c.push.new.self c.expression.new.reads
     c.loop-argument-test.true c.argument-item.is c.loop-argument.invariant c.in_ok-value.ensures.value c.in_ok-value.ensures.reads c.in_ok-value.ensures.typed c.in-Ok.ensures.0 c.in-Ok.ensures.1 c.in_ok-push-in-Ok.ensures.ok
 
 pub application-returns-clause-value : goal.application-returns-clause-value
 application-returns-clause-value g t c =
     IfOk-weaker c.applied_to.result _ _ (λ v is. is ∙ ap (λ given. evaluated_of (applied c.args.function given)) c.as_slice.ensures
-    ∙ all-value c.args.function (meaning (looks_of g.P.Policies.documents c.args.self.now.pdp.now) c.args.self.now.request.now c.args.definitions.now c.args.references) (type_of c.args.definitions.now c.args.references)
+    ∙ all-value c.args.function (meaning (g.L.LookUps.looks c.args.self.now.held.now) c.args.self.now.request.now c.args.definitions.now c.args.references) (type_of c.args.definitions.now c.args.references)
     c.args.arguments.now c.loop-argument.argument-index c.loop-argument.evaluated c.args.reads.now c.loop-argument.reads (omega (arith, c.loop-argument-test.false)) c.loop-argument.invariant) c.applied_to.ensures.value
 
 pub variable-expression-requires : goal.variable-expression-requires
@@ -50,13 +49,13 @@ pub variable-returns-clause-value : goal.variable-returns-clause-value
 variable-returns-clause-value g t c =
     let found : definition_of c.args.definitions.now c.args.id.now ≡ Some c.in-Some.definition.now = sym c.in-Some.ensures in
     IfOk-weaker c.expression.result _ _ (λ v is. is ∙ ap (λ p. p.value) (sym (definition_part c.args.definitions.now c.args.references c.args.id.now c.in-Some.definition.now found
-    (looks_of g.P.Policies.documents c.args.self.now.pdp.now) c.args.self.now.request.now (has_reference c.args.definitions.now c.args.references c.args.id.now c.requires.typed)))) c.expression.ensures.value
+    (g.L.LookUps.looks c.args.self.now.held.now) c.args.self.now.request.now (has_reference c.args.definitions.now c.args.references c.args.id.now c.requires.typed)))) c.expression.ensures.value
 
 pub variable-returns-clause-reads : goal.variable-returns-clause-reads
 variable-returns-clause-reads g t c =
     let found : definition_of c.args.definitions.now c.args.id.now ≡ Some c.in-Some.definition.now = sym c.in-Some.ensures in
     on_ok_weaker c.expression.result (λ is. is ∙ ap (λ p. noted c.args.reads.now p.reads) (sym (definition_part c.args.definitions.now c.args.references c.args.id.now c.in-Some.definition.now found
-    (looks_of g.P.Policies.documents c.args.self.now.pdp.now) c.args.self.now.request.now (has_reference c.args.definitions.now c.args.references c.args.id.now c.requires.typed)))) c.expression.ensures.reads
+    (g.L.LookUps.looks c.args.self.now.held.now) c.args.self.now.request.now (has_reference c.args.definitions.now c.args.references c.args.id.now c.requires.typed)))) c.expression.ensures.reads
 
 pub variable-returns-clause-typed : goal.variable-returns-clause-typed
 variable-returns-clause-typed g t c =
@@ -64,11 +63,11 @@ variable-returns-clause-typed g t c =
 
 pub application-returns-in-Some-clause-value : goal.application-returns-in-Some-clause-value
 application-returns-in-Some-clause-value g t c =
-    c.in-Some.ensures.value (looks_of g.P.Policies.documents c.args.self.now.pdp.now) c.args.definitions.now c.args.references
+    sym (ap (λ p. p.value) (c.in-Some.ensures.value (g.L.LookUps.looks c.args.self.now.held.now) c.args.definitions.now c.args.references))
 
 pub application-returns-in-Some-clause-reads : goal.application-returns-in-Some-clause-reads
 application-returns-in-Some-clause-reads g t c =
-    ap (noted c.args.reads.now) (sym (c.in-Some.ensures.reads (looks_of g.P.Policies.documents c.args.self.now.pdp.now) c.args.definitions.now c.args.references))
+    ap (λ p. noted c.args.reads.now p.reads) (sym (c.in-Some.ensures.value (g.L.LookUps.looks c.args.self.now.held.now) c.args.definitions.now c.args.references))
 
 pub application-returns-in-Some-clause-typed : goal.application-returns-in-Some-clause-typed
 application-returns-in-Some-clause-typed g t c = c.in-Some.ensures.typed c.args.definitions.now c.args.references c.requires.typed

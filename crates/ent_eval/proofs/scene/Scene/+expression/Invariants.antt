@@ -1,6 +1,5 @@
 use Rattle.std.proofs.Common.{◌+◌, ◌*◌}
 use Rattle.ent_eval.specs.Expression.{meaning}
-use Rattle.ent_eval.specs.LooksOf.{looks_of}
 use Rattle.ent_eval.specs.Typed.{type_of, worth}
 use Rattle.ent_eval.proofs.Arguments.{AreEvaluated}
 use Rattle.ent_eval.proofs.scene.Scene.+expression.Given as goal
@@ -16,5 +15,5 @@ decreases-variable g l = l.references * worth l.definitions.now
 
 abbrev pub invariant-application-loop-argument : goal.invariant-application-loop-argument
 invariant-application-loop-argument g l =
-    AreEvaluated l.function (meaning (looks_of g.P.Policies.documents l.self.pdp.now) l.self.request.now l.definitions l.references) (type_of l.definitions l.references) l.arguments l.argument-index l.evaluated
+    AreEvaluated l.function (meaning (g.L.LookUps.looks l.self.held.now) l.self.request.now l.definitions l.references) (type_of l.definitions l.references) l.arguments l.argument-index l.evaluated
     l.initial.reads l.reads

@@ -1,29 +1,38 @@
-use Rattle.std.proofs.Common.{◌≡◌, ◌≤◌, ◌∷◌, Ok, length, refl, sym, ap, subst, ◌∙◌, arith}
+use Rattle.std.proofs.Common.{◌≡◌, Ok, string_bytes, sym, ap, ◌∙◌}
 use Rattle.ent_table.specs.Difference.{changes}
-use Rattle.ent_table.specs.Names.{Names}
-use Rattle.ent_table.specs.Review.{growth, state_of}
-use Rattle.ent_table.specs.State.{State, fresh}
-use Rattle.ent_table.proofs.Changes.{more_names, fresh-longer, changes-name_added}
+use Rattle.ent_table.specs.Names.{Names, with_name}
+use Rattle.ent_table.specs.Review.{state_of}
+use Rattle.ent_table.specs.State.{State}
+use Rattle.ent_table.specs.Step.{next}
+use Rattle.ent_table.proofs.Changes.{more_names}
 use Rattle.ent_table.proofs.Steps.{name_passes}
+use Rattle.ent_table.proofs.Tables.{Shows, added_changes, shows_more}
 use Rattle.ent_table.proofs.review.Review.add_name.Goals as goal
 
-pub settle_names-requires-clause-longer : goal.settle_names-requires-clause-longer
-settle_names-requires-clause-longer g c =
-    let s = state_of g.P.Policies.documents c.args.self.now in
-    let longer = fresh-longer s c.args.list c.args.name (name_passes s c.args.list c.args.name c.in_ok-name_fault.ensures).0 in
-    let all : length c.args.self.now.cells ≤ length (fresh (more_names s c.args.list c.args.name)) = omega (arith, longer, ap length c.requires.cells) in
-    subst (λ (n : Names). length c.args.self.now.cells ≤ length (fresh (record s { names = n }))) (sym c.in-Ok.ensures.ok) all
-
-pub returns-in-Ok-settle_names-clause-step : goal.returns-in-Ok-settle_names-clause-step
-returns-in-Ok-settle_names-clause-step g c =
-    let s = state_of g.P.Policies.documents c.args.self.now in
-    let t = more_names s c.args.list c.args.name in
-    let passes = name_passes s c.args.list c.args.name c.in_ok-name_fault.ensures in
-    let settled = c.in-Ok-settle_names.ensures.settled in
-    let same : state_of g.P.Policies.documents c.settle_names.new.self ≡ t =
-    ap (state_of g.P.Policies.documents) settled.1 ∙ ap (λ (n : Names). record t { names = n }) c.in-Ok.ensures.ok in
-    let table : c.settle_names.new.self.cells ≡ fresh t = settled.0 ∙ ap (λ (n : Names). fresh (record s { names = n })) c.in-Ok.ensures.ok in (
-      passes.1 ∙ ap Ok (sym same),
-      settled.2 ∙ sym (ap (λ v. v.serial) settled.1),
-      settled.3 ∙ (λ i. growth (c.requires.cells i) (table i)) ∙ sym (changes-name_added s c.args.list c.args.name passes.0) ∙ ap (λ (u : State). changes s u) (sym same),
+pub returns-clause-step : goal.returns-clause-step
+returns-clause-step g c =
+    let sources = g.A.Attributes.sources in
+    let slots = g.P.Policies.slots in
+    let s = state_of sources slots c.args.self.now in
+    let list = c.args.list in
+    let name = c.args.name in
+    let key = string_bytes c.into_string-name.result in
+    let same = c.into_string-name.ensures in
+    let mid = c.evaluated_with.new.self in
+    let kept = c.in-Ok.ensures.rest in
+    let added = c.in-Ok.added in
+    let shows : Shows s mid.table = record { names = ap (λ v. v.table.names) kept; cells = ap (λ v. v.table.cells) kept ∙ c.requires.cells } in
+    let is = shows_more s list name key mid.table c.add.new.self added shows same c.in-Ok.ensures.cells c.in-Ok-add.ensures.ok in
+    let counted = c.next_serial.ensures in
+    let after : state_of sources slots c.next_serial.new.self ≡ more_names s list name =
+    ap (state_of sources slots) counted.rest
+    ∙ ap (λ (n : Names). record (next (state_of sources slots mid)) { names = n }) is.names
+    ∙ ap (λ v. record (next (state_of sources slots v)) { names = with_name list name s.names }) kept in
+    let passes = name_passes s list name c.in_ok-name_fault.ensures in (
+      passes.1 ∙ ap Ok (sym after),
+      ap (λ a. a.serial) counted.accepted ∙ sym (ap (λ v. v.serial) counted.rest),
+      ap (λ a. a.changes) counted.accepted
+          ∙ c.len-changes.ensures
+          ∙ added_changes s list name key added passes.0 same c.in-Ok.ensures.cells
+          ∙ ap (λ (u : State). changes s u) (sym after),
     )

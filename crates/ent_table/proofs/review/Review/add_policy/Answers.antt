@@ -1,25 +1,17 @@
-use Rattle.std.proofs.Common.{◌≡◌, ◌∷◌, List, Ok, refl, sym, ap, ◌∙◌}
-use Rattle.ent_policy.specs.declared.document.Tree.{Tree}
-use Rattle.ent_table.specs.Difference.{changes, unlike_count}
+use Rattle.std.proofs.Common.{◌+◌, Some, sym, ap, ◌∙◌}
+use Rattle.ent_policy.specs.Key.{key_of}
+use Rattle.ent_policy.specs.declared.key.DocKey.{DocKey}
+use Rattle.ent_finder.specs.Slots.{document_count}
 use Rattle.ent_table.specs.Review.{state_of}
-use Rattle.ent_table.specs.State.{State, fresh}
-use Rattle.ent_table.specs.Step.{next, with_document}
-use Rattle.ent_table.proofs.Changes.{changes-same_names}
-use Rattle.ent_table.proofs.Steps.{document_passes}
+use Rattle.ent_table.specs.Step.{with_policy}
+use Rattle.ent_table.proofs.Exchanges.{count_added}
+use Rattle.ent_table.proofs.Steps.{added_is_new}
 use Rattle.ent_table.proofs.review.Review.add_policy.Goals as goal
 
-pub returns-in-Ok-settle_answers-clause-step : goal.returns-in-Ok-settle_answers-clause-step
-returns-in-Ok-settle_answers-clause-step g c =
-    let documents = g.P.Policies.documents in
-    let s = state_of documents c.args.self.now in
-    let t = next (with_document s c.args.document) in
-    let settled = c.in-Ok-settle_answers.ensures.settled in
-    let held : state_of documents c.settle_answers.new.self ≡ record t { documents = documents c.add.new.self.policies } =
-    ap (state_of documents) settled.1 ∙ ap (λ p. record t { documents = documents c.add.new.self.policies; root = p.root }) c.in-Ok.ensures.rest in
-    let same : state_of documents c.settle_answers.new.self ≡ t = held ∙ ap (λ (ds : List Tree). record t { documents = ds }) c.in-Ok.ensures.ok in
-    let table : c.settle_answers.new.self.cells ≡ fresh t =
-    settled.0 ∙ ap (λ p. fresh (record s { documents = documents c.add.new.self.policies; root = p.root })) c.in-Ok.ensures.rest ∙ ap (λ (ds : List Tree). fresh (record s { documents = ds })) c.in-Ok.ensures.ok in (
-      document_passes s c.args.module_number c.args.document c.in_ok-document_fault.ensures ∙ ap Ok (sym same),
-      settled.2 ∙ sym (ap (λ v. v.serial) settled.1),
-      settled.3 ∙ (λ i. unlike_count (c.requires.cells i) (table i)) ∙ sym (changes-same_names s t refl) ∙ ap (λ (u : State). changes s u) (sym same),
-    )
+pub exchange-requires-clause-documents : goal.exchange-requires-clause-documents
+exchange-requires-clause-documents g c =
+    let s = state_of g.A.Attributes.sources g.P.Policies.slots c.args.self.now in
+    let new = added_is_new s c.args.number c.args.document c.in_ok-key.ensures.tested in
+    ap (λ n. n + 1) c.requires.documents
+    ∙ sym (count_added s c.args.number (key_of c.args.document) c.args.document new.0 new.1)
+    ∙ ap (λ (k : DocKey). document_count (with_policy s c.args.number k (Some c.args.document)).held.modules) (sym c.in_ok-key.ensures.key)

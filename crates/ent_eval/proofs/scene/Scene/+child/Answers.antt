@@ -1,0 +1,73 @@
+use Rattle.std.proofs.Common.{◌∙◌, arith}
+use Rattle.std.proofs.lemmas.Result.{on_ok_weaker}
+use Rattle.ent_eval.specs.Hops.{child_part}
+use Rattle.ent_eval.proofs.Children.{last_child, next_child}
+use Rattle.ent_eval.proofs.Fit.{set_of_tree, sound_fit}
+use Rattle.ent_eval.proofs.Hops.{answer_followed}
+use Rattle.ent_eval.proofs.Parts.{equal_reads, equal_value}
+use Rattle.ent_eval.proofs.Sets.{only-part, set-fit, set-reads, shared-part}
+use Rattle.ent_eval.proofs.Shallow.{shallow_set, shallow_tree}
+use Rattle.ent_eval.proofs.scene.Scene.+child.Goals as goal
+
+pub children-returns-in-Stop-clause-value : goal.children-returns-in-Stop-clause-value
+children-returns-in-Stop-clause-value g t c =
+    (last_child c.args.algorithm (child_part (g.L.LookUps.looks c.args.self.now.held.now) c.args.self.now.request.now c.args.hops c.args.path.now) c.args.children.now c.loop-child.child-index c.child-item.result c.in_ok-answer.answer c.in_ok-take.field-0
+    c.loop-child.gathering c.take.new.self c.finish.result c.args.reads.now c.loop-child.reads c.child.new.reads
+    c.loop-child-test.true c.child-item.is c.loop-child.invariant.going c.loop-child.invariant.gathered c.in_ok-answer.ensures.value c.in_ok-answer.ensures.reads
+    c.in_ok-take.ensures.gathered c.in_ok-take.ensures.progress c.in-Stop.is c.finish.ensures).value
+
+pub children-returns-in-Stop-clause-reads : goal.children-returns-in-Stop-clause-reads
+children-returns-in-Stop-clause-reads g t c =
+    (last_child c.args.algorithm (child_part (g.L.LookUps.looks c.args.self.now.held.now) c.args.self.now.request.now c.args.hops c.args.path.now) c.args.children.now c.loop-child.child-index c.child-item.result c.in_ok-answer.answer c.in_ok-take.field-0
+    c.loop-child.gathering c.take.new.self c.finish.result c.args.reads.now c.loop-child.reads c.child.new.reads
+    c.loop-child-test.true c.child-item.is c.loop-child.invariant.going c.loop-child.invariant.gathered c.in_ok-answer.ensures.value c.in_ok-answer.ensures.reads
+    c.in_ok-take.ensures.gathered c.in_ok-take.ensures.progress c.in-Stop.is c.finish.ensures).reads
+
+pub children-loop-child-preserved : goal.children-loop-child-preserved
+children-loop-child-preserved g t c =
+    next_child c.args.algorithm (child_part (g.L.LookUps.looks c.args.self.now.held.now) c.args.self.now.request.now c.args.hops c.args.path.now) c.args.children.now c.loop-child.child-index c.child-item.result c.in_ok-answer.answer c.in_ok-take.field-0
+    c.loop-child.gathering c.take.new.self c.args.reads.now c.loop-child.reads c.child.new.reads
+    c.loop-child-test.true c.child-item.is c.loop-child.invariant.going c.loop-child.invariant.gathered c.in_ok-answer.ensures.value c.in_ok-answer.ensures.reads
+    c.in_ok-take.ensures.gathered c.in_ok-take.ensures.progress c.in_default.is
+
+pub children_under-returns-in-Shared-clause-value : goal.children_under-returns-in-Shared-clause-value
+children_under-returns-in-Shared-clause-value g t c =
+    equal_value c.children.result _ _ (shared-part (g.L.LookUps.looks c.args.self.now.held.now) c.args.self.now.request.now c.args.hops c.args.path.now c.args.set.now c.in-Shared.algorithm c.as_slice.result.now
+    c.as_slice-in-Shared.result.now c.in-Shared.is (c.as_slice.ensures ∙ c.in_ok-here.ensures) c.as_slice-in-Shared.ensures) c.children.ensures.value
+
+pub children_under-returns-in-Shared-clause-reads : goal.children_under-returns-in-Shared-clause-reads
+children_under-returns-in-Shared-clause-reads g t c =
+    equal_reads c.children.result c.args.reads.now c.children.new.reads _ _ (shared-part (g.L.LookUps.looks c.args.self.now.held.now) c.args.self.now.request.now c.args.hops c.args.path.now c.args.set.now c.in-Shared.algorithm c.as_slice.result.now
+    c.as_slice-in-Shared.result.now c.in-Shared.is (c.as_slice.ensures ∙ c.in_ok-here.ensures) c.as_slice-in-Shared.ensures) c.children.ensures.reads
+
+pub children_under-returns-clause-value : goal.children_under-returns-clause-value
+children_under-returns-clause-value g t c =
+    equal_value c.only_one.result _ _ (only-part (g.L.LookUps.looks c.args.self.now.held.now) c.args.self.now.request.now c.args.hops c.args.path.now c.args.set.now c.as_slice-in-OnlyOne.result.now
+    c.as_slice-in-OnlyOne-2.result.now c.in-OnlyOne.is (c.as_slice-in-OnlyOne.ensures ∙ c.in_ok-here.ensures) c.as_slice-in-OnlyOne-2.ensures) c.only_one.ensures.value
+
+pub children_under-returns-clause-reads : goal.children_under-returns-clause-reads
+children_under-returns-clause-reads g t c =
+    equal_reads c.only_one.result c.args.reads.now c.only_one.new.reads _ _ (only-part (g.L.LookUps.looks c.args.self.now.held.now) c.args.self.now.request.now c.args.hops c.args.path.now c.args.set.now c.as_slice-in-OnlyOne.result.now
+    c.as_slice-in-OnlyOne-2.result.now c.in-OnlyOne.is (c.as_slice-in-OnlyOne.ensures ∙ c.in_ok-here.ensures) c.as_slice-in-OnlyOne-2.ensures) c.only_one.ensures.reads
+
+pub set-set_after-requires : goal.set-set_after-requires
+set-set_after-requires g t c κs within = let fit = (set-fit c.args.set.now c.requires).1 in (omega arith, (within, (fit.1, fit.0)))
+
+pub set-returns-clause-reads : goal.set-returns-clause-reads
+set-returns-clause-reads g t c =
+    on_ok_weaker c.set_after.result (λ is. set-reads (g.L.LookUps.looks c.args.self.now.held.now) c.args.self.now.request.now c.args.hops c.args.path.now c.args.set.now c.in_ok-targeted.targeted
+    c.args.reads.now c.target.new.reads c.set_after.new.reads c.in_ok-targeted.ensures.value c.in_ok-targeted.ensures.reads is) c.set_after.ensures.reads
+
+pub reference-returns-clause-value : goal.reference-returns-clause-value
+reference-returns-clause-value g t c =
+    equal_value c.followed.result _ _ (answer_followed (g.L.LookUps.looks c.args.self.now.held.now) c.args.self.now.request.now c.args.hops c.args.reference.now
+    (omega (arith, c.if-hops-eq0.false)) c.args.path.now) c.followed.ensures.value
+
+pub followed-tree-requires-in-Some : goal.followed-tree-requires-in-Some
+followed-tree-requires-in-Some g t c κs within =
+    (omega arith, (within, (sound_fit c.tree.result.now c.tree.ensures.sound c.tree.ensures.typed, shallow_tree c.tree.result.now c.tree.ensures.sound)))
+
+pub tree-set-requires : goal.tree-set-requires
+tree-set-requires g t c κs within =
+    let small = shallow_set c.args.tree.now c.in-Set.set c.in-Set.is c.requires.shallow in
+    (omega (arith, small), (within, set_of_tree c.args.tree.now c.in-Set.set c.in-Set.is c.requires.fit))

@@ -1,0 +1,127 @@
+//! What references come to.
+
+ghost use Rattle.std.specs.Prelude.{◌≡◌, ◌≤◌, IfOk, OnOk, true};
+ghost use Rattle.std.specs.Option.{option_copied};
+ghost use Rattle.ent_policy.specs.Children.{as_child};
+ghost use Rattle.ent_policy.specs.Depths.{depth};
+ghost use Rattle.ent_eval.specs.Hops.{child_part, child_target, followed_part, reference_part, reference_target};
+ghost use Rattle.ent_eval.specs.Noted.{noted, with_key};
+ghost use Rattle.ent_eval.specs.Typed.{is_fit};
+ghost use Rattle.ent_eval.specs.declared.key.ReadKey.TheVariants.{Ref};
+
+use crate::answer::{Answer, Status};
+use crate::key::ReadKey;
+use crate::look_ups::LookUps;
+use crate::reads::Reads;
+use crate::scene::Scene;
+use crate::target::Targeted;
+use ent_policy::{DocKey, Document, Reference, Tree};
+use std::alloc::AllocError;
+
+impl<L: LookUps> Scene<'_, L> {
+    // A reference, where so many may be followed on the way down from here.
+    #[cycle(child)]
+    pub(crate) fn reference(
+        &self,
+        reads: &mut Reads,
+        hops: usize,
+        path: &[DocKey],
+        reference: &Reference,
+    ) -> Result<Answer, AllocError>
+        ensures value { IfOk result (λ a. a ≡ (reference_part (L.looks self.now.held.now) self.now.request.now hops path.now reference.now).value) }
+        ensures reads { OnOk result (reads.new ≡ noted reads.old (reference_part (L.looks self.now.held.now) self.now.request.now hops path.now reference.now).reads) }
+    {
+        if hops == 0 {
+            return Ok(Answer::unresolved(self.alloc));
+        }
+        self.followed(reads, hops - 1, path, reference)
+    }
+
+    // The document that a reference names, where so many may be followed on the way down from there.
+    #[cycle(child)]
+    pub(crate) fn followed(
+        &self,
+        reads: &mut Reads,
+        hops: usize,
+        path: &[DocKey],
+        reference: &Reference,
+    ) -> Result<Answer, AllocError>
+        ensures value { IfOk result (λ a. a ≡ (followed_part (L.looks self.now.held.now) self.now.request.now hops path.now reference.now).value) }
+        ensures reads { OnOk result (reads.new ≡ noted reads.old (followed_part (L.looks self.now.held.now) self.now.request.now hops path.now reference.now).reads) }
+    {
+        match self.look_up(reads, reference)? {
+            None => Ok(Answer::unresolved(self.alloc)),
+            Some(document) => self.tree(reads, hops, path, document.tree()),
+        }
+    }
+
+    // A document.
+    #[cycle(child)]
+    fn tree(
+        &self,
+        reads: &mut Reads,
+        hops: usize,
+        path: &[DocKey],
+        tree: &Tree,
+    ) -> Result<Answer, AllocError>
+        requires fit { is_fit (as_child tree.now) ≡ true }
+        requires shallow { depth (as_child tree.now) ≤ 16 }
+        ensures value { IfOk result (λ a. a ≡ (child_part (L.looks self.now.held.now) self.now.request.now hops path.now (as_child tree.now)).value) }
+        ensures reads { OnOk result (reads.new ≡ noted reads.old (child_part (L.looks self.now.held.now) self.now.request.now hops path.now (as_child tree.now)).reads) }
+    {
+        match tree {
+            Tree::Policy(policy) => self.policy(reads, path, policy),
+            Tree::Set(set) => self.set(reads, hops, path, set),
+        }
+    }
+
+    // The target of a reference: that of the document that it names.
+    pub(crate) fn reference_target(
+        &self,
+        reads: &mut Reads,
+        hops: usize,
+        reference: &Reference,
+    ) -> Result<Targeted, AllocError>
+        ensures value { IfOk result (λ t. t ≡ (reference_target (L.looks self.now.held.now) self.now.request.now hops reference.now).value) }
+        ensures reads { OnOk result (reads.new ≡ noted reads.old (reference_target (L.looks self.now.held.now) self.now.request.now hops reference.now).reads) }
+    {
+        if hops == 0 {
+            return Ok(Targeted::Indeterminate(Status::ProcessingError));
+        }
+        match self.look_up(reads, reference)? {
+            None => Ok(Targeted::Indeterminate(Status::ProcessingError)),
+            Some(document) => self.tree_target(reads, hops - 1, document.tree()),
+        }
+    }
+
+    // The target of a document, whatever it is that its references come to.
+    #[tactic(auto, using(crate::proofs::Typing::both_true), unfolding(ent_policy::specs::Typing::policy_is_typed))]
+    fn tree_target(
+        &self,
+        reads: &mut Reads,
+        hops: usize,
+        tree: &Tree,
+    ) -> Result<Targeted, AllocError>
+        requires { is_fit (as_child tree.now) ≡ true }
+        ensures value { IfOk result (λ t. t ≡ (child_target (L.looks self.now.held.now) self.now.request.now hops (as_child tree.now)).value) }
+        ensures reads { OnOk result (reads.new ≡ noted reads.old (child_target (L.looks self.now.held.now) self.now.request.now hops (as_child tree.now)).reads) }
+    {
+        match tree {
+            Tree::Policy(policy) => self.target(reads, &policy.target),
+            Tree::Set(set) => self.target(reads, &set.target),
+        }
+    }
+
+    // The document that a reference names. The look-up is noted.
+    fn look_up(
+        &self,
+        reads: &mut Reads,
+        reference: &Reference,
+    ) -> Result<Option<&Document>, AllocError>
+        ensures found { IfOk result (λ d. option_copied d ≡ (L.looks self.now.held.now).document reference.now) }
+        ensures reads { OnOk result (reads.new ≡ with_key reads.old (Ref reference.now)) }
+    {
+        reads.note(ReadKey::Ref(reference.copy(self.alloc)?))?;
+        Ok(self.held.document(reference))
+    }
+}

@@ -1,0 +1,153 @@
+//! Where the values of a designator come from.
+
+ghost use Rattle.std.specs.Prelude.{◌≡◌, IfOk, OnOk};
+ghost use Rattle.std.specs.Option.{option_copied};
+ghost use Rattle.ent_values.specs.declared.datatype.DataType.TheVariants.{Date};
+ghost use Rattle.ent_eval.specs.Noted.{noted, with_key};
+ghost use Rattle.ent_eval.specs.Sources.{asks_day, day_values, entity_of, id_attribute, key_for, only_text, source_part, text_of, values_part};
+ghost use Rattle.ent_eval.specs.declared.key.ReadKey.TheVariants.{Attr, Day};
+
+use crate::answer::copied_text;
+use crate::key::ReadKey;
+use crate::look_ups::LookUps;
+use crate::own::OwnValues;
+use crate::own_bag::{is_empty, only_own, own_bag};
+use crate::reads::Reads;
+use crate::request::Request;
+use crate::scene::Scene;
+use crate::uris::{
+    ACCESS_SUBJECT, ACTION, ACTION_ID, CURRENT_DATE, ENVIRONMENT, RESOURCE, RESOURCE_ID, SUBJECT_ID,
+};
+use ent_finder::AttrKey;
+use ent_policy::Designator;
+use ent_values::{Bag, DataType, Text, Value};
+use std::alloc::{AllocError, Global};
+
+impl<L: LookUps> Scene<'_, L> {
+    // The values of a designator: the request's own, which are no look-up, or else those of its source.
+    pub(crate) fn values(
+        &self,
+        reads: &mut Reads,
+        designator: &Designator,
+    ) -> Result<Bag, AllocError>
+        ensures value { IfOk result (λ b. b ≡ record { datatype = designator.now.datatype; values = (values_part (L.looks self.now.held.now) self.now.request.now designator.now).value }) }
+        ensures reads { OnOk result (reads.new ≡ noted reads.old (values_part (L.looks self.now.held.now) self.now.request.now designator.now).reads) }
+    {
+        let own = own_bag(self.alloc, self.request, designator)?;
+        if !is_empty(&own) {
+            return Ok(own);
+        }
+        self.source(reads, designator)
+    }
+
+    // The values of a designator for which the request has none.
+    pub(crate) fn source(
+        &self,
+        reads: &mut Reads,
+        designator: &Designator,
+    ) -> Result<Bag, AllocError>
+        ensures value { IfOk result (λ b. b ≡ record { datatype = designator.now.datatype; values = (source_part (L.looks self.now.held.now) self.now.request.now designator.now).value }) }
+        ensures reads { OnOk result (reads.new ≡ noted reads.old (source_part (L.looks self.now.held.now) self.now.request.now designator.now).reads) }
+    {
+        if asks_day(designator) {
+            return self.day(reads);
+        }
+        match entity_of(self.request, &designator.category) {
+            None => Ok(Bag::new(self.alloc, designator.datatype)),
+            Some(entity) => self.values_of(reads, designator, entity),
+        }
+    }
+
+    // The day. The look-up is noted.
+    fn day(&self, reads: &mut Reads) -> Result<Bag, AllocError>
+        ensures value { IfOk result (λ b. b ≡ record { datatype = Date; values = day_values (L.looks self.now.held.now).day }) }
+        ensures reads { OnOk result (reads.new ≡ with_key reads.old Day) }
+    {
+        reads.note(ReadKey::Day)?;
+        match self.held.day() {
+            None => Ok(Bag::new(self.alloc, DataType::Date)),
+            Some(day) => Bag::of_one(self.alloc, Value::Date(day)),
+        }
+    }
+
+    // The values of an entity. The look-up is noted, also where it gives none.
+    fn values_of(
+        &self,
+        reads: &mut Reads,
+        designator: &Designator,
+        entity: &Text,
+    ) -> Result<Bag, AllocError>
+        ensures value { IfOk result (λ b. b ≡ record { datatype = designator.now.datatype; values = (L.looks self.now.held.now).values (key_for designator.now entity.now) }) }
+        ensures reads { OnOk result (reads.new ≡ with_key reads.old (Attr (key_for designator.now entity.now))) }
+    {
+        let key = key_for(self.alloc, designator, entity)?;
+        let mut bag = Bag::new(self.alloc, designator.datatype);
+        self.held.values(&key, &mut bag)?;
+        reads.note(ReadKey::Attr(key))?;
+        Ok(bag)
+    }
+}
+
+// Whether a designator asks for the day.
+fn asks_day(designator: &Designator) -> bool
+    ensures { result ≡ asks_day designator.now }
+{
+    designator.category.as_str() == ENVIRONMENT
+        && designator.attribute.as_str() == CURRENT_DATE
+        && designator.datatype == DataType::Date
+        && designator.issuer.is_none()
+}
+
+/// The id attribute of a category whose values modules hold: of access-subject, resource or action (appendix B.4 to B.6).
+pub fn id_attribute(category: &str) -> Option<&str>
+    ensures { option_copied result ≡ id_attribute category.now }
+{
+    if category == ACCESS_SUBJECT {
+        Some(SUBJECT_ID)
+    } else if category == RESOURCE {
+        Some(RESOURCE_ID)
+    } else if category == ACTION {
+        Some(ACTION_ID)
+    } else {
+        None
+    }
+}
+
+// The entity of a category: the only string that the request has of its id attribute.
+fn entity_of<'a>(request: &'a Request, category: &'a Text) -> Option<&'a Text>
+    ensures { option_copied result ≡ entity_of request.now category.now }
+{
+    let id = id_attribute(category.as_str())?;
+    only_text(request, category, id)
+}
+
+// The only string that the request has of an attribute, of whichever issuer.
+fn only_text<'a>(request: &'a Request, category: &'a Text, attribute: &'a str) -> Option<&'a Text>
+    ensures { option_copied result ≡ only_text request.now category.now attribute.now }
+{
+    let values = OwnValues::new(request, category.as_str(), attribute, DataType::Text, None);
+    text_of(only_own(values)?)
+}
+
+// The text that a value is.
+fn text_of(value: &Value) -> Option<&Text>
+    ensures { option_copied result ≡ text_of value.now }
+{
+    match value {
+        Value::Text(text) => Some(text),
+        _ => None,
+    }
+}
+
+// The key by which the values of an entity are looked up.
+fn key_for(alloc: Global, designator: &Designator, entity: &Text) -> Result<AttrKey, AllocError>
+    ensures { IfOk result (λ k. k ≡ key_for designator.now entity.now) }
+{
+    Ok(AttrKey {
+        category: designator.category.copy(alloc)?,
+        entity: entity.copy(alloc)?,
+        attribute: designator.attribute.copy(alloc)?,
+        datatype: designator.datatype,
+        issuer: copied_text(alloc, &designator.issuer)?,
+    })
+}

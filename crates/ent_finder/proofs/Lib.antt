@@ -1,0 +1,15 @@
+pub mod Boxes
+pub mod Filled
+pub mod Gathered
+pub mod Held
+pub mod Kept
+pub mod Keys
+pub mod Latest
+pub mod Names
+pub mod Orders
+pub mod Ranges
+pub mod Recent
+pub mod RowKeys
+pub mod Seats
+pub mod Sorted
+pub mod Sources

@@ -1,0 +1,15 @@
+use Rattle.std.proofs.Common.{rules}
+use Rattle.std.specs.FinMap.{insert}
+use Rattle.std.proofs.lemmas.List.{length-map}
+use Rattle.std.proofs.lemmas.Result.{err_from_is_err_and}
+use Rattle.ent_finder.proofs.Boxes.{meanings-set, meanings-set_same}
+use Rattle.ent_finder.proofs.finder.PolicyFinderPolicies.swap_document.Goals as goal
+
+pub returns-in_err-swap_in-clause-kept : goal.returns-in_err-swap_in-clause-kept
+returns-in_err-swap_in-clause-kept g c =
+    let p = err_from_is_err_and c.from_residual.result c.from_residual.ensures.1 in
+    rw p.1 (meanings-set_same _ _ _ c.index_mut.result.now _ c.index_mut.ensures.value c.in_err-swap_in.ensures.kept)
+
+pub returns-clause-swapped : goal.returns-clause-swapped
+returns-clause-swapped g c =
+    meanings-set _ (λ m. insert m c.args.key.now c.args.document.now) _ _ c.index_mut.result.now _ _ (search (rules, length-map)) c.index_mut.ensures.value c.in_ok-swap_in.ensures.swapped

@@ -1,0 +1,10 @@
+pub mod Entry
+pub mod Finding
+pub mod Law
+pub mod LawOfRows
+pub mod Looking
+pub mod Order
+pub mod Places
+pub mod RowEntry
+pub mod Rows
+pub mod Slots

@@ -1,0 +1,30 @@
+//! Laws of rows that are held, and of values that are found.
+
+ghost use Rattle.ent_finder.specs.LawOfRows.{EmptyRowsDoNotCount, FirstSourceAnswers, IssuerNamesOneRow, NoSourceAnswers, SecondSwapRestoresRows, SwapChangesOneRow, SwapLeavesRow};
+
+/// A law, with nothing to run: a swap changes one row, and the row is there afterwards.
+pub fn swap_changes_one_row()
+    ensures changes { SwapChangesOneRow }
+    ensures leaves { SwapLeavesRow }
+{}
+
+/// A law, with nothing to run: two equal swaps in turn leave what was there.
+pub fn second_swap_restores_rows()
+    ensures { SecondSwapRestoresRows }
+{}
+
+/// A law, with nothing to run: an empty row counts as none.
+pub fn empty_rows_do_not_count()
+    ensures { EmptyRowsDoNotCount }
+{}
+
+/// A law, with nothing to run: a key with an issuer finds the values of that issuer's row.
+pub fn issuer_names_one_row()
+    ensures { IssuerNamesOneRow }
+{}
+
+/// A law, with nothing to run: values that are found are all of one module, the first that supports the category and has any.
+pub fn first_source_answers()
+    ensures found { FirstSourceAnswers }
+    ensures none { NoSourceAnswers }
+{}

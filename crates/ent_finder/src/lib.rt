@@ -1,0 +1,38 @@
+//! Modules that hold documents or values of attributes, and the finders that ask them in their order.
+#![tactic(auto)]
+
+mod attribute_finder;
+mod attribute_module;
+mod attributes;
+mod boxed;
+mod boxed_attributes;
+mod finder;
+mod law;
+mod law_of_rows;
+mod list;
+mod map_docs;
+mod map_rows;
+mod module;
+mod policies;
+mod row;
+mod rows;
+mod slot;
+
+pub use attribute_finder::AttributeFinder;
+pub use attribute_module::AttributeFinderModule;
+pub use attributes::Attributes;
+pub use finder::PolicyFinder;
+pub use law::{
+    first_module_answers, most_recent_is_latest, second_swap_undoes_first,
+    swap_changes_one_document,
+};
+pub use law_of_rows::{
+    empty_rows_do_not_count, first_source_answers, issuer_names_one_row, second_swap_restores_rows,
+    swap_changes_one_row,
+};
+pub use map_docs::MapDocs;
+pub use map_rows::MapRows;
+pub use module::PolicyFinderModule;
+pub use policies::Policies;
+pub use row::{AttrKey, Row, RowKey};
+pub use slot::DocSlot;

@@ -1,0 +1,115 @@
+//! A list of slots in the order of their keys.
+
+ghost use Rattle.std.specs.Prelude.{◌≡◌, ◌≤◌, IfErr, IfOk, None, OnErr, OnOk, false, if◌then◌else◌, length, slice_range, true};
+ghost use Rattle.std.specs.FinMap as finmap;
+ghost use Rattle.std.specs.List.{filter};
+ghost use Rattle.std.specs.Option.{ForSome, option_copied};
+ghost use Rattle.ent_policy.specs.Constraints.{meets};
+ghost use Rattle.ent_policy.specs.Key.{key_of};
+ghost use Rattle.ent_finder.specs.Entry.{AreSorted, entries_of, slots_of};
+ghost use Rattle.ent_finder.specs.Finding.{is_of, most_recent};
+ghost use Rattle.ent_finder.specs.Order.{name_cmp, name_of, name_wanted};
+ghost use Rattle.ent_finder.specs.Places.{IsPlace, IsSeat, is_at};
+ghost use Rattle.ent_finder.specs.Slots.{document_at, held, key_cmp};
+
+use crate::slot::DocSlot;
+use ent_policy::{DocKey, Document, Reference};
+use std::alloc::{AllocError, Global};
+use std::cmp::Ordering;
+use std::mem;
+
+/// Where the slot of a key is, or where it would go.
+fn place(slots: &[DocSlot], key: &DocKey) -> Result<usize, usize>
+    requires { AreSorted slots.now }
+    ensures found { IfOk result (λ i. IsPlace key_cmp key.now (entries_of slots.now) i × (is_at key_cmp key.now (entries_of slots.now) i ≡ true)) }
+    ensures absent { IfErr result (λ i. IsPlace key_cmp key.now (entries_of slots.now) i × (is_at key_cmp key.now (entries_of slots.now) i ≡ false)) }
+{
+    slots.binary_search_by(|slot| slot.key.cmp(key))
+}
+
+/// The index of the slot of a key, which is made if it isn't there.
+fn make_slot(alloc: Global, slots: &mut Vec<DocSlot>, key: &DocKey) -> Result<usize, AllocError>
+    requires { AreSorted slots.old.items }
+    ensures seat { IfOk result (IsSeat key_cmp None key.now (entries_of slots.old.items) (entries_of slots.new.items)) }
+    ensures kept { OnErr result (slots.new.items ≡ slots.old.items) }
+    ensures absent { OnErr result (finmap.get (slots_of slots.old.items) key.now ≡ None) }
+{
+    match place(slots, key) {
+        Ok(index) => Ok(index),
+        Err(index) => {
+            let key = key.copy(alloc)?;
+            let document = None;
+            slots.insert(index, DocSlot { key, document })?;
+            Ok(index)
+        }
+    }
+}
+
+/// Exchanges what is in the slot of a key with `document`.
+pub fn swap_document(
+    alloc: Global,
+    slots: &mut Vec<DocSlot>,
+    key: &DocKey,
+    document: &mut Option<Document>,
+) -> Result<(), AllocError>
+    requires sorted { AreSorted slots.old.items }
+    requires key { ForSome document.old (λ d. key_of d ≡ key.now) }
+    ensures sorted { AreSorted slots.new.items }
+    ensures swapped { OnOk result (slots_of slots.new.items ≡ finmap.insert (slots_of slots.old.items) key.now document.old) }
+    ensures taken { OnOk result (document.new ≡ document_at (slots_of slots.old.items) key.now) }
+    ensures own { ForSome document.new (λ d. key_of d ≡ key.now) }
+    ensures absent { OnErr result (finmap.get (slots_of slots.old.items) key.now ≡ None) }
+    ensures kept { OnErr result (slots_of slots.new.items ≡ slots_of slots.old.items) }
+    ensures stayed { OnErr result (document.new ≡ document.old) }
+{
+    let index = make_slot(alloc, slots, key)?;
+    mem::swap(&mut slots[index].document, document);
+    Ok(())
+}
+
+/// How the kind and id of a key stand to those of a reference.
+fn order(key: &DocKey, reference: &Reference) -> Ordering
+    ensures { result ≡ name_cmp (name_of key.now) (name_wanted reference.now) }
+{
+    let ids = key.id.as_str().cmp(reference.id.as_str());
+    key.kind.cmp(&reference.kind).then(ids)
+}
+
+/// Where the slots of a reference's kind and id begin, and where they end.
+fn bounds(slots: &[DocSlot], reference: &Reference) -> (usize, usize)
+    requires { AreSorted slots.now }
+    ensures ordered { result.0 ≤ result.1 }
+    ensures within { result.1 ≤ length slots.now }
+    ensures versions { slice_range slots.now result.0 result.1 ≡ filter (λ s. is_of reference.now s.key) slots.now }
+{
+    let start = slots.partition_point(|slot| order(&slot.key, reference).is_lt());
+    let end = slots.partition_point(|slot| order(&slot.key, reference).is_le());
+    (start, end)
+}
+
+/// The document of a slot, if there is one and its version meets the constraints of a reference.
+fn accepted<'a>(slot: &'a DocSlot, reference: &Reference) -> Option<&'a Document>
+    ensures { option_copied result ≡ (if meets reference.now.constraints slot.now.key.version then slot.now.document else None) }
+{
+    if reference.constraints.meets(&slot.key.version) {
+        slot.document.as_ref()
+    } else {
+        None
+    }
+}
+
+/// Of the documents that the reference names, the most recent one.
+pub fn find_reference<'a>(slots: &'a [DocSlot], reference: &Reference) -> Option<&'a Document>
+    requires { AreSorted slots.now }
+    ensures { option_copied result ≡ most_recent reference.now (held (slots_of slots.now)) }
+{
+    let (start, end) = bounds(slots, reference);
+    let mut versions = &slots[start..end];
+    while let Some((slot, earlier)) = versions.split_last() {
+        if let Some(document) = accepted(slot, reference) {
+            return Some(document);
+        }
+        versions = earlier;
+    }
+    None
+}

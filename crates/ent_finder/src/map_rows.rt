@@ -1,0 +1,73 @@
+//! A module that holds its rows in memory.
+
+ghost use Rattle.std.specs.Prelude.{◌≡◌, map};
+ghost use Rattle.std.specs.FinMap as finmap;
+
+use crate::attribute_module::AttributeFinderModule;
+use crate::row::{AttrKey, Row, RowKey};
+use crate::rows;
+use ent_values::{Bag, Items, Text, Value};
+use std::alloc::{AllocError, Global};
+use std::marker::Model;
+
+/// A module that holds its rows in memory.
+#[derive(Drop)]
+pub struct MapRows {
+    alloc: Global,
+    categories: Items<Text>,
+    rows: Vec<Row>,
+}
+
+impl Model for MapRows {
+    ghost use Rattle.ent_values.specs.contracts.value.Value as value;
+    ghost use Rattle.ent_finder.specs.contracts.row.RowKey as key;
+    ghost use Rattle.ent_finder.specs.Rows.{Source, source_code};
+
+    ghost Value = { Source };
+
+    ghost coded = { source_code key.the_row.coded value.the_row.coded };
+
+    ghost use Rattle.ent_finder.specs.RowEntry.{RowsAreSorted, rows_of};
+
+    ghost view = { λ m. record { categories = m.categories; rows = rows_of m.rows.items } };
+
+    ghost invariant = { λ m. RowsAreSorted m.rows.items };
+}
+
+impl MapRows {
+    /// Supports these categories, and has no rows, for which nothing is allocated.
+    pub fn new(alloc: Global, categories: Items<Text>) -> MapRows
+        ensures { result ≡ record { categories = categories; rows = finmap.empty } }
+    {
+        MapRows {
+            alloc,
+            categories,
+            rows: Vec::new(alloc),
+        }
+    }
+}
+
+impl AttributeFinderModule for MapRows {
+    ghost source = { λ m. m };
+
+    fn supports(&self, category: &str) -> bool {
+        self.categories
+            .as_slice()
+            .iter()
+            .any(|supported| supported.as_str() == category)
+    }
+
+    fn find(&self, key: &AttrKey, bag: &mut Bag) -> Result<(), AllocError> {
+        *bag = rows::values_of(self.alloc, &self.rows, key)?;
+        Ok(())
+    }
+
+    fn swap_row(&mut self, key: &RowKey, values: &mut Items<Value>) -> Result<(), AllocError> {
+        rows::swap_row(self.alloc, &mut self.rows, key, values)?;
+        Ok(())
+    }
+
+    fn row_at(&self, index: usize) -> Option<&Row> {
+        self.rows.get(index)
+    }
+}

@@ -1,0 +1,129 @@
+//! A list of rows in the order of their keys.
+
+ghost use Rattle.std.specs.Prelude.{◌≡◌, ◌≤◌, ◌++◌, [], IfErr, IfOk, None, OnErr, OnOk, false, length, slice_range, true};
+ghost use Rattle.std.specs.FinMap as finmap;
+ghost use Rattle.std.specs.List.{filter};
+ghost use Rattle.ent_values.specs.Bags.{AllOfType};
+ghost use Rattle.ent_finder.specs.Looking.{names_row, values_of};
+ghost use Rattle.ent_finder.specs.Order.{issuer_cmp, named_cmp};
+ghost use Rattle.ent_finder.specs.Places.{IsPlace, IsSeat, is_at};
+ghost use Rattle.ent_finder.specs.RowEntry.{RowsAreSorted, row_entries, rows_of};
+ghost use Rattle.ent_finder.specs.Rows.{filled, row_cmp, values_at};
+
+use crate::row::{AttrKey, Row, RowKey};
+use ent_values::{Bag, Items, Text, Value};
+use std::alloc::{AllocError, Global};
+use std::cmp::Ordering;
+use std::mem;
+
+/// Where the row of a key is, or where it would go.
+fn place(rows: &[Row], key: &RowKey) -> Result<usize, usize>
+    requires { RowsAreSorted rows.now }
+    ensures found { IfOk result (λ i. IsPlace row_cmp key.now (row_entries rows.now) i × (is_at row_cmp key.now (row_entries rows.now) i ≡ true)) }
+    ensures absent { IfErr result (λ i. IsPlace row_cmp key.now (row_entries rows.now) i × (is_at row_cmp key.now (row_entries rows.now) i ≡ false)) }
+{
+    rows.binary_search_by(|row| row.key.cmp(key))
+}
+
+/// The index of the row of a key, which is made if it isn't there.
+fn make_row(alloc: Global, rows: &mut Vec<Row>, key: &RowKey) -> Result<usize, AllocError>
+    requires { RowsAreSorted rows.old.items }
+    ensures seat { IfOk result (IsSeat row_cmp [] key.now (row_entries rows.old.items) (row_entries rows.new.items)) }
+    ensures kept { OnErr result (rows.new.items ≡ rows.old.items) }
+    ensures absent { OnErr result (finmap.get (rows_of rows.old.items) key.now ≡ None) }
+{
+    match place(rows, key) {
+        Ok(index) => Ok(index),
+        Err(index) => {
+            let key = key.copy(alloc)?;
+            let values = Items::new(alloc);
+            rows.insert(index, Row { key, values })?;
+            Ok(index)
+        }
+    }
+}
+
+/// Exchanges what is in the row of a key with `values`.
+pub fn swap_row(
+    alloc: Global,
+    rows: &mut Vec<Row>,
+    key: &RowKey,
+    values: &mut Items<Value>,
+) -> Result<(), AllocError>
+    requires sorted { RowsAreSorted rows.old.items }
+    requires types { AllOfType key.now.datatype values.old }
+    ensures sorted { RowsAreSorted rows.new.items }
+    ensures swapped { OnOk result (rows_of rows.new.items ≡ finmap.insert (rows_of rows.old.items) key.now values.old) }
+    ensures taken { OnOk result (values.new ≡ values_at (rows_of rows.old.items) key.now) }
+    ensures own { AllOfType key.now.datatype values.new }
+    ensures absent { OnErr result (finmap.get (rows_of rows.old.items) key.now ≡ None) }
+    ensures kept { OnErr result (rows_of rows.new.items ≡ rows_of rows.old.items) }
+    ensures stayed { OnErr result (values.new ≡ values.old) }
+{
+    let index = make_row(alloc, rows, key)?;
+    mem::swap(&mut rows[index].values, values);
+    Ok(())
+}
+
+/// How an issuer stands to the one that is wanted, if one is.
+fn issuer_order(issuer: &Option<Text>, wanted: &Option<Text>) -> Ordering
+    ensures { result ≡ issuer_cmp issuer.now wanted.now }
+{
+    match wanted {
+        None => Ordering::Equal,
+        Some(_) => issuer.cmp(wanted),
+    }
+}
+
+/// How the key of a row stands to those that a key names.
+fn order(row: &RowKey, key: &AttrKey) -> Ordering
+    ensures { result ≡ named_cmp row.now key.now }
+{
+    let categories = row.category.as_str().cmp(key.category.as_str());
+    let entities = row.entity.as_str().cmp(key.entity.as_str());
+    let attributes = row.attribute.as_str().cmp(key.attribute.as_str());
+    let types = row.datatype.cmp(&key.datatype);
+    let issuers = issuer_order(&row.issuer, &key.issuer);
+    categories
+        .then(entities)
+        .then(attributes)
+        .then(types)
+        .then(issuers)
+}
+
+/// Where the rows that a key names begin, and where they end.
+fn bounds(rows: &[Row], key: &AttrKey) -> (usize, usize)
+    requires { RowsAreSorted rows.now }
+    ensures ordered { result.0 ≤ result.1 }
+    ensures within { result.1 ≤ length rows.now }
+    ensures named { slice_range rows.now result.0 result.1 ≡ filter (λ r. names_row key.now r.key) rows.now }
+{
+    let start = rows.partition_point(|row| order(&row.key, key).is_lt());
+    let end = rows.partition_point(|row| order(&row.key, key).is_le());
+    (start, end)
+}
+
+/// Puts copies of the values last.
+fn add_all(alloc: Global, bag: &mut Bag, values: &[Value]) -> Result<(), AllocError>
+    requires { AllOfType bag.old.datatype values.now }
+    ensures { OnOk result (bag.new ≡ record { datatype = bag.old.datatype; values = bag.old.values ++ values.now }) }
+{
+    for value in values {
+        bag.push(value.copy(alloc)?)?;
+    }
+    Ok(())
+}
+
+/// The values of the rows that a key names.
+pub fn values_of(alloc: Global, rows: &[Row], key: &AttrKey) -> Result<Bag, AllocError>
+    requires { RowsAreSorted rows.now }
+    ensures { IfOk result (λ b. b ≡ record { datatype = key.now.datatype; values = values_of key.now (filled (rows_of rows.now)) }) }
+{
+    let (start, end) = bounds(rows, key);
+    let named = &rows[start..end];
+    let mut bag = Bag::new(alloc, key.datatype);
+    for row in named {
+        add_all(alloc, &mut bag, row.values.as_slice())?;
+    }
+    Ok(bag)
+}

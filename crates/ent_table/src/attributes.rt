@@ -1,0 +1,168 @@
+//! Edits of values of attributes.
+
+ghost use Rattle.std.specs.Prelude.{◌≡◌, ◌<◌, ◌^◌, false, IfOk, IsSome, None, Ok, OnErr, OnOk, length};
+ghost use Rattle.std.specs.FinMap as finmap;
+ghost use Rattle.std.specs.List.{list_all};
+ghost use Rattle.std.specs.Option.{option_map_or};
+ghost use Rattle.ent_values.specs.Bags.{AllOfType};
+ghost use Rattle.ent_values.specs.Same.{same_type};
+ghost use Rattle.ent_values.specs.Types.{datatype_of};
+ghost use Rattle.ent_policy.specs.Names.{is_bad_name};
+ghost use Rattle.ent_finder.specs.Rows.{source_at};
+ghost use Rattle.ent_table.specs.Review.{IsFresh, OnlyAttributes, row_at, state_of};
+ghost use Rattle.ent_table.specs.Step.{IsAnswered, IsTested, attribute_set, is_bad_row, is_reserved, is_source, next, with_values};
+
+use crate::edit::{Accepted, EditFault};
+use crate::lists::is_bad_name;
+use crate::review::{LAST_SERIAL, Review};
+use ent_eval::id_attribute;
+use ent_finder::{Attributes, Policies, RowKey};
+use ent_values::{DataType, Items, Text, Value};
+use std::alloc::AllocError;
+
+/// The most values of a row.
+pub const MOST_VALUES: usize = 256;
+
+/// Whether the attribute is the id of what its category is about: no module holds its values (appendix B.4 to B.6).
+pub fn is_reserved(category: &str, attribute: &str) -> bool
+    ensures { result ≡ is_reserved category.now attribute.now }
+{
+    match id_attribute(category) {
+        None => false,
+        Some(id) => attribute == id,
+    }
+}
+
+/// Whether an issuer can't be a name.
+fn is_bad_issuer(issuer: &Option<Text>) -> bool
+    ensures { result ≡ option_map_or is_bad_name issuer.now false }
+{
+    match issuer {
+        None => false,
+        Some(issuer) => is_bad_name(issuer.as_str()),
+    }
+}
+
+/// Whether all values have that type.
+fn are_of(datatype: DataType, values: &[Value]) -> bool
+    ensures { result ≡ list_all (λ v. same_type (datatype_of v) datatype) values.now }
+{
+    values.iter().all(|value| value.datatype() == datatype)
+}
+
+/// Whether entity, attribute or issuer can't be a name, or a value isn't of the key's type.
+fn is_bad_row(key: &RowKey, values: &[Value]) -> bool
+    ensures { result ≡ is_bad_row key.now values.now }
+{
+    is_bad_name(key.entity.as_str())
+        || is_bad_name(key.attribute.as_str())
+        || is_bad_issuer(&key.issuer)
+        || !are_of(key.datatype, values)
+}
+
+impl<A: Attributes, P: Policies> Review<A, P> {
+    pub(crate) fn set_attribute(
+        &mut self,
+        number: usize,
+        key: &RowKey,
+        values: Items<Value>,
+    ) -> Result<Accepted, EditFault>
+        requires { IsFresh A.sources P.slots self.old }
+        ensures fresh { IsFresh A.sources P.slots self.new }
+        ensures step { IsAnswered (attribute_set (state_of A.sources P.slots self.old) number key.now values) (state_of A.sources P.slots self.old) (state_of A.sources P.slots self.new) result }
+    {
+        self.row_fault(number, key, values.as_slice())?;
+        self.exchange_values(number, key, values)
+    }
+
+    /// Why values can't be set in the row of a key, if they can't.
+    fn row_fault(&self, number: usize, key: &RowKey, values: &[Value]) -> Result<(), EditFault>
+        ensures tested { IsTested (attribute_set (state_of A.sources P.slots self.now) number key.now values.now) result }
+        ensures number { OnOk result (number < length (A.sources self.now.pdp.attributes)) }
+        ensures types { OnOk result (AllOfType key.now.datatype values.now) }
+    {
+        if self.serial >= LAST_SERIAL || values.len() > MOST_VALUES {
+            return Err(EditFault::Limit);
+        }
+        if is_reserved(key.category.as_str(), key.attribute.as_str()) {
+            return Err(EditFault::Reserved);
+        }
+        if is_bad_row(key, values) {
+            return Err(EditFault::BadValue);
+        }
+        if !self.is_source(number, key.category.as_str()) {
+            return Err(EditFault::UnknownModule);
+        }
+        Ok(())
+    }
+
+    /// Whether there is a module of attributes of that number that supports the category.
+    fn is_source(&self, number: usize, category: &str) -> bool
+        ensures { result ≡ is_source (state_of A.sources P.slots self.now) number category.now }
+    {
+        let attributes = self.pdp.attributes();
+        number < attributes.len() && attributes.supports(number, category)
+    }
+
+    /// Gives the row of a key in one module these values, and makes the table right again. After a refusal everything is as before.
+    fn exchange_values(
+        &mut self,
+        number: usize,
+        key: &RowKey,
+        mut values: Items<Value>,
+    ) -> Result<Accepted, EditFault>
+        requires fresh { IsFresh A.sources P.slots self.old }
+        requires serial { self.old.serial < 2 ^ 63 }
+        requires number { number < length (A.sources self.old.pdp.attributes) }
+        requires types { AllOfType key.now.datatype values }
+        ensures fresh { IsFresh A.sources P.slots self.new }
+        ensures step { IsAnswered (Ok (next (with_values (state_of A.sources P.slots self.old) number key.now values))) (state_of A.sources P.slots self.old) (state_of A.sources P.slots self.new) result }
+    {
+        let Ok(()) = self.swap_row(number, key, &mut values) else {
+            return Err(EditFault::Memory);
+        };
+        match self.settle_answers() {
+            Ok(accepted) => Ok(accepted),
+            Err(fault) => {
+                self.put_row_back(number, key, values);
+                Err(fault)
+            }
+        }
+    }
+
+    /// Exchanges what a module has in the row of a key with `values`. Once this is done, it can be done again without memory.
+    fn swap_row(
+        &mut self,
+        number: usize,
+        key: &RowKey,
+        values: &mut Items<Value>,
+    ) -> Result<(), AllocError>
+        requires number { number < length (A.sources self.old.pdp.attributes) }
+        requires types { AllOfType key.now.datatype values.old }
+        ensures swapped { OnOk result (state_of A.sources P.slots self.new ≡ with_values (state_of A.sources P.slots self.old) number key.now values.old) }
+        ensures taken { OnOk result (values.new ≡ row_at (state_of A.sources P.slots self.old) number key.now) }
+        ensures own { AllOfType key.now.datatype values.new }
+        ensures there { OnOk result (IsSome (finmap.get (source_at (A.sources self.new.pdp.attributes) number).rows key.now)) }
+        ensures absent { OnErr result (finmap.get (source_at (A.sources self.old.pdp.attributes) number).rows key.now ≡ None) }
+        ensures kept { OnErr result (state_of A.sources P.slots self.new ≡ state_of A.sources P.slots self.old) }
+        ensures modules { length (A.sources self.new.pdp.attributes) ≡ length (A.sources self.old.pdp.attributes) }
+        ensures rest { OnlyAttributes self.old self.new }
+    {
+        self.pdp.attributes_mut().swap_row(number, key, values)?;
+        Ok(())
+    }
+
+    /// Exchanges once more, where the row is there.
+    fn put_row_back(&mut self, number: usize, key: &RowKey, mut values: Items<Value>)
+        requires number { number < length (A.sources self.old.pdp.attributes) }
+        requires types { AllOfType key.now.datatype values }
+        requires there { IsSome (finmap.get (source_at (A.sources self.old.pdp.attributes) number).rows key.now) }
+        ensures swapped { state_of A.sources P.slots self.new ≡ with_values (state_of A.sources P.slots self.old) number key.now values }
+        ensures rest { OnlyAttributes self.old self.new }
+    {
+        match self.swap_row(number, key, &mut values) {
+            Ok(()) => {}
+            Err(_) => unreachable!(),
+        }
+    }
+}

@@ -1,0 +1,211 @@
+//! Edits of documents.
+
+ghost use Rattle.std.specs.Prelude.{◌≡◌, ◌<◌, ◌^◌, ◌&&◌, IfOk, IsSome, None, Ok, OnErr, OnOk, length, not};
+ghost use Rattle.std.specs.FinMap as finmap;
+ghost use Rattle.std.specs.Option.{ForSome};
+ghost use Rattle.ent_policy.specs.Key.{key_of};
+ghost use Rattle.ent_finder.specs.Slots.{document_count, module_at};
+ghost use Rattle.ent_table.specs.Review.{IsFresh, OnlyPolicies, policy_at, state_of};
+ghost use Rattle.ent_table.specs.Step.{IsAnswered, IsTested, holds, is_module, next, policy_added, policy_replaced, policy_withdrawn, with_policy};
+
+use crate::edit::{Accepted, EditFault};
+use crate::lists::is_bad_name;
+use crate::review::{LAST_SERIAL, Review};
+use ent_finder::{Attributes, Policies};
+use ent_policy::{DocKey, Document};
+use std::alloc::AllocError;
+
+impl<A: Attributes, P: Policies> Review<A, P> {
+    pub(crate) fn add_policy(
+        &mut self,
+        number: usize,
+        document: Document,
+    ) -> Result<Accepted, EditFault>
+        requires { IsFresh A.sources P.slots self.old }
+        ensures fresh { IsFresh A.sources P.slots self.new }
+        ensures step { IsAnswered (policy_added (state_of A.sources P.slots self.old) number document) (state_of A.sources P.slots self.old) (state_of A.sources P.slots self.new) result }
+    {
+        let key = self.key_to_add(number, &document)?;
+        let documents = self.documents + 1;
+        self.exchange(number, &key, Some(document), documents)
+    }
+
+    pub(crate) fn replace_policy(
+        &mut self,
+        number: usize,
+        document: Document,
+    ) -> Result<Accepted, EditFault>
+        requires { IsFresh A.sources P.slots self.old }
+        ensures fresh { IsFresh A.sources P.slots self.new }
+        ensures step { IsAnswered (policy_replaced (state_of A.sources P.slots self.old) number document) (state_of A.sources P.slots self.old) (state_of A.sources P.slots self.new) result }
+    {
+        let key = self.key_to_replace(number, &document)?;
+        let documents = self.documents;
+        self.exchange(number, &key, Some(document), documents)
+    }
+
+    pub(crate) fn withdraw_policy(
+        &mut self,
+        number: usize,
+        key: DocKey,
+    ) -> Result<Accepted, EditFault>
+        requires { IsFresh A.sources P.slots self.old }
+        ensures fresh { IsFresh A.sources P.slots self.new }
+        ensures step { IsAnswered (policy_withdrawn (state_of A.sources P.slots self.old) number key) (state_of A.sources P.slots self.old) (state_of A.sources P.slots self.new) result }
+    {
+        self.withdrawal_fault(number, &key)?;
+        let documents = self.documents - 1;
+        self.exchange(number, &key, None, documents)
+    }
+
+    /// The key under which a document is added, or why it can't be.
+    fn key_to_add(&self, number: usize, document: &Document) -> Result<DocKey, EditFault>
+        requires { IsFresh A.sources P.slots self.now }
+        ensures key { IfOk result (λ k. k ≡ key_of document.now) }
+        ensures tested { IsTested (policy_added (state_of A.sources P.slots self.now) number document.now) result }
+    {
+        let Ok(key) = document.key(self.alloc) else {
+            return Err(EditFault::Memory);
+        };
+        if self.holds(number, &key) {
+            return Err(EditFault::AlreadyThere);
+        }
+        if self.serial >= LAST_SERIAL || self.documents >= self.limits.documents as u128 {
+            return Err(EditFault::Limit);
+        }
+        if !self.is_module(number) {
+            return Err(EditFault::UnknownModule);
+        }
+        Ok(key)
+    }
+
+    /// The key under which a document is replaced by this one, or why it can't be.
+    fn key_to_replace(&self, number: usize, document: &Document) -> Result<DocKey, EditFault>
+        ensures key { IfOk result (λ k. k ≡ key_of document.now) }
+        ensures tested { IsTested (policy_replaced (state_of A.sources P.slots self.now) number document.now) result }
+    {
+        let Ok(key) = document.key(self.alloc) else {
+            return Err(EditFault::Memory);
+        };
+        if self.lacks(number, &key) {
+            return Err(EditFault::NotThere);
+        }
+        if self.serial >= LAST_SERIAL {
+            return Err(EditFault::Limit);
+        }
+        if !self.is_module(number) {
+            return Err(EditFault::UnknownModule);
+        }
+        Ok(key)
+    }
+
+    /// Why the document with a key can't be withdrawn, if it can't.
+    fn withdrawal_fault(&self, number: usize, key: &DocKey) -> Result<(), EditFault>
+        ensures { IsTested (policy_withdrawn (state_of A.sources P.slots self.now) number key.now) result }
+    {
+        if self.lacks(number, key) {
+            return Err(EditFault::NotThere);
+        }
+        if self.serial >= LAST_SERIAL {
+            return Err(EditFault::Limit);
+        }
+        if is_bad_name(key.id.as_str()) {
+            return Err(EditFault::BadValue);
+        }
+        if !self.is_module(number) {
+            return Err(EditFault::UnknownModule);
+        }
+        Ok(())
+    }
+
+    /// Whether there is a module of that number.
+    fn is_module(&self, number: usize) -> bool
+        ensures { result ≡ is_module (state_of A.sources P.slots self.now) number }
+    {
+        number < self.pdp.policies().len()
+    }
+
+    /// Whether there is a module of that number that holds a document with that key.
+    fn holds(&self, number: usize, key: &DocKey) -> bool
+        ensures { result ≡ (is_module (state_of A.sources P.slots self.now) number && holds (state_of A.sources P.slots self.now) number key.now) }
+    {
+        self.is_module(number) && self.pdp.policies().holds(number, key)
+    }
+
+    /// Whether there is a module of that number that holds no document with that key.
+    fn lacks(&self, number: usize, key: &DocKey) -> bool
+        ensures { result ≡ (is_module (state_of A.sources P.slots self.now) number && not (holds (state_of A.sources P.slots self.now) number key.now)) }
+    {
+        self.is_module(number) && !self.pdp.policies().holds(number, key)
+    }
+
+    /// Puts a document, or none, under a key of one module, where so many are held afterwards, and makes the table right again.
+    /// After a refusal everything is as before.
+    fn exchange(
+        &mut self,
+        number: usize,
+        key: &DocKey,
+        mut document: Option<Document>,
+        documents: u128,
+    ) -> Result<Accepted, EditFault>
+        requires fresh { IsFresh A.sources P.slots self.old }
+        requires serial { self.old.serial < 2 ^ 63 }
+        requires number { number < length (P.slots self.old.pdp.policies) }
+        requires key { ForSome document (λ d. key_of d ≡ key.now) }
+        requires documents { documents ≡ document_count (with_policy (state_of A.sources P.slots self.old) number key.now document).held.modules }
+        ensures fresh { IsFresh A.sources P.slots self.new }
+        ensures step { IsAnswered (Ok (next (with_policy (state_of A.sources P.slots self.old) number key.now document))) (state_of A.sources P.slots self.old) (state_of A.sources P.slots self.new) result }
+    {
+        let Ok(()) = self.swap(number, key, &mut document) else {
+            return Err(EditFault::Memory);
+        };
+        match self.settle_answers() {
+            Ok(accepted) => {
+                self.documents = documents;
+                Ok(accepted)
+            }
+            Err(fault) => {
+                self.put_back(number, key, document);
+                Err(fault)
+            }
+        }
+    }
+
+    /// Exchanges what a module holds under a key with `document`. Once this is done, it can be done again without memory.
+    fn swap(
+        &mut self,
+        number: usize,
+        key: &DocKey,
+        document: &mut Option<Document>,
+    ) -> Result<(), AllocError>
+        requires number { number < length (P.slots self.old.pdp.policies) }
+        requires key { ForSome document.old (λ d. key_of d ≡ key.now) }
+        ensures swapped { OnOk result (state_of A.sources P.slots self.new ≡ with_policy (state_of A.sources P.slots self.old) number key.now document.old) }
+        ensures taken { OnOk result (document.new ≡ policy_at (state_of A.sources P.slots self.old) number key.now) }
+        ensures own { ForSome document.new (λ d. key_of d ≡ key.now) }
+        ensures there { OnOk result (IsSome (finmap.get (module_at (P.slots self.new.pdp.policies) number) key.now)) }
+        ensures absent { OnErr result (finmap.get (module_at (P.slots self.old.pdp.policies) number) key.now ≡ None) }
+        ensures kept { OnErr result (state_of A.sources P.slots self.new ≡ state_of A.sources P.slots self.old) }
+        ensures modules { length (P.slots self.new.pdp.policies) ≡ length (P.slots self.old.pdp.policies) }
+        ensures rest { OnlyPolicies self.old self.new }
+    {
+        self.pdp
+            .policies_mut()
+            .swap_document(number, key, document)?;
+        Ok(())
+    }
+
+    /// Exchanges once more, where the slot is there.
+    fn put_back(&mut self, number: usize, key: &DocKey, mut document: Option<Document>)
+        requires number { number < length (P.slots self.old.pdp.policies) }
+        requires key { ForSome document (λ d. key_of d ≡ key.now) }
+        requires there { IsSome (finmap.get (module_at (P.slots self.old.pdp.policies) number) key.now) }
+        ensures swapped { state_of A.sources P.slots self.new ≡ with_policy (state_of A.sources P.slots self.old) number key.now document }
+        ensures rest { OnlyPolicies self.old self.new }
+    {
+        match self.swap(number, key, &mut document) {
+            Ok(()) => {}
+            Err(_) => unreachable!(),
+        }
+    }
+}
