@@ -107,11 +107,7 @@ impl<L: LookUps> Scene<'_, L> {
 }
 
 // A match of the request's own values, if it has any.
-fn own_match(
-    alloc: Global,
-    request: &Request,
-    test: &Match,
-) -> Result<Option<Targeted>, AllocError>
+fn own_match(alloc: Global, request: &Request, test: &Match) -> Result<Option<Targeted>, AllocError>
     requires { Tests test.now.function test.now.literal test.now.designator.datatype }
     ensures { IfOk result (λ t. t ≡ own_match test.now (own_values test.now.designator request.now)) }
 {

@@ -1,8 +1,7 @@
 //! The URIs of the categories and attributes that have a meaning of their own (appendix B).
 
 /// The category of who asks (appendix B.2).
-pub const ACCESS_SUBJECT: &str =
-    "urn:oasis:names:tc:xacml:1.0:subject-category:access-subject";
+pub const ACCESS_SUBJECT: &str = "urn:oasis:names:tc:xacml:1.0:subject-category:access-subject";
 
 // Its id attribute.
 pub(crate) const SUBJECT_ID: &str = "urn:oasis:names:tc:xacml:1.0:subject:subject-id";
@@ -21,4 +20,5 @@ pub(crate) const ACTION_ID: &str = "urn:oasis:names:tc:xacml:1.0:action:action-i
 
 // The category of what belongs to none of them, and its attribute of the day.
 pub(crate) const ENVIRONMENT: &str = "urn:oasis:names:tc:xacml:3.0:attribute-category:environment";
+
 pub(crate) const CURRENT_DATE: &str = "urn:oasis:names:tc:xacml:1.0:environment:current-date";
