@@ -5,6 +5,7 @@
 
     PROGRAM=crates/review/out/review  the program (the default, as `rt run` leaves it)
     PEER=/path/of/another/program     run as `PEER fresh` on the same lines, beside it, with ratios
+    PEER_MODE=fresh                   the word that the other program takes in place of `fresh`
     RUNS=3                            runs of each, of which the median counts
 
 A workload is a list of lines. It is written into a file of the temporary folder, given to the program as standard input, and
@@ -16,6 +17,7 @@ import workloads
 HERE = os.path.dirname(os.path.abspath(__file__))
 PROGRAM = os.environ.get('PROGRAM', os.path.join(HERE, '..', 'crates', 'review', 'out', 'review'))
 PEER = os.environ.get('PEER')
+PEER_MODE = os.environ.get('PEER_MODE', 'fresh')
 RUNS = int(os.environ.get('RUNS', '3'))
 
 
@@ -59,8 +61,8 @@ def main():
             print(f'{name:18} {"review":10} {count:8} {cpu:8.2f} {memory:8.1f}', flush=True)
             if PEER:
                 theirs = os.path.join(folder, 'theirs')
-                other_cpu, other_memory = measured([PEER, 'fresh'], lines, theirs)
-                print(f'{name:18} {"peer fresh":10} {count:8} {other_cpu:8.2f} {other_memory:8.1f}'
+                other_cpu, other_memory = measured([PEER, PEER_MODE], lines, theirs)
+                print(f'{name:18} {"peer " + PEER_MODE:10} {count:8} {other_cpu:8.2f} {other_memory:8.1f}'
                       f' {cpu / other_cpu:10.2f} {memory / other_memory:10.2f}', flush=True)
                 found = first_difference(ours, theirs)
                 if found:

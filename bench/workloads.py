@@ -209,10 +209,100 @@ def attributes():
         yield line('person.add', name=PEOPLE[i])
 
 
-def rows_many():
-    """100,000 rows set in two modules, in no order of their entities, without a table."""
-    for i in range(100_000):
+def rows(count):
+    """So many rows set in two modules, in no order of their entities, without a table."""
+    for i in range(count):
         yield row(f'entity-{i * 7919 % 50_000}', f'a{i // 50_000}', ['x'], module=i % 2)
+
+
+def rows_half():
+    yield from rows(50_000)
+
+
+def rows_many():
+    yield from rows(100_000)
+
+
+def policy_set(id, children, algorithm='permit-overrides'):
+    return {'PolicySet': {'PolicySetId': id, 'Version': '1', 'PolicyCombiningAlgId': POLICY_ALGORITHM + algorithm, 'Children': children}}
+
+
+def resource_among(names):
+    """A target of requests with one of those resources."""
+    return {'AnyOf': [{'AllOf': [all_of for name in names for all_of in resource_is(name)['AnyOf'][0]['AllOf']]}]}
+
+
+def obliged(id, effect, target):
+    """A rule with an obligation of two assignments, both over attributes."""
+    assignments = [{'AttributeId': 'who', 'Expression': bag(SUBJECT, SUBJECT_ID)}, {'AttributeId': 'department', 'Expression': bag(SUBJECT, 'department')}]
+    return {'RuleId': id, 'Effect': effect, 'Target': target, 'ObligationExpressions': [
+        {'ObligationId': f'log-{id}', 'FulfillOn': effect, 'AttributeAssignmentExpression': assignments}]}
+
+
+def obligations():
+    """65,536 cells under 50 rules with an obligation each, in 10 policies, each in a set of its own in the root: each why entry has a path of three. Then 1,000 looks at single cells."""
+    for i, person in enumerate(PEOPLE):
+        yield row(person, 'department', [f'd{i % 20}'])
+    children = []
+    for k in range(10):
+        rules = [obliged(f'r{i}', 'Deny' if (k + i) % 7 == 0 else 'Permit', action_is(ACTIONS[(k + i) % 4])) for i in range(5)]
+        children.append(policy_set(f's{k}', [policy(f'p{k}', rules, Target=resource_among(RESOURCES[k::10]))]))
+    yield line('policy.add', document=policy_set('s', children, 'deny-overrides'))
+    yield from lists()
+    for _ in range(5):
+        yield line('root.set', reference={'PolicySetIdReference': {'Id': 's'}})
+    for i in range(1_000):
+        yield line('cell', person=PEOPLE[i * 7 % 256], action=ACTIONS[i % 4], resource=RESOURCES[i * 5 % 64])
+
+
+def department_rules(count):
+    """Rules by department and action."""
+    return [{'RuleId': f'r{i}', 'Effect': 'Deny' if i % 9 == 8 else 'Permit', 'Target': action_is(ACTIONS[i % 4]),
+             'Condition': apply('string-is-in', value(f'd{i}'), bag(SUBJECT, 'department'))} for i in range(count)]
+
+
+def asks():
+    """20,000 requests under a policy of 50 rules, half of them with departments of their own, a fifth with attributes for the result."""
+    for i, person in enumerate(PEOPLE):
+        yield row(person, 'department', [f'd{i % 50}'])
+    yield from stored(policy('p', department_rules(50), 'permit-overrides'), 'p')
+    for i in range(20_000):
+        subject = [{'AttributeId': SUBJECT_ID, 'Value': PEOPLE[i * 7 % 256], 'IncludeInResult': i % 5 == 0}]
+        if i % 2:
+            subject.append({'AttributeId': 'department', 'Value': [f'd{i % 50}', f'd{i * 3 % 50}']})
+        yield line('ask', request={'Request': {
+            'AccessSubject': {'Attribute': subject},
+            'Action': {'Attribute': [{'AttributeId': ACTION_ID, 'Value': ACTIONS[i % 4]}]},
+            'Resource': {'Attribute': [{'AttributeId': RESOURCE_ID, 'Value': RESOURCES[i * 5 % 64]}]}}})
+
+
+def department_table():
+    """65,536 cells under 50 rules by department and action."""
+    for i, person in enumerate(PEOPLE):
+        yield row(person, 'department', [f'd{i % 50}'])
+    yield from stored(policy('p', department_rules(50), 'permit-overrides'), 'p')
+    yield from lists()
+
+
+def marks():
+    """16 sessions mark a table of 65,536 cells; 200 rows are set anew, and in 16 rounds among them each session asks for its notices."""
+    yield from department_table()
+    for session in range(16):
+        yield line('mark', session=session)
+    for i in range(200):
+        yield row(PEOPLE[i], 'department', [f'd{(i + 1) % 50}'])
+        if i * 16 // 200 != (i + 1) * 16 // 200:
+            yield from (line('notices', session=session) for session in range(16))
+
+
+def reports():
+    """Reports on 65,536 cells: counts, what each person can, who can each action on each resource, the cells of each rule; each five times."""
+    yield from department_table()
+    for _ in range(5):
+        yield from (line('counts') for _ in range(200))
+        yield from (line('can', person=person) for person in PEOPLE)
+        yield from (line('who', action=action, resource=resource) for action in ACTIONS for resource in RESOURCES)
+        yield from (line('by_rule', policy='p', rule=f'r{i}') for i in range(50))
 
 
 ALL = {
@@ -226,5 +316,10 @@ ALL = {
     'references': references,
     'stored-many': stored_many,
     'attributes': attributes,
+    'rows-half': rows_half,
     'rows-many': rows_many,
+    'obligations': obligations,
+    'asks': asks,
+    'marks': marks,
+    'reports': reports,
 }
