@@ -4,6 +4,7 @@ pub mod Arguments
 pub mod Booleans
 pub mod Children
 pub mod Choices
+pub mod Elsewhere
 pub mod Fit
 pub mod Gathered
 pub mod Hops
@@ -11,6 +12,7 @@ pub mod Keys
 pub mod Literals
 pub mod Once
 pub mod Parts
+pub mod Reached
 pub mod Recorded
 pub mod Rests
 pub mod Sames

@@ -10,12 +10,12 @@ use Rattle.ent_eval.specs.Noted.{noted, read_cmp, with_key}
 use Rattle.ent_eval.proofs.Keys.{all_noted, by_recursion}
 
 -- what holds of the keys of a set and of those that are noted in it holds of all keys after that
-noted_all : (P : ReadKey → Type 0) (keys more : List ReadKey) → All P keys → All P more → All P (noted keys more)
+pub noted_all : (P : ReadKey → Type 0) (keys more : List ReadKey) → All P keys → All P more → All P (noted keys more)
 noted_all P keys [] held rest = held
 noted_all P keys (k ∷ more) held rest =
     noted_all P (with_key keys k) more (All-insert_key read_cmp k P keys held (All-head P k more rest)) (All-tail P k more rest)
 
-from_recursion : {X : Type 0} (P : X → Type 0) (xs : List X) → AllByRecursion P xs → All P xs
+pub from_recursion : {X : Type 0} (P : X → Type 0) (xs : List X) → AllByRecursion P xs → All P xs
 from_recursion P [] h = All-nil P
 from_recursion P (x ∷ xs) h = All-cons P x xs h.0 (from_recursion P xs h.1)
 

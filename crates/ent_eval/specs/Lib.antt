@@ -1,4 +1,5 @@
 pub mod Answer
+pub mod Entities
 pub mod Expression
 pub mod Gathered
 pub mod Held

@@ -5,7 +5,7 @@ ghost use Rattle.ent_eval.specs.Judged.{bad, nothing, unresolved};
 
 use ent_combine::{IndKind, Outcome};
 use ent_policy::{DocKey, Kind, Version};
-use ent_values::{Items, Text};
+use ent_values::{Items, Shared, Text};
 use std::alloc::{AllocError, Global};
 
 /// Why a decision is Indeterminate (section 5.55 and appendix B.8), or that nothing went wrong.
@@ -21,8 +21,8 @@ pub enum Status {
 /// A rule that gave the decision, or an element that gave it by default.
 #[derive(PartialEq, Eq, Drop)]
 pub struct WhyEntry {
-    /// The policies from the root on to the one in which the rule stands, or to the element.
-    pub path: Items<DocKey>,
+    /// The policies from the root on to the one in which the rule stands, or to the element. The entries of an element share it.
+    pub path: Shared<Items<DocKey>>,
     /// The rule's id, or `None` for a default.
     pub rule: Option<Text>,
 }
@@ -43,7 +43,7 @@ impl WhyEntry {
         ensures { IfOk result (λ w. w ≡ self.now) }
     {
         Ok(WhyEntry {
-            path: copied_path(alloc, self.path.as_slice())?,
+            path: self.path.copy()?,
             rule: copied_text(alloc, &self.rule)?,
         })
     }
@@ -93,15 +93,6 @@ impl Answer {
             why: copied_why(alloc, self.why.as_slice())?,
         })
     }
-}
-
-/// An equal list of keys.
-pub(crate) fn copied_path(alloc: Global, path: &[DocKey]) -> Result<Items<DocKey>, AllocError>
-    ensures { IfOk result (λ p. p ≡ path.now) }
-{
-    let mut copies = Items::with_capacity(alloc, path.len())?;
-    add_copies(alloc, &mut copies, path)?;
-    Ok(copies)
 }
 
 /// The path to a document or an embedded element of that kind, id and version, where `path` leads to what it stands in.

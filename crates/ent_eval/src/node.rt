@@ -15,7 +15,7 @@ use crate::scene::Scene;
 use crate::target::Targeted;
 use ent_combine::{Outcome, Progress, RuleAlg, under_indeterminate_target};
 use ent_policy::{DocKey, Kind, Policy, Rule, VariableDefinition};
-use ent_values::Items;
+use ent_values::{Items, Shared};
 use std::alloc::{AllocError, Global};
 
 impl<L: LookUps> Scene<'_, L> {
@@ -69,10 +69,11 @@ impl<L: LookUps> Scene<'_, L> {
         ensures reads { OnOk result (reads.new ≡ noted reads.old (policy_rules (L.looks self.now.held.now) self.now.request.now path.now policy.now).reads) }
     {
         let here = path_to(self.alloc, path, Kind::Policy, &policy.id, &policy.version)?;
+        let here = Shared::new(self.alloc, here)?;
         self.rules(
             reads,
             policy.variables.as_slice(),
-            here.as_slice(),
+            &here,
             policy.algorithm,
             policy.rules.as_slice(),
         )
@@ -83,7 +84,7 @@ impl<L: LookUps> Scene<'_, L> {
         &self,
         reads: &mut Reads,
         definitions: &[VariableDefinition],
-        path: &[DocKey],
+        path: &Shared<Items<DocKey>>,
         algorithm: RuleAlg,
         rules: &[Rule],
     ) -> Result<Answer, AllocError>

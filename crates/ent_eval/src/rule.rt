@@ -7,7 +7,7 @@ ghost use Rattle.ent_eval.specs.Noted.{noted};
 ghost use Rattle.ent_eval.specs.Rule.{condition_part, decided, decision_of, indeterminate_of, rule_part, rule_under, truth_of};
 ghost use Rattle.ent_eval.specs.Typed.{HasType};
 
-use crate::answer::{Answer, Status, WhyEntry, copied_path};
+use crate::answer::{Answer, Status, WhyEntry};
 use crate::evaluated::{Evaluated, Truth};
 use crate::look_ups::LookUps;
 use crate::reads::Reads;
@@ -16,7 +16,7 @@ use crate::target::Targeted;
 use ent_combine::{IndKind, Outcome};
 use ent_functions::Arg;
 use ent_policy::{DocKey, Effect, Expression, Rule, VariableDefinition};
-use ent_values::{Items, Value};
+use ent_values::{Items, Shared, Value};
 use std::alloc::{AllocError, Global};
 
 impl<L: LookUps> Scene<'_, L> {
@@ -26,7 +26,7 @@ impl<L: LookUps> Scene<'_, L> {
         &self,
         reads: &mut Reads,
         definitions: &[VariableDefinition],
-        path: &[DocKey],
+        path: &Shared<Items<DocKey>>,
         rule: &Rule,
     ) -> Result<Answer, AllocError>
         requires { rule_is_typed definitions.now rule.now ≡ true }
@@ -42,7 +42,7 @@ impl<L: LookUps> Scene<'_, L> {
         &self,
         reads: &mut Reads,
         definitions: &[VariableDefinition],
-        path: &[DocKey],
+        path: &Shared<Items<DocKey>>,
         rule: &Rule,
         targeted: Targeted,
     ) -> Result<Answer, AllocError>
@@ -98,7 +98,12 @@ fn truth_of(evaluated: Evaluated) -> Truth
 }
 
 // A rule with a target that matches, by its condition.
-fn decide(alloc: Global, path: &[DocKey], rule: &Rule, truth: Truth) -> Result<Answer, AllocError>
+fn decide(
+    alloc: Global,
+    path: &Shared<Items<DocKey>>,
+    rule: &Rule,
+    truth: Truth,
+) -> Result<Answer, AllocError>
     ensures { IfOk result (λ a. a ≡ decided path.now rule.now truth) }
 {
     match truth {
@@ -110,7 +115,7 @@ fn decide(alloc: Global, path: &[DocKey], rule: &Rule, truth: Truth) -> Result<A
         }),
         Truth::True => {
             let entry = WhyEntry {
-                path: copied_path(alloc, path)?,
+                path: path.copy()?,
                 rule: Some(rule.id.copy(alloc)?),
             };
             Ok(Answer {

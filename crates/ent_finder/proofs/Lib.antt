@@ -1,12 +1,16 @@
+pub mod BlockRows
 pub mod Boxes
 pub mod Filled
 pub mod Gathered
 pub mod Held
 pub mod Kept
+pub mod Homes
 pub mod Keys
 pub mod Latest
+pub mod NamedBlocks
 pub mod Names
 pub mod Orders
+pub mod Parts
 pub mod Ranges
 pub mod Recent
 pub mod RowKeys

@@ -1,5 +1,5 @@
 -- The seat of a key in a list of elements in the order of their keys.
-use Rattle.std.proofs.Common.{Bor, ◌≡◌, ℕ, zero, suc, ◌+◌, ◌<◌, ◌≤◌, true, false, T, List, [], ◌∷◌, ◌++◌, drop, length, map, take, Option, Some, None, Result, Ok, Err, IfErr, IfOk, inl, inr, slice_get, slice_index_or as get_or, slice_set as set, unwrap_or, refl, sym, ap, subst, ◌∙◌, arith}
+use Rattle.std.proofs.Common.{Bor, ◌≡◌, ℕ, zero, suc, ◌+◌, ◌<◌, ◌≤◌, true, false, T, List, [], ◌∷◌, ◌++◌, drop, length, map, take, Option, Some, None, Result, Ok, Err, IfErr, IfOk, inl, inr, is_ok, is_some, slice_get, slice_index_or as get_or, slice_set as set, unwrap_or, refl, sym, ap, subst, ◌∙◌, arith}
 use Rattle.std.specs.Cmp.{IsTotalOrder}
 use Rattle.std.specs.FinMap.{FinMap, IsAntisymmetric, empty, empty_of_len, len, len-entries, entries, entries-from_sorted, entries-insert, find, from_sorted, get, get-from_sorted, insert as map_insert, is_sorted, put, same_entries_map}
 use Rattle.std.specs.FinMap.Entries.{is_sorted-put}
@@ -132,6 +132,19 @@ module _ {K X S : Type 0} {R : K → K → Ordering} (o : IsTotalOrder R) (entry
             takes = λ v. (λ t. set es i (sym key t, v)) ∙ sym (put_there o k v es i x h.0 is tie);
           }
 
+-- whether a search finds the key
+module _ {K X S : Type 0} {R : K → K → Ordering} (o : IsTotalOrder R) (entry : S → K × X) (k : K) (ss : List S) (sorted : T (is_sorted R (map entry ss))) where
+  there_found : (i : ℕ) → IsThere R entry k ss i → is_some (find R k (map entry ss)) ≡ true
+  there_found i h = by (slice_get (map entry ss) i) refl h.1
+    where
+      by : (e : Option (K × X)) → slice_get (map entry ss) i ≡ e → option_map_or (λ e. is_eq (R e.0 k)) e false ≡ true → is_some (find R k (map entry ss)) ≡ true
+      by None is here = cc
+      by (Some x) is here = ap is_some (find_there o k (map entry ss) i x h.0 is (equal (R x.0 k) here))
+
+  pub found_or_not : (r : Result ℕ ℕ) → IfOk r (IsThere R entry k ss) → IfErr r (IsGap R entry k ss) → is_ok r ≡ is_some (get (from_sorted {R = R} (map entry ss)) k)
+  found_or_not (Ok i) there gap = sym (ap is_some (get-from_sorted R (map entry ss) k sorted) ∙ there_found i there)
+  found_or_not (Err i) there gap = sym (ap is_some (none_seen o entry k ss i sorted gap))
+
 module _ {K X S : Type 0} {R : K → K → Ordering} (o : IsTotalOrder R) (entry : S → K × X) (none : X) (k : K) (es : List (K × X)) (ss : List S) (i : ℕ) (s : S) (seat : IsSeat R none k es (map entry ss) i) (is : s ≡ get_or ss i s) where
   here : ◌≡◌ {A = K × X} (entry s) (k, unwrap_or (find R k es) none)
   here =
@@ -180,3 +193,8 @@ module _ {K X S : Type 0} (R : K → K → Ordering) (entry : S → K × X) (ss 
 
   pub elements_counted : len m ≡ length ss
   elements_counted = ap len (sym is) ∙ len-entries (from_sorted {R = R} (map entry ss)) ∙ ap length (entries-from_sorted R (map entry ss) sorted) ∙ length-map ss entry
+
+  -- what stands at an index of the list
+  pub entry_seen : (i : ℕ) (r : Option (Bor S)) → option_copied r ≡ slice_get ss i → option_map entry (option_copied r) ≡ slice_get (entries m) i
+  entry_seen i r got =
+      ap (option_map entry) got ∙ sym (slice_get-map entry ss i) ∙ ap (λ es. slice_get es i) (sym (entries-from_sorted R (map entry ss) sorted) ∙ ap entries is)

@@ -1,3 +1,4 @@
+pub mod Blocks
 pub mod Entry
 pub mod Finding
 pub mod Law

@@ -4,6 +4,8 @@
 mod attribute_finder;
 mod attribute_module;
 mod attributes;
+mod block;
+mod blocks;
 mod boxed;
 mod boxed_attributes;
 mod finder;

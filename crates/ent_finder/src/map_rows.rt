@@ -4,8 +4,9 @@ ghost use Rattle.std.specs.Prelude.{◌≡◌, map};
 ghost use Rattle.std.specs.FinMap as finmap;
 
 use crate::attribute_module::AttributeFinderModule;
+use crate::block::Block;
+use crate::blocks;
 use crate::row::{AttrKey, Row, RowKey};
-use crate::rows;
 use ent_values::{Bag, Items, Text, Value};
 use std::alloc::{AllocError, Global};
 use std::marker::Model;
@@ -15,7 +16,8 @@ use std::marker::Model;
 pub struct MapRows {
     alloc: Global,
     categories: Items<Text>,
-    rows: Vec<Row>,
+    blocks: Vec<Block>,
+    count: usize,
 }
 
 impl Model for MapRows {
@@ -27,11 +29,14 @@ impl Model for MapRows {
 
     ghost coded = { source_code key.the_row.coded value.the_row.coded };
 
+    ghost use Rattle.std.below.core.specs.declared.int.usize.TheConstants.{MAX};
+    ghost use Rattle.std.specs.Prelude.{◌≡◌, ◌≤◌, length};
+    ghost use Rattle.ent_finder.specs.Blocks.{rows_in};
     ghost use Rattle.ent_finder.specs.RowEntry.{RowsAreSorted, rows_of};
 
-    ghost view = { λ m. record { categories = m.categories; rows = rows_of m.rows.items } };
+    ghost view = { λ m. record { categories = m.categories; rows = rows_of (rows_in m.blocks.items) } };
 
-    ghost invariant = { λ m. RowsAreSorted m.rows.items };
+    ghost invariant = { λ m. RowsAreSorted (rows_in m.blocks.items) × (m.count ≡ length (rows_in m.blocks.items)) × (m.count ≤ MAX) };
 }
 
 impl MapRows {
@@ -42,7 +47,8 @@ impl MapRows {
         MapRows {
             alloc,
             categories,
-            rows: Vec::new(alloc),
+            blocks: Vec::new(alloc),
+            count: 0,
         }
     }
 }
@@ -58,16 +64,16 @@ impl AttributeFinderModule for MapRows {
     }
 
     fn find(&self, key: &AttrKey, bag: &mut Bag) -> Result<(), AllocError> {
-        *bag = rows::values_of(self.alloc, &self.rows, key)?;
+        *bag = blocks::values_of(self.alloc, &self.blocks, key)?;
         Ok(())
     }
 
     fn swap_row(&mut self, key: &RowKey, values: &mut Items<Value>) -> Result<(), AllocError> {
-        rows::swap_row(self.alloc, &mut self.rows, key, values)?;
+        blocks::swap_row(self.alloc, &mut self.blocks, &mut self.count, key, values)?;
         Ok(())
     }
 
     fn row_at(&self, index: usize) -> Option<&Row> {
-        self.rows.get(index)
+        blocks::row_at(&self.blocks, index)
     }
 }

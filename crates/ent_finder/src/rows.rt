@@ -1,6 +1,6 @@
 //! A list of rows in the order of their keys.
 
-ghost use Rattle.std.specs.Prelude.{◌≡◌, ◌≤◌, ◌++◌, [], IfErr, IfOk, None, OnErr, OnOk, false, length, slice_range, true};
+ghost use Rattle.std.specs.Prelude.{◌≡◌, ◌≤◌, ◌++◌, [], IfErr, IfOk, None, OnErr, OnOk, false, is_some, length, slice_range, true};
 ghost use Rattle.std.specs.FinMap as finmap;
 ghost use Rattle.std.specs.List.{filter};
 ghost use Rattle.ent_values.specs.Bags.{AllOfType};
@@ -23,6 +23,14 @@ fn place(rows: &[Row], key: &RowKey) -> Result<usize, usize>
     ensures absent { IfErr result (λ i. IsPlace row_cmp key.now (row_entries rows.now) i × (is_at row_cmp key.now (row_entries rows.now) i ≡ false)) }
 {
     rows.binary_search_by(|row| row.key.cmp(key))
+}
+
+/// Whether the row of a key is there.
+pub fn has_row(rows: &[Row], key: &RowKey) -> bool
+    requires { RowsAreSorted rows.now }
+    ensures { result ≡ is_some (finmap.get (rows_of rows.now) key.now) }
+{
+    place(rows, key).is_ok()
 }
 
 /// The index of the row of a key, which is made if it isn't there.
@@ -76,7 +84,7 @@ fn issuer_order(issuer: &Option<Text>, wanted: &Option<Text>) -> Ordering
 }
 
 /// How the key of a row stands to those that a key names.
-fn order(row: &RowKey, key: &AttrKey) -> Ordering
+pub fn order(row: &RowKey, key: &AttrKey) -> Ordering
     ensures { result ≡ named_cmp row.now key.now }
 {
     let categories = row.category.as_str().cmp(key.category.as_str());
@@ -114,16 +122,21 @@ fn add_all(alloc: Global, bag: &mut Bag, values: &[Value]) -> Result<(), AllocEr
     Ok(())
 }
 
-/// The values of the rows that a key names.
-pub fn values_of(alloc: Global, rows: &[Row], key: &AttrKey) -> Result<Bag, AllocError>
-    requires { RowsAreSorted rows.now }
-    ensures { IfOk result (λ b. b ≡ record { datatype = key.now.datatype; values = values_of key.now (filled (rows_of rows.now)) }) }
+/// Puts copies of the values of the rows that a key names last.
+pub fn add_named(
+    alloc: Global,
+    bag: &mut Bag,
+    rows: &[Row],
+    key: &AttrKey,
+) -> Result<(), AllocError>
+    requires sorted { RowsAreSorted rows.now }
+    requires datatype { bag.old.datatype ≡ key.now.datatype }
+    ensures { OnOk result (bag.new ≡ record { datatype = bag.old.datatype; values = bag.old.values ++ values_of key.now (filled (rows_of rows.now)) }) }
 {
     let (start, end) = bounds(rows, key);
     let named = &rows[start..end];
-    let mut bag = Bag::new(alloc, key.datatype);
     for row in named {
-        add_all(alloc, &mut bag, row.values.as_slice())?;
+        add_all(alloc, bag, row.values.as_slice())?;
     }
-    Ok(bag)
+    Ok(())
 }

@@ -131,7 +131,7 @@ impl Function {
         let mut id = String::from_str(alloc, self.prefix())?;
         id.push_str(self.type_word())?;
         id.push_str(self.operation())?;
-        Ok(Text::new(id))
+        Text::new(alloc, id)
     }
 
     /// Whether that URI is the function's.

@@ -17,7 +17,7 @@ pub(crate) fn concatenation(alloc: Global, arguments: &[Arg]) -> Result<Arg, Fau
     for argument in arguments {
         push_text(&mut whole, argument)?;
     }
-    Ok(Arg::One(Value::Text(Text::new(whole))))
+    Ok(Arg::One(Value::Text(Text::new(alloc, whole)?)))
 }
 
 // Puts the text of a string last.

@@ -1,19 +1,20 @@
 //! The JSON of cells.
 
-ghost use Rattle.std.specs.Prelude.{◌≡◌, IfOk, false, map, string_bytes};
-ghost use Rattle.serde_json.specs.Data.{string};
-ghost use Rattle.serde_json.specs.View.{items_view, view};
-ghost use Rattle.serde_json.specs.Written.{compact_text, has_float};
+ghost use Rattle.std.specs.Prelude.{◌≡◌, [], ◌∷◌, ◌++◌, IfOk, OnOk, codes, map, string_bytes};
+ghost use Rattle.json.specs.Token as token;
+ghost use Rattle.serde_json.specs.Data as json;
+ghost use Rattle.serde_json.specs.View.{items_of};
+ghost use Rattle.ent_polform.specs.Text.{items_tokens_of, tokens_of};
 ghost use Rattle.ent_table.specs.Left.{cells_left};
 ghost use Rattle.ent_table.specs.Names.{triple_of};
 ghost use Rattle.ent_line.specs.Cells.{cell_data, decision_text, entry_data, key_data, one_cell_data, one_cell_text, rule_data, status_text, table_data, table_text};
 
 use ent_combine::{IndKind, Outcome};
 use ent_eval::{Answer, Status, WhyEntry};
+use ent_polform::JsonText;
 use ent_policy::DocKey;
 use ent_table::Cells;
 use ent_values::Text;
-use serde_json::{Value, json};
 use std::alloc::{AllocError, Global};
 
 /// The word of a decision.
@@ -41,130 +42,224 @@ fn status_text(status: Status) -> &'static str
     }
 }
 
-/// A document on a path.
-fn key_value(alloc: Global, key: &DocKey) -> Result<Value, AllocError>
-    ensures { IfOk result (λ v. view v ≡ key_data key.now) }
+/// Writes a document on a path.
+fn write_key(alloc: Global, out: &mut JsonText, key: &DocKey) -> Result<(), AllocError>
+    ensures { OnOk result (out.new ≡ out.old ++ tokens_of (key_data key.now)) }
 {
     let version = key.version.text(alloc)?;
-    json!(in alloc; [key.kind.word(), key.id.as_str(), version.into_string()])
+    out.begin_array()?;
+    out.string(key.kind.word())?;
+    out.string(key.id.as_str())?;
+    out.string(version.as_str())?;
+    out.end_array()
 }
 
-/// The documents on a path.
-fn key_values(alloc: Global, keys: &[DocKey]) -> Result<Vec<Value>, AllocError>
-    ensures { IfOk result (λ vs. map view vs.items ≡ map key_data keys.now) }
+/// Writes the documents on a path, to the end of their list.
+fn write_keys(alloc: Global, out: &mut JsonText, keys: &[DocKey]) -> Result<(), AllocError>
+    ensures { OnOk result (out.new ≡ out.old ++ items_tokens_of (map key_data keys.now)) }
 {
-    let mut values = Vec::new(alloc);
     for key in keys {
-        values.push(key_value(alloc, key)?)?;
+        write_key(alloc, out, key)?;
     }
-    Ok(values)
+    out.end_array()
 }
 
-/// A rule's id, or null.
-fn rule_value(alloc: Global, rule: &Option<Text>) -> Result<Value, AllocError>
-    ensures { IfOk result (λ v. view v ≡ rule_data rule.now) }
+/// Writes a path.
+fn write_path(alloc: Global, out: &mut JsonText, keys: &[DocKey]) -> Result<(), AllocError>
+    ensures { OnOk result (out.new ≡ out.old ++ tokens_of (json.array (items_of (map key_data keys.now)))) }
+{
+    out.begin_array()?;
+    write_keys(alloc, out, keys)
+}
+
+/// Writes a rule's id, or null.
+fn write_rule(out: &mut JsonText, rule: &Option<Text>) -> Result<(), AllocError>
+    ensures { OnOk result (out.new ≡ out.old ++ tokens_of (rule_data rule.now)) }
 {
     match rule {
-        None => Ok(Value::Null),
-        Some(id) => Value::try_from_str(alloc, id.as_str()),
+        None => out.null(),
+        Some(id) => out.string(id.as_str()),
     }
 }
 
-/// A rule with the path to it.
-fn entry_value(alloc: Global, entry: &WhyEntry) -> Result<Value, AllocError>
-    ensures { IfOk result (λ v. view v ≡ entry_data entry.now) }
+/// Writes a rule with the path to it.
+fn write_entry(alloc: Global, out: &mut JsonText, entry: &WhyEntry) -> Result<(), AllocError>
+    ensures { OnOk result (out.new ≡ out.old ++ tokens_of (entry_data entry.now)) }
 {
-    let path = key_values(alloc, entry.path.as_slice())?;
-    let rule = rule_value(alloc, &entry.rule)?;
-    json!(in alloc; {"path": path, "rule": rule})
+    out.begin_object()?;
+    out.key("path")?;
+    write_path(alloc, out, entry.path.get().as_slice())?;
+    out.key("rule")?;
+    write_rule(out, &entry.rule)?;
+    out.end_object()
 }
 
-/// The rules that gave a decision.
-fn entry_values(alloc: Global, entries: &[WhyEntry]) -> Result<Vec<Value>, AllocError>
-    ensures { IfOk result (λ vs. map view vs.items ≡ map entry_data entries.now) }
+/// Writes the rules that gave a decision, to the end of their list.
+fn write_entries(alloc: Global, out: &mut JsonText, entries: &[WhyEntry]) -> Result<(), AllocError>
+    ensures { OnOk result (out.new ≡ out.old ++ items_tokens_of (map entry_data entries.now)) }
 {
-    let mut values = Vec::new(alloc);
     for entry in entries {
-        values.push(entry_value(alloc, entry)?)?;
+        write_entry(alloc, out, entry)?;
     }
-    Ok(values)
+    out.end_array()
 }
 
-/// A cell.
-fn cell_value(
+/// Writes the list of the rules that gave a decision.
+fn write_why(alloc: Global, out: &mut JsonText, why: &[WhyEntry]) -> Result<(), AllocError>
+    ensures { OnOk result (out.new ≡ out.old ++ tokens_of (json.array (items_of (map entry_data why.now)))) }
+{
+    out.begin_array()?;
+    write_entries(alloc, out, why)
+}
+
+/// Writes the empty list.
+fn write_no_items(out: &mut JsonText) -> Result<(), AllocError>
+    ensures { OnOk result (out.new ≡ out.old ++ tokens_of (json.array json.no_items)) }
+{
+    out.begin_array()?;
+    out.end_array()
+}
+
+/// Writes a text at a key.
+fn write_text(out: &mut JsonText, key: &str, text: &str) -> Result<(), AllocError>
+    ensures { OnOk result (out.new ≡ out.old ++ token.key key.now ∷ token.string text.now ∷ []) }
+{
+    out.key(key)?;
+    out.string(text)
+}
+
+/// Writes a decision at its key.
+fn write_decision(out: &mut JsonText, decision: Outcome) -> Result<(), AllocError>
+    ensures { OnOk result (out.new ≡ out.old ++ token.key (codes "decision") ∷ token.string (decision_text decision) ∷ []) }
+{
+    write_text(out, "decision", decision_text(decision))
+}
+
+/// Writes a status at its key.
+fn write_status(out: &mut JsonText, status: Status) -> Result<(), AllocError>
+    ensures { OnOk result (out.new ≡ out.old ++ token.key (codes "status") ∷ token.string (status_text status) ∷ []) }
+{
+    write_text(out, "status", status_text(status))
+}
+
+/// Begins a cell: its action and its advice.
+fn write_action(out: &mut JsonText, action: &str) -> Result<(), AllocError>
+    ensures { OnOk result (out.new ≡ out.old ++ token.begin_object ∷ token.key (codes "action") ∷ token.string action.now
+        ∷ token.key (codes "advice") ∷ token.begin_array ∷ token.end_array ∷ []) }
+{
+    out.begin_object()?;
+    write_text(out, "action", action)?;
+    out.key("advice")?;
+    write_no_items(out)
+}
+
+/// Goes on with the decision of a cell and its obligations.
+fn write_decided(out: &mut JsonText, decision: Outcome) -> Result<(), AllocError>
+    ensures { OnOk result (out.new ≡ out.old ++ token.key (codes "decision") ∷ token.string (decision_text decision)
+        ∷ token.key (codes "obligations") ∷ token.begin_array ∷ token.end_array ∷ []) }
+{
+    write_decision(out, decision)?;
+    out.key("obligations")?;
+    write_no_items(out)
+}
+
+/// Goes on with the person and the resource of a cell.
+fn write_names(out: &mut JsonText, person: &str, resource: &str) -> Result<(), AllocError>
+    ensures { OnOk result (out.new ≡ out.old ++ token.key (codes "person") ∷ token.string person.now ∷ token.key (codes "resource") ∷ token.string resource.now ∷ []) }
+{
+    write_text(out, "person", person)?;
+    out.key("resource")?;
+    out.string(resource)
+}
+
+/// Ends a cell with its status and the rules that gave its decision.
+fn write_reason(
     alloc: Global,
+    out: &mut JsonText,
+    status: Status,
+    why: &[WhyEntry],
+) -> Result<(), AllocError>
+    ensures { OnOk result (out.new ≡ out.old ++ token.key (codes "status") ∷ token.string (status_text status)
+        ∷ token.key (codes "why") ∷ (tokens_of (json.array (items_of (map entry_data why.now))) ++ token.end_object ∷ [])) }
+{
+    write_status(out, status)?;
+    out.key("why")?;
+    write_why(alloc, out, why)?;
+    out.end_object()
+}
+
+/// Writes a cell.
+fn write_cell(
+    alloc: Global,
+    out: &mut JsonText,
     person: &str,
     action: &str,
     resource: &str,
     answer: &Answer,
-) -> Result<Value, AllocError>
-    ensures { IfOk result (λ v. view v ≡ cell_data (triple_of person.now action.now resource.now, answer.now)) }
+) -> Result<(), AllocError>
+    ensures { OnOk result (out.new ≡ out.old ++ tokens_of (cell_data (triple_of person.now action.now resource.now, answer.now))) }
 {
-    let why = entry_values(alloc, answer.why.as_slice())?;
-    json!(in alloc; {
-        "action": action,
-        "advice": [],
-        "decision": decision_text(answer.decision),
-        "obligations": [],
-        "person": person,
-        "resource": resource,
-        "status": status_text(answer.status),
-        "why": why,
-    })
+    write_action(out, action)?;
+    write_decided(out, answer.decision)?;
+    write_names(out, person, resource)?;
+    write_reason(alloc, out, answer.status, answer.why.as_slice())
 }
 
-/// The cells that are left, in their order.
-fn cell_values(alloc: Global, cells: Cells<'_>) -> Result<Vec<Value>, AllocError>
-    ensures { IfOk result (λ vs. map view vs.items ≡ map cell_data (cells_left cells.entry)) }
+/// Writes the cells that are left, to the end of their list.
+fn write_cells(alloc: Global, out: &mut JsonText, cells: Cells<'_>) -> Result<(), AllocError>
+    ensures { OnOk result (out.new ≡ out.old ++ items_tokens_of (map cell_data (cells_left cells.entry))) }
 {
-    let mut values = Vec::new(alloc);
     for (person, action, resource, answer) in cells {
-        values.push(cell_value(alloc, person, action, resource, answer)?)?;
+        write_cell(alloc, out, person, action, resource, answer)?;
     }
-    Ok(values)
+    out.end_array()
 }
 
-/// The reply to `table`.
-fn table_value(alloc: Global, cells: Cells<'_>) -> Result<Value, AllocError>
-    ensures { IfOk result (λ v. view v ≡ table_data (cells_left cells.entry)) }
+/// Writes the list of the cells that are left.
+fn write_list(alloc: Global, out: &mut JsonText, cells: Cells<'_>) -> Result<(), AllocError>
+    ensures { OnOk result (out.new ≡ out.old ++ tokens_of (json.array (items_of (map cell_data (cells_left cells.entry))))) }
 {
-    let values = cell_values(alloc, cells)?;
-    json!(in alloc; {"table": values})
+    out.begin_array()?;
+    write_cells(alloc, out, cells)
 }
 
-/// The reply to `cell`.
-fn one_cell_value(
+/// Writes the reply to `table`.
+fn write_table(alloc: Global, out: &mut JsonText, cells: Cells<'_>) -> Result<(), AllocError>
+    ensures { OnOk result (out.new ≡ out.old ++ tokens_of (table_data (cells_left cells.entry))) }
+{
+    out.begin_object()?;
+    out.key("table")?;
+    write_list(alloc, out, cells)?;
+    out.end_object()
+}
+
+/// Writes the reply to `cell`.
+fn write_one_cell(
     alloc: Global,
+    out: &mut JsonText,
     person: &str,
     action: &str,
     resource: &str,
     answer: &Answer,
-) -> Result<Value, AllocError>
-    ensures { IfOk result (λ v. view v ≡ one_cell_data (triple_of person.now action.now resource.now, answer.now)) }
+) -> Result<(), AllocError>
+    ensures { OnOk result (out.new ≡ out.old ++ tokens_of (one_cell_data (triple_of person.now action.now resource.now, answer.now))) }
 {
-    let cell = cell_value(alloc, person, action, resource, answer)?;
-    json!(in alloc; {"cell": cell})
-}
-
-/// The compact text of a value that has no float.
-fn text_of(alloc: Global, value: &Value) -> Result<String, AllocError>
-    requires { has_float (view value.now) ≡ false }
-    ensures { IfOk result (λ s. string_bytes s ≡ compact_text (view value.now)) }
-{
-    value.to_string(alloc)
+    out.begin_object()?;
+    out.key("cell")?;
+    write_cell(alloc, out, person, action, resource, answer)?;
+    out.end_object()
 }
 
 /// The text of the reply to `table`.
-#[tactic(auto, unfolding(crate::specs::Cells::table_text))]
 pub(crate) fn table_text(alloc: Global, cells: Cells<'_>) -> Result<String, AllocError>
     ensures { IfOk result (λ s. string_bytes s ≡ table_text (cells_left cells.entry)) }
 {
-    let value = table_value(alloc, cells)?;
-    text_of(alloc, &value)
+    let mut out = JsonText::new(alloc);
+    write_table(alloc, &mut out, cells)?;
+    Ok(out.into_string())
 }
 
 /// The text of the reply to `cell`.
-#[tactic(auto, unfolding(crate::specs::Cells::one_cell_text))]
 pub(crate) fn one_cell_text(
     alloc: Global,
     person: &str,
@@ -174,6 +269,7 @@ pub(crate) fn one_cell_text(
 ) -> Result<String, AllocError>
     ensures { IfOk result (λ s. string_bytes s ≡ one_cell_text (triple_of person.now action.now resource.now, answer.now)) }
 {
-    let value = one_cell_value(alloc, person, action, resource, answer)?;
-    text_of(alloc, &value)
+    let mut out = JsonText::new(alloc);
+    write_one_cell(alloc, &mut out, person, action, resource, answer)?;
+    Ok(out.into_string())
 }

@@ -11,3 +11,4 @@ pub mod ReferenceLemmas
 pub mod BackReferences
 pub mod BackDocuments
 pub mod BackWhole
+pub mod TextLemmas

@@ -7,3 +7,4 @@ pub mod Form
 pub mod Values
 pub mod Written
 pub mod ReadBack
+pub mod Text

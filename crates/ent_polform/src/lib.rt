@@ -8,6 +8,7 @@ mod members;
 mod objects;
 mod reference;
 mod target;
+mod text;
 mod value;
 mod written_documents;
 mod written_expressions;
@@ -21,6 +22,7 @@ pub use objects::{
     filled_list_at, flag_at, has_only, list_at, one_member, text_at, text_or_absent,
 };
 pub use reference::read_reference;
+pub use text::JsonText;
 pub use value::read_value;
 pub use written_documents::write_document;
 pub use written_values::write_value;

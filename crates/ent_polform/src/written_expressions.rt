@@ -36,7 +36,7 @@ pub(crate) fn expression(alloc: Global, expression: &Expression) -> Result<Json,
         }
         Expression::Function(function) => {
             let id = function.id(alloc)?;
-            json!(in alloc; {"Function": {"FunctionId": id.into_string()}})
+            json!(in alloc; {"Function": {"FunctionId": id.into_string(alloc)?}})
         }
     }
 }

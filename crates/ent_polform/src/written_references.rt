@@ -16,7 +16,7 @@ fn pattern(alloc: Global, pattern: &Option<VersionMatch>) -> Result<Option<Json>
 {
     match pattern {
         None => Ok(None),
-        Some(pattern) => Ok(Some(Json::String(pattern.text(alloc)?.into_string()))),
+        Some(pattern) => Ok(Some(Json::String(pattern.text(alloc)?.into_string(alloc)?))),
     }
 }
 

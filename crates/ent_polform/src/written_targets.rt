@@ -21,7 +21,7 @@ fn one_match(alloc: Global, test: &Match) -> Result<Json, AllocError>
     json!(in alloc; {
         "AttributeDesignator": named,
         "AttributeValue": value,
-        "MatchId": id.into_string(),
+        "MatchId": id.into_string(alloc)?,
     })
 }
 

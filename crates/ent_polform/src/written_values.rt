@@ -26,7 +26,7 @@ pub fn write_value(alloc: Global, value: &Value) -> Result<Json, AllocError>
     match value {
         Value::Boolean(flag) => Ok(Json::Bool(*flag)),
         Value::Integer(integer) => Ok(Json::from(*integer)),
-        _ => Ok(Json::String(value.text(alloc)?.into_string())),
+        _ => Ok(Json::String(value.text(alloc)?.into_string(alloc)?)),
     }
 }
 

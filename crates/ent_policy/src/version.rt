@@ -124,7 +124,7 @@ pub(crate) fn joined<P: Piece>(alloc: Global, parts: &[P]) -> Result<Text, Alloc
         let piece = parts[place].write(alloc)?;
         push_piece(&mut text, place, piece.as_str())?;
     }
-    Ok(Text::new(text))
+    Text::new(alloc, text)
 }
 
 /// Law: the text of a version reads as that version.

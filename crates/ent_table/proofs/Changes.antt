@@ -15,7 +15,7 @@ use Rattle.ent_table.specs.Step.{next}
 use Rattle.ent_table.proofs.Counts.{passing, AllPass, none_left, passing-not, passing-same, all_pass, listed_count, has_others, known-own, known-new, known-more, known-others, own_listed}
 use Rattle.ent_table.proofs.Places.{length-all_triples}
 
-same_self : (a : Answer) → same_answer a a ≡ true
+pub same_self : (a : Answer) → same_answer a a ≡ true
 same_self a = (answer-Decides a a).1 refl
 
 -- the difference is counted in two parts

@@ -99,7 +99,7 @@ length-pairs (p ∷ people) actions = omega (arith, length-append (map (pair p) 
 
 -- ---- without a name
 
-triples-without : (list : Which) (names : Names) (name : List ℕ) (place : ℕ) → StandsAt name (list_of list names) place
+pub triples-without : (list : Which) (names : Names) (name : List ℕ) (place : ℕ) → StandsAt name (list_of list names) place
     → without (blocks_of list names).count (blocks_of list names).width (place * (blocks_of list names).each) (blocks_of list names).each (triples names) ≡ triples (without_name list name names)
 triples-without which.People names name place s =
     let breadth : ℕ = length names.actions * length names.resources in

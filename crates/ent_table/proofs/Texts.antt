@@ -1,12 +1,14 @@
 -- Names that are kept as `String`s are found by their bytes.
 use Rattle.std.proofs.Common.{◌≡◌, ℕ, ◌+◌, List, [], ◌∷◌, ◌++◌, map, nat_eq, Bool, true, false, cond, ◌||◌, if◌then◌else◌, refl, sym, ap, ◌∙◌}
-use Rattle.std.specs.Prelude.{String, not, nat_lt, Some, None, string_bytes}
+use Rattle.std.specs.Prelude.{String, not, nat_lt, Option, Some, None, is_some, string_bytes}
 use Rattle.std.specs.List.{list_any, position, position_or_len}
 use Rattle.std.specs.Cmp.Lexicographic.{pointwise}
 use Rattle.std.specs.String.{string_eq}
 use Rattle.std.proofs.lemmas.List.{length-map, map-append}
 use Rattle.indexmap.specs.IndexSet.{insert_key, remove_key}
 use Rattle.ent_table.specs.Names.{has_name, texts}
+use Rattle.ent_table.specs.Touched.{IsAt}
+use Rattle.ent_table.proofs.Places.{name_at}
 
 any_of : {A B : Type 0} (p : B → Bool) (f : A → B) (xs : List A) → list_any (λ x. p (f x)) xs ≡ list_any p (map f xs)
 any_of p f [] = refl
@@ -42,3 +44,9 @@ removed_of p f (x ∷ xs) =
 -- one less
 pub texts_less : {Z : Type 0} (name : List ℕ) (keys : List (String Z)) → texts (remove_key (λ k. pointwise nat_eq name (string_bytes k)) keys) ≡ remove_key (pointwise nat_eq name) (texts keys)
 texts_less name keys = removed_of (pointwise nat_eq name) string_bytes keys
+
+-- where a name stands among them, if it does
+pub text_at : {Z : Type 0} (name : List ℕ) (keys : List (String Z)) (o : Option ℕ) → o ≡ position (λ k. pointwise nat_eq name (string_bytes k)) keys → is_some o ≡ list_any (λ k. pointwise nat_eq name (string_bytes k)) keys
+    → IsAt name (texts keys) o
+text_at name keys None index found = sym (has_text name keys) ∙ sym found
+text_at name keys (Some place) index found = name_at name (texts keys) place (sym (text_place name keys) ∙ sym index)

@@ -9,3 +9,4 @@ pub mod Shape
 pub mod State
 pub mod Step
 pub mod Table
+pub mod Touched

@@ -121,7 +121,7 @@ impl<A: Attributes, P: Policies> Review<A, P> {
         let Ok(()) = self.swap_row(number, key, &mut values) else {
             return Err(EditFault::Memory);
         };
-        match self.settle_answers() {
+        match self.settle_row(key) {
             Ok(accepted) => Ok(accepted),
             Err(fault) => {
                 self.put_row_back(number, key, values);

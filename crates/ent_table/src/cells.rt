@@ -8,6 +8,7 @@ ghost use Rattle.ent_table.specs.Names.{all_triples, texts};
 
 use crate::grid::Grid;
 use ent_eval::Answer;
+use ent_values::Shared;
 
 /// The listed requests with their answers: person, action, resource and answer, people outermost, then actions, then resources.
 #[derive(Drop)]
@@ -19,7 +20,7 @@ pub struct Cells<'a> {
     all_actions: &'a [String],
     all_resources: &'a [String],
     // The answers, and the place of the next one.
-    answers: &'a Grid<Answer>,
+    answers: &'a Grid<Shared<Answer>>,
     place: usize,
 }
 
@@ -28,7 +29,7 @@ impl<'a> Cells<'a> {
         people: &'a [String],
         actions: &'a [String],
         resources: &'a [String],
-        answers: &'a Grid<Answer>,
+        answers: &'a Grid<Shared<Answer>>,
     ) -> Cells<'a>
         ensures { cells_left result ≡ zip (all_triples (texts people.now) (texts actions.now) (texts resources.now)) answers.now }
     {
@@ -94,6 +95,11 @@ impl<'a> Iterator for Cells<'a> {
         let (resource, resources) = self.resources.split_first()?;
         self.place = place;
         self.resources = resources;
-        Some((person.as_str(), action.as_str(), resource.as_str(), answer))
+        Some((
+            person.as_str(),
+            action.as_str(),
+            resource.as_str(),
+            answer.get(),
+        ))
     }
 }

@@ -5,9 +5,10 @@ ghost use Rattle.ent_table.specs.Difference.{same_optional, unlike_count};
 
 use crate::grid::Grid;
 use ent_eval::Answer;
+use ent_values::Shared;
 
 /// Whether a cell has this answer.
-fn has(cell: Option<&Answer>, answer: &Answer) -> bool
+pub(crate) fn has(cell: Option<&Shared<Answer>>, answer: &Shared<Answer>) -> bool
     ensures { result ≡ same_optional (option_copied cell.entry) (Some answer.now) }
 {
     match cell {
@@ -17,7 +18,7 @@ fn has(cell: Option<&Answer>, answer: &Answer) -> bool
 }
 
 /// At how many places two tables of the same requests have different answers.
-pub(crate) fn unlike(before: &Grid<Answer>, after: &[Answer]) -> usize
+pub(crate) fn unlike(before: &Grid<Shared<Answer>>, after: &[Shared<Answer>]) -> usize
     requires { length before.now ≡ length after.now }
     ensures { result ≡ unlike_count before.now after.now }
 {

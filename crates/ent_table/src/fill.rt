@@ -7,8 +7,24 @@ ghost use Rattle.ent_table.specs.State.{answer_by};
 
 use ent_eval::{Answer, Pdp, Request};
 use ent_finder::{Attributes, Policies};
-use ent_values::Items;
+use ent_values::{Items, Shared};
 use std::alloc::{AllocError, Global};
+
+/// An answer, which the last cell and the next one share where it is equal.
+fn shared(
+    alloc: Global,
+    cells: &[Shared<Answer>],
+    answer: Answer,
+) -> Result<Shared<Answer>, AllocError>
+    ensures { IfOk result (λ s. s ≡ answer) }
+{
+    if let Some(last) = cells.last() {
+        if *last.get() == answer {
+            return last.copy();
+        }
+    }
+    Shared::new(alloc, answer)
+}
 
 /// Appends the answers for a person and an action with each of the resources. One request serves for all of them.
 fn evaluate_resources<A: Attributes, P: Policies>(
@@ -17,7 +33,7 @@ fn evaluate_resources<A: Attributes, P: Policies>(
     person: &str,
     action: &str,
     resources: &[String],
-    cells: &mut Vec<Answer>,
+    cells: &mut Vec<Shared<Answer>>,
 ) -> Result<(), AllocError>
     ensures cells { OnOk result (cells.new.items ≡ cells.old.items ++ map (answer_by (looks_of A.sources P.slots pdp.old)) (with_resources person.now action.now (texts resources.now))) }
     ensures rest { pdp.new ≡ record pdp.old { evaluations = pdp.new.evaluations } }
@@ -26,7 +42,8 @@ fn evaluate_resources<A: Attributes, P: Policies>(
     for resource in resources {
         request.ask_of(alloc, resource.as_str())?;
         let evaluation = pdp.evaluate(&request)?;
-        cells.push(evaluation.answer)?;
+        let answer = shared(alloc, cells.as_slice(), evaluation.answer)?;
+        cells.push(answer)?;
     }
     Ok(())
 }
@@ -38,7 +55,7 @@ fn evaluate_actions<A: Attributes, P: Policies>(
     person: &str,
     actions: &[String],
     resources: &[String],
-    cells: &mut Vec<Answer>,
+    cells: &mut Vec<Shared<Answer>>,
 ) -> Result<(), AllocError>
     ensures cells { OnOk result (cells.new.items ≡ cells.old.items ++ map (answer_by (looks_of A.sources P.slots pdp.old)) (with_actions person.now (texts actions.now) (texts resources.now))) }
     ensures rest { pdp.new ≡ record pdp.old { evaluations = pdp.new.evaluations } }
@@ -57,7 +74,7 @@ pub(crate) fn evaluate_all<A: Attributes, P: Policies>(
     actions: &[String],
     resources: &[String],
     count: usize,
-) -> Result<Items<Answer>, AllocError>
+) -> Result<Items<Shared<Answer>>, AllocError>
     ensures cells { IfOk result (λ v. v ≡ map (answer_by (looks_of A.sources P.slots pdp.old)) (all_triples (texts people.now) (texts actions.now) (texts resources.now))) }
     ensures rest { pdp.new ≡ record pdp.old { evaluations = pdp.new.evaluations } }
 {

@@ -81,7 +81,7 @@ impl<A: Drop> Grid<A> {
     }
 
     /// Puts another value at a place. It takes no memory.
-    fn replace(&mut self, place: usize, value: A) -> A
+    pub(crate) fn replace(&mut self, place: usize, value: A) -> A
         requires { place < length self.old }
         ensures old { Some result ≡ slice_get self.old place }
         ensures new { self.new ≡ slice_set self.old place value }

@@ -1,9 +1,12 @@
 //! The lists of people, actions and resources.
 
-ghost use Rattle.std.specs.Prelude.{◌≡◌, ◌*◌, ◌<◌, ◌≤◌, false, length, string_bytes, IfSome, OnErr, OnOk};
+ghost use Rattle.std.specs.Prelude.{◌≡◌, ◌*◌, ◌<◌, ◌≤◌, false, length, nat_eq, string_bytes, IfSome, OnErr, OnOk};
+ghost use Rattle.std.specs.Cmp.Lexicographic.{pointwise};
+ghost use Rattle.std.specs.List.{IsDistinct};
 ghost use Rattle.ent_policy.specs.Names.{is_bad_name};
 ghost use Rattle.ent_table.specs.Names.{CountsWith, IsPlace, TakesLast, cell_count, has_name, list_of, no_names, texts, triple_of, with_list, with_name};
 ghost use Rattle.ent_table.specs.Place.{IsTaken, blocks_of, names_in};
+ghost use Rattle.ent_table.specs.Touched.{IsAt};
 
 use crate::blocks::Blocks;
 use crate::edit::List;
@@ -34,6 +37,14 @@ fn take_out(names: &mut IndexSet<String>, name: &str) -> Option<usize>
 {
     let (place, _) = names.shift_remove_full(name)?;
     Some(place)
+}
+
+/// The place of a name in a list, if it is there.
+fn index_of(names: &IndexSet<String>, name: &str) -> Option<usize>
+    ensures at { IsAt name.now (texts names.now.keys) result }
+    ensures within { IfSome result (λ place. place < length names.now.keys) }
+{
+    names.get_index_of(name)
 }
 
 /// The three lists, each in order of insertion and without doubles. A name is found by a `&str`, without memory.
@@ -154,6 +165,8 @@ impl Lists {
         ensures blocks { result ≡ blocks_of list self.now }
         ensures few { result.each ≤ 65536 }
         ensures fit { result.count * result.each ≤ 65536 }
+        ensures wide { result.count * result.width ≤ 16777216 }
+        ensures distinct { IsDistinct (pointwise nat_eq) (list_of list self.now) }
     {
         let people = self.people.as_slice().len();
         let actions = self.actions.as_slice().len();
@@ -226,6 +239,18 @@ impl Lists {
             List::People => take_out(&mut self.people, name),
             List::Actions => take_out(&mut self.actions, name),
             List::Resources => take_out(&mut self.resources, name),
+        }
+    }
+
+    /// The place of a name in its list, if it is there.
+    pub(crate) fn place_in(&self, list: List, name: &str) -> Option<usize>
+        ensures at { IsAt name.now (list_of list self.now) result }
+        ensures few { IfSome result (λ place. place < 256) }
+    {
+        match list {
+            List::People => index_of(&self.people, name),
+            List::Actions => index_of(&self.actions, name),
+            List::Resources => index_of(&self.resources, name),
         }
     }
 

@@ -11,7 +11,7 @@ use crate::lists::is_bad_name;
 use crate::review::{LAST_SERIAL, Review};
 use ent_eval::Answer;
 use ent_finder::{Attributes, Policies};
-use ent_values::{Items, Text};
+use ent_values::{Items, Shared, Text};
 use std::alloc::AllocError;
 use std::slice;
 
@@ -23,7 +23,9 @@ impl<A: Attributes, P: Policies> Review<A, P> {
         ensures step { IsAnswered (name_added (state_of A.sources P.slots self.old) list name) (state_of A.sources P.slots self.old) (state_of A.sources P.slots self.new) result }
     {
         self.name_fault(list, &name)?;
-        let name = name.into_string();
+        let Ok(name) = name.into_string(self.alloc) else {
+            return Err(EditFault::Memory);
+        };
         let Ok(added) = self.evaluated_with(list, &name) else {
             return Err(EditFault::Memory);
         };
@@ -84,7 +86,11 @@ impl<A: Attributes, P: Policies> Review<A, P> {
     }
 
     /// The answers to the requests of a new name of a list, evaluated aside.
-    fn evaluated_with(&mut self, list: List, name: &String) -> Result<Items<Answer>, AllocError>
+    fn evaluated_with(
+        &mut self,
+        list: List,
+        name: &String,
+    ) -> Result<Items<Shared<Answer>>, AllocError>
         ensures cells { IfOk result (λ c. c ≡ fresh_with (state_of A.sources P.slots self.old) list (string_bytes name.now ∷ [])) }
         ensures rest { OnlyEvaluates self.old self.new }
     {

@@ -18,7 +18,7 @@ use crate::table::Table;
 use ent_eval::{Answer, Pdp};
 use ent_finder::{AttributeFinder, Attributes, Policies, PolicyFinder};
 use ent_policy::Reference;
-use ent_values::{Date, Items};
+use ent_values::{Date, Items, Shared};
 use std::alloc::{AllocError, Global};
 
 /// No edit is accepted at this serial.
@@ -82,7 +82,8 @@ impl<A: Attributes, P: Policies> Review<A, P> {
         ensures { option_copied result ≡ answer_at (state_of A.sources P.slots self.now) (triple_of person.now action.now resource.now) }
     {
         let place = self.table.names.place(person, action, resource)?;
-        self.table.cells.get(place)
+        let answer = self.table.cells.get(place)?;
+        Some(answer.get())
     }
 
     /// The listed requests with their answers in list order, people outermost, then actions, then resources.
@@ -120,7 +121,7 @@ impl<A: Attributes, P: Policies> Review<A, P> {
     }
 
     /// The fresh answers, evaluated aside.
-    fn evaluated(&mut self) -> Result<Items<Answer>, AllocError>
+    fn evaluated(&mut self) -> Result<Items<Shared<Answer>>, AllocError>
         ensures cells { IfOk result (λ c. c ≡ fresh (state_of A.sources P.slots self.old)) }
         ensures rest { OnlyEvaluates self.old self.new }
     {

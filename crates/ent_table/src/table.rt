@@ -11,23 +11,23 @@ use crate::edit::List;
 use crate::grid::Grid;
 use crate::lists::Lists;
 use ent_eval::Answer;
-use ent_values::Items;
+use ent_values::{Items, Shared};
 use std::alloc::{AllocError, Global};
 
 /// The names, and a cell for each of the requests that they make, in list order: people outermost, then actions, then resources.
 #[derive(Drop)]
 pub(crate) struct Table {
     pub(crate) names: Lists,
-    pub(crate) cells: Grid<Answer>,
+    pub(crate) cells: Grid<Shared<Answer>>,
 }
 
 /// Puts the cells of a new name where they belong. After a refusal the cells are as before.
 fn grow(
     alloc: Global,
-    cells: &mut Grid<Answer>,
+    cells: &mut Grid<Shared<Answer>>,
     list: List,
     blocks: Blocks,
-    added: Vec<Answer>,
+    added: Vec<Shared<Answer>>,
 ) -> Result<(), AllocError>
     ensures ok { OnOk result (cells.new ≡ grown list blocks cells.old added.items) }
     ensures err { OnErr result (cells.new ≡ cells.old) }
@@ -55,7 +55,7 @@ impl Table {
         alloc: Global,
         list: List,
         name: String,
-        added: Items<Answer>,
+        added: Items<Shared<Answer>>,
     ) -> Result<(), AllocError>
         requires room { length (list_of list self.old.names) < 256 }
         requires absent { has_name (string_bytes name) (list_of list self.old.names) ≡ false }
@@ -85,7 +85,7 @@ impl Table {
     }
 
     /// Puts other answers in the cells, and tells how many differ. It takes no memory.
-    pub(crate) fn replace(&mut self, answers: Items<Answer>) -> usize
+    pub(crate) fn replace(&mut self, answers: Items<Shared<Answer>>) -> usize
         requires { length self.old.cells ≡ length answers }
         ensures cells { self.new ≡ record self.old { cells = answers } }
         ensures changes { result ≡ unlike_count self.old.cells answers }

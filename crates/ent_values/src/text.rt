@@ -12,11 +12,14 @@ use std::alloc::{AllocError, Global};
 use std::cmp::Ordering;
 use std::hash::{Hash, Hasher};
 use std::marker::Model;
+use std::rc::Rc;
 
 /// A text. Two texts are equal if their UTF-8 bytes are, whatever room they have reserved, and they order by these bytes.
+///
+/// A text and its copies share their bytes, which go with the last of them.
 #[derive(Debug, Drop)]
 pub struct Text {
-    text: String,
+    text: Rc<String>,
 }
 
 impl Model for Text {
@@ -24,24 +27,24 @@ impl Model for Text {
 
     ghost Value = { List ℕ };
 
-    ghost view = { λ t. string_bytes t.text };
+    ghost view = { λ t. string_bytes t.text.value };
 }
 
 impl Text {
-    /// The text of a `String`, which is moved and not copied.
-    pub fn new(text: String) -> Text
-        ensures { result ≡ string_bytes text }
+    /// The text of a `String`, whose bytes are moved and not copied.
+    pub fn new(alloc: Global, text: String) -> Result<Text, AllocError>
+        ensures { IfOk result (λ t. t ≡ string_bytes text) }
     {
-        Text { text }
+        Ok(Text {
+            text: Rc::new(alloc, text)?,
+        })
     }
 
     /// A text with the bytes of `text`.
     pub fn from_str(alloc: Global, text: &str) -> Result<Text, AllocError>
         ensures { IfOk result (λ t. t ≡ text.now) }
     {
-        Ok(Text {
-            text: String::from_str(alloc, text)?,
-        })
+        Text::new(alloc, String::from_str(alloc, text)?)
     }
 
     /// The text as a `&str`.
@@ -51,19 +54,26 @@ impl Text {
         self.text.as_str()
     }
 
-    /// The text as a `String`, which is moved and not copied.
-    pub fn into_string(self) -> String
-        ensures { string_bytes result ≡ self }
+    /// The text as a `String`, whose bytes are copied only if another text shares them.
+    pub fn into_string(self, alloc: Global) -> Result<String, AllocError>
+        ensures { IfOk result (λ s. string_bytes s ≡ self) }
     {
         let Text { text } = self;
-        text
+        match Rc::try_unwrap(text) {
+            Ok(text) => Ok(text),
+            Err(shared) => String::from_str(alloc, shared.as_str()),
+        }
     }
 
-    /// An equal text.
+    /// An equal text, which shares the bytes. No memory is taken, unless the number of texts that share them has reached
+    /// `usize::MAX`.
     pub fn copy(&self, alloc: Global) -> Result<Text, AllocError>
         ensures { IfOk result (λ t. t ≡ self.now) }
     {
-        Text::from_str(alloc, self.as_str())
+        match self.text.clone() {
+            Ok(text) => Ok(Text { text }),
+            Err(_) => Text::from_str(alloc, self.as_str()),
+        }
     }
 }
 

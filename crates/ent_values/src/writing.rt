@@ -21,10 +21,10 @@ impl Value {
             Value::Text(text) => text.copy(alloc),
             Value::Boolean(true) => Text::from_str(alloc, "true"),
             Value::Boolean(false) => Text::from_str(alloc, "false"),
-            Value::Integer(integer) => Ok(Text::new(integer.to_string(alloc)?)),
-            Value::Date(date) => Ok(Text::new(written_date(alloc, *date)?)),
+            Value::Integer(integer) => Text::new(alloc, integer.to_string(alloc)?),
+            Value::Date(date) => Text::new(alloc, written_date(alloc, *date)?),
             Value::AnyUri(uri) => uri.copy(alloc),
-            Value::YearMonth(duration) => Ok(Text::new(written_duration(alloc, *duration)?)),
+            Value::YearMonth(duration) => Text::new(alloc, written_duration(alloc, *duration)?),
         }
     }
 }

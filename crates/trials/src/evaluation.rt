@@ -109,7 +109,7 @@ fn permits(alloc: Global, answer: &Answer) -> Result<bool, AllocError> {
 fn names_rule(alloc: Global, entry: &WhyEntry, id: &str, version: &str) -> Result<bool, Fail> {
     let path = Items::of_one(alloc, key(alloc, version)?)?;
     let is_rule = entry.rule.as_ref().is_some_and(|rule| rule.as_str() == id);
-    Ok(is_rule && entry.path == path && entry.copy(alloc)? == *entry)
+    Ok(is_rule && *entry.path.get() == path && entry.copy(alloc)? == *entry)
 }
 
 #[test]

@@ -126,7 +126,7 @@ fn references(rt: HostRuntime) -> Result<(), Fail> {
     for (length, is_name) in [(0, false), (1, true), (256, true), (257, false)] {
         let mut id = Vec::new(alloc);
         id.resize(length, b'p')?;
-        let id = Text::new(String::from_utf8(id)?);
+        let id = Text::new(alloc, String::from_utf8(id)?)?;
         assert_eq!(rt; Name::new(id).is_some(), is_name, "{length}");
     }
     let reference = Reference {

@@ -1,6 +1,6 @@
 //! Values, their texts and their order, and the lists that they stand in.
 
-use ent_values::{Bag, DataType, Date, Items, Text, Value, YearMonth};
+use ent_values::{Bag, DataType, Date, Items, Shared, Text, Value, YearMonth};
 use std::alloc::{AllocError, Global};
 use std::test::Fail;
 
@@ -116,10 +116,12 @@ fn dates_and_durations(rt: HostRuntime) {
 fn texts(rt: HostRuntime) -> Result<(), Fail> {
     let alloc = rt.alloc();
     let ann = Text::from_str(alloc, "ann")?;
-    let bob = Text::new(String::from_str(alloc, "bob")?);
+    let bob = Text::new(alloc, String::from_str(alloc, "bob")?)?;
     assert!(rt; ann.copy(alloc)? == ann);
     assert!(rt; ann < bob && ann != bob);
-    assert_eq!(rt; bob.into_string().as_str(), "bob");
+    assert_eq!(rt; bob.into_string(alloc)?.as_str(), "bob");
+    assert_eq!(rt; ann.copy(alloc)?.into_string(alloc)?.as_str(), "ann");
+    assert_eq!(rt; ann.as_str(), "ann");
     Ok(())
 }
 
@@ -143,6 +145,15 @@ fn lists(rt: HostRuntime) -> Result<(), Fail> {
     assert!(rt; Items::from_vec(all.into_vec()) == Items::of_one(alloc, 7)?);
     let none: Items<u32> = Items::new(alloc);
     assert!(rt; none.is_empty());
+    Ok(())
+}
+
+#[test]
+fn shared_lists(rt: HostRuntime) -> Result<(), Fail> {
+    let alloc = rt.alloc();
+    let all = Shared::new(alloc, numbers(alloc, 3)?)?;
+    let again = all.copy()?;
+    assert!(rt; again == all && again.get().as_slice() == [0, 1, 2].as_slice());
     Ok(())
 }
 

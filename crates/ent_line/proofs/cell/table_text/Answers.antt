@@ -1,8 +1,9 @@
-use Rattle.std.proofs.Common.{ap, ◌∙◌}
-use Rattle.serde_json.specs.Written.{has_float}
+use Rattle.std.proofs.Common.{◌∙◌}
 use Rattle.ent_table.specs.Left.{cells_left}
-use Rattle.ent_line.proofs.CellLemmas.{table_without}
+use Rattle.ent_line.specs.Cells.{table_data, table_text}
+use Rattle.ent_line.proofs.TextLemmas.{written}
 use Rattle.ent_line.proofs.cell.table_text.Goals as goal
 
-pub text_of-requires : goal.text_of-requires
-text_of-requires c = ap has_float c.in_ok-value.ensures ∙ table_without (cells_left c.args.cells)
+pub returns : goal.returns
+unfolding table_text
+returns c = c.into_string.ensures ∙ written (table_data (cells_left c.args.cells)) _ _ c.new-out.ensures c.in_ok-write_table.ensures

@@ -20,7 +20,7 @@ loop-resource-preserved g c =
     in
     let more = one_more_text resources c.loop-resource.resource-index resource c.loop-resource-test.true c.resource-item.is in
     record {
-      cells = c.in_ok-push.ensures.items ∙ one_more (triple_of c.args.person.now c.args.action.now) (answer_by looks) c.args.cells.now.items c.loop-resource.cells.items (texts (take c.loop-resource.resource-index resources)) (texts (take (c.loop-resource.resource-index + 1) resources)) (string_bytes resource) c.in_ok-evaluation.evaluation.answer more is c.loop-resource.invariant.cells;
+      cells = c.in_ok-push.ensures.items ∙ one_more (triple_of c.args.person.now c.args.action.now) (answer_by looks) c.args.cells.now.items c.loop-resource.cells.items (texts (take c.loop-resource.resource-index resources)) (texts (take (c.loop-resource.resource-index + 1) resources)) (string_bytes resource) c.in_ok-answer.answer more (c.in_ok-answer.ensures ∙ is) c.loop-resource.invariant.cells;
       request =
           (λ t. take 2 (c.in_ok-ask_of.ensures.ok t).categories)
           ∙ (λ t. take 2 (c.loop-resource.invariant.request t ++ about c.as_str.result.now ∷ []));

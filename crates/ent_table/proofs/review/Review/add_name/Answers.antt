@@ -16,13 +16,13 @@ returns-clause-step g c =
     let s = state_of sources slots c.args.self.now in
     let list = c.args.list in
     let name = c.args.name in
-    let key = string_bytes c.into_string-name.result in
-    let same = c.into_string-name.ensures in
+    let key = string_bytes c.in-Ok.name in
+    let same = c.in-Ok.ensures in
     let mid = c.evaluated_with.new.self in
-    let kept = c.in-Ok.ensures.rest in
-    let added = c.in-Ok.added in
+    let kept = c.in-Ok-evaluated_with.ensures.rest in
+    let added = c.in-Ok-evaluated_with.added in
     let shows : Shows s mid.table = record { names = ap (λ v. v.table.names) kept; cells = ap (λ v. v.table.cells) kept ∙ c.requires.cells } in
-    let is = shows_more s list name key mid.table c.add.new.self added shows same c.in-Ok.ensures.cells c.in-Ok-add.ensures.ok in
+    let is = shows_more s list name key mid.table c.add.new.self added shows same c.in-Ok-evaluated_with.ensures.cells c.in-Ok-add.ensures.ok in
     let counted = c.next_serial.ensures in
     let after : state_of sources slots c.next_serial.new.self ≡ more_names s list name =
     ap (state_of sources slots) counted.rest
@@ -33,6 +33,6 @@ returns-clause-step g c =
       ap (λ a. a.serial) counted.accepted ∙ sym (ap (λ v. v.serial) counted.rest),
       ap (λ a. a.changes) counted.accepted
           ∙ c.len-changes.ensures
-          ∙ added_changes s list name key added passes.0 same c.in-Ok.ensures.cells
+          ∙ added_changes s list name key added passes.0 same c.in-Ok-evaluated_with.ensures.cells
           ∙ ap (λ (u : State). changes s u) (sym after),
     )

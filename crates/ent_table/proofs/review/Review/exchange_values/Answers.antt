@@ -1,24 +1,42 @@
-use Rattle.std.proofs.Common.{◌≡◌, ◌≤◌, ◌^◌, Ok, refl, sym, ap, subst, ◌∙◌}
+use Rattle.std.proofs.Common.{◌≡◌, ◌≤◌, ◌^◌, List, Ok, refl, sym, ap, subst, ◌∙◌}
+use Rattle.ent_eval.specs.declared.answer.Answer.{Answer}
 use Rattle.ent_finder.specs.Slots.{document_count}
 use Rattle.ent_table.specs.Difference.{changes, unlike_count}
 use Rattle.ent_table.specs.Limits.{IsStandardAtMost}
 use Rattle.ent_table.specs.Review.{state_of}
+use Rattle.ent_table.specs.Names.{Names}
 use Rattle.ent_table.specs.State.{State, fresh}
 use Rattle.ent_table.specs.Step.{IsRefusal, next, with_values}
+use Rattle.ent_table.specs.Touched.{AreAlikeElsewhere}
 use Rattle.ent_table.specs.declared.edit.EditFault.{EditFault}
 use Rattle.ent_table.proofs.Changes.{changes-same_names}
 use Rattle.ent_table.proofs.Rows.{values_undone}
+use Rattle.ent_table.proofs.Settled.{alike}
 use Rattle.ent_table.proofs.review.Review.exchange_values.Goals as goal
 
-pub returns-in-Ok-settle_answers-clause-step : goal.returns-in-Ok-settle_answers-clause-step
-returns-in-Ok-settle_answers-clause-step g c =
+-- the row touches no other cells
+pub settle_row-requires-clause-rest : goal.settle_row-requires-clause-rest
+settle_row-requires-clause-rest g c =
+    let sources = g.A.Attributes.sources in
+    let slots = g.P.Policies.slots in
+    let s = state_of sources slots c.args.self.now in
+    let key = c.args.key.now in
+    let names = ap (λ v. v.table.names) c.in-Ok.ensures.rest in
+    let cells = ap (λ v. v.table.cells) c.in-Ok.ensures.rest ∙ c.requires.fresh.cells in
+    let new = c.swap_row.new.self in
+    subst (λ (n : Names). AreAlikeElsewhere key n new.table.cells (fresh (state_of sources slots new))) (sym names)
+    (subst (λ (xs : List Answer). AreAlikeElsewhere key s.names xs (fresh (state_of sources slots new))) (sym cells)
+    (subst (λ (u : State). AreAlikeElsewhere key s.names (fresh s) (fresh u)) (sym c.in-Ok.ensures.swapped) (alike s c.args.number key c.args.values)))
+
+pub returns-in-Ok-settle_row-clause-step : goal.returns-in-Ok-settle_row-clause-step
+returns-in-Ok-settle_row-clause-step g c =
     let sources = g.A.Attributes.sources in
     let slots = g.P.Policies.slots in
     let s = state_of sources slots c.args.self.now in
     let t = next (with_values s c.args.number c.args.key.now c.args.values) in
-    let settled = c.in-Ok-settle_answers.ensures.settled in
-    let after : state_of sources slots c.settle_answers.new.self ≡ t = ap (state_of sources slots) settled.1 ∙ ap next c.in-Ok.ensures.swapped in
-    let table : c.settle_answers.new.self.table.cells ≡ fresh t = settled.0 ∙ ap (λ (u : State). fresh u) c.in-Ok.ensures.swapped in
+    let settled = c.in-Ok-settle_row.ensures.settled in
+    let after : state_of sources slots c.settle_row.new.self ≡ t = ap (state_of sources slots) settled.1 ∙ ap next c.in-Ok.ensures.swapped in
+    let table : c.settle_row.new.self.table.cells ≡ fresh t = settled.0 ∙ ap (λ (u : State). fresh u) c.in-Ok.ensures.swapped in
     let before = ap (λ v. v.table.cells) c.in-Ok.ensures.rest ∙ c.requires.fresh.cells in (
       ap Ok (sym after),
       settled.2 ∙ sym (ap (λ v. v.serial) settled.1),
@@ -33,7 +51,7 @@ returns-in-Err-clause-step g c =
     let s = state_of sources slots c.args.self.now in
     let t = next (with_values s c.args.number c.args.key.now c.args.values) in
     let R : EditFault → Type 0 = λ f. IsRefusal (Ok t) f in
-    let between : state_of sources slots c.settle_answers.new.self ≡ with_values s c.args.number c.args.key.now c.args.values =
+    let between : state_of sources slots c.settle_row.new.self ≡ with_values s c.args.number c.args.key.now c.args.values =
     ap (state_of sources slots) c.in-Err.ensures.settled.1 ∙ c.in-Ok.ensures.swapped in (
       subst R (sym c.in-Err.ensures.settled.0) tt,
       c.put_row_back.ensures.swapped

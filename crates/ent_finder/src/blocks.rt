@@ -1,0 +1,224 @@
+//! Rows in the order of their keys, in blocks of a bounded length, so that a row that is made moves those of its own block alone.
+
+ghost use Rattle.std.specs.Prelude.{◌≡◌, ◌≤◌, ◌<◌, ◌+◌, [], IfOk, None, OnErr, OnOk, if◌then◌else◌, is_some, length, slice_get, slice_range};
+ghost use Rattle.std.specs.FinMap as finmap;
+ghost use Rattle.std.specs.List.{filter};
+ghost use Rattle.std.specs.Option.{option_copied};
+ghost use Rattle.ent_values.specs.Bags.{AllOfType};
+ghost use Rattle.ent_finder.specs.Blocks.{IsHome, first_cmp, rows_in};
+ghost use Rattle.ent_finder.specs.Looking.{names_row, values_of};
+ghost use Rattle.ent_finder.specs.Order.{named_cmp};
+ghost use Rattle.ent_finder.specs.RowEntry.{RowsAreSorted, rows_of};
+ghost use Rattle.ent_finder.specs.Rows.{filled, row_cmp, values_at};
+
+use crate::block::Block;
+use crate::row::{AttrKey, Row, RowKey};
+use crate::rows;
+use ent_values::{Bag, Items, Value};
+use std::alloc::{AllocError, Global};
+use std::cmp::Ordering;
+
+/// A block of that many rows is halved before it gets one more.
+const FULL: usize = 256;
+
+/// How the key of the first row stands to a key.
+fn first_to_row(block: &Block, key: &RowKey) -> Ordering
+    ensures { result ≡ first_cmp (λ r. row_cmp r.key key.now) block.now.rows.items }
+{
+    match block.rows.first() {
+        None => Ordering::Less,
+        Some(row) => row.key.cmp(key),
+    }
+}
+
+/// How the key of the first row stands to those that a key names.
+fn first_to_named(block: &Block, key: &AttrKey) -> Ordering
+    ensures { result ≡ first_cmp (λ r. named_cmp r.key key.now) block.now.rows.items }
+{
+    match block.rows.first() {
+        None => Ordering::Less,
+        Some(row) => rows::order(&row.key, key),
+    }
+}
+
+/// The number of the block where the row of a key is, or where it would go.
+fn home(blocks: &[Block], key: &RowKey) -> usize
+    requires { RowsAreSorted (rows_in blocks.now) }
+    ensures home { IsHome key.now blocks.now result }
+    ensures within { 0 < length blocks.now → result < length blocks.now }
+{
+    let begun = blocks.partition_point(|block| first_to_row(block, key).is_le());
+    begun.saturating_sub(1)
+}
+
+/// Whether the row of a key is there.
+fn has_row(blocks: &[Block], key: &RowKey) -> bool
+    requires { RowsAreSorted (rows_in blocks.now) }
+    ensures { result ≡ is_some (finmap.get (rows_of (rows_in blocks.now)) key.now) }
+{
+    match blocks.get(home(blocks, key)) {
+        None => false,
+        Some(block) => rows::has_row(&block.rows, key),
+    }
+}
+
+/// Halves a block.
+fn halve(blocks: &mut Vec<Block>, number: usize) -> Result<(), AllocError>
+    requires { number < length blocks.old.items }
+    ensures { rows_in blocks.new.items ≡ rows_in blocks.old.items }
+{
+    let half = blocks[number].rows.len() / 2;
+    if half == 0 {
+        return Ok(());
+    }
+    blocks.reserve(1)?;
+    let rows = blocks[number].rows.split_off(half)?;
+    blocks.insert(number + 1, Block { rows })?;
+    Ok(())
+}
+
+/// Halves the block where the row of a key would go, if it is full.
+fn make_room(blocks: &mut Vec<Block>, key: &RowKey) -> Result<(), AllocError>
+    requires { RowsAreSorted (rows_in blocks.old.items) }
+    ensures { rows_in blocks.new.items ≡ rows_in blocks.old.items }
+{
+    let number = home(blocks, key);
+    if number < blocks.len() && blocks[number].rows.len() >= FULL {
+        halve(blocks, number)?;
+    }
+    Ok(())
+}
+
+/// Makes room for the row of a key, if it isn't there. Gives how many rows there are to be, of that many that there are.
+fn count_with(blocks: &mut Vec<Block>, count: usize, key: &RowKey) -> Result<usize, AllocError>
+    requires { RowsAreSorted (rows_in blocks.old.items) }
+    ensures rows { rows_in blocks.new.items ≡ rows_in blocks.old.items }
+    ensures few { IfOk result (λ n. n ≤ usize.MAX) }
+    ensures count { IfOk result (λ n. n ≡ (if is_some (finmap.get (rows_of (rows_in blocks.old.items)) key.now) then count else count + 1)) }
+    ensures absent { OnErr result (finmap.get (rows_of (rows_in blocks.old.items)) key.now ≡ None) }
+{
+    if has_row(blocks, key) {
+        return Ok(count);
+    }
+    if count == usize::MAX {
+        return Err(AllocError);
+    }
+    make_room(blocks, key)?;
+    Ok(count + 1)
+}
+
+/// Makes the first block, of the row of a key with `values`, and leaves no values.
+fn begin(
+    alloc: Global,
+    blocks: &mut Vec<Block>,
+    key: &RowKey,
+    values: &mut Items<Value>,
+) -> Result<(), AllocError>
+    requires empty { blocks.old.items ≡ [] }
+    requires types { AllOfType key.now.datatype values.old }
+    ensures sorted { RowsAreSorted (rows_in blocks.new.items) }
+    ensures swapped { OnOk result (rows_of (rows_in blocks.new.items) ≡ finmap.insert (rows_of (rows_in blocks.old.items)) key.now values.old) }
+    ensures taken { OnOk result (values.new ≡ values_at (rows_of (rows_in blocks.old.items)) key.now) }
+    ensures own { AllOfType key.now.datatype values.new }
+    ensures absent { OnErr result (finmap.get (rows_of (rows_in blocks.old.items)) key.now ≡ None) }
+    ensures kept { OnErr result (blocks.new.items ≡ blocks.old.items) }
+    ensures stayed { OnErr result (values.new ≡ values.old) }
+{
+    blocks.reserve(1)?;
+    let mut rows = Vec::new(alloc);
+    rows::swap_row(alloc, &mut rows, key, values)?;
+    blocks.push(Block { rows })?;
+    Ok(())
+}
+
+/// Exchanges what is in the row of a key with `values`, in the block where it is or is made.
+fn swap_in_block(
+    alloc: Global,
+    blocks: &mut Vec<Block>,
+    key: &RowKey,
+    values: &mut Items<Value>,
+) -> Result<(), AllocError>
+    requires sorted { RowsAreSorted (rows_in blocks.old.items) }
+    requires types { AllOfType key.now.datatype values.old }
+    ensures sorted { RowsAreSorted (rows_in blocks.new.items) }
+    ensures swapped { OnOk result (rows_of (rows_in blocks.new.items) ≡ finmap.insert (rows_of (rows_in blocks.old.items)) key.now values.old) }
+    ensures taken { OnOk result (values.new ≡ values_at (rows_of (rows_in blocks.old.items)) key.now) }
+    ensures own { AllOfType key.now.datatype values.new }
+    ensures absent { OnErr result (finmap.get (rows_of (rows_in blocks.old.items)) key.now ≡ None) }
+    ensures kept { OnErr result (rows_of (rows_in blocks.new.items) ≡ rows_of (rows_in blocks.old.items)) }
+    ensures stayed { OnErr result (values.new ≡ values.old) }
+{
+    if blocks.is_empty() {
+        return begin(alloc, blocks, key, values);
+    }
+    let number = home(blocks, key);
+    rows::swap_row(alloc, &mut blocks[number].rows, key, values)
+}
+
+/// Exchanges what is in the row of a key with `values`, and counts the rows.
+pub fn swap_row(
+    alloc: Global,
+    blocks: &mut Vec<Block>,
+    count: &mut usize,
+    key: &RowKey,
+    values: &mut Items<Value>,
+) -> Result<(), AllocError>
+    requires sorted { RowsAreSorted (rows_in blocks.old.items) }
+    requires counted { count.old ≡ length (rows_in blocks.old.items) }
+    requires few { count.old ≤ usize.MAX }
+    requires types { AllOfType key.now.datatype values.old }
+    ensures sorted { RowsAreSorted (rows_in blocks.new.items) }
+    ensures counted { count.new ≡ length (rows_in blocks.new.items) }
+    ensures few { count.new ≤ usize.MAX }
+    ensures swapped { OnOk result (rows_of (rows_in blocks.new.items) ≡ finmap.insert (rows_of (rows_in blocks.old.items)) key.now values.old) }
+    ensures taken { OnOk result (values.new ≡ values_at (rows_of (rows_in blocks.old.items)) key.now) }
+    ensures own { AllOfType key.now.datatype values.new }
+    ensures absent { OnErr result (finmap.get (rows_of (rows_in blocks.old.items)) key.now ≡ None) }
+    ensures kept { OnErr result (rows_of (rows_in blocks.new.items) ≡ rows_of (rows_in blocks.old.items)) }
+    ensures stayed { OnErr result (values.new ≡ values.old) }
+{
+    let after = count_with(blocks, *count, key)?;
+    swap_in_block(alloc, blocks, key, values)?;
+    *count = after;
+    Ok(())
+}
+
+/// The row at an index.
+pub fn row_at(blocks: &[Block], index: usize) -> Option<&Row>
+    ensures { option_copied result ≡ slice_get (rows_in blocks.now) index }
+{
+    let mut left = index;
+    for block in blocks {
+        if let Some(row) = block.rows.get(left) {
+            return Some(row);
+        }
+        left -= block.rows.len();
+    }
+    None
+}
+
+/// In which blocks the rows that a key names are: from that number on, up to this one.
+fn bounds(blocks: &[Block], key: &AttrKey) -> (usize, usize)
+    requires { RowsAreSorted (rows_in blocks.now) }
+    ensures ordered { result.0 ≤ result.1 }
+    ensures within { result.1 ≤ length blocks.now }
+    ensures named { filter (λ r. names_row key.now r.key) (rows_in (slice_range blocks.now result.0 result.1)) ≡ filter (λ r. names_row key.now r.key) (rows_in blocks.now) }
+{
+    let passed = blocks.partition_point(|block| first_to_named(block, key).is_lt());
+    let end = blocks.partition_point(|block| first_to_named(block, key).is_le());
+    (passed.saturating_sub(1), end)
+}
+
+/// The values of the rows that a key names.
+pub fn values_of(alloc: Global, blocks: &[Block], key: &AttrKey) -> Result<Bag, AllocError>
+    requires { RowsAreSorted (rows_in blocks.now) }
+    ensures { IfOk result (λ b. b ≡ record { datatype = key.now.datatype; values = values_of key.now (filled (rows_of (rows_in blocks.now))) }) }
+{
+    let (start, end) = bounds(blocks, key);
+    let named = &blocks[start..end];
+    let mut bag = Bag::new(alloc, key.datatype);
+    for block in named {
+        rows::add_named(alloc, &mut bag, &block.rows, key)?;
+    }
+    Ok(bag)
+}

@@ -1,0 +1,113 @@
+//! JSON that is written straight into its text.
+
+ghost use Rattle.std.specs.Prelude.{◌≡◌, [], ◌∷◌, ◌++◌, OnOk, string_bytes};
+ghost use Rattle.std.specs.Fmt.{signed_decimal};
+ghost use Rattle.json.specs.Print.{print};
+ghost use Rattle.json.specs.Token as token;
+
+use json::Writer;
+use std::alloc::{AllocError, Global};
+use std::marker::Model;
+
+/// The text of a JSON value that is written a token at a time, so that no value has to be built for it. Contracts see the tokens that
+/// were written; that they nest is left to who writes them.
+#[derive(Drop)]
+pub struct JsonText {
+    writer: Writer,
+}
+
+impl Model for JsonText {
+    ghost use Rattle.std.specs.Prelude.{◌≡◌, [], List};
+    ghost use Rattle.json.specs.Token.{Token, tokens_code};
+
+    ghost Value = { List Token };
+
+    ghost coded = { tokens_code };
+
+    ghost view = { λ t. t.writer.tokens };
+
+    ghost invariant = { λ t. t.writer.before ≡ [] };
+}
+
+impl JsonText {
+    /// A text with nothing in it, for which nothing is allocated.
+    pub fn new(alloc: Global) -> JsonText
+        ensures { result ≡ [] }
+    {
+        JsonText {
+            writer: Writer::new(Vec::new(alloc)),
+        }
+    }
+
+    /// `{`
+    pub fn begin_object(&mut self) -> Result<(), AllocError>
+        ensures { OnOk result (self.new ≡ self.old ++ token.begin_object ∷ []) }
+    {
+        self.writer.begin_object()
+    }
+
+    /// `}`
+    pub fn end_object(&mut self) -> Result<(), AllocError>
+        ensures { OnOk result (self.new ≡ self.old ++ token.end_object ∷ []) }
+    {
+        self.writer.end_object()
+    }
+
+    /// `[`
+    pub fn begin_array(&mut self) -> Result<(), AllocError>
+        ensures { OnOk result (self.new ≡ self.old ++ token.begin_array ∷ []) }
+    {
+        self.writer.begin_array()
+    }
+
+    /// `]`
+    pub fn end_array(&mut self) -> Result<(), AllocError>
+        ensures { OnOk result (self.new ≡ self.old ++ token.end_array ∷ []) }
+    {
+        self.writer.end_array()
+    }
+
+    /// The key of the next member.
+    pub fn key(&mut self, name: &str) -> Result<(), AllocError>
+        ensures { OnOk result (self.new ≡ self.old ++ token.key name.now ∷ []) }
+    {
+        self.writer.key(name)
+    }
+
+    /// A text.
+    pub fn string(&mut self, text: &str) -> Result<(), AllocError>
+        ensures { OnOk result (self.new ≡ self.old ++ token.string text.now ∷ []) }
+    {
+        self.writer.string(text)
+    }
+
+    /// A whole number.
+    pub fn integer(&mut self, integer: i64) -> Result<(), AllocError>
+        ensures { OnOk result (self.new ≡ self.old ++ token.number (signed_decimal integer) ∷ []) }
+    {
+        self.writer.i64(integer)
+    }
+
+    /// `true` or `false`.
+    pub fn boolean(&mut self, flag: bool) -> Result<(), AllocError>
+        ensures { OnOk result (self.new ≡ self.old ++ token.boolean flag ∷ []) }
+    {
+        self.writer.boolean(flag)
+    }
+
+    /// `null`
+    pub fn null(&mut self) -> Result<(), AllocError>
+        ensures { OnOk result (self.new ≡ self.old ++ token.null ∷ []) }
+    {
+        self.writer.null()
+    }
+
+    /// The text of the tokens, without spaces, which is moved and not copied.
+    pub fn into_string(self) -> String
+        ensures { string_bytes result ≡ print self }
+    {
+        let JsonText { writer } = self;
+        let bytes = writer.into_inner();
+        unsafe { String::from_utf8_unchecked(bytes) }
+    }
+}
