@@ -11,14 +11,17 @@ a line `< ` with its reply; `--` begins a comment, and an empty line means nothi
     «N,TEXT»    N copies joined by commas    №+1    in TEXT: the number of the next copy
     «FF»        the byte of these two hexadecimal digits
 
-One more session, policies_page, is made from docs/POLICIES.md: each example there is added, with the reply that follows from what the page
-says below it. After `ok KIND ID VERSION` a document of that kind, id and version is there already, and after an example below which its written
-form stands, so is that form.
+The pages of docs/ on limits, on refusals and on requests have sessions too, in their blocks of the kind `session`. One more session, policies_page, is made from
+docs/POLICIES.md: each example there is added, with the reply that follows from what the page says below it. After `ok KIND ID VERSION` a document of that kind, id and version is there already, and after an example below which its written
+form stands, so is that form. A block `session` below an example has lines and replies as above, of a service to which the example was
+added first: a session of its own, policies_page_N.
 """
 import json, os, re, sys
 
 HERE = os.path.dirname(os.path.abspath(__file__))
-PAGE = os.path.join(HERE, '..', '..', 'docs', 'POLICIES.md')
+DOCS = os.path.join(HERE, '..', '..', 'docs')
+PAGE = os.path.join(DOCS, 'POLICIES.md')
+PAGES = ['LIMITS.md', 'REFUSALS.md', 'REQUESTS.md']
 
 
 def read(path):
@@ -40,10 +43,10 @@ def sent(text):
     return b''.join(bytes.fromhex(part) if i % 2 else part.encode() for i, part in enumerate(parts))
 
 
-def sessions_of(path):
-    """The sessions of a file: for each its name and its pairs of a line and a reply."""
+def sessions_of(path, text):
+    """The sessions of a text: for each its name and its pairs of a line and a reply."""
     sessions, line = [], None
-    for number, text in enumerate(read(path).split('\n') + [''], 1):
+    for number, text in enumerate(text.split('\n') + [''], 1):
         mark, rest = text[:2].rstrip(), text[2:]
         if mark == '<' and line is not None:
             sessions[-1][1].append((line, sent(rest)))
@@ -55,6 +58,13 @@ def sessions_of(path):
         elif mark == '>':
             line = sent(rest)
     return sessions
+
+
+def page_sessions(name):
+    """The sessions of a page: what stands in its blocks of the kind `session`, one block after the other."""
+    path = os.path.join(DOCS, name)
+    blocks = re.findall(r'^```session\n(.*?)^```$', read(path), re.M | re.S)
+    return sessions_of(path, ''.join(blocks))
 
 
 def added(document):
@@ -89,10 +99,25 @@ def page_session():
     return 'policies_page', pairs
 
 
+def shown_sessions():
+    """The sessions that the page on policies shows, each below the example that it is about."""
+    shown, document = [], None
+    for kind, text in re.findall(r'^```(\w*)\n(.*?)^```$', read(PAGE), re.M | re.S):
+        if kind == 'json':
+            document = json.loads(text)
+        elif kind == 'session':
+            lines = text.splitlines()
+            pairs = [(sent(line[2:]), sent(reply[2:])) for line, reply in zip(lines[::2], lines[1::2])]
+            shown.append((f'policies_page_{len(shown) + 1}', [(added(document), b'{"changes":0,"serial":1}')] + pairs))
+    return shown
+
+
 def main():
     folder = os.path.join(HERE, 'sessions')
     names = sorted((name for name in os.listdir(folder) if name.endswith('.txt')), key=str.encode)
-    sessions = [session for name in names for session in sessions_of(os.path.join(folder, name))] + [page_session()]
+    paths = [os.path.join(folder, name) for name in names]
+    sessions = [session for path in paths for session in sessions_of(path, read(path))] + [page_session()] + shown_sessions()
+    sessions += [session for name in PAGES for session in page_sessions(name)]
     lines = replies = b''
     for name, pairs in sessions:
         heading = f'# {name}\n'.encode()

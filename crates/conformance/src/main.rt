@@ -9,6 +9,7 @@ use ent_finder::{
     AttributeFinder, AttributeFinderModule, MapDocs, MapRows, PolicyFinder, PolicyFinderModule,
 };
 use ent_line::{ServeFault, Service, send_all, serve};
+use ent_report::Desk;
 use ent_table::{Limits, Review};
 use ent_values::{Items, Text};
 use std::alloc::{AllocError, Global};
@@ -68,7 +69,8 @@ fn run_session<W: Write>(
         AttributeFinder::new(attributes),
         PolicyFinder::new(policies),
     );
-    let mut service = Service::new(alloc, Review::new(alloc, pdp, Limits::standard()));
+    let review = Review::new(alloc, pdp, Limits::standard());
+    let mut service = Service::new(alloc, Desk::new(alloc, review));
     serve(alloc, &mut service, &mut lines, writer)?;
     Ok(())
 }

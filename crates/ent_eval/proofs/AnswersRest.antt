@@ -26,6 +26,7 @@ use Rattle.ent_eval.specs.declared.key.ReadKey.TheVariants.{Root, Ref}
 use Rattle.ent_eval.specs.declared.request.Request.{Request}
 use Rattle.ent_eval.specs.declared.target.Targeted.{Targeted}
 use Rattle.ent_eval.specs.Answer.{answer_part, looked_up, most_hops, recorded, root_part}
+use Rattle.ent_eval.specs.Given.{finished}
 use Rattle.ent_eval.specs.Judged.{nothing}
 use Rattle.ent_eval.specs.Law.{EqualLookUpsGiveEqualAnswers, IsSameLook}
 use Rattle.ent_eval.specs.Looks.{Looks}
@@ -34,7 +35,7 @@ use Rattle.ent_eval.specs.Noted.{noted}
 use Rattle.ent_eval.specs.Only.{chosen_part, choice_part, chosen, only_one, result_of_target, results, seen_choice, spoils}
 use Rattle.ent_eval.specs.Part.{Part, after_look, without_look, reads_of, values}
 use Rattle.ent_eval.proofs.Keys.{all_noted, by_recursion}
-use Rattle.ent_eval.proofs.Rests.{AllRest, Rests, and_then-rests, combined-rests, element-rests, first_looks, later_looks, policy-rests, rests-by, target-rests}
+use Rattle.ent_eval.proofs.Rests.{AllRest, Rests, and_then-rests, combined-rests, element-rests, finished-rests, first_looks, later_looks, policy-rests, rests-by, target-rests}
 use Rattle.ent_eval.proofs.Sets.{map-map}
 use Rattle.ent_eval.proofs.Choices.{values-append}
 
@@ -150,8 +151,8 @@ module _ (s t : Looks) (request : Request) where
     children-rest : (algorithm : PolicyAlg) (here : List DocKey) (ns : List ChildRests) → Rests s t (λ u. children_part algorithm (map (node u) (map (λ e. e.0) ns)) here)
     children-rest (Shared algorithm) here ns =
         let children : List Child = map (λ e. e.0) ns in
-        rests-by s t _ (λ u. combined algorithm (map (λ n. (node u n).answer here) children)) (λ u. ap (combined algorithm) (map-map (node u) (λ (n : Node). n.answer here) children))
-        (combined-rests s t algorithm (λ u n. (node u n).answer here) children (each_child here ns))
+        rests-by s t _ (λ u. combined here algorithm (map (λ n. (node u n).answer here) children)) (λ u. ap (combined here algorithm) (map-map (node u) (λ (n : Node). n.answer here) children))
+        (combined-rests s t here algorithm (λ u n. (node u n).answer here) children (each_child here ns))
     children-rest OnlyOne here ns =
         let children : List Child = map (λ e. e.0) ns in
         rests-by s t _ (λ u. only_one (map (λ n. (node u n).target) children) (map (λ n. (node u n).answer here) children))
@@ -163,7 +164,7 @@ module _ (s t : Looks) (request : Request) where
     set_layer y =
         both-by _ _ (set_rolls (map-PolicySet ChildRests SetRests Child PolicySet (λ e. e.0) (λ e. e.0) y)) (
           target-rests s t request y.target,
-          λ path. element-rests s t request y.target (λ u. children_part y.algorithm (map (node u) (map (λ e. e.0) y.children)) (path ++ record { kind = kind.PolicySet; id = y.id; version = y.version } ∷ []))
+          λ path. element-rests s t request y.target (λ u. finished u request [] y.given) (finished-rests s t request [] y.given) (λ u. children_part y.algorithm (map (node u) (map (λ e. e.0) y.children)) (path ++ record { kind = kind.PolicySet; id = y.id; version = y.version } ∷ []))
               (children-rest y.algorithm (path ++ record { kind = kind.PolicySet; id = y.id; version = y.version } ∷ []) y.children),
         )
 

@@ -8,8 +8,8 @@ use Rattle.ent_policy.proofs.Wholes.{neither}
 use Rattle.ent_policy.specs.Check.{tree_fault, whole_fault}
 use Rattle.ent_policy.specs.Children.{as_child}
 use Rattle.ent_policy.specs.First.{first_of}
-use Rattle.ent_policy.specs.Limits.{child_limits, length_fault, limit_fault, name_fault, set_limits, target_fault}
-use Rattle.ent_policy.specs.Typing.{child_step, is_typed, set_step, target_is_typed}
+use Rattle.ent_policy.specs.Limits.{child_limits, given_fault, length_fault, limit_fault, name_fault, set_limits, target_fault}
+use Rattle.ent_policy.specs.Typing.{child_step, given_is_typed, is_typed, set_step, target_is_typed}
 use Rattle.ent_policy.specs.declared.document.Child.{Child}
 use Rattle.ent_policy.specs.declared.document.Child.TheOpen.{Child-F, PolicySet-F}
 use Rattle.ent_policy.specs.declared.document.Child.TheFolds.{fold-PolicySet, fold-roll-Child, fold-roll-PolicySet, ind-Child, map-Child, map-PolicySet}
@@ -67,19 +67,24 @@ all_fit (c ∷ cs) limit typed =
     let types = both_true (is_typed c.0) (list_all (λ b. b) (map is_typed (map (λ e. e.0) cs))) typed in
     rw (c.1 limits.0 types.0) (all_fit cs limits.1 types.1)
 
+all_true : (a b c d : Bool) → a ≡ true → b ≡ true → c ≡ true → d ≡ true → (a && (b && (c && d))) ≡ true
+all_true a b c d first second third fourth = rw (first, second, third) fourth
+
 set_layer : (y : PolicySet-F ((c : Child) × ChildFits c) ((s : PolicySet) × SetFits s)) → SetFits (roll-PolicySet (map-PolicySet ((c : Child) × ChildFits c) ((s : PolicySet) × SetFits s) Child PolicySet (λ e. e.0) (λ e. e.0) y))
 set_layer y limit typed =
     let children : List Child = map (λ e. e.0) y.children in
     let x = map-PolicySet ((c : Child) × ChildFits c) ((s : PolicySet) × SetFits s) Child PolicySet (λ e. e.0) (λ e. e.0) y in
-    let limits : first_of (name_fault y.id ∷ length_fault (map limit_fault children) ∷ target_fault y.target ∷ first_of (map limit_fault children) ∷ []) ≡ None = sym (fold-roll-PolicySet (Option DocFault) (Option DocFault) child_limits set_limits x) ∙ limit in
+    let limits : first_of (name_fault y.id ∷ length_fault (map limit_fault children) ∷ target_fault y.target ∷ first_of (map limit_fault children) ∷ given_fault y.given ∷ []) ≡ None = sym (fold-roll-PolicySet (Option DocFault) (Option DocFault) child_limits set_limits x) ∙ limit in
     let named = neither (name_fault y.id) _ limits in
     let long = neither (length_fault (map limit_fault children)) _ named.1 in
     let target = neither (target_fault y.target) _ long.1 in
-    let inside = neither (first_of (map limit_fault children)) None target.1 in
-    let types : (target_is_typed y.target && list_all (λ b. b) (map is_typed children)) ≡ true = sym (fold-roll-PolicySet Bool Bool child_step set_step x) ∙ typed in
-    let both = both_true (target_is_typed y.target) (list_all (λ b. b) (map is_typed children)) types in
+    let inside = neither (first_of (map limit_fault children)) _ target.1 in
+    let types : (target_is_typed y.target && list_all (λ b. b) (map is_typed children) && given_is_typed [] y.given) ≡ true = sym (fold-roll-PolicySet Bool Bool child_step set_step x) ∙ typed in
+    let both = both_true (target_is_typed y.target && list_all (λ b. b) (map is_typed children)) (given_is_typed [] y.given) types in
+    let own = both_true (target_is_typed y.target) (list_all (λ b. b) (map is_typed children)) both.0 in
     let few : nat_le (length (map is_fit children)) 256 ≡ true = ap (λ n. nat_le n 256) (length-map children is_fit ∙ sym (length-map children limit_fault)) ∙ short (map limit_fault children) long.0 in
-    fold-roll-PolicySet Bool Bool child_step fit_step x ∙ rw (both.0, few) (all_fit y.children inside.0 both.1)
+    fold-roll-PolicySet Bool Bool child_step fit_step x
+    ∙ all_true (target_is_typed y.target) (nat_le (length (map is_fit children)) 256) (list_all (λ b. b) (map is_fit children)) (given_is_typed [] y.given) own.0 few (all_fit y.children inside.0 own.1) both.1
 
 child_fits : (c : Child) → ChildFits c
 child_fits = ind-Child ChildFits SetFits (λ x y is. subst (λ z. ChildFits (roll-Child z)) is (child_layer y)) (λ x y is. subst (λ z. SetFits (roll-PolicySet z)) is (set_layer y))

@@ -7,6 +7,7 @@ pub mod Choices
 pub mod Elsewhere
 pub mod Fit
 pub mod Gathered
+pub mod Giving
 pub mod Hops
 pub mod Keys
 pub mod Literals

@@ -1,6 +1,6 @@
 -- The keys that the parts of an answer look up: of each day, reference and root, and of values only those of entities that the request names.
 use Rattle.std.proofs.Common.{◌≡◌, ℕ, zero, suc, Bool, true, false, List, [], ◌∷◌, ◌++◌, get_or, length, map, refl, sym, ap, subst, Option, Some, None}
-use Rattle.std.specs.Prelude.{if◌then◌else◌}
+use Rattle.std.specs.Prelude.{if◌then◌else◌, Result, Ok, Err, is_err}
 use Rattle.std.specs.List.{AllByRecursion}
 use Rattle.ent_combine.specs.Seen.{rest_to_passing}
 use Rattle.ent_combine.specs.declared.outcome.PolicyAlg.{PolicyAlg}
@@ -15,6 +15,7 @@ use Rattle.ent_policy.specs.declared.document.Child.TheOpen.{Child-F, PolicySet-
 use Rattle.ent_policy.specs.declared.document.Child.TheFolds.{fold-roll-Child, fold-roll-PolicySet, ind-Child, map-Child, map-PolicySet}
 use Rattle.ent_policy.specs.declared.document.Child.TheViews.{roll-Child, roll-PolicySet}
 use Rattle.ent_policy.specs.declared.document.Designator.{Designator}
+use Rattle.ent_policy.specs.declared.document.Effect.{Effect}
 use Rattle.ent_policy.specs.declared.document.Policy.{Policy}
 use Rattle.ent_policy.specs.declared.document.PolicySet.{PolicySet}
 use Rattle.ent_policy.specs.declared.document.Rule.{Rule}
@@ -25,13 +26,18 @@ use Rattle.ent_policy.specs.declared.expression.Expression.TheOpen.{Expression-F
 use Rattle.ent_policy.specs.declared.expression.Expression.TheFolds.{fold-roll-Expression, ind-Expression, map-Expression}
 use Rattle.ent_policy.specs.declared.expression.Expression.TheViews.{roll-Expression}
 use Rattle.ent_policy.specs.declared.expression.VariableDefinition.{VariableDefinition}
+use Rattle.ent_policy.specs.declared.given.AssignmentExpression.{AssignmentExpression}
+use Rattle.ent_policy.specs.declared.given.GivenExpression.{GivenExpression}
+use Rattle.ent_policy.specs.declared.given.GivenExpressions.{GivenExpressions}
 use Rattle.ent_policy.specs.declared.key.DocKey.{DocKey}
 use Rattle.ent_policy.specs.declared.key.Kind.TheVariants as kind
 use Rattle.ent_policy.specs.declared.key.Reference.{Reference}
 use Rattle.ent_values.specs.declared.value.Value.{Value}
 use Rattle.ent_eval.specs.declared.answer.Answer.{Answer}
+use Rattle.ent_eval.specs.declared.answer.Status.{Status}
 use Rattle.ent_eval.specs.declared.evaluated.Evaluated.{Evaluated}
 use Rattle.ent_eval.specs.declared.evaluated.Truth.{Truth}
+use Rattle.ent_eval.specs.declared.given.Given.{Given}
 use Rattle.ent_eval.specs.declared.key.ReadKey.{ReadKey}
 use Rattle.ent_eval.specs.declared.key.ReadKey.TheVariants.{Root, Ref, Attr, Day}
 use Rattle.ent_eval.specs.declared.only.Only.{Only}
@@ -41,13 +47,14 @@ use Rattle.ent_eval.specs.declared.target.Targeted.{Targeted}
 use Rattle.ent_eval.specs.declared.target.Targeted.TheVariants as is
 use Rattle.ent_eval.specs.Answer.{answer_part, most_hops, root_part}
 use Rattle.ent_eval.specs.Expression.{defined_part, is_result, meaning, meaning_step, meaning_with, result_of, variable_part}
+use Rattle.ent_eval.specs.Given.{advice_after, assignment_part, effect_of, finished, given_in_turn, given_of, given_part, given_with, givens_part, goes_with, together}
 use Rattle.ent_eval.specs.Judged.{judgement_of, nothing, stops}
 use Rattle.ent_eval.specs.Looks.{Looks}
 use Rattle.ent_eval.specs.Node.{Node, child_step, children_after, children_part, combined, element, followed, found_node, node_with, policy_part, refer, rules_part, set_node_with, set_step}
 use Rattle.ent_eval.specs.Only.{chosen_part, choice_part, only_one, spoils}
 use Rattle.ent_eval.specs.Own.{is_empty, own_values}
-use Rattle.ent_eval.specs.Part.{Part, and_then, reads_of, seen_parts, whole, without_look}
-use Rattle.ent_eval.specs.Rule.{condition_part, rule_after, rule_part}
+use Rattle.ent_eval.specs.Part.{Part, and_then, mapped, reads_of, seen_parts, whole, without_look}
+use Rattle.ent_eval.specs.Rule.{condition_part, decided, rule_after, rule_part, rule_under}
 use Rattle.ent_eval.specs.Sources.{asks_day, day_part, entity_of, entity_part, source_part, values_part}
 use Rattle.ent_eval.specs.Target.{all_match, all_of_part, any_of_part, is_match, is_no_match, match_part, one_matches, target_part}
 
@@ -185,34 +192,64 @@ module _ (looks : Looks) (request : Request) where
   condition-reads definitions None = tt
   condition-reads definitions (Some e) = meaning_with-reads (variable_part looks request definitions (length definitions)) (variable-reads definitions (length definitions)) e
 
+  -- obligations and advice
+  turn-reads : {X A : Type 0} (part : X → Part (Result (List A) Status)) → ((x : X) → Does (part x)) → (xs : List X) → Does (given_in_turn part xs)
+  turn-reads part each xs = whole-reads Of is_err together (map part xs) (each-reads Of part each xs)
+
+  module _ (definitions : List VariableDefinition) where
+    assignment-reads : (a : AssignmentExpression) → Does (assignment_part looks request definitions a)
+    assignment-reads a = meaning_with-reads (variable_part looks request definitions (length definitions)) (variable-reads definitions (length definitions)) a.expression
+
+    given-reads : (effect : Effect) (g : GivenExpression) → Does (given_part looks request definitions effect g)
+    given-reads effect g = at (goes_with effect g.effect) where
+      at : (b : Bool) → Does (if b then mapped (given_of g.id) (given_in_turn (assignment_part looks request definitions) g.assignments) else without_look (Ok []))
+      at true = turn-reads (assignment_part looks request definitions) assignment-reads g.assignments
+      at false = tt
+
+    givens-read : (effect : Effect) (gs : List GivenExpression) → Does (givens_part looks request definitions effect gs)
+    givens-read effect gs = turn-reads (given_part looks request definitions effect) (given-reads effect) gs
+
+    advice-reads : (given : GivenExpressions) (effect : Effect) (a : Answer) (obligations : Result (List Given) Status) → Does (advice_after looks request definitions given effect a obligations)
+    advice-reads given effect a (Ok obligations) = givens-read effect given.advice
+    advice-reads given effect a (Err status) = tt
+
+    with-reads : (given : GivenExpressions) (effect : Option Effect) (a : Answer) → Does (given_with looks request definitions given effect a)
+    with-reads given None a = tt
+    with-reads given (Some effect) a =
+        and_then-reads Of (givens_part looks request definitions effect given.obligations) (advice_after looks request definitions given effect a) (givens-read effect given.obligations) (advice-reads given effect a)
+
+    finished-reads : (given : GivenExpressions) (a : Answer) → Does (finished looks request definitions given a)
+    finished-reads given a = with-reads given (effect_of a.decision) a
+
   -- rules
-  rule_after-reads : (condition : Part Truth) → Does condition → (path : List DocKey) (rule : Rule) (targeted : Targeted) → Does (rule_after condition path rule targeted)
-  rule_after-reads condition reads path rule is.Match = reads
-  rule_after-reads condition reads path rule is.NoMatch = tt
-  rule_after-reads condition reads path rule (is.Indeterminate status) = tt
+  rule_after-reads : (own : Answer → Part Answer) → ((a : Answer) → Does (own a)) → (condition : Part Truth) → Does condition → (path : List DocKey) (rule : Rule) (targeted : Targeted) → Does (rule_after own condition path rule targeted)
+  rule_after-reads own owns condition reads path rule is.Match = and_then-reads Of (mapped (decided path rule) condition) own reads owns
+  rule_after-reads own owns condition reads path rule is.NoMatch = tt
+  rule_after-reads own owns condition reads path rule (is.Indeterminate status) = tt
 
   rule-reads : (definitions : List VariableDefinition) (path : List DocKey) (rule : Rule) → Does (rule_part looks request definitions path rule)
   rule-reads definitions path rule =
-      and_then-reads Of (target_part looks request rule.target) (rule_after (condition_part looks request definitions rule.condition) path rule) (target-reads rule.target)
-      (rule_after-reads (condition_part looks request definitions rule.condition) (condition-reads definitions rule.condition) path rule)
+      and_then-reads Of (target_part looks request rule.target) (rule_under looks request definitions path rule) (target-reads rule.target)
+      (rule_after-reads (finished looks request definitions rule.given) (finished-reads definitions rule.given) (condition_part looks request definitions rule.condition) (condition-reads definitions rule.condition) path rule)
 
   -- elements
-  combined-reads : (algorithm : RuleAlg) (ps : List (Part Answer)) → AllRead Of ps → Does (combined algorithm ps)
-  combined-reads algorithm ps each = whole-reads Of (stops algorithm) (judgement_of algorithm) ps each
+  combined-reads : (here : List DocKey) (algorithm : RuleAlg) (ps : List (Part Answer)) → AllRead Of ps → Does (combined here algorithm ps)
+  combined-reads here algorithm ps each = whole-reads Of (stops algorithm) (judgement_of here algorithm) ps each
 
-  children-read : (children : Part Answer) → Does children → (targeted : Targeted) → Does (children_after children targeted)
-  children-read children reads is.Match = reads
-  children-read children reads is.NoMatch = tt
-  children-read children reads (is.Indeterminate status) = reads
+  children-read : (own : Answer → Part Answer) → ((a : Answer) → Does (own a)) → (children : Part Answer) → Does children → (targeted : Targeted) → Does (children_after own children targeted)
+  children-read own owns children reads is.Match = and_then-reads Of children own reads owns
+  children-read own owns children reads is.NoMatch = tt
+  children-read own owns children reads (is.Indeterminate status) = reads
 
-  element-reads : (target : Target) (children : Part Answer) → Does children → Does (element (target_part looks request target) children)
-  element-reads target children reads = and_then-reads Of (target_part looks request target) (children_after children) (target-reads target) (children-read children reads)
+  element-reads : (target : Target) (children : Part Answer) (own : Answer → Part Answer) → Does children → ((a : Answer) → Does (own a)) → Does (element (target_part looks request target) children own)
+  element-reads target children own reads owns = and_then-reads Of (target_part looks request target) (children_after own children) (target-reads target) (children-read own owns children reads)
 
   policy-reads : (path : List DocKey) (policy : Policy) → Does (policy_part looks request path policy)
   policy-reads path policy =
       let here = path ++ record { kind = kind.Policy; id = policy.id; version = policy.version } ∷ [] in
-      element-reads policy.target (rules_part looks request here policy)
-      (combined-reads policy.algorithm (map (rule_part looks request policy.variables here) policy.rules) (each-reads Of (rule_part looks request policy.variables here) (rule-reads policy.variables here) policy.rules))
+      element-reads policy.target (rules_part looks request here policy) (finished looks request policy.variables policy.given)
+      (combined-reads here policy.algorithm (map (rule_part looks request policy.variables here) policy.rules) (each-reads Of (rule_part looks request policy.variables here) (rule-reads policy.variables here) policy.rules))
+      (finished-reads policy.variables policy.given)
 
   -- nodes: their targets alone and as a whole
   abbrev BothRead : Node → Type 0
@@ -227,7 +264,7 @@ module _ (looks : Looks) (request : Request) where
   all_answers here (n ∷ ns) = (n.1.1 here, all_answers here ns)
 
   children-all : (algorithm : PolicyAlg) (here : List DocKey) (ns : List ((n : Node) × BothRead n)) → Does (children_part algorithm (map (λ e. e.0) ns) here)
-  children-all (Shared algorithm) here ns = combined-reads algorithm _ (all_answers here ns)
+  children-all (Shared algorithm) here ns = combined-reads here algorithm _ (all_answers here ns)
   children-all OnlyOne here ns = only_one-reads Of _ _ (all_targets ns) (all_answers here ns)
 
   -- where each reference does
@@ -269,8 +306,9 @@ module _ (looks : Looks) (request : Request) where
         set_rolled (map-PolicySet ChildReads SetReads Child PolicySet (λ e. e.0) (λ e. e.0) y) (
           target-reads y.target,
           λ path. let here = path ++ record { kind = kind.PolicySet; id = y.id; version = y.version } ∷ [] in
-              element-reads y.target (children_part y.algorithm (map node (map (λ e. e.0) y.children)) here)
-              (subst (λ ns. Does (children_part y.algorithm ns here)) (nodes_are y.children) (children-all y.algorithm here (nodes y.children))),
+              element-reads y.target (children_part y.algorithm (map node (map (λ e. e.0) y.children)) here) (finished looks request [] y.given)
+              (subst (λ ns. Does (children_part y.algorithm ns here)) (nodes_are y.children) (children-all y.algorithm here (nodes y.children)))
+              (finished-reads [] y.given),
         )
 
     node-reads : (c : Child) → BothRead (node c)

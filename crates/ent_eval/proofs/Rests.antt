@@ -1,6 +1,6 @@
 -- What the parts of an answer rest on.
 use Rattle.std.proofs.Common.{◌≡◌, ℕ, zero, suc, Bool, true, false, List, [], ◌∷◌, ◌++◌, length, map, refl, sym, ap, ◌∙◌, subst, Option, Some, None}
-use Rattle.std.specs.Prelude.{find, if◌then◌else◌}
+use Rattle.std.specs.Prelude.{find, if◌then◌else◌, Result, Ok, Err, is_err}
 use Rattle.std.specs.List.{AllByRecursion, list_any}
 use Rattle.ent_combine.proofs.Combining.{any_up_to_first, seen_again}
 use Rattle.ent_combine.proofs.Combining as combining
@@ -31,6 +31,13 @@ use Rattle.ent_policy.specs.declared.key.Kind.TheVariants as kind
 use Rattle.ent_eval.specs.declared.evaluated.Evaluated.{Evaluated}
 use Rattle.ent_eval.specs.declared.evaluated.Truth.{Truth}
 use Rattle.ent_eval.specs.Expression.{bag_of, defined_part, is_result, meaning, meaning_step, meaning_with, result_of, variable_part}
+use Rattle.ent_policy.specs.declared.document.Effect.{Effect}
+use Rattle.ent_policy.specs.declared.given.AssignmentExpression.{AssignmentExpression}
+use Rattle.ent_policy.specs.declared.given.GivenExpression.{GivenExpression}
+use Rattle.ent_policy.specs.declared.given.GivenExpressions.{GivenExpressions}
+use Rattle.ent_eval.specs.declared.answer.Status.{Status}
+use Rattle.ent_eval.specs.declared.given.Given.{Given}
+use Rattle.ent_eval.specs.Given.{advice_after, assigned, assignment_part, effect_of, finished, given_in_turn, given_of, given_part, given_with, givens_part, goes_with, joined, together, with_own}
 use Rattle.ent_eval.specs.Gathered.{judged_by}
 use Rattle.ent_eval.specs.Judged.{judgement_of, stops, with_target}
 use Rattle.ent_eval.specs.Law.{IsSameLook}
@@ -217,38 +224,78 @@ condition-rests s t request definitions (Some e) =
     mapped-rests s t truth_of (λ u. meaning u request definitions (length definitions) e)
     (meaning_with-rests s t request (λ u. variable_part u request definitions (length definitions)) (variable-rests s t request definitions (length definitions)) e)
 
+-- ---- obligations and advice
+
+together-seen : {A : Type 0} (vs : List (Result (List A) Status)) → together vs ≡ together (up_to_first is_err vs)
+together-seen [] = refl
+together-seen (Err status ∷ vs) = refl
+together-seen (Ok xs ∷ vs) = ap (joined (Ok xs)) (together-seen vs)
+
+module _ (s t : Looks) (request : Request) (definitions : List VariableDefinition) where
+  expression-rests : (e : Expression) → Rests s t (λ u. meaning u request definitions (length definitions) e)
+  expression-rests = meaning_with-rests s t request (λ u. variable_part u request definitions (length definitions)) (variable-rests s t request definitions (length definitions))
+
+  assignment-rests : (a : AssignmentExpression) → Rests s t (λ u. assignment_part u request definitions a)
+  assignment-rests a = mapped-rests s t (assigned a) (λ u. meaning u request definitions (length definitions) a.expression) (expression-rests a.expression)
+
+  turn-rests : {X A : Type 0} (part : Looks → X → Part (Result (List A) Status)) → ((x : X) → Rests s t (λ u. part u x)) → (xs : List X) → Rests s t (λ u. given_in_turn (part u) xs)
+  turn-rests part each xs = whole-rests s t is_err part together together-seen xs (each-rests s t part each xs)
+
+  given-rests : (effect : Effect) (g : GivenExpression) → Rests s t (λ u. given_part u request definitions effect g)
+  given-rests effect g = at (goes_with effect g.effect) where
+    at : (b : Bool) → Rests s t (λ u. if b then mapped (given_of g.id) (given_in_turn (assignment_part u request definitions) g.assignments) else without_look (Ok []))
+    at true = mapped-rests s t (given_of g.id) (λ u. given_in_turn (assignment_part u request definitions) g.assignments) (turn-rests (λ u a. assignment_part u request definitions a) assignment-rests g.assignments)
+    at false = λ h. refl
+
+  givens-rest : (effect : Effect) (gs : List GivenExpression) → Rests s t (λ u. givens_part u request definitions effect gs)
+  givens-rest effect gs = turn-rests (λ u g. given_part u request definitions effect g) (given-rests effect) gs
+
+  advice-rests : (given : GivenExpressions) (effect : Effect) (a : Answer) (obligations : Result (List Given) Status) → Rests s t (λ u. advice_after u request definitions given effect a obligations)
+  advice-rests given effect a (Ok obligations) = mapped-rests s t (with_own effect a obligations) (λ u. givens_part u request definitions effect given.advice) (givens-rest effect given.advice)
+  advice-rests given effect a (Err status) = λ h. refl
+
+  with-rests : (given : GivenExpressions) (effect : Option Effect) (a : Answer) → Rests s t (λ u. given_with u request definitions given effect a)
+  with-rests given None a = λ h. refl
+  with-rests given (Some effect) a =
+      and_then-rests s t (λ u. givens_part u request definitions effect given.obligations) (λ u. advice_after u request definitions given effect a) (givens-rest effect given.obligations) (advice-rests given effect a)
+
+  pub finished-rests : (given : GivenExpressions) (a : Answer) → Rests s t (λ u. finished u request definitions given a)
+  finished-rests given a = with-rests given (effect_of a.decision) a
+
 -- ---- rules
 
-rule_after-rests : (s t : Looks) (condition : Looks → Part Truth) → Rests s t condition → (path : List DocKey) (rule : Rule) (targeted : Targeted) → Rests s t (λ u. rule_after (condition u) path rule targeted)
-rule_after-rests s t condition rests path rule is.Match = mapped-rests s t (decided path rule) condition rests
-rule_after-rests s t condition rests path rule is.NoMatch = λ h. refl
-rule_after-rests s t condition rests path rule (is.Indeterminate status) = λ h. refl
+rule_after-rests : (s t : Looks) (own : Looks → Answer → Part Answer) → ((a : Answer) → Rests s t (λ u. own u a)) → (condition : Looks → Part Truth) → Rests s t condition → (path : List DocKey) (rule : Rule) (targeted : Targeted) → Rests s t (λ u. rule_after (own u) (condition u) path rule targeted)
+rule_after-rests s t own owns condition rests path rule is.Match = and_then-rests s t (λ u. mapped (decided path rule) (condition u)) own (mapped-rests s t (decided path rule) condition rests) owns
+rule_after-rests s t own owns condition rests path rule is.NoMatch = λ h. refl
+rule_after-rests s t own owns condition rests path rule (is.Indeterminate status) = λ h. refl
 
 pub rule-rests : (s t : Looks) (request : Request) (definitions : List VariableDefinition) (path : List DocKey) (rule : Rule) → Rests s t (λ u. rule_part u request definitions path rule)
 rule-rests s t request definitions path rule =
-    and_then-rests s t (λ u. target_part u request rule.target) (λ u. rule_after (condition_part u request definitions rule.condition) path rule) (target-rests s t request rule.target)
-    (rule_after-rests s t (λ u. condition_part u request definitions rule.condition) (condition-rests s t request definitions rule.condition) path rule)
+    and_then-rests s t (λ u. target_part u request rule.target) (λ u. rule_after (finished u request definitions rule.given) (condition_part u request definitions rule.condition) path rule) (target-rests s t request rule.target)
+    (rule_after-rests s t (λ u. finished u request definitions rule.given) (finished-rests s t request definitions rule.given) (λ u. condition_part u request definitions rule.condition) (condition-rests s t request definitions rule.condition) path rule)
 
 -- ---- elements
 
-pub children_seen : (algorithm : RuleAlg) (answers : List Answer) → judgement_of algorithm answers ≡ judgement_of algorithm (up_to_first (stops algorithm) answers)
-children_seen algorithm answers =
-    sym (judged_seen algorithm answers) ∙ ap (judged_by algorithm) (sym (seen_again (stops algorithm) answers)) ∙ judged_seen algorithm (up_to_first (stops algorithm) answers)
+pub children_seen : (here : List DocKey) (algorithm : RuleAlg) (answers : List Answer) → judgement_of here algorithm answers ≡ judgement_of here algorithm (up_to_first (stops algorithm) answers)
+children_seen here algorithm answers =
+    sym (judged_seen here algorithm answers) ∙ ap (judged_by here algorithm) (sym (seen_again (stops algorithm) answers)) ∙ judged_seen here algorithm (up_to_first (stops algorithm) answers)
 
-pub combined-rests : {X : Type 0} (s t : Looks) (algorithm : RuleAlg) (part : Looks → X → Part Answer) (xs : List X) → AllRest s t part xs → Rests s t (λ u. combined algorithm (map (part u) xs))
-combined-rests s t algorithm part xs each = whole-rests s t (stops algorithm) part (judgement_of algorithm) (children_seen algorithm) xs each
+pub combined-rests : {X : Type 0} (s t : Looks) (here : List DocKey) (algorithm : RuleAlg) (part : Looks → X → Part Answer) (xs : List X) → AllRest s t part xs → Rests s t (λ u. combined here algorithm (map (part u) xs))
+combined-rests s t here algorithm part xs each = whole-rests s t (stops algorithm) part (judgement_of here algorithm) (children_seen here algorithm) xs each
 
-children-rest : (s t : Looks) (children : Looks → Part Answer) → Rests s t children → (targeted : Targeted) → Rests s t (λ u. children_after (children u) targeted)
-children-rest s t children rests is.Match = rests
-children-rest s t children rests is.NoMatch = λ h. refl
-children-rest s t children rests (is.Indeterminate status) = mapped-rests s t (with_target (is.Indeterminate status)) children rests
+children-rest : (s t : Looks) (own : Looks → Answer → Part Answer) → ((a : Answer) → Rests s t (λ u. own u a)) → (children : Looks → Part Answer) → Rests s t children → (targeted : Targeted)
+    → Rests s t (λ u. children_after (own u) (children u) targeted)
+children-rest s t own owns children rests is.Match = and_then-rests s t children own rests owns
+children-rest s t own owns children rests is.NoMatch = λ h. refl
+children-rest s t own owns children rests (is.Indeterminate status) = mapped-rests s t (with_target (is.Indeterminate status)) children rests
 
-pub element-rests : (s t : Looks) (request : Request) (target : Target) (children : Looks → Part Answer) → Rests s t children → Rests s t (λ u. element (target_part u request target) (children u))
-element-rests s t request target children rests =
-    and_then-rests s t (λ u. target_part u request target) (λ u. children_after (children u)) (target-rests s t request target) (children-rest s t children rests)
+pub element-rests : (s t : Looks) (request : Request) (target : Target) (own : Looks → Answer → Part Answer) → ((a : Answer) → Rests s t (λ u. own u a)) → (children : Looks → Part Answer) → Rests s t children
+    → Rests s t (λ u. element (target_part u request target) (children u) (own u))
+element-rests s t request target own owns children rests =
+    and_then-rests s t (λ u. target_part u request target) (λ u. children_after (own u) (children u)) (target-rests s t request target) (children-rest s t own owns children rests)
 
 pub policy-rests : (s t : Looks) (request : Request) (path : List DocKey) (policy : Policy) → Rests s t (λ u. policy_part u request path policy)
 policy-rests s t request path policy =
     let here = path ++ record { kind = kind.Policy; id = policy.id; version = policy.version } ∷ [] in
-    element-rests s t request policy.target (λ u. rules_part u request here policy)
-    (combined-rests s t policy.algorithm (λ u r. rule_part u request policy.variables here r) policy.rules (each-rests s t (λ u r. rule_part u request policy.variables here r) (rule-rests s t request policy.variables here) policy.rules))
+    element-rests s t request policy.target (λ u. finished u request policy.variables policy.given) (finished-rests s t request policy.variables policy.given) (λ u. rules_part u request here policy)
+    (combined-rests s t here policy.algorithm (λ u r. rule_part u request policy.variables here r) policy.rules (each-rests s t (λ u r. rule_part u request policy.variables here r) (rule-rests s t request policy.variables here) policy.rules))

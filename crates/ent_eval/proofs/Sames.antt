@@ -14,11 +14,19 @@ use Rattle.ent_combine.specs.contracts.outcome.OutcomePartialEq.TheImpl as outco
 use Rattle.ent_policy.specs.declared.key.DocKey.{DocKey}
 use Rattle.ent_policy.specs.Same as documents
 use Rattle.ent_policy.proofs.Same.{same_key-Decides, same_reference-Decides}
-use Rattle.ent_policy.proofs.Telling.{Tells, decided, decides, enum, last, maybe, more, struct}
-use Rattle.ent_values.proofs.Values.{same_type-Decides}
+use Rattle.ent_policy.proofs.Telling.{Tells, decided, decides, enum, last, list, maybe, more, struct}
+use Rattle.ent_values.proofs.Values.{same_type-Decides, same_value-Decides}
 use Rattle.ent_finder.specs.declared.row.AttrKey.{AttrKey}
 use Rattle.ent_finder.specs.contracts.row.AttrKey as attribute
 use Rattle.ent_finder.specs.contracts.row.AttrKeyPartialEq.TheImpl as attributes
+use Rattle.ent_eval.specs.contracts.answer.Answer as answer
+use Rattle.ent_eval.specs.contracts.answer.AnswerEq.TheImpl.Laws as answers
+use Rattle.ent_eval.specs.contracts.given.Assignment as assignment
+use Rattle.ent_eval.specs.contracts.given.AssignmentPartialEq.TheImpl as assignments
+use Rattle.ent_eval.specs.contracts.given.Given as given
+use Rattle.ent_eval.specs.contracts.given.GivenPartialEq.TheImpl as givens
+use Rattle.ent_eval.specs.declared.given.Assignment.{Assignment}
+use Rattle.ent_eval.specs.declared.given.Given.{Given}
 use Rattle.ent_eval.specs.declared.answer.Answer.{Answer}
 use Rattle.ent_eval.specs.declared.answer.Status.{Status}
 use Rattle.ent_eval.specs.declared.answer.Status.TheVariants as status
@@ -95,13 +103,21 @@ status-Decides status.ProcessingError status.Okay = search rules
 status-Decides status.ProcessingError status.MissingAttribute = search rules
 status-Decides status.ProcessingError status.ProcessingError = search rules
 
+assignment-tells : (a : Assignment) → Tells (assignments.ghosts).eq a
+assignment-tells =
+    struct assignment.struct assignment.the_propositions
+    (more (decided bytes_eq-Decides) (more (maybe (decided bytes_eq-Decides)) (more (maybe (decided bytes_eq-Decides)) (last (decided same_value-Decides)))))
+
+given-tells : (g : Given) → Tells (givens.ghosts).eq g
+given-tells = struct given.struct given.the_propositions (more (decided bytes_eq-Decides) (last (list assignment-tells)))
+
+answer-tells : (a : Answer) → Tells same_answer a
+answer-tells =
+    struct answer.struct answer.the_propositions
+    (more (decided outcome-Decides) (more (decided status-Decides) (more (decided why-Decides) (more (list given-tells) (last (list given-tells))))))
+
 pub answer-Decides : (a b : Answer) → Decides (same_answer a b) (a ≡ b)
-answer-Decides a b =
-    Decides-like (same_answer a b)
-    (λ h. ap (λ d. record { decision = d; status = a.status; why = a.why }) h.0 ∙ ap (λ s. record { decision = b.decision; status = s; why = a.why }) h.1.0 ∙ ap (λ w. record { decision = b.decision; status = b.status; why = w }) h.1.1)
-    (λ e. (ap (λ (k : Answer). k.decision) e, (ap (λ (k : Answer). k.status) e, ap (λ (k : Answer). k.why) e)))
-    (both-Decides ((outcomes.ghosts).eq a.decision b.decision) ((statuses.ghosts).eq a.status b.status && pointwise same_entry a.why b.why) (outcome-Decides a.decision b.decision)
-    (both-Decides ((statuses.ghosts).eq a.status b.status) (pointwise same_entry a.why b.why) (status-Decides a.status b.status) (why-Decides a.why b.why)))
+answer-Decides = decides answers.laws-law answer-tells
 
 -- ---- keys of look-ups
 

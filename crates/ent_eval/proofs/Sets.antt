@@ -5,7 +5,7 @@ use Rattle.std.proofs.lemmas.List.{length-map}
 use Rattle.std.specs.List.{list_all}
 use Rattle.ent_combine.specs.declared.outcome.PolicyAlg.TheVariants.{Shared, OnlyOne}
 use Rattle.ent_combine.specs.declared.outcome.RuleAlg.{RuleAlg}
-use Rattle.ent_policy.specs.Typing.{target_is_typed}
+use Rattle.ent_policy.specs.Typing.{given_is_typed, target_is_typed}
 use Rattle.ent_policy.specs.Typing as typing
 use Rattle.ent_policy.specs.declared.document.Child.{Child}
 use Rattle.ent_policy.specs.declared.document.Child.TheFolds.{fold_out-PolicySet}
@@ -17,6 +17,7 @@ use Rattle.ent_eval.specs.declared.request.Request.{Request}
 use Rattle.ent_eval.specs.declared.target.Targeted.{Targeted}
 use Rattle.ent_eval.specs.Looks.{Looks}
 use Rattle.ent_eval.specs.Hops.{children_combined, child_target, node_of, only_child, set_children, set_part}
+use Rattle.ent_eval.specs.Given.{finished}
 use Rattle.ent_eval.specs.Node.{Node, child_step, children_after, children_part, combined, element, refer, set_step}
 use Rattle.ent_eval.specs.Noted.{noted}
 use Rattle.ent_eval.specs.Only.{only_one}
@@ -32,7 +33,7 @@ map-map f g (x ∷ xs) = ap (λ zs. g (f x) ∷ zs) (map-map f g xs)
 -- the children of a set as they are evaluated
 pub shared_children : (looks : Looks) (request : Request) (hops : ℕ) (algorithm : RuleAlg) (children : List Child) (here : List DocKey)
     → children_part (Shared algorithm) (map (node_of looks request hops) children) here ≡ children_combined looks request hops here algorithm children
-shared_children looks request hops algorithm children here = ap (combined algorithm) (map-map (node_of looks request hops) (λ (n : Node). n.answer here) children)
+shared_children looks request hops algorithm children here = ap (combined here algorithm) (map-map (node_of looks request hops) (λ (n : Node). n.answer here) children)
 
 pub only_children : (looks : Looks) (request : Request) (hops : ℕ) (children : List Child) (here : List DocKey)
     → children_part OnlyOne (map (node_of looks request hops) children) here ≡ only_child looks request hops here children
@@ -40,7 +41,7 @@ only_children looks request hops children here =
     ap (λ ts. only_one ts (map (λ (n : Node). n.answer here) (map (node_of looks request hops) children))) (map-map (node_of looks request hops) (λ (n : Node). n.target) children)
     ∙ ap (only_one (map (child_target looks request hops) children)) (map-map (node_of looks request hops) (λ (n : Node). n.answer here) children)
 
-pub set_out : (looks : Looks) (request : Request) (hops : ℕ) (path : List DocKey) (set : PolicySet) → set_part looks request hops path set ≡ element (target_part looks request set.target) (set_children looks request hops path set)
+pub set_out : (looks : Looks) (request : Request) (hops : ℕ) (path : List DocKey) (set : PolicySet) → set_part looks request hops path set ≡ element (target_part looks request set.target) (set_children looks request hops path set) (finished looks request [] set.given)
 set_out looks request hops path set = ap (λ (n : Node). n.answer path) (fold_out-PolicySet Node Node (child_step looks request (refer looks request hops)) (set_step looks request) set)
 
 all_map : {X : Type 0} (p : X → Bool) (xs : List X) → list_all (λ b. b) (map p xs) ≡ list_all p xs
@@ -51,20 +52,21 @@ few : (n : ℕ) → nat_le n 256 ≡ true → n ≤ 256
 few n h = grind (arith, nat_tests)
 
 -- the target and the children of a set that can be evaluated
-pub set-fit : (set : PolicySet) → set_is_fit set ≡ true → (target_is_typed set.target ≡ true) × ((length set.children ≤ 256) × (list_all is_fit set.children ≡ true))
+pub set-fit : (set : PolicySet) → set_is_fit set ≡ true → (target_is_typed set.target ≡ true) × ((length set.children ≤ 256) × ((list_all is_fit set.children ≡ true) × (given_is_typed [] set.given ≡ true)))
 set-fit set fit =
-    let out : set_is_fit set ≡ (target_is_typed set.target && (nat_le (length (map is_fit set.children)) 256 && list_all (λ b. b) (map is_fit set.children))) = fold_out-PolicySet Bool Bool typing.child_step fit_step set in
-    let parts = both_true (target_is_typed set.target) (nat_le (length (map is_fit set.children)) 256 && list_all (λ b. b) (map is_fit set.children)) (sym out ∙ fit) in
-    let inside = both_true (nat_le (length (map is_fit set.children)) 256) (list_all (λ b. b) (map is_fit set.children)) parts.1 in
+    let out : set_is_fit set ≡ (target_is_typed set.target && (nat_le (length (map is_fit set.children)) 256 && (list_all (λ b. b) (map is_fit set.children) && given_is_typed [] set.given))) = fold_out-PolicySet Bool Bool typing.child_step fit_step set in
+    let parts = both_true (target_is_typed set.target) (nat_le (length (map is_fit set.children)) 256 && (list_all (λ b. b) (map is_fit set.children) && given_is_typed [] set.given)) (sym out ∙ fit) in
+    let inside = both_true (nat_le (length (map is_fit set.children)) 256) (list_all (λ b. b) (map is_fit set.children) && given_is_typed [] set.given) parts.1 in
+    let both = both_true (list_all (λ b. b) (map is_fit set.children)) (given_is_typed [] set.given) inside.1 in
     let short : length (map is_fit set.children) ≤ 256 = few (length (map is_fit set.children)) inside.0 in
-    (parts.0, (subst (λ n. n ≤ 256) (length-map set.children is_fit) short, sym (all_map is_fit set.children) ∙ inside.1))
+    (parts.0, (subst (λ n. n ≤ 256) (length-map set.children is_fit) short, (sym (all_map is_fit set.children) ∙ both.0, both.1)))
 
 -- the set's reads, after its target and its children
 pub set-reads : (looks : Looks) (request : Request) (hops : ℕ) (path : List DocKey) (set : PolicySet) (t : Targeted) (keys first next : List ReadKey) → t ≡ (target_part looks request set.target).value
-    → first ≡ noted keys (target_part looks request set.target).reads → next ≡ noted first (children_after (set_children looks request hops path set) t).reads → next ≡ noted keys (set_part looks request hops path set).reads
+    → first ≡ noted keys (target_part looks request set.target).reads → next ≡ noted first (children_after (finished looks request [] set.given) (set_children looks request hops path set) t).reads → next ≡ noted keys (set_part looks request hops path set).reads
 set-reads looks request hops path set t keys first next t-is first-is is =
-    is ∙ ap (λ s. noted first (children_after (set_children looks request hops path set) s).reads) t-is
-    ∙ ap (λ ks. noted ks (children_after (set_children looks request hops path set) (target_part looks request set.target).value).reads) first-is
+    is ∙ ap (λ s. noted first (children_after (finished looks request [] set.given) (set_children looks request hops path set) s).reads) t-is
+    ∙ ap (λ ks. noted ks (children_after (finished looks request [] set.given) (set_children looks request hops path set) (target_part looks request set.target).value).reads) first-is
     ∙ noted_both keys (target_part looks request set.target).reads _ ∙ ap (λ p. noted keys p.reads) (sym (set_out looks request hops path set))
 
 -- the children of a set, by its algorithm

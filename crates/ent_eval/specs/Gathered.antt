@@ -1,13 +1,15 @@
 -- What is kept of children that were seen.
-use Rattle.std.specs.Prelude.{◌≡◌, List, Option, Some, None}
+use Rattle.std.specs.Prelude.{◌≡◌, List, ◌++◌, true, Option, Some, None}
 use Rattle.ent_combine.specs.Combine.{combine, HasTaken, is_permit, is_deny}
 use Rattle.ent_combine.specs.declared.outcome.Outcome.{Outcome}
 use Rattle.ent_combine.specs.declared.outcome.Outcome.TheVariants.{Ind}
 use Rattle.ent_combine.specs.declared.outcome.RuleAlg.{RuleAlg}
+use Rattle.ent_policy.specs.declared.key.DocKey.{DocKey}
 use Rattle.ent_eval.specs.declared.answer.Answer.{Answer}
 use Rattle.ent_eval.specs.declared.answer.Status.{Status}
 use Rattle.ent_eval.specs.declared.gather.Gathering.{Gathering}
-use Rattle.ent_eval.specs.Judged.{decisions, first_status, judged, why_of}
+use Rattle.ent_eval.specs.declared.told.Told.{Told}
+use Rattle.ent_eval.specs.Judged.{decisions, first_status, judged, told_by}
 
 -- the status of the first Indeterminate, with one more child
 abbrev pub status_with : Option Status → Outcome → Status → Option Status
@@ -16,13 +18,17 @@ status_with None (Ind kind) status = Some status
 status_with None _ status = None
 
 -- what children come to, all of which were seen
-abbrev pub judged_by : RuleAlg → List Answer → Answer
-judged_by algorithm seen = judged (combine algorithm (decisions seen)) seen
+abbrev pub judged_by : List DocKey → RuleAlg → List Answer → Answer
+judged_by here algorithm seen = judged here algorithm (combine algorithm (decisions seen)) seen
+
+-- what children told, with one child more that has their decision
+abbrev pub told_more : Told → Told → Told
+told_more told more = record { any = true; why = told.why ++ more.why; obligations = told.obligations ++ more.obligations; advice = told.advice ++ more.advice }
 
 -- these children were gathered
 pub record HasGathered (algorithm : RuleAlg) (g : Gathering) (answers : List Answer) : Type 0 where
   pub algorithm_is : g.combiner.algorithm ≡ algorithm
   pub combined : HasTaken g.combiner (decisions answers)
   pub status : g.status ≡ first_status answers
-  pub permitted : g.permitted ≡ why_of is_permit answers
-  pub denied : g.denied ≡ why_of is_deny answers
+  pub permitted : g.permitted ≡ told_by is_permit answers
+  pub denied : g.denied ≡ told_by is_deny answers

@@ -9,8 +9,9 @@ use Rattle.ent_policy.specs.declared.key.Reference.{Reference}
 use Rattle.ent_eval.specs.declared.answer.Answer.{Answer}
 use Rattle.ent_eval.specs.declared.request.Request.{Request}
 use Rattle.ent_eval.specs.declared.target.Targeted.{Targeted}
+use Rattle.ent_eval.specs.Given.{finished}
 use Rattle.ent_eval.specs.Looks.{Looks}
-use Rattle.ent_eval.specs.Node.{Node, children_part, combined, followed, node_with, refer, set_node_with}
+use Rattle.ent_eval.specs.Node.{Node, children_after, children_part, combined, followed, node_with, refer, set_node_with}
 use Rattle.ent_eval.specs.Only.{only_one}
 use Rattle.ent_eval.specs.Part.{Part}
 
@@ -44,7 +45,7 @@ followed_part looks request hops path reference = (followed looks request (refer
 
 -- children together, where `here` leads from the root to their set
 abbrev pub children_combined : Looks → Request → ℕ → List DocKey → RuleAlg → List Child → Part Answer
-children_combined looks request hops here algorithm children = combined algorithm (map (child_part looks request hops here) children)
+children_combined looks request hops here algorithm children = combined here algorithm (map (child_part looks request hops here) children)
 
 -- the only one of some children that applies
 abbrev pub only_child : Looks → Request → ℕ → List DocKey → List Child → Part Answer
@@ -54,6 +55,10 @@ only_child looks request hops here children = only_one (map (child_target looks 
 abbrev pub set_children : Looks → Request → ℕ → List DocKey → PolicySet → Part Answer
 set_children looks request hops path set =
     children_part set.algorithm (map (node_of looks request hops) set.children) (path ++ record { kind = kind.PolicySet; id = set.id; version = set.version } ∷ [])
+
+-- what comes behind the target of a set
+abbrev pub set_after : Looks → Request → ℕ → List DocKey → PolicySet → Targeted → Part Answer
+set_after looks request hops path set = children_after (finished looks request [] set.given) (set_children looks request hops path set)
 
 -- what a set comes to
 abbrev pub set_part : Looks → Request → ℕ → List DocKey → PolicySet → Part Answer

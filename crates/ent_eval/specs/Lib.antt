@@ -2,6 +2,7 @@ pub mod Answer
 pub mod Entities
 pub mod Expression
 pub mod Gathered
+pub mod Given
 pub mod Held
 pub mod Lending
 pub mod Hops

@@ -22,6 +22,7 @@ use Rattle.ent_eval.specs.declared.key.ReadKey.TheVariants.{Ref}
 use Rattle.ent_eval.specs.declared.request.Request.{Request}
 use Rattle.ent_eval.specs.declared.target.Targeted.{Targeted}
 use Rattle.ent_eval.specs.declared.target.Targeted.TheVariants.{Match, NoMatch, Indeterminate}
+use Rattle.ent_eval.specs.Given.{finished}
 use Rattle.ent_eval.specs.Judged.{judgement_of, nothing, stops, unresolved, with_target}
 use Rattle.ent_eval.specs.Looks.{Looks}
 use Rattle.ent_eval.specs.Only.{only_one}
@@ -29,23 +30,23 @@ use Rattle.ent_eval.specs.Part.{Part, without_look, after_look, and_then, mapped
 use Rattle.ent_eval.specs.Rule.{rule_part}
 use Rattle.ent_eval.specs.Target.{target_part}
 
--- children together, up to the first that fixes the decision
-abbrev pub combined : RuleAlg → List (Part Answer) → Part Answer
-combined algorithm children = whole (stops algorithm) (judgement_of algorithm) children
+-- children of the element at the end of a path, up to the first that fixes the decision
+abbrev pub combined : List DocKey → RuleAlg → List (Part Answer) → Part Answer
+combined here algorithm children = whole (stops algorithm) (judgement_of here algorithm) children
 
--- the children of an element are evaluated unless its target doesn't match
-abbrev pub children_after : Part Answer → Targeted → Part Answer
-children_after children NoMatch = without_look nothing
-children_after children Match = children
-children_after children (Indeterminate status) = mapped (with_target (Indeterminate status)) children
+-- the children of an element are evaluated unless its target doesn't match, and behind them what it gives itself, if it matches
+abbrev pub children_after : (Answer → Part Answer) → Part Answer → Targeted → Part Answer
+children_after own children NoMatch = without_look nothing
+children_after own children Match = and_then children own
+children_after own children (Indeterminate status) = mapped (with_target (Indeterminate status)) children
 
 -- an element with a target and children
-abbrev pub element : Part Targeted → Part Answer → Part Answer
-element target children = and_then target (children_after children)
+abbrev pub element : Part Targeted → Part Answer → (Answer → Part Answer) → Part Answer
+element target children own = and_then target (children_after own children)
 
 -- rules among definitions, where `here` leads from the root to their policy
 abbrev pub rules_combined : Looks → Request → List VariableDefinition → List DocKey → RuleAlg → List Rule → Part Answer
-rules_combined looks request definitions here algorithm rules = combined algorithm (map (rule_part looks request definitions here) rules)
+rules_combined looks request definitions here algorithm rules = combined here algorithm (map (rule_part looks request definitions here) rules)
 
 -- the rules of a policy, where `here` leads from the root to the policy
 abbrev pub rules_part : Looks → Request → List DocKey → Policy → Part Answer
@@ -56,9 +57,14 @@ abbrev pub policy_rules : Looks → Request → List DocKey → Policy → Part 
 policy_rules looks request path policy =
     rules_part looks request (path ++ record { kind = kind.Policy; id = policy.id; version = policy.version } ∷ []) policy
 
+-- what comes behind the target of a policy
+abbrev pub policy_after : Looks → Request → List DocKey → Policy → Targeted → Part Answer
+policy_after looks request path policy = children_after (finished looks request policy.variables policy.given) (policy_rules looks request path policy)
+
 -- a policy, where `path` leads from the root to what it stands in
 abbrev pub policy_part : Looks → Request → List DocKey → Policy → Part Answer
-policy_part looks request path policy = element (target_part looks request policy.target) (policy_rules looks request path policy)
+policy_part looks request path policy =
+    element (target_part looks request policy.target) (policy_rules looks request path policy) (finished looks request policy.variables policy.given)
 
 -- a policy, a set or a reference: its target, and what it comes to by the path from the root to what it stands in
 pub record Node : Type 0 where
@@ -67,7 +73,7 @@ pub record Node : Type 0 where
 
 -- the children of a set, where `here` leads from the root to the set
 abbrev pub children_part : PolicyAlg → List Node → List DocKey → Part Answer
-children_part (Shared algorithm) children here = combined algorithm (map (λ (child : Node). child.answer here) children)
+children_part (Shared algorithm) children here = combined here algorithm (map (λ (child : Node). child.answer here) children)
 children_part OnlyOne children here = only_one (map (λ (child : Node). child.target) children) (map (λ (child : Node). child.answer here) children)
 
 -- one level of a child, where `refer` gives what a reference comes to, with a set already seen
@@ -81,7 +87,7 @@ abbrev pub set_step : Looks → Request → PolicySet-F Node Node → Node
 set_step looks request set = record {
   target = target_part looks request set.target;
   answer = λ path. element (target_part looks request set.target)
-      (children_part set.algorithm set.children (path ++ record { kind = kind.PolicySet; id = set.id; version = set.version } ∷ []));
+      (children_part set.algorithm set.children (path ++ record { kind = kind.PolicySet; id = set.id; version = set.version } ∷ [])) (finished looks request [] set.given);
 }
 
 -- a child, where `refer` gives what a reference comes to

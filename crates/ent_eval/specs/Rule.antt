@@ -2,8 +2,6 @@
 use Rattle.std.specs.Prelude.{List, [], ◌∷◌, Option, Some, None, true, false, length}
 use Rattle.ent_values.specs.declared.value.Value.TheVariants.{Boolean}
 use Rattle.ent_functions.specs.declared.arg.Arg.TheVariants.{One}
-use Rattle.ent_combine.specs.declared.outcome.IndKind.{IndKind}
-use Rattle.ent_combine.specs.declared.outcome.IndKind.TheVariants.{P, D}
 use Rattle.ent_combine.specs.declared.outcome.Outcome.{Outcome}
 use Rattle.ent_combine.specs.declared.outcome.Outcome.TheVariants as outcome
 use Rattle.ent_policy.specs.declared.document.Effect.{Effect}
@@ -23,15 +21,11 @@ use Rattle.ent_eval.specs.Expression.{meaning}
 use Rattle.ent_eval.specs.declared.request.Request.{Request}
 use Rattle.ent_eval.specs.declared.target.Targeted.{Targeted}
 use Rattle.ent_eval.specs.declared.target.Targeted.TheVariants.{Match, NoMatch, Indeterminate}
+use Rattle.ent_eval.specs.Given.{finished, indeterminate_of}
 use Rattle.ent_eval.specs.Judged.{nothing}
 use Rattle.ent_eval.specs.Looks.{Looks}
 use Rattle.ent_eval.specs.Part.{Part, without_look, and_then, mapped}
 use Rattle.ent_eval.specs.Target.{target_part}
-
--- the Indeterminate of an effect (section 7.10)
-abbrev pub indeterminate_of : Effect → IndKind
-indeterminate_of Permit = P
-indeterminate_of Deny = D
 
 -- the decision of an effect
 abbrev pub decision_of : Effect → Outcome
@@ -53,18 +47,18 @@ condition_part looks request definitions (Some e) = mapped truth_of (meaning loo
 -- a rule of the policy at the end of a path, by its condition
 abbrev pub decided : List DocKey → Rule → Truth → Answer
 decided path rule truth.False = nothing
-decided path rule (truth.Indeterminate status) = record { decision = outcome.Ind (indeterminate_of rule.effect); status = status; why = [] }
-decided path rule truth.True = record { decision = decision_of rule.effect; status = Okay; why = record { path = path; rule = Some rule.id } ∷ [] }
+decided path rule (truth.Indeterminate status) = record { decision = outcome.Ind (indeterminate_of rule.effect); status = status; why = []; obligations = []; advice = [] }
+decided path rule truth.True = record { decision = decision_of rule.effect; status = Okay; why = record { path = path; rule = Some rule.id } ∷ []; obligations = []; advice = [] }
 
--- the same, by its target first: the condition is evaluated under a match alone
-abbrev pub rule_after : Part Truth → List DocKey → Rule → Targeted → Part Answer
-rule_after condition path rule NoMatch = without_look nothing
-rule_after condition path rule (Indeterminate status) = without_look (decided path rule (truth.Indeterminate status))
-rule_after condition path rule Match = mapped (decided path rule) condition
+-- the same, by its target first: the condition is evaluated under a match alone, and behind it what the rule gives itself
+abbrev pub rule_after : (Answer → Part Answer) → Part Truth → List DocKey → Rule → Targeted → Part Answer
+rule_after own condition path rule NoMatch = without_look nothing
+rule_after own condition path rule (Indeterminate status) = without_look (decided path rule (truth.Indeterminate status))
+rule_after own condition path rule Match = and_then (mapped (decided path rule) condition) own
 
 -- a rule under its target, among the policy's definitions
 abbrev pub rule_under : Looks → Request → List VariableDefinition → List DocKey → Rule → Targeted → Part Answer
-rule_under looks request definitions path rule = rule_after (condition_part looks request definitions rule.condition) path rule
+rule_under looks request definitions path rule = rule_after (finished looks request definitions rule.given) (condition_part looks request definitions rule.condition) path rule
 
 -- a rule of the policy at the end of a path, among the policy's definitions
 abbrev pub rule_part : Looks → Request → List VariableDefinition → List DocKey → Rule → Part Answer

@@ -1,5 +1,5 @@
 -- The types of what expressions come to.
-use Rattle.std.specs.Prelude.{◌≡◌, ℕ, ◌+◌, ◌*◌, max, List, [], ◌∷◌, Bool, true, ◌&&◌, Option, Some, option_and_then, length, map, nat_le}
+use Rattle.std.specs.Prelude.{◌≡◌, ℕ, ◌+◌, ◌*◌, max, List, [], ◌∷◌, Bool, true, ◌&&◌, Option, Some, is_some, option_and_then, length, map, nat_le}
 use Rattle.std.specs.List.{list_all}
 use Rattle.ent_values.specs.declared.datatype.DataType.{DataType}
 use Rattle.ent_values.specs.declared.value.Value.{Value}
@@ -11,7 +11,7 @@ use Rattle.ent_functions.specs.declared.types.ArgType.{ArgType}
 use Rattle.ent_functions.specs.declared.types.ArgType.TheVariants.{One}
 use Rattle.ent_policy.specs.declared.expression.Expression.{Expression, size-Expression}
 use Rattle.ent_policy.specs.declared.expression.VariableDefinition.{VariableDefinition}
-use Rattle.ent_policy.specs.Typing.{all_typed, child_step, is_boolean, target_is_typed, type_with, variable_type}
+use Rattle.ent_policy.specs.Typing.{all_typed, child_step, given_is_typed, held, is_boolean, target_is_typed, type_with, variable_type}
 use Rattle.ent_policy.specs.declared.document.Child.{Child}
 use Rattle.ent_policy.specs.declared.document.Child.TheOpen.{PolicySet-F}
 use Rattle.ent_policy.specs.declared.document.Child.TheFolds.{fold-Child, fold-PolicySet}
@@ -32,6 +32,11 @@ abbrev pub HasType : Option ArgType → Evaluated → Type 0
 HasType type (Known outcome) = type ≡ Some (type_of_arg outcome)
 HasType type (Indeterminate status) = Unit {0}
 
+-- a value or a bag, if it isn't Indeterminate
+abbrev pub is_held : Evaluated → Bool
+is_held (Known outcome) = is_some (held (Some (type_of_arg outcome)))
+is_held (Indeterminate status) = true
+
 -- a function gives one boolean for a literal and a value of that type
 abbrev pub Tests : Function → Value → DataType → Type 0
 Tests function literal datatype = is_boolean (result_type_of function (One (datatype_of literal) ∷ One datatype ∷ [])) ≡ true
@@ -47,7 +52,7 @@ worth definitions = 4 * deepest definitions + 8
 
 -- one level of a set, with each child already seen: its target has its type, and there are at most 256 children
 abbrev pub fit_step : PolicySet-F Bool Bool → Bool
-fit_step set = target_is_typed set.target && (nat_le (length set.children) 256 && list_all (λ child. child) set.children)
+fit_step set = target_is_typed set.target && (nat_le (length set.children) 256 && (list_all (λ child. child) set.children && given_is_typed [] set.given))
 
 -- a child can be evaluated: each expression of it has its type, and no set has more than 256 children
 abbrev pub is_fit : Child → Bool

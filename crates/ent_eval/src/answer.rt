@@ -1,8 +1,9 @@
 //! What a request is answered.
 
 ghost use Rattle.std.specs.Prelude.{◌≡◌, [], ◌∷◌, ◌++◌, IfOk, OnOk};
-ghost use Rattle.ent_eval.specs.Judged.{bad, nothing, unresolved};
+ghost use Rattle.ent_eval.specs.Judged.{bad, indeterminate, nothing, unresolved};
 
+use crate::given::{Given, copied_given};
 use ent_combine::{IndKind, Outcome};
 use ent_policy::{DocKey, Kind, Version};
 use ent_values::{Items, Shared, Text};
@@ -35,6 +36,10 @@ pub struct Answer {
     pub status: Status,
     /// The rules that gave a Permit or a Deny, in document order. It is empty for every other decision.
     pub why: Items<WhyEntry>,
+    /// The obligations that go with a Permit or a Deny (section 7.18), in document order. They are none for every other decision.
+    pub obligations: Items<Given>,
+    /// The advice that goes with it, in the same manner.
+    pub advice: Items<Given>,
 }
 
 impl WhyEntry {
@@ -58,6 +63,21 @@ impl Answer {
             decision: Outcome::NotApplicable,
             status: Status::Okay,
             why: Items::new(alloc),
+            obligations: Items::new(alloc),
+            advice: Items::new(alloc),
+        }
+    }
+
+    // What is Indeterminate.
+    pub(crate) fn indeterminate(alloc: Global, kind: IndKind, status: Status) -> Answer
+        ensures { result ≡ indeterminate kind status }
+    {
+        Answer {
+            decision: Outcome::Ind(kind),
+            status,
+            why: Items::new(alloc),
+            obligations: Items::new(alloc),
+            advice: Items::new(alloc),
         }
     }
 
@@ -65,22 +85,14 @@ impl Answer {
     pub(crate) fn unresolved(alloc: Global) -> Answer
         ensures { result ≡ unresolved }
     {
-        Answer {
-            decision: Outcome::Ind(IndKind::DP),
-            status: Status::ProcessingError,
-            why: Items::new(alloc),
-        }
+        Answer::indeterminate(alloc, IndKind::DP, Status::ProcessingError)
     }
 
     // A set of which more than one child applies, or nobody can say.
     pub(crate) fn bad(alloc: Global, status: Status) -> Answer
         ensures { result ≡ bad status }
     {
-        Answer {
-            decision: Outcome::Ind(IndKind::DP),
-            status,
-            why: Items::new(alloc),
-        }
+        Answer::indeterminate(alloc, IndKind::DP, status)
     }
 
     /// An equal answer.
@@ -91,6 +103,8 @@ impl Answer {
             decision: self.decision,
             status: self.status,
             why: copied_why(alloc, self.why.as_slice())?,
+            obligations: copied_given(alloc, self.obligations.as_slice())?,
+            advice: copied_given(alloc, self.advice.as_slice())?,
         })
     }
 }

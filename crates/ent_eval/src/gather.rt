@@ -5,18 +5,20 @@ ghost use Rattle.ent_combine.specs.Combine.{progress_at};
 ghost use Rattle.ent_eval.specs.Gathered.{HasGathered, judged_by, status_with};
 ghost use Rattle.ent_eval.specs.declared.answer.Answer.{Answer};
 
-use crate::answer::{Answer, Status, WhyEntry};
+use crate::answer::{Answer, Status};
+use crate::told::Told;
 use ent_combine::{Combiner, Outcome, Progress, RuleAlg};
-use ent_values::Items;
+use ent_policy::DocKey;
+use ent_values::{Items, Shared};
 use std::alloc::{AllocError, Global};
 
-// The children that were seen: what they come to, the first status that isn't `Okay`, and the Why entries of each decision.
+// The children that were seen: what they come to, the first status that isn't `Okay`, and what those of each decision tell.
 #[derive(Drop)]
 pub(crate) struct Gathering {
     pub(crate) combiner: Combiner,
     pub(crate) status: Option<Status>,
-    pub(crate) permitted: Items<WhyEntry>,
-    pub(crate) denied: Items<WhyEntry>,
+    pub(crate) permitted: Told,
+    pub(crate) denied: Told,
 }
 
 // No children.
@@ -26,8 +28,8 @@ pub(crate) fn gather(alloc: Global, algorithm: RuleAlg) -> Gathering
     Gathering {
         combiner: Combiner::new(algorithm),
         status: None,
-        permitted: Items::new(alloc),
-        denied: Items::new(alloc),
+        permitted: Told::nothing(alloc),
+        denied: Told::nothing(alloc),
     }
 }
 
@@ -41,44 +43,49 @@ impl Gathering {
             decision,
             status,
             why,
+            obligations,
+            advice,
         } = answer;
+        let told = Told {
+            any: true,
+            why,
+            obligations,
+            advice,
+        };
         self.status = status_after(self.status, decision, status);
         let progress = self.combiner.take(decision);
         match decision {
             Outcome::Permit => {
-                self.permitted.append(why)?;
+                self.permitted.add(told)?;
                 Ok(progress)
             }
             Outcome::Deny => {
-                self.denied.append(why)?;
+                self.denied.add(told)?;
                 Ok(progress)
             }
             _ => Ok(progress),
         }
     }
 
-    // What the children come to.
-    pub(crate) fn finish(self, alloc: Global) -> Answer
-        ensures { (algorithm : _) (answers : List Answer) → HasGathered algorithm self answers → result ≡ judged_by algorithm answers }
+    // What the children of the element at the end of the path come to.
+    pub(crate) fn finish(
+        self,
+        alloc: Global,
+        here: &Shared<Items<DocKey>>,
+        algorithm: RuleAlg,
+    ) -> Result<Answer, AllocError>
+        ensures { IfOk result (λ a. (answers : List Answer) → HasGathered algorithm self answers → a ≡ judged_by here.now algorithm answers) }
     {
         let decision = self.combiner.finish();
         match decision {
-            Outcome::Permit => Answer {
-                decision,
-                status: Status::Okay,
-                why: self.permitted,
-            },
-            Outcome::Deny => Answer {
-                decision,
-                status: Status::Okay,
-                why: self.denied,
-            },
-            Outcome::NotApplicable => Answer::not_applicable(alloc),
-            Outcome::Ind(_) => Answer {
-                decision,
-                status: self.status.unwrap_or(Status::ProcessingError),
-                why: Items::new(alloc),
-            },
+            Outcome::Permit => self.permitted.decided(alloc, here, algorithm, decision),
+            Outcome::Deny => self.denied.decided(alloc, here, algorithm, decision),
+            Outcome::NotApplicable => Ok(Answer::not_applicable(alloc)),
+            Outcome::Ind(kind) => Ok(Answer::indeterminate(
+                alloc,
+                kind,
+                self.status.unwrap_or(Status::ProcessingError),
+            )),
         }
     }
 }

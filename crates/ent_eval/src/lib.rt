@@ -2,10 +2,12 @@
 #![tactic(auto)]
 
 mod answer;
+mod assignments;
 mod choose;
 mod evaluated;
 mod expression;
 mod gather;
+mod given;
 mod holds;
 mod key;
 mod law;
@@ -14,6 +16,7 @@ mod node;
 mod only;
 mod own;
 mod own_bag;
+mod own_given;
 mod pdp;
 mod reads;
 mod reference;
@@ -24,10 +27,12 @@ mod scene;
 mod set;
 mod sources;
 mod target;
+mod told;
 mod uncopied;
 mod uris;
 
 pub use answer::{Answer, Status, WhyEntry};
+pub use given::{Assignment, Given};
 pub use key::ReadKey;
 pub use law::{
     a_listed_request_names_three, each_key_is_recorded_once, equal_look_ups_give_equal_answers,

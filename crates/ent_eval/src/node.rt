@@ -2,9 +2,9 @@
 
 ghost use Rattle.std.specs.Prelude.{◌≡◌, IfOk, OnOk, true};
 ghost use Rattle.std.specs.List.{list_all};
-ghost use Rattle.ent_policy.specs.Typing.{policy_is_typed, rule_is_typed};
+ghost use Rattle.ent_policy.specs.Typing.{given_is_typed, policy_is_typed, rule_is_typed};
 ghost use Rattle.ent_eval.specs.Judged.{under_target};
-ghost use Rattle.ent_eval.specs.Node.{children_after, policy_part, policy_rules, rules_combined};
+ghost use Rattle.ent_eval.specs.Node.{policy_after, policy_part, policy_rules, rules_combined};
 ghost use Rattle.ent_eval.specs.Noted.{noted};
 
 use crate::answer::{Answer, Status, path_to};
@@ -35,7 +35,8 @@ impl<L: LookUps> Scene<'_, L> {
         self.policy_after(reads, path, policy, targeted)
     }
 
-    // The rules are evaluated unless the target doesn't match.
+    // The rules are evaluated unless the target doesn't match, and behind them what the policy gives itself, if it matches.
+    #[tactic(auto, using(crate::proofs::Walk::noted_both))]
     fn policy_after(
         &self,
         reads: &mut Reads,
@@ -43,13 +44,17 @@ impl<L: LookUps> Scene<'_, L> {
         policy: &Policy,
         targeted: Targeted,
     ) -> Result<Answer, AllocError>
-        requires { list_all (rule_is_typed policy.now.variables) policy.now.rules ≡ true }
-        ensures value { IfOk result (λ a. a ≡ (children_after (policy_rules (L.looks self.now.held.now) self.now.request.now path.now policy.now) targeted).value) }
-        ensures reads { OnOk result (reads.new ≡ noted reads.old (children_after (policy_rules (L.looks self.now.held.now) self.now.request.now path.now policy.now) targeted).reads) }
+        requires rules { list_all (rule_is_typed policy.now.variables) policy.now.rules ≡ true }
+        requires given { given_is_typed policy.now.variables policy.now.given ≡ true }
+        ensures value { IfOk result (λ a. a ≡ (policy_after (L.looks self.now.held.now) self.now.request.now path.now policy.now targeted).value) }
+        ensures reads { OnOk result (reads.new ≡ noted reads.old (policy_after (L.looks self.now.held.now) self.now.request.now path.now policy.now targeted).reads) }
     {
         match targeted {
             Targeted::NoMatch => Ok(Answer::not_applicable(self.alloc)),
-            Targeted::Match => self.rules_under(reads, path, policy),
+            Targeted::Match => {
+                let answer = self.rules_under(reads, path, policy)?;
+                self.finished(reads, policy.variables.as_slice(), &policy.given, answer)
+            }
             Targeted::Indeterminate(status) => {
                 let answer = self.rules_under(reads, path, policy)?;
                 Ok(under(self.alloc, status, answer.decision))
@@ -96,10 +101,10 @@ impl<L: LookUps> Scene<'_, L> {
         for rule in rules {
             let answer = self.rule(reads, definitions, path, rule)?;
             if let Progress::Stop = gathering.take(answer)? {
-                return Ok(gathering.finish(self.alloc));
+                return gathering.finish(self.alloc, path, algorithm);
             }
         }
-        Ok(gathering.finish(self.alloc))
+        gathering.finish(self.alloc, path, algorithm)
     }
 }
 
@@ -113,6 +118,8 @@ pub(crate) fn under(alloc: Global, status: Status, decision: Outcome) -> Answer
             decision: under_indeterminate_target(decision),
             status,
             why: Items::new(alloc),
+            obligations: Items::new(alloc),
+            advice: Items::new(alloc),
         },
     }
 }

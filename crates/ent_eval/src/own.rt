@@ -1,7 +1,7 @@
 //! The values that a request itself has for a designator, one after another.
 
-ghost use Rattle.std.specs.Prelude.{◌≡◌, false, option_copied};
-ghost use Rattle.ent_eval.specs.Own.{attributes_in, has_issuer, is_designated, own_values, values_in};
+ghost use Rattle.std.specs.Prelude.{◌≡◌, option_copied};
+ghost use Rattle.ent_eval.specs.Own.{attributes_in, has_issuer, is_designated, own_values, own_values_of, values_in};
 ghost use Rattle.ent_values.specs.Bags.{AllOfType};
 
 use crate::request::{Attribute, Category, Request};
@@ -43,7 +43,7 @@ impl<'a> OwnValues<'a> {
         datatype: DataType,
         issuer: Option<&'a str>,
     ) -> OwnValues<'a>
-        ensures values { values_left result ≡ own_values (record { category = category.now; attribute = attribute.now; datatype = datatype; issuer = option_copied issuer.entry; must_be_present = false }) request.now }
+        ensures values { values_left result ≡ own_values_of category.now attribute.now datatype (option_copied issuer.entry) request.now }
         ensures datatype { result.datatype ≡ datatype }
     {
         OwnValues {

@@ -2,18 +2,19 @@
 
 ghost use Rattle.std.specs.Prelude.{◌≡◌, IfOk, OnOk, Some, true};
 ghost use Rattle.ent_functions.specs.Types.{boolean};
-ghost use Rattle.ent_policy.specs.Typing.{condition_is_typed, rule_is_typed};
+ghost use Rattle.ent_policy.specs.Typing.{condition_is_typed, given_is_typed, rule_is_typed};
 ghost use Rattle.ent_eval.specs.Noted.{noted};
-ghost use Rattle.ent_eval.specs.Rule.{condition_part, decided, decision_of, indeterminate_of, rule_part, rule_under, truth_of};
+ghost use Rattle.ent_eval.specs.Rule.{condition_part, decided, decision_of, rule_part, rule_under, truth_of};
 ghost use Rattle.ent_eval.specs.Typed.{HasType};
 
 use crate::answer::{Answer, Status, WhyEntry};
 use crate::evaluated::{Evaluated, Truth};
 use crate::look_ups::LookUps;
+use crate::own_given::indeterminate_of;
 use crate::reads::Reads;
 use crate::scene::Scene;
 use crate::target::Targeted;
-use ent_combine::{IndKind, Outcome};
+use ent_combine::Outcome;
 use ent_functions::Arg;
 use ent_policy::{DocKey, Effect, Expression, Rule, VariableDefinition};
 use ent_values::{Items, Shared, Value};
@@ -37,7 +38,8 @@ impl<L: LookUps> Scene<'_, L> {
         self.rule_after(reads, definitions, path, rule, targeted)
     }
 
-    // The condition is evaluated where the target matches.
+    // The condition is evaluated where the target matches, and behind it what the rule gives itself.
+    #[tactic(auto, using(crate::proofs::Walk::noted_both))]
     fn rule_after(
         &self,
         reads: &mut Reads,
@@ -46,7 +48,8 @@ impl<L: LookUps> Scene<'_, L> {
         rule: &Rule,
         targeted: Targeted,
     ) -> Result<Answer, AllocError>
-        requires { condition_is_typed definitions.now rule.now.condition ≡ true }
+        requires condition { condition_is_typed definitions.now rule.now.condition ≡ true }
+        requires given { given_is_typed definitions.now rule.now.given ≡ true }
         ensures value { IfOk result (λ a. a ≡ (rule_under (L.looks self.now.held.now) self.now.request.now definitions.now path.now rule.now targeted).value) }
         ensures reads { OnOk result (reads.new ≡ noted reads.old (rule_under (L.looks self.now.held.now) self.now.request.now definitions.now path.now rule.now targeted).reads) }
     {
@@ -57,7 +60,8 @@ impl<L: LookUps> Scene<'_, L> {
             }
             Targeted::Match => {
                 let truth = self.condition(reads, definitions, &rule.condition)?;
-                decide(self.alloc, path, rule, truth)
+                let answer = decide(self.alloc, path, rule, truth)?;
+                self.finished(reads, definitions, &rule.given, answer)
             }
         }
     }
@@ -112,6 +116,8 @@ fn decide(
             decision: Outcome::Ind(indeterminate_of(rule.effect)),
             status,
             why: Items::new(alloc),
+            obligations: Items::new(alloc),
+            advice: Items::new(alloc),
         }),
         Truth::True => {
             let entry = WhyEntry {
@@ -122,17 +128,10 @@ fn decide(
                 decision: decision_of(rule.effect),
                 status: Status::Okay,
                 why: Items::of_one(alloc, entry)?,
+                obligations: Items::new(alloc),
+                advice: Items::new(alloc),
             })
         }
-    }
-}
-
-fn indeterminate_of(effect: Effect) -> IndKind
-    ensures { result ≡ indeterminate_of effect }
-{
-    match effect {
-        Effect::Permit => IndKind::P,
-        Effect::Deny => IndKind::D,
     }
 }
 

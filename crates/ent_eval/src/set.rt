@@ -1,10 +1,10 @@
 //! What a policy set comes to.
 
-ghost use Rattle.std.specs.Prelude.{◌≡◌, ◌≤◌, IfOk, OnOk, length, map, true};
+ghost use Rattle.std.specs.Prelude.{◌≡◌, ◌≤◌, [], IfOk, OnOk, length, map, true};
 ghost use Rattle.std.specs.List.{list_all};
 ghost use Rattle.ent_eval.specs.Typed.{is_fit, set_is_fit};
-ghost use Rattle.ent_eval.specs.Hops.{child_part, children_combined, only_child, set_children, set_part};
-ghost use Rattle.ent_eval.specs.Node.{children_after};
+ghost use Rattle.ent_eval.specs.Hops.{child_part, children_combined, only_child, set_after, set_children, set_part};
+ghost use Rattle.ent_policy.specs.Typing.{given_is_typed};
 ghost use Rattle.ent_eval.specs.Noted.{noted};
 ghost use Rattle.ent_eval.specs.Only.{chosen_part};
 
@@ -18,6 +18,7 @@ use crate::scene::Scene;
 use crate::target::Targeted;
 use ent_combine::{PolicyAlg, Progress, RuleAlg};
 use ent_policy::{Child, DocKey, Kind, PolicySet};
+use ent_values::{Items, Shared};
 use std::alloc::AllocError;
 
 impl<L: LookUps> Scene<'_, L> {
@@ -59,8 +60,9 @@ impl<L: LookUps> Scene<'_, L> {
         self.set_after(reads, hops, path, set, targeted)
     }
 
-    // The children are evaluated unless the target doesn't match.
+    // The children are evaluated unless the target doesn't match, and behind them what the set gives itself, if it matches.
     #[cycle(child)]
+    #[tactic(auto, using(crate::proofs::Walk::noted_both))]
     fn set_after(
         &self,
         reads: &mut Reads,
@@ -71,12 +73,16 @@ impl<L: LookUps> Scene<'_, L> {
     ) -> Result<Answer, AllocError>
         requires fit { list_all is_fit set.now.children ≡ true }
         requires room { length set.now.children ≤ 256 }
-        ensures value { IfOk result (λ a. a ≡ (children_after (set_children (L.looks self.now.held.now) self.now.request.now hops path.now set.now) targeted).value) }
-        ensures reads { OnOk result (reads.new ≡ noted reads.old (children_after (set_children (L.looks self.now.held.now) self.now.request.now hops path.now set.now) targeted).reads) }
+        requires given { given_is_typed [] set.now.given ≡ true }
+        ensures value { IfOk result (λ a. a ≡ (set_after (L.looks self.now.held.now) self.now.request.now hops path.now set.now targeted).value) }
+        ensures reads { OnOk result (reads.new ≡ noted reads.old (set_after (L.looks self.now.held.now) self.now.request.now hops path.now set.now targeted).reads) }
     {
         match targeted {
             Targeted::NoMatch => Ok(Answer::not_applicable(self.alloc)),
-            Targeted::Match => self.children_under(reads, hops, path, set),
+            Targeted::Match => {
+                let answer = self.children_under(reads, hops, path, set)?;
+                self.finished(reads, &[], &set.given, answer)
+            }
             Targeted::Indeterminate(status) => {
                 let answer = self.children_under(reads, hops, path, set)?;
                 Ok(under(self.alloc, status, answer.decision))
@@ -99,18 +105,19 @@ impl<L: LookUps> Scene<'_, L> {
         ensures reads { OnOk result (reads.new ≡ noted reads.old (set_children (L.looks self.now.held.now) self.now.request.now hops path.now set.now).reads) }
     {
         let here = path_to(self.alloc, path, Kind::PolicySet, &set.id, &set.version)?;
+        let here = Shared::new(self.alloc, here)?;
         match set.algorithm {
             PolicyAlg::Shared(algorithm) => self.children(
                 reads,
                 hops,
-                here.as_slice(),
+                &here,
                 algorithm,
                 set.children.as_slice(),
             ),
             PolicyAlg::OnlyOne => self.only_one(
                 reads,
                 hops,
-                here.as_slice(),
+                here.get().as_slice(),
                 set.children.as_slice(),
             ),
         }
@@ -122,7 +129,7 @@ impl<L: LookUps> Scene<'_, L> {
         &self,
         reads: &mut Reads,
         hops: usize,
-        path: &[DocKey],
+        path: &Shared<Items<DocKey>>,
         algorithm: RuleAlg,
         children: &[Child],
     ) -> Result<Answer, AllocError>
@@ -132,12 +139,12 @@ impl<L: LookUps> Scene<'_, L> {
     {
         let mut gathering = gather(self.alloc, algorithm);
         for child in children {
-            let answer = self.child(reads, hops, path, child)?;
+            let answer = self.child(reads, hops, path.get().as_slice(), child)?;
             if let Progress::Stop = gathering.take(answer)? {
-                return Ok(gathering.finish(self.alloc));
+                return gathering.finish(self.alloc, path, algorithm);
             }
         }
-        Ok(gathering.finish(self.alloc))
+        gathering.finish(self.alloc, path, algorithm)
     }
 
     // The only child that applies.

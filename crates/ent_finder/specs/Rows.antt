@@ -1,5 +1,5 @@
 -- What a module of attributes has: the categories that it supports, and its rows by key.
-use Rattle.std.specs.Prelude.{ℕ, List, [], ◌∷◌, Bool, true, false, bytes_eq, refl, slice_index_or, unwrap_or}
+use Rattle.std.specs.Prelude.{ℕ, List, [], ◌∷◌, Bool, true, false, bytes_eq, refl, slice_index_or, slice_set, unwrap_or}
 use Rattle.std.specs.Cmp.{IsTotalOrder}
 use Rattle.std.specs.Coded.{Coded, code_by, coded×, coded_list, coded_ℕ}
 use Rattle.std.specs.FinMap.{FinMap, code, empty, entries, from_entries, get, insert, remove}
@@ -56,6 +56,10 @@ supports category source = list_any (bytes_eq category) source.categories
 -- the module of that number, counted from 0
 abbrev pub source_at : List Source → ℕ → Source
 source_at sources number = slice_index_or sources number (record { categories = []; rows = empty })
+
+-- the modules with these values in the row of a key in one of them, which is there also where they are none
+abbrev pub with_row_in : List Source → ℕ → RowKey → List Value → List Source
+with_row_in sources number key values = slice_set sources number (record (source_at sources number) { rows = insert (source_at sources number).rows key values })
 
 -- a module without its empty rows
 abbrev pub filled_source : Source → Source

@@ -1,12 +1,12 @@
 //! What the layers above need of where values of attributes are held.
 
-ghost use Rattle.std.specs.Prelude.{◌≡◌, ◌<◌, ◌≤◌, List, [], None, OnErr, OnOk, length, map, slice_get, slice_set};
+ghost use Rattle.std.specs.Prelude.{◌≡◌, ◌<◌, ◌≤◌, List, [], None, OnErr, OnOk, length, map, slice_get};
 ghost use Rattle.std.specs.FinMap as finmap;
 ghost use Rattle.std.specs.Option.{option_copied, option_map};
 ghost use Rattle.ent_values.specs.Bags.{AllOfType};
 ghost use Rattle.ent_finder.specs.Looking.{looked};
 ghost use Rattle.ent_finder.specs.RowEntry.{row_entry};
-ghost use Rattle.ent_finder.specs.Rows.{Source, filled_source, source_at, supports, values_at};
+ghost use Rattle.ent_finder.specs.Rows.{Source, filled_source, source_at, supports, values_at, with_row_in};
 
 use crate::row::{AttrKey, Row, RowKey};
 use ent_values::{Bag, Items, Value};
@@ -44,7 +44,7 @@ pub trait Attributes: Drop {
     ) -> Result<(), AllocError>
         requires number { number < length (sources self.old) }
         requires types { AllOfType key.now.datatype values.old }
-        ensures swapped { OnOk result (sources self.new ≡ slice_set (sources self.old) number (record (source_at (sources self.old) number) { rows = finmap.insert (source_at (sources self.old) number).rows key.now values.old })) }
+        ensures swapped { OnOk result (sources self.new ≡ with_row_in (sources self.old) number key.now values.old) }
         ensures taken { OnOk result (values.new ≡ values_at (source_at (sources self.old) number).rows key.now) }
 
         // What comes out has the key's type too.

@@ -23,3 +23,8 @@ joined old x y a b first second = second ∙ ap (λ s. s ++ b) first ∙ append_
 pub ends : {A E : Type 0} (r : Result (Unit {0}) E) (old x y a b : List A) → x ≡ old ++ a → OnOk r (y ≡ x ++ b) → OnOk r (y ≡ old ++ (a ++ b))
 ends (Ok u) old x y a b first second = joined old x y a b first second
 ends (Err e) old x y a b first second = second
+
+-- the same where what was appended is also said otherwise
+pub ends_as : {A E : Type 0} (r : Result (Unit {0}) E) (old x y a b whole : List A) → a ++ b ≡ whole → x ≡ old ++ a → OnOk r (y ≡ x ++ b) → OnOk r (y ≡ old ++ whole)
+ends_as (Ok u) old x y a b whole is first second = joined old x y a b first second ∙ ap (λ s. old ++ s) is
+ends_as (Err e) old x y a b whole is first second = second

@@ -42,6 +42,20 @@ pub data Command : Type 0 where
   table : Command
   -- asks for one cell
   cell : Triple → Command
+  -- asks for the answer to a request
+  ask : Data → Command
+  -- asks how many cells have each decision
+  counts : Command
+  -- asks what a person can do
+  can : List ℕ → Command
+  -- asks who can do an action to a resource
+  who : List ℕ → List ℕ → Command
+  -- asks which cells a rule of a policy decides, or without a rule the default of a policy or a set
+  by_rule : List ℕ → Option (List ℕ) → Command
+  -- marks the present table
+  mark : Command
+  -- asks what changed since the mark
+  notices : Command
 
 -- ---- keys and their values
 
@@ -53,16 +67,16 @@ part o = need 3 o
 abbrev pub keyed : {A : Type 0} → List (List ℕ) → Data → Result A ℕ → Result A ℕ
 keyed keys d r = must 3 (has_only keys d) r
 
--- whether a whole number is one of the sixteen sessions
-abbrev pub is_session : json.Num → Option Bool
-is_session (json.unsigned n) = Some (nat_lt n 16)
-is_session (json.negative z) = Some false
-is_session (json.float x) = None
+-- the session that a whole number names. None of the sixteen has the number 16, for which each negative number stands
+abbrev pub session_number : json.Num → Option ℕ
+session_number (json.unsigned n) = Some n
+session_number (json.negative z) = Some 16
+session_number (json.float x) = None
 
 -- the same of what stands at the key `session`; the absent session is 0
-abbrev pub has_session : Option Data → Option Bool
-has_session None = Some true
-has_session (Some d) = option_and_then is_session (as_number d)
+abbrev pub session_of : Option Data → Option ℕ
+session_of None = Some 0
+session_of (Some d) = option_and_then session_number (as_number d)
 
 -- the module that a whole number names. No module has the greatest number, for which each negative number stands
 abbrev pub module_number : json.Num → Option ℕ
@@ -171,6 +185,12 @@ root_command d = keyed (codes "do" ∷ codes "reference" ∷ codes "session" ∷
   reference ← part (get (codes "reference") d)
   Ok (set_root reference))
 
+-- a request
+unfoldable pub ask_command : Data → Result Command ℕ
+ask_command d = keyed (codes "do" ∷ codes "request" ∷ codes "session" ∷ []) d (do
+  request ← part (get (codes "request") d)
+  Ok (ask request))
+
 -- no more than the command itself
 unfoldable pub table_command : Data → Result Command ℕ
 table_command d = keyed (codes "do" ∷ codes "session" ∷ []) d (Ok table)
@@ -182,6 +202,38 @@ cell_command d = keyed (codes "action" ∷ codes "do" ∷ codes "person" ∷ cod
   action ← part (text_at (codes "action") d)
   resource ← part (text_at (codes "resource") d)
   Ok (cell (triple_of person action resource)))
+
+-- no more than the command itself
+unfoldable pub counts_command : Data → Result Command ℕ
+counts_command d = keyed (codes "do" ∷ codes "session" ∷ []) d (Ok counts)
+
+-- a person
+unfoldable pub can_command : Data → Result Command ℕ
+can_command d = keyed (codes "do" ∷ codes "person" ∷ codes "session" ∷ []) d (do
+  person ← part (text_at (codes "person") d)
+  Ok (can person))
+
+-- an action and a resource
+unfoldable pub who_command : Data → Result Command ℕ
+who_command d = keyed (codes "action" ∷ codes "do" ∷ codes "resource" ∷ codes "session" ∷ []) d (do
+  action ← part (text_at (codes "action") d)
+  resource ← part (text_at (codes "resource") d)
+  Ok (who action resource))
+
+-- a policy's id, and a rule's id, or null for a default
+unfoldable pub by_rule_command : Data → Result Command ℕ
+by_rule_command d = keyed (codes "do" ∷ codes "policy" ∷ codes "rule" ∷ codes "session" ∷ []) d (do
+  policy ← part (text_at (codes "policy") d)
+  rule ← part (option_and_then text_or_null (get (codes "rule") d))
+  Ok (by_rule policy rule))
+
+-- no more than the command itself
+unfoldable pub mark_command : Data → Result Command ℕ
+mark_command d = keyed (codes "do" ∷ codes "session" ∷ []) d (Ok mark)
+
+-- no more than the command itself
+unfoldable pub notices_command : Data → Result Command ℕ
+notices_command d = keyed (codes "do" ∷ codes "session" ∷ []) d (Ok notices)
 
 -- what the edit of that name asks for, which adds a name
 unfoldable pub adding_named : List ℕ → Data → Option (Result Command ℕ)
@@ -219,12 +271,33 @@ policy_named name d =
     else (if bytes_eq name (codes "policy.withdraw") then Some (withdraw_command d)
     else None))
 
--- what the report of that name asks for
+-- what the report of cells, or the ask, of that name asks for
 unfoldable pub report_named : List ℕ → Data → Option (Result Command ℕ)
 report_named name d =
     if bytes_eq name (codes "table") then Some (table_command d)
     else (if bytes_eq name (codes "cell") then Some (cell_command d)
+    else (if bytes_eq name (codes "ask") then Some (ask_command d)
+    else None))
+
+-- what the report of decisions of that name asks for
+unfoldable pub decided_named : List ℕ → Data → Option (Result Command ℕ)
+decided_named name d =
+    if bytes_eq name (codes "counts") then Some (counts_command d)
+    else (if bytes_eq name (codes "can") then Some (can_command d)
+    else (if bytes_eq name (codes "who") then Some (who_command d)
+    else (if bytes_eq name (codes "by_rule") then Some (by_rule_command d)
+    else None)))
+
+-- what the command of that name asks for, which is about a session's mark
+unfoldable pub marking_named : List ℕ → Data → Option (Result Command ℕ)
+marking_named name d =
+    if bytes_eq name (codes "mark") then Some (mark_command d)
+    else (if bytes_eq name (codes "notices") then Some (notices_command d)
     else None)
+
+-- what the command of that name asks for, which changes nothing but a mark
+unfoldable pub desk_named : List ℕ → Data → Option (Result Command ℕ)
+desk_named name d = either_of (report_named name d) (either_of (decided_named name d) (marking_named name d))
 
 -- what is there, or else this
 abbrev pub or_else : {A : Type 0} → Option A → A → A
@@ -233,12 +306,12 @@ or_else (Some x) other = x
 
 -- what the command of that name asks for; refusal 4 where none has the name
 unfoldable pub command_of : List ℕ → Data → Result Command ℕ
-command_of name d = or_else (edit_named name d) (or_else (policy_named name d) (or_else (report_named name d) (Err 4)))
+command_of name d = or_else (edit_named name d) (or_else (policy_named name d) (or_else (desk_named name d) (Err 4)))
 
--- what a line asks for, or the first of the refusals 3, 4 and 5 whose condition stands
-unfoldable pub request_of : Data → Result Command ℕ
+-- the session of a line and what it asks for, or the first of the refusals 3, 4 and 5 whose condition stands
+unfoldable pub request_of : Data → Result (ℕ × Command) ℕ
 request_of d = do
   name ← part (text_at (codes "do") d)
-  is_session ← part (has_session (get (codes "session") d))
+  session ← part (session_of (get (codes "session") d))
   command ← command_of name d
-  must 5 is_session (Ok command)
+  must 5 (nat_lt session 16) (Ok (session, command))

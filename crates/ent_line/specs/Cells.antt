@@ -14,6 +14,8 @@ use Rattle.ent_eval.specs.declared.answer.Answer.{Answer}
 use Rattle.ent_eval.specs.declared.answer.Status.{Status}
 use Rattle.ent_eval.specs.declared.answer.Status.TheVariants as status
 use Rattle.ent_eval.specs.declared.answer.WhyEntry.{WhyEntry}
+use Rattle.ent_eval.specs.declared.request.Request.{Request}
+use Rattle.ent_profile.specs.Response.{given_written, response}
 use Rattle.ent_table.specs.Names.{Triple}
 
 -- ---- words
@@ -55,9 +57,9 @@ entry_data entry = json.object (
 abbrev pub cell_data : Triple × Answer → Data
 cell_data c = json.object (
     json.member (codes "action") (json.string c.0.action)
-    (json.member (codes "advice") (json.array json.no_items)
+    (json.member (codes "advice") (json.array (items_of (map given_written c.1.advice)))
     (json.member (codes "decision") (json.string (decision_text c.1.decision))
-    (json.member (codes "obligations") (json.array json.no_items)
+    (json.member (codes "obligations") (json.array (items_of (map given_written c.1.obligations)))
     (json.member (codes "person") (json.string c.0.person)
     (json.member (codes "resource") (json.string c.0.resource)
     (json.member (codes "status") (json.string (status_text c.1.status))
@@ -81,3 +83,7 @@ one_cell_text c = compact_text (one_cell_data c)
 -- the text of the reply to `table`
 unfoldable pub table_text : List (Triple × Answer) → List ℕ
 table_text cells = compact_text (table_data cells)
+
+-- the text of the response to a request
+unfoldable pub response_text : Answer → Request → List ℕ
+response_text answer request = compact_text (response answer request)

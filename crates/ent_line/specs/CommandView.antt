@@ -7,7 +7,7 @@ use Rattle.serde_json.specs.View.{items_view, view}
 use Rattle.ent_line.specs.Asked as asked
 use Rattle.ent_line.specs.declared.attribute_command.AskedRow.{AskedRow}
 use Rattle.ent_line.specs.declared.command.Command.{Command}
-use Rattle.ent_line.specs.declared.command.Command.TheVariants.{AddName, DropName, AddPolicy, ReplacePolicy, WithdrawPolicy, SetAttribute, SetRoot, SetDay, Table, Cell}
+use Rattle.ent_line.specs.declared.command.Command.TheVariants.{AddName, DropName, AddPolicy, ReplacePolicy, WithdrawPolicy, SetAttribute, SetRoot, SetDay, Table, Cell, Ask, Counts, Can, Who, ByRule, Mark, Notices}
 use Rattle.ent_table.specs.Names.{triple_of}
 
 -- a row without where its parts lie in memory
@@ -33,11 +33,23 @@ command_view (SetRoot reference) = asked.set_root (view reference.now)
 command_view (SetDay day) = asked.set_day (option_copied day)
 command_view Table = asked.table
 command_view (Cell person action resource) = asked.cell (triple_of person.now action.now resource.now)
+command_view (Ask request) = asked.ask (view request.now)
+command_view Counts = asked.counts
+command_view (Can person) = asked.can person.now
+command_view (Who action resource) = asked.who action.now resource.now
+command_view (ByRule policy rule) = asked.by_rule policy.now (option_copied rule)
+command_view Mark = asked.mark
+command_view Notices = asked.notices
 
 -- the same, or a refusal
 abbrev pub asked_view : Result Command ℕ → Result asked.Command ℕ
 asked_view (Ok command) = Ok (command_view command)
 asked_view (Err refusal) = Err refusal
+
+-- a command with its session, or a refusal
+abbrev pub session_view : Result (ℕ × Command) ℕ → Result (ℕ × asked.Command) ℕ
+session_view (Ok x) = Ok (x.0, command_view x.1)
+session_view (Err refusal) = Err refusal
 
 -- a document in a line and the number of its module, or a refusal
 abbrev pub document_view : Result (ℕ × Bor Value) ℕ → Result (ℕ × Data) ℕ

@@ -1,12 +1,15 @@
 pub mod Asked
 pub mod Cells
 pub mod CommandView
+pub mod Headline
 pub mod Lines
 pub mod LongLines
 pub mod Pieces
 pub mod Refusals
 pub mod Replies
+pub mod Reports
 pub mod Runs
 pub mod Serving
+pub mod Sessions
 pub mod Step
 pub mod World

@@ -1,17 +1,17 @@
 -- Lines that are too long are answered alike.
 use Rattle.std.proofs.Common.{◌≡◌, ◌<◌, ℕ, List, length, None, arith, sym, ◌∙◌, inl, inr}
 use Rattle.std.proofs.lemmas.Bool.{lt-ltb}
+use Rattle.ent_report.specs.World.{World}
 use Rattle.ent_line.specs.Lines.{line_limit}
 use Rattle.ent_line.specs.Replies.{refused}
 use Rattle.ent_line.specs.Runs.{LongLinesAlike}
 use Rattle.ent_line.specs.Step.{step, Answers}
-use Rattle.ent_table.specs.State.{State}
 
-too_long : (s : State) (line : List ℕ) → line_limit < length line → step s line ≡ (refused 1 None, s)
+too_long : (w : World) (line : List ℕ) → line_limit < length line → step w line ≡ (refused 1 None, w)
 unfolding step
-too_long s line lt = rw (lt-ltb line_limit (length line) lt)
+too_long w line lt = rw (lt-ltb line_limit (length line) lt)
 
 -- all lines that are too long are answered alike
 pub long_lines_alike : LongLinesAlike Answers
-long_lines_alike s t line other a p q (inl e) = inl (e ∙ too_long s line p ∙ sym (too_long s other q))
-long_lines_alike s t line other a p q (inr h) = absurd (omega (arith, h.2))
+long_lines_alike w v line other a p q (inl e) = inl (e ∙ too_long w line p ∙ sym (too_long w other q))
+long_lines_alike w v line other a p q (inr h) = absurd (omega (arith, h.2))

@@ -9,6 +9,8 @@ pub data Answer : Type 0 where
   accepted : ℕ → ℕ → Answer
   -- the refusal's number, and the sub-code of a document
   refused : ℕ → Option ℕ → Answer
+  -- the serial of a marked table
+  marked : ℕ → Answer
   -- a JSON text
   text : List ℕ → Answer
 
@@ -16,6 +18,7 @@ pub data Answer : Type 0 where
 abbrev pub reply_view : Reply → Answer
 reply_view (replies.Accepted a) = accepted a.changes a.serial
 reply_view (replies.Refused code sub) = refused code sub
+reply_view (replies.Marked serial) = marked serial
 reply_view (replies.Text s) = text (string_bytes s)
 
 -- the line of an answer, its newline included: compact JSON, the keys in byte order
@@ -23,4 +26,5 @@ abbrev pub line_of : Answer → List ℕ
 line_of (accepted changes serial) = codes "{\"changes\":" ++ (decimal changes ++ (codes ",\"serial\":" ++ (decimal serial ++ codes "}\n")))
 line_of (refused code None) = codes "{\"refused\":" ++ (decimal code ++ codes "}\n")
 line_of (refused code (Some sub)) = codes "{\"refused\":" ++ (decimal code ++ (codes ",\"sub\":" ++ (decimal sub ++ codes "}\n")))
+line_of (marked serial) = codes "{\"mark\":" ++ (decimal serial ++ codes "}\n")
 line_of (text s) = s ++ codes "\n"

@@ -96,7 +96,7 @@ pub(crate) fn attribute_command(object: &Value) -> Result<Command<'_>, u8>
 }
 
 /// A text, or null for none.
-fn text_or_null(value: &Value) -> Option<Option<&str>>
+pub(crate) fn text_or_null(value: &Value) -> Option<Option<&str>>
     ensures { option_map (λ t. option_copied t) result ≡ text_or_null (view value.now) }
 {
     match value {

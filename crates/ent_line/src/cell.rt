@@ -5,20 +5,22 @@ ghost use Rattle.json.specs.Token as token;
 ghost use Rattle.serde_json.specs.Data as json;
 ghost use Rattle.serde_json.specs.View.{items_of};
 ghost use Rattle.ent_polform.specs.Text.{items_tokens_of, tokens_of};
+ghost use Rattle.ent_profile.specs.Response.{given_written};
 ghost use Rattle.ent_table.specs.Left.{cells_left};
 ghost use Rattle.ent_table.specs.Names.{triple_of};
-ghost use Rattle.ent_line.specs.Cells.{cell_data, decision_text, entry_data, key_data, one_cell_data, one_cell_text, rule_data, status_text, table_data, table_text};
+ghost use Rattle.ent_line.specs.Cells.{cell_data, decision_text, entry_data, key_data, one_cell_data, one_cell_text, response_text, rule_data, status_text, table_data, table_text};
 
 use ent_combine::{IndKind, Outcome};
-use ent_eval::{Answer, Status, WhyEntry};
+use ent_eval::{Answer, Given, Request, Status, WhyEntry};
 use ent_polform::JsonText;
 use ent_policy::DocKey;
+use ent_profile::{write_given_text, write_response_text};
 use ent_table::Cells;
 use ent_values::Text;
 use std::alloc::{AllocError, Global};
 
 /// The word of a decision.
-fn decision_text(decision: Outcome) -> &'static str
+pub(crate) fn decision_text(decision: Outcome) -> &'static str
     ensures { result.now ≡ decision_text decision }
 {
     match decision {
@@ -112,16 +114,8 @@ fn write_why(alloc: Global, out: &mut JsonText, why: &[WhyEntry]) -> Result<(), 
     write_entries(alloc, out, why)
 }
 
-/// Writes the empty list.
-fn write_no_items(out: &mut JsonText) -> Result<(), AllocError>
-    ensures { OnOk result (out.new ≡ out.old ++ tokens_of (json.array json.no_items)) }
-{
-    out.begin_array()?;
-    out.end_array()
-}
-
 /// Writes a text at a key.
-fn write_text(out: &mut JsonText, key: &str, text: &str) -> Result<(), AllocError>
+pub(crate) fn write_text(out: &mut JsonText, key: &str, text: &str) -> Result<(), AllocError>
     ensures { OnOk result (out.new ≡ out.old ++ token.key key.now ∷ token.string text.now ∷ []) }
 {
     out.key(key)?;
@@ -143,24 +137,34 @@ fn write_status(out: &mut JsonText, status: Status) -> Result<(), AllocError>
 }
 
 /// Begins a cell: its action and its advice.
-fn write_action(out: &mut JsonText, action: &str) -> Result<(), AllocError>
+fn write_action(
+    alloc: Global,
+    out: &mut JsonText,
+    action: &str,
+    advice: &[Given],
+) -> Result<(), AllocError>
     ensures { OnOk result (out.new ≡ out.old ++ token.begin_object ∷ token.key (codes "action") ∷ token.string action.now
-        ∷ token.key (codes "advice") ∷ token.begin_array ∷ token.end_array ∷ []) }
+        ∷ token.key (codes "advice") ∷ tokens_of (json.array (items_of (map given_written advice.now)))) }
 {
     out.begin_object()?;
     write_text(out, "action", action)?;
     out.key("advice")?;
-    write_no_items(out)
+    write_given_text(alloc, out, advice)
 }
 
 /// Goes on with the decision of a cell and its obligations.
-fn write_decided(out: &mut JsonText, decision: Outcome) -> Result<(), AllocError>
+fn write_decided(
+    alloc: Global,
+    out: &mut JsonText,
+    decision: Outcome,
+    obligations: &[Given],
+) -> Result<(), AllocError>
     ensures { OnOk result (out.new ≡ out.old ++ token.key (codes "decision") ∷ token.string (decision_text decision)
-        ∷ token.key (codes "obligations") ∷ token.begin_array ∷ token.end_array ∷ []) }
+        ∷ token.key (codes "obligations") ∷ tokens_of (json.array (items_of (map given_written obligations.now)))) }
 {
     write_decision(out, decision)?;
     out.key("obligations")?;
-    write_no_items(out)
+    write_given_text(alloc, out, obligations)
 }
 
 /// Goes on with the person and the resource of a cell.
@@ -199,8 +203,8 @@ fn write_cell(
 ) -> Result<(), AllocError>
     ensures { OnOk result (out.new ≡ out.old ++ tokens_of (cell_data (triple_of person.now action.now resource.now, answer.now))) }
 {
-    write_action(out, action)?;
-    write_decided(out, answer.decision)?;
+    write_action(alloc, out, action, answer.advice.as_slice())?;
+    write_decided(alloc, out, answer.decision, answer.obligations.as_slice())?;
     write_names(out, person, resource)?;
     write_reason(alloc, out, answer.status, answer.why.as_slice())
 }
@@ -272,4 +276,16 @@ pub(crate) fn one_cell_text(
     let mut out = JsonText::new(alloc);
     write_one_cell(alloc, &mut out, person, action, resource, answer)?;
     Ok(out.into_string())
+}
+
+/// The text of the response to a request.
+#[tactic(auto, unfolding(crate::specs::Cells::response_text))]
+pub(crate) fn response_text(
+    alloc: Global,
+    answer: &Answer,
+    request: &Request,
+) -> Result<String, AllocError>
+    ensures { IfOk result (λ s. string_bytes s ≡ response_text answer.now request.now) }
+{
+    write_response_text(alloc, answer, request)
 }

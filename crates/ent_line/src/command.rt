@@ -1,20 +1,21 @@
 //! What a line asks for.
 
-ghost use Rattle.std.specs.Prelude.{◌≡◌, codes, option_map};
+ghost use Rattle.std.specs.Prelude.{◌≡◌, ◌<◌, IfOk, codes, option_map};
 ghost use Rattle.serde_json.specs.Find.{get};
 ghost use Rattle.serde_json.specs.View.{view};
-ghost use Rattle.ent_line.specs.Asked.{add_command, add_name_command, adding_named, cell_command, command_of, document_for, drop_name_command, dropping_named, edit_named, has_session, kind_named, module_of, name_for, policy_named, replace_command, report_named, request_of, root_command, setting_named, table_command, withdraw_command};
-ghost use Rattle.ent_line.specs.CommandView.{asked_view, document_view, name_view};
+ghost use Rattle.ent_line.specs.Asked.{add_command, add_name_command, adding_named, ask_command, cell_command, command_of, desk_named, document_for};
+ghost use Rattle.ent_line.specs.Asked.{drop_name_command, dropping_named, edit_named, kind_named, module_of, name_for, policy_named, replace_command};
+ghost use Rattle.ent_line.specs.Asked.{report_named, request_of, root_command, session_of, setting_named, table_command, withdraw_command};
+ghost use Rattle.ent_line.specs.CommandView.{asked_view, document_view, name_view, session_view};
 
 use crate::attribute_command::{AskedRow, attribute_command, day_command};
 use crate::refusal::{SHAPE, UNKNOWN_COMMAND, UNKNOWN_SESSION};
+use crate::report_command::{decided_named, marking_named};
 use ent_polform::{has_only, text_at};
 use ent_policy::Kind;
+use ent_report::SESSIONS;
 use ent_table::List;
 use serde_json::Value;
-
-/// How many sessions there are.
-const SESSIONS: u64 = 16;
 
 /// What a line asks for. Its texts and values stay where they are in the line's JSON.
 #[derive(Clone, Copy)]
@@ -39,19 +40,34 @@ pub(crate) enum Command<'a> {
     Table,
     /// Asks for the cell of a person, an action and a resource.
     Cell(&'a str, &'a str, &'a str),
+    /// Asks for the answer to a request.
+    Ask(&'a Value),
+    /// Asks how many cells have each decision.
+    Counts,
+    /// Asks what a person can do.
+    Can(&'a str),
+    /// Asks who can do an action to a resource.
+    Who(&'a str, &'a str),
+    /// Asks which cells a rule of a policy decides, or without a rule the default of a policy or a set.
+    ByRule(&'a str, Option<&'a str>),
+    /// Marks the present table.
+    Mark,
+    /// Asks what changed since the mark.
+    Notices,
 }
 
-/// Whether the session is one of the sixteen. `None` if it is no whole number.
-fn has_session(object: &Value) -> Option<bool>
-    ensures { result ≡ has_session (get (codes "session") (view object.now)) }
+/// The number of the session, 0 if the key is absent. `None` if it is no whole number. A negative number is none of the
+/// sixteen, and neither is 16, which stands for it.
+fn session_number(object: &Value) -> Option<u64>
+    ensures { result ≡ session_of (get (codes "session") (view object.now)) }
 {
     match object.get("session") {
-        None => Some(true),
+        None => Some(0),
         Some(value) => {
             if let Some(number) = value.as_u64() {
-                return Some(number < SESSIONS);
+                return Some(number);
             }
-            if value.is_i64() { Some(false) } else { None }
+            if value.is_i64() { Some(16) } else { None }
         }
     }
 }
@@ -205,6 +221,18 @@ fn cell_command(object: &Value) -> Result<Command<'_>, u8>
     Ok(Command::Cell(person, action, resource))
 }
 
+/// `ask`.
+#[tactic(auto, unfolding(crate::specs::Asked::ask_command))]
+fn ask_command(object: &Value) -> Result<Command<'_>, u8>
+    ensures { asked_view result ≡ ask_command (view object.now) }
+{
+    if !has_only(object, &["do", "request", "session"]) {
+        return Err(SHAPE);
+    }
+    let request = object.get("request").ok_or(SHAPE)?;
+    Ok(Command::Ask(request))
+}
+
 /// The edit of that name that adds a name.
 #[tactic(auto, unfolding(crate::specs::Asked::adding_named))]
 fn adding_named<'a>(name: &str, object: &'a Value) -> Option<Result<Command<'a>, u8>>
@@ -287,7 +315,7 @@ fn policy_named<'a>(name: &str, object: &'a Value) -> Option<Result<Command<'a>,
     None
 }
 
-/// The report of that name.
+/// The report of cells, or the ask, of that name.
 #[tactic(auto, unfolding(crate::specs::Asked::report_named))]
 fn report_named<'a>(name: &str, object: &'a Value) -> Option<Result<Command<'a>, u8>>
     ensures { option_map asked_view result ≡ report_named name.now (view object.now) }
@@ -298,7 +326,24 @@ fn report_named<'a>(name: &str, object: &'a Value) -> Option<Result<Command<'a>,
     if name == "cell" {
         return Some(cell_command(object));
     }
+    if name == "ask" {
+        return Some(ask_command(object));
+    }
     None
+}
+
+/// The command of that name that changes nothing but a mark.
+#[tactic(auto, unfolding(crate::specs::Asked::desk_named))]
+fn desk_named<'a>(name: &str, object: &'a Value) -> Option<Result<Command<'a>, u8>>
+    ensures { option_map asked_view result ≡ desk_named name.now (view object.now) }
+{
+    if let Some(report) = report_named(name, object) {
+        return Some(report);
+    }
+    if let Some(report) = decided_named(name, object) {
+        return Some(report);
+    }
+    marking_named(name, object)
 }
 
 /// The command of that name.
@@ -312,23 +357,24 @@ fn command_named<'a>(name: &str, object: &'a Value) -> Result<Command<'a>, u8>
     if let Some(edit) = policy_named(name, object) {
         return edit;
     }
-    if let Some(report) = report_named(name, object) {
-        return report;
+    if let Some(command) = desk_named(name, object) {
+        return command;
     }
     Err(UNKNOWN_COMMAND)
 }
 
-/// What a line asks for, or the number of its refusal: its shape is wrong, no command has the name, or the session isn't one
+/// The session of a line and what it asks for, or the number of its refusal: its shape is wrong, no command has the name, or the session isn't one
 /// of the sixteen, the first of them that stands.
 #[tactic(auto, unfolding(crate::specs::Asked::request_of))]
-pub(crate) fn request(object: &Value) -> Result<Command<'_>, u8>
-    ensures { asked_view result ≡ request_of (view object.now) }
+pub(crate) fn request(object: &Value) -> Result<(u8, Command<'_>), u8>
+    ensures asked { session_view result ≡ request_of (view object.now) }
+    ensures session { IfOk result (λ x. x.0 < 16) }
 {
     let name = text_at(object, "do").ok_or(SHAPE)?;
-    let is_session = has_session(object).ok_or(SHAPE)?;
+    let session = session_number(object).ok_or(SHAPE)?;
     let command = command_named(name, object)?;
-    if is_session {
-        Ok(command)
+    if session < SESSIONS as u64 {
+        Ok((session as u8, command))
     } else {
         Err(UNKNOWN_SESSION)
     }

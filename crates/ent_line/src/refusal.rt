@@ -40,8 +40,14 @@ pub const RESERVED: u8 = 10;
 /// A value that can't be used.
 pub const BAD_VALUE: u8 = 11;
 
+/// The session has no mark.
+pub const NO_MARK: u8 = 12;
+
 /// No module has the number.
 pub const UNKNOWN_MODULE: u8 = 13;
+
+/// What is asked is no request.
+pub const REQUEST: u8 = 14;
 
 /// Memory is wanting.
 pub const NO_MEMORY: u8 = 15;

@@ -2,7 +2,7 @@
 
 ghost use Rattle.std.specs.Prelude.{◌≡◌, Result, Some, None};
 ghost use Rattle.ent_line.specs.Pieces.{Sends};
-ghost use Rattle.ent_line.specs.Replies.{accepted, refused, reply_view, line_of};
+ghost use Rattle.ent_line.specs.Replies.{accepted, marked, refused, reply_view, line_of};
 
 use crate::fault::ServeFault;
 use crate::output::send_all;
@@ -17,6 +17,8 @@ pub enum Reply {
     Accepted(Accepted),
     /// The refusal's number, and for a document its sub-code, written as `{"refused":n}` or `{"refused":n,"sub":n}`.
     Refused(u8, Option<u8>),
+    /// The number of edits before a mark, written as `{"mark":n}`.
+    Marked(u64),
     /// A JSON text, written as it is.
     Text(String),
 }
@@ -60,6 +62,17 @@ fn send_sub<W: Write>(writer: &mut W, code: u8, sub: u8) -> Result<(), ServeFaul
     send_all(writer, &[start, code_text, middle, sub_text, end])
 }
 
+/// Writes the line of a mark.
+fn send_marked<W: Write>(writer: &mut W, serial: u64) -> Result<(), ServeFault>
+    ensures { Sends (W.contents writer.old) (W.contents writer.new) (line_of (marked serial)) result }
+{
+    let mut first = Buffer::new();
+    let start = "{\"mark\":".as_bytes();
+    let serial_text = first.format(serial).as_bytes();
+    let end = "}\n".as_bytes();
+    send_all(writer, &[start, serial_text, end])
+}
+
 /// Writes the reply's line with its newline, or a front of it where the writer fails. Takes no memory.
 pub(crate) fn send_reply<W: Write>(writer: &mut W, reply: &Reply) -> Result<(), ServeFault>
     ensures { Sends (W.contents writer.old) (W.contents writer.new) (line_of (reply_view reply.now)) result }
@@ -70,6 +83,7 @@ pub(crate) fn send_reply<W: Write>(writer: &mut W, reply: &Reply) -> Result<(), 
             None => send_refused(writer, *code),
             Some(sub) => send_sub(writer, *code, *sub),
         },
+        Reply::Marked(serial) => send_marked(writer, *serial),
         Reply::Text(text) => send_all(writer, &[text.as_bytes(), "\n".as_bytes()]),
     }
 }

@@ -1,57 +1,62 @@
-//! The service: a review that answers lines.
+//! The service: a desk that answers lines.
 
-ghost use Rattle.std.specs.Prelude.{◌≡◌, IfOk, OnErr, option_map};
+ghost use Rattle.std.specs.Prelude.{◌≡◌, ◌<◌, IfOk, OnErr, option_map};
 ghost use Rattle.std.specs.Option.{option_copied};
 ghost use Rattle.serde_json.specs.View.{view};
 ghost use Rattle.ent_table.specs.Names.{triple_of};
-ghost use Rattle.ent_table.specs.Review.{IsFresh, state_of};
+ghost use Rattle.ent_report.specs.World as held;
 ghost use Rattle.ent_line.specs.Asked.{request_of};
 ghost use Rattle.ent_line.specs.CommandView.{command_view, row_view};
 ghost use Rattle.ent_line.specs.Replies.{reply_view};
-ghost use Rattle.ent_line.specs.Step.{attribute_set, cell_told, data_of, day_set, edited, name_added, name_dropped, policy_added, policy_replaced, policy_withdrawn, requested, root_set, run, table_told, told, unread, unread_row};
+ghost use Rattle.ent_line.specs.Step.{attribute_set, cell_told, data_of, day_set, edited, name_added, name_dropped, policy_added, policy_replaced};
+ghost use Rattle.ent_line.specs.Step.{policy_withdrawn, request_answered, requested, root_set, run, table_told, told, unread, unread_row};
 ghost use Rattle.ent_line.specs.World.{IsReady, world_of};
 
 use crate::answering::Answering;
 use crate::attribute_command::AskedRow;
-use crate::cell::{one_cell_text, table_text};
+use crate::cell::{one_cell_text, response_text, table_text};
 use crate::command::{Command, request};
 use crate::input::LINE_LIMIT;
 use crate::reading::{read_day, read_json, read_root, read_row};
 use crate::refusal::{
-    BAD_VALUE, LIMIT, NO_MEMORY, NOT_JSON, NOT_THERE, RESERVED, TOO_LONG, refused_document,
-    refused_edit,
+    BAD_VALUE, LIMIT, NO_MEMORY, NOT_JSON, NOT_THERE, REQUEST, RESERVED, TOO_LONG,
+    refused_document, refused_edit,
 };
 use crate::reply::Reply;
 use ent_finder::{AttributeFinder, Attributes, Policies, PolicyFinder};
 use ent_polform::read_document;
 use ent_policy::{DocKey, Kind, Version};
-use ent_table::{Edit, LAST_SERIAL, List, MOST_VALUES, Review, is_reserved};
+use ent_profile::{RequestFault, read_request};
+use ent_report::Desk;
+use ent_table::{Edit, LAST_SERIAL, List, MOST_VALUES, is_reserved};
 use ent_values::Text;
 use serde_json::Value;
 use std::alloc::{AllocError, Global};
 
-/// A review whose edits and reports are asked for by lines of JSON.
+/// A desk whose edits, reports and marks are asked for by lines of JSON.
 ///
 /// A line is a JSON object with `do`, the name of a command, with the command's own keys, and with an optional `session`, a
 /// whole number from 0 to 15. The commands are `person.add`, `action.add` and `resource.add`, and the same with `drop`, with `name`;
 /// `policy.add` and `policy.replace` with `document`, and `policy.withdraw` with `kind`, `id` and `version`, each with an optional
 /// `module`, a whole number; `attr.set` with `category`, `entity`, `attribute`, `type`, an optional `issuer`, `values` and an optional
-/// `module`; `root.set` with `reference` and `day.set` with `day`, or null for none; `table`; and `cell` with `person`, `action` and
-/// `resource`. Each accepted line is one edit of the review, or a look at its table; a refused line changes nothing.
+/// `module`; `root.set` with `reference` and `day.set` with `day`, or null for none; `table`; `cell` with `person`, `action` and
+/// `resource`; `ask` with `request`; `counts`; `can` with `person`, and `who` with `action` and `resource`; `by_rule` with `policy` and
+/// `rule`, or null for a default; `mark` and `notices`, each of the line's session. Each accepted line is one edit of the review, a mark, or
+/// a look at its table; a refused line changes nothing.
 #[derive(Drop)]
 pub struct Service<A = AttributeFinder, P = PolicyFinder> {
-    alloc: Global,
-    review: Review<A, P>,
+    pub(crate) alloc: Global,
+    pub(crate) desk: Desk<A, P>,
 }
 
 impl<A: Attributes, P: Policies> Service<A, P> {
-    /// A service over a review as it stands.
-    pub fn new(alloc: Global, review: Review<A, P>) -> Service<A, P>
-        requires { IsFresh A.sources P.slots review }
+    /// A service over a desk as it stands.
+    pub fn new(alloc: Global, desk: Desk<A, P>) -> Service<A, P>
+        requires { held.IsReady A.sources P.slots desk }
         ensures ready { IsReady A.sources P.slots result }
-        ensures world { world_of A.sources P.slots result ≡ state_of A.sources P.slots review }
+        ensures world { world_of A.sources P.slots result ≡ held.world_of A.sources P.slots desk }
     {
-        Service { alloc, review }
+        Service { alloc, desk }
     }
 
     /// Makes an edit.
@@ -61,7 +66,7 @@ impl<A: Attributes, P: Policies> Service<A, P> {
         ensures ok { IfOk result (λ r. (reply_view r, world_of A.sources P.slots self.new) ≡ edited (world_of A.sources P.slots self.old) edit) }
         ensures err { OnErr result (world_of A.sources P.slots self.new ≡ world_of A.sources P.slots self.old) }
     {
-        match self.review.edit(edit) {
+        match self.desk.edit(edit) {
             Ok(accepted) => Ok(Reply::Accepted(accepted)),
             Err(fault) => refused_edit(fault),
         }
@@ -121,9 +126,9 @@ impl<A: Attributes, P: Policies> Service<A, P> {
 
     /// The refusal of a version or a day that can't be read.
     fn unread(&self) -> u8
-        ensures { result ≡ unread (world_of A.sources P.slots self.now) }
+        ensures { result ≡ unread (world_of A.sources P.slots self.now).state }
     {
-        if self.review.serial() >= LAST_SERIAL {
+        if self.desk.review().serial() >= LAST_SERIAL {
             LIMIT
         } else {
             BAD_VALUE
@@ -154,9 +159,9 @@ impl<A: Attributes, P: Policies> Service<A, P> {
     /// The refusal of a row whose type or a value can't be read.
     #[tactic(auto, using(crate::proofs::ReadLemmas::values_counted))]
     fn unread_row(&self, row: AskedRow<'_>) -> u8
-        ensures { result ≡ unread_row (world_of A.sources P.slots self.now) (row_view row.entry) }
+        ensures { result ≡ unread_row (world_of A.sources P.slots self.now).state (row_view row.entry) }
     {
-        if self.review.serial() >= LAST_SERIAL || row.values.len() > MOST_VALUES {
+        if self.desk.review().serial() >= LAST_SERIAL || row.values.len() > MOST_VALUES {
             LIMIT
         } else if is_reserved(row.category, row.attribute) {
             RESERVED
@@ -214,9 +219,9 @@ impl<A: Attributes, P: Policies> Service<A, P> {
     #[tactic(auto, unfolding(crate::specs::Step::table_told))]
     fn table(&self) -> Result<Reply, AllocError>
         requires { IsReady A.sources P.slots self.now }
-        ensures { IfOk result (λ r. reply_view r ≡ table_told (world_of A.sources P.slots self.now)) }
+        ensures { IfOk result (λ r. reply_view r ≡ table_told (world_of A.sources P.slots self.now).state) }
     {
-        let text = table_text(self.alloc, self.review.cells())?;
+        let text = table_text(self.alloc, self.desk.review().cells())?;
         Ok(Reply::Text(text))
     }
 
@@ -224,9 +229,9 @@ impl<A: Attributes, P: Policies> Service<A, P> {
     #[tactic(auto, unfolding(crate::specs::Step::cell_told))]
     fn cell(&self, person: &str, action: &str, resource: &str) -> Result<Reply, AllocError>
         requires { IsReady A.sources P.slots self.now }
-        ensures { IfOk result (λ r. reply_view r ≡ cell_told (world_of A.sources P.slots self.now) (triple_of person.now action.now resource.now)) }
+        ensures { IfOk result (λ r. reply_view r ≡ cell_told (world_of A.sources P.slots self.now).state (triple_of person.now action.now resource.now)) }
     {
-        match self.review.cell(person, action, resource) {
+        match self.desk.review().cell(person, action, resource) {
             None => Ok(Reply::Refused(NOT_THERE, None)),
             Some(answer) => {
                 let text = one_cell_text(self.alloc, person, action, resource, answer)?;
@@ -235,12 +240,32 @@ impl<A: Attributes, P: Policies> Service<A, P> {
         }
     }
 
-    /// Does what a command asks for.
-    #[tactic(auto, unfolding(crate::specs::Step::run))]
-    fn run(&mut self, command: Command<'_>) -> Result<Reply, AllocError>
+    /// `ask`.
+    #[tactic(auto, unfolding(crate::specs::Step::request_answered))]
+    fn ask(&mut self, json: &Value) -> Result<Reply, AllocError>
         requires { IsReady A.sources P.slots self.old }
         ensures ready { IsReady A.sources P.slots self.new }
-        ensures ok { IfOk result (λ r. (reply_view r, world_of A.sources P.slots self.new) ≡ run (world_of A.sources P.slots self.old) (command_view command.entry)) }
+        ensures ok { IfOk result (λ r. reply_view r ≡ request_answered (world_of A.sources P.slots self.old).state (view json.now)) }
+        ensures world { world_of A.sources P.slots self.new ≡ world_of A.sources P.slots self.old }
+    {
+        match read_request(self.alloc, json) {
+            Ok(request) => {
+                let answer = self.desk.ask(&request)?;
+                let text = response_text(self.alloc, &answer, &request)?;
+                Ok(Reply::Text(text))
+            }
+            Err(RequestFault::Bad) => Ok(Reply::Refused(REQUEST, None)),
+            Err(RequestFault::Memory) => Err(AllocError),
+        }
+    }
+
+    /// Does what a command of a session asks for.
+    #[tactic(auto, unfolding(crate::specs::Step::run))]
+    fn run(&mut self, session: u8, command: Command<'_>) -> Result<Reply, AllocError>
+        requires ready { IsReady A.sources P.slots self.old }
+        requires session { session < 16 }
+        ensures ready { IsReady A.sources P.slots self.new }
+        ensures ok { IfOk result (λ r. (reply_view r, world_of A.sources P.slots self.new) ≡ run (world_of A.sources P.slots self.old) session (command_view command.entry)) }
         ensures err { OnErr result (world_of A.sources P.slots self.new ≡ world_of A.sources P.slots self.old) }
     {
         match command {
@@ -256,6 +281,13 @@ impl<A: Attributes, P: Policies> Service<A, P> {
             Command::SetDay(day) => self.set_day(day),
             Command::Table => self.table(),
             Command::Cell(person, action, resource) => self.cell(person, action, resource),
+            Command::Ask(request) => self.ask(request),
+            Command::Counts => self.counts(),
+            Command::Can(person) => self.can(person),
+            Command::Who(action, resource) => self.who(action, resource),
+            Command::ByRule(policy, rule) => self.by_rule(policy, rule),
+            Command::Mark => self.mark(session),
+            Command::Notices => self.notices(session),
         }
     }
 
@@ -267,7 +299,7 @@ impl<A: Attributes, P: Policies> Service<A, P> {
         ensures err { OnErr result (world_of A.sources P.slots self.new ≡ world_of A.sources P.slots self.old) }
     {
         match request(value) {
-            Ok(command) => self.run(command),
+            Ok((session, command)) => self.run(session, command),
             Err(refusal) => Ok(Reply::Refused(refusal, None)),
         }
     }
@@ -287,11 +319,11 @@ impl<A: Attributes, P: Policies> Service<A, P> {
 }
 
 impl<A: Attributes, P: Policies> Answering for Service<A, P> {
-    ghost use Rattle.ent_table.specs.State.{State};
+    ghost use Rattle.ent_report.specs.World.{World};
     ghost use Rattle.ent_line.specs.Step.{Answers};
     ghost use Rattle.ent_line.specs.LongLines.{long_lines_alike};
 
-    ghost World = { State };
+    ghost World = { World };
 
     ghost world = { world_of A.sources P.slots };
 

@@ -1,12 +1,17 @@
 //! Lines from a reader, and their replies to a writer.
 
 ghost use Rattle.std.specs.Prelude.{◌≡◌};
+ghost use Rattle.ent_line.specs.Headline.{Headline};
 ghost use Rattle.ent_line.specs.Serving.{ServesUntil, AnswersLine};
+ghost use Rattle.ent_line.specs.World.{IsReady, world_of};
 
 use crate::answering::Answering;
 use crate::fault::ServeFault;
 use crate::input::{LINE_LIMIT, Piece, take_piece};
+use crate::law::replies_are_fresh;
 use crate::reply::send_reply;
+use crate::service::Service;
+use ent_finder::{Attributes, Policies};
 use std::alloc::Global;
 use std::io::{BufRead, Write};
 
@@ -74,4 +79,27 @@ pub fn serve<S: Answering, R: BufRead, W: Write>(
         }
     }
     Err(ServeFault::Read)
+}
+
+/// Serves a review: each line of the reader has its reply in the writer, as `serve` does it, and each reply is what evaluating every request
+/// afresh gives on what the accepted edits leave (section 7).
+pub fn serve_review<A: Attributes, P: Policies, R: BufRead, W: Write>(
+    alloc: Global,
+    service: &mut Service<A, P>,
+    reader: &mut R,
+    writer: &mut W,
+) -> Result<u64, ServeFault>
+    requires { IsReady A.sources P.slots service.old }
+    ensures ready { IsReady A.sources P.slots service.new }
+    ensures headline { Headline (record {
+      start = world_of A.sources P.slots service.old;
+      end = world_of A.sources P.slots service.new;
+      unread = R.remaining reader.old;
+      left = R.remaining reader.new;
+      wrote = W.contents writer.old;
+      holds = W.contents writer.new;
+    }) result }
+{
+    replies_are_fresh();
+    serve(alloc, service, reader, writer)
 }

@@ -12,7 +12,7 @@ use Rattle.ent_combine.specs.Identifiers.{policy_algorithm_of, policy_id_of}
 use Rattle.ent_combine.specs.declared.outcome.PolicyAlg.{PolicyAlg}
 use Rattle.ent_policy.specs.First.{first_of}
 use Rattle.ent_policy.specs.Children.{as_child}
-use Rattle.ent_policy.specs.Limits.{child_limits, length_fault, limit_fault, name_fault, policy_fault, set_limits, target_fault}
+use Rattle.ent_policy.specs.Limits.{child_limits, given_fault, length_fault, limit_fault, name_fault, policy_fault, set_limits, target_fault}
 use Rattle.ent_policy.specs.Reading as reading
 use Rattle.ent_policy.specs.Reading.{child_read, document_read, known, policy_read, reference_read, set_read, version_read}
 use Rattle.ent_policy.specs.Versions.{is_version, version_of, version_text}
@@ -40,11 +40,13 @@ use Rattle.ent_policy.proofs.Numbers.{is_version_of}
 use Rattle.ent_policy.proofs.WhatIsRead.{set_is_read}
 use Rattle.ent_policy.proofs.Wholes.{ReadOf}
 use Rattle.ent_polform.specs.Form.{child_of, policy_of, raw_named, raw_of, set_by}
+use Rattle.ent_polform.specs.Given.{given_of}
 use Rattle.ent_polform.specs.Objects.{◌>>=◌, each_by}
-use Rattle.ent_polform.specs.ReadBack.{child_values, document_values, policy_values, target_values, values_in_level, values_in_set}
+use Rattle.ent_polform.specs.ReadBack.{child_values, document_values, given_values, policy_values, target_values, values_in_level, values_in_set}
 use Rattle.ent_polform.specs.Targets.{target_or_empty}
 use Rattle.ent_polform.specs.Written.{child_step, child_written, filled_list, only_member, optional, policy_written, reference_written, set_with, set_written, target_written, written}
 use Rattle.ent_polform.proofs.Back.{Back, Returns, both_readable, each_back, none_there}
+use Rattle.ent_polform.proofs.BackGiven.{advice_of, both_back, given_in, obligations_of}
 use Rattle.ent_polform.proofs.BackPolicies.{policy_back, version_back}
 use Rattle.ent_polform.proofs.BackReferences.{ReferenceReturns, kind_back, reference_back}
 use Rattle.ent_polform.proofs.BackTargets.{target_back}
@@ -61,28 +63,41 @@ abbrev PolicyReturns : Policy → Type 0
 PolicyReturns = Returns (λ x. policy_of (policy_written x)) policy_read policy_fault policy_values
 
 abbrev set_faults : PolicySet → List (Option DocFault)
-set_faults s = name_fault s.id ∷ length_fault (map limit_fault s.children) ∷ target_fault s.target ∷ first_of (map limit_fault s.children) ∷ []
+set_faults s = name_fault s.id ∷ length_fault (map limit_fault s.children) ∷ target_fault s.target ∷ first_of (map limit_fault s.children) ∷ given_fault s.given ∷ []
 
 abbrev set_fault : PolicySet → Option DocFault
 set_fault s = first_of (set_faults s)
 
 abbrev set_values : PolicySet → List Value
-set_values s = target_values s.target ++ flat_map child_values s.children
+set_values s = target_values s.target ++ (flat_map child_values s.children ++ given_values s.given)
 
 abbrev SetReturns : PolicySet → Type 0
 SetReturns = Returns (λ x. set_by child_of (set_written x)) set_read set_fault set_values
 
 -- ---- policy sets
 
-set_form : (f : Data → Result RawChild DocFault) (id version algorithm : List ℕ) (t : Option Data) (cs : List Data) →
-    set_by f (json.object (optional (codes "Children") (filled_list cs) (json.member (codes "PolicyCombiningAlgId") (json.string algorithm) (json.member (codes "PolicySetId") (json.string id)
-    (optional (codes "Target") t (json.member (codes "Version") (json.string version) json.no_members))))))
-    ≡ (target_or_empty t >>= λ target. each_by f (items_of cs) >>= λ children. Ok (record { id = id; version = version; algorithm = algorithm; target = target; children = children }))
-unfolding set_by
-set_form f id version algorithm None [] = refl
-set_form f id version algorithm None (c ∷ cs) = refl
-set_form f id version algorithm (Some t) [] = refl
-set_form f id version algorithm (Some t) (c ∷ cs) = refl
+set_form : (f : Data → Result RawChild DocFault) (id version algorithm : List ℕ) (target : Option Data) (children obligations advice : List Data) →
+    set_by f (json.object (optional (codes "AdviceExpressions") (filled_list advice) (optional (codes "Children") (filled_list children) (optional (codes "ObligationExpressions") (filled_list obligations)
+    (json.member (codes "PolicyCombiningAlgId") (json.string algorithm) (json.member (codes "PolicySetId") (json.string id) (optional (codes "Target") target
+    (json.member (codes "Version") (json.string version) json.no_members))))))))
+    ≡ (target_or_empty target >>= λ t. each_by f (items_of children) >>= λ cs. given_in obligations advice >>= λ g. Ok (record { id = id; version = version; algorithm = algorithm; target = t; children = cs; given = g }))
+unfolding set_by given_of
+set_form f id version algorithm None [] [] [] = refl
+set_form f id version algorithm None [] [] (a ∷ rest) = refl
+set_form f id version algorithm None [] (o ∷ os) [] = refl
+set_form f id version algorithm None [] (o ∷ os) (a ∷ rest) = refl
+set_form f id version algorithm None (c ∷ cs) [] [] = refl
+set_form f id version algorithm None (c ∷ cs) [] (a ∷ rest) = refl
+set_form f id version algorithm None (c ∷ cs) (o ∷ os) [] = refl
+set_form f id version algorithm None (c ∷ cs) (o ∷ os) (a ∷ rest) = refl
+set_form f id version algorithm (Some t) [] [] [] = refl
+set_form f id version algorithm (Some t) [] [] (a ∷ rest) = refl
+set_form f id version algorithm (Some t) [] (o ∷ os) [] = refl
+set_form f id version algorithm (Some t) [] (o ∷ os) (a ∷ rest) = refl
+set_form f id version algorithm (Some t) (c ∷ cs) [] [] = refl
+set_form f id version algorithm (Some t) (c ∷ cs) [] (a ∷ rest) = refl
+set_form f id version algorithm (Some t) (c ∷ cs) (o ∷ os) [] = refl
+set_form f id version algorithm (Some t) (c ∷ cs) (o ∷ os) (a ∷ rest) = refl
 
 algorithm_back : (a : PolicyAlg) → policy_algorithm_of (policy_id_of a) ≡ Some a
 algorithm_back a = (policy_ids_read_back (policy_id_of a) a).1 refl
@@ -91,13 +106,15 @@ set_back : (s : PolicySet) → is_version s.version ≡ true → AllByRecursion 
 unfolding set_written
 set_back s version children clean readable =
     let none = none_there (set_faults s) clean in
-    let both = both_readable (target_values s.target) (flat_map child_values s.children) readable in
+    let both = both_readable (target_values s.target) _ readable in
+    let inside = both_readable (flat_map child_values s.children) (given_values s.given) both.1 in
     let t = target_back s.target none.1.1.0 both.0 in
-    let cs = each_back child_of child_written child_read limit_fault child_values s.children children none.1.1.1.0 both.1 in (
-      record { id = s.id; version = version_text s.version; algorithm = policy_id_of s.algorithm; target = t.0; children = cs.0 },
+    let cs = each_back child_of child_written child_read limit_fault child_values s.children children none.1.1.1.0 inside.0 in
+    let g = both_back s.given inside.1 in (
+      record { id = s.id; version = version_text s.version; algorithm = policy_id_of s.algorithm; target = t.0; children = cs.0; given = g.0 },
       (
-        set_form child_of s.id (version_text s.version) (policy_id_of s.algorithm) (target_written s.target) (map child_written s.children) ∙ rw (t.1.0, cs.1.0) refl,
-        rw (version_back s.version version, algorithm_back s.algorithm, t.1.1, ap (λ r. r.value) cs.1.1, ap (λ r. r.fault) cs.1.1) refl,
+        set_form child_of s.id (version_text s.version) (policy_id_of s.algorithm) (target_written s.target) (map child_written s.children) (obligations_of s.given) (advice_of s.given) ∙ rw (t.1.0, cs.1.0, g.1.0) refl,
+        rw (version_back s.version version, algorithm_back s.algorithm, t.1.1, ap (λ r. r.value) cs.1.1, ap (λ r. r.fault) cs.1.1, g.1.1) refl,
       ),
     )
 
@@ -112,7 +129,7 @@ values_of_set : (s : PolicySet) → child_values (children.Set s) ≡ set_values
 unfolding Rattle.ent_policy.specs.declared.document.Child.TheViews.roll-Child denote.Hole.Carrier.roll
 values_of_set s =
     fold-roll-Child (List Value) (List Value) values_in_level values_in_set (Child-F.Set s) ∙ fold_out-PolicySet (List Value) (List Value) values_in_level values_in_set s
-    ∙ ap (λ l. target_values s.target ++ l) (flat_map-map (λ l. l) child_values s.children)
+    ∙ ap (λ l. target_values s.target ++ (l ++ given_values s.given)) (flat_map-map (λ l. l) child_values s.children)
 
 -- where its inside reads back, so does a document, and so it does as a child
 policy_returns : (p : Policy) → PolicyReturns p → ChildReturns (children.Policy p) × TreeReturns (trees.Policy p)

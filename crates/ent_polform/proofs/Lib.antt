@@ -6,6 +6,7 @@ pub mod BackValues
 pub mod Back
 pub mod BackTargets
 pub mod BackExpressions
+pub mod BackGiven
 pub mod BackPolicies
 pub mod ReferenceLemmas
 pub mod BackReferences

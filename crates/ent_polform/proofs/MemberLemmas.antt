@@ -17,33 +17,95 @@ pub apply_members : (function : Data) (arguments : Option Data) →
 apply_members function None = refl
 apply_members function (Some arguments) = refl
 
-pub rule_members : (effect id : Data) (condition target : Option Data) →
-    put_optional (codes "Target") target (put (codes "RuleId") id (put (codes "Effect") effect (put_optional (codes "Condition") condition json.no_members)))
-    ≡ optional (codes "Condition") condition (json.member (codes "Effect") effect (json.member (codes "RuleId") id (optional (codes "Target") target json.no_members)))
-rule_members effect id None None = refl
-rule_members effect id None (Some target) = refl
-rule_members effect id (Some condition) None = refl
-rule_members effect id (Some condition) (Some target) = refl
+pub assignment_members : (attribute expression : Data) (category issuer : Option Data) →
+    put_optional (codes "Issuer") issuer (put (codes "Expression") expression (put_optional (codes "Category") category (put (codes "AttributeId") attribute json.no_members)))
+    ≡ json.member (codes "AttributeId") attribute (optional (codes "Category") category (json.member (codes "Expression") expression (optional (codes "Issuer") issuer json.no_members)))
+assignment_members attribute expression None None = refl
+assignment_members attribute expression None (Some issuer) = refl
+assignment_members attribute expression (Some category) None = refl
+assignment_members attribute expression (Some category) (Some issuer) = refl
 
-pub policy_members : (id algorithm version : Data) (rules target variables : Option Data) →
-    put (codes "Version") version (put_optional (codes "VariableDefinition") variables (put_optional (codes "Target") target (put (codes "RuleCombiningAlgId") algorithm (put_optional (codes "Rule") rules (put (codes "PolicyId") id json.no_members)))))
-    ≡ json.member (codes "PolicyId") id (optional (codes "Rule") rules (json.member (codes "RuleCombiningAlgId") algorithm (optional (codes "Target") target (optional (codes "VariableDefinition") variables (json.member (codes "Version") version json.no_members)))))
-policy_members id algorithm version None None None = refl
-policy_members id algorithm version None None (Some variables) = refl
-policy_members id algorithm version None (Some target) None = refl
-policy_members id algorithm version None (Some target) (Some variables) = refl
-policy_members id algorithm version (Some rules) None None = refl
-policy_members id algorithm version (Some rules) None (Some variables) = refl
-policy_members id algorithm version (Some rules) (Some target) None = refl
-policy_members id algorithm version (Some rules) (Some target) (Some variables) = refl
+pub rule_members : (effect id : Data) (advice condition obligations target : Option Data) →
+    put_optional (codes "Target") target (put (codes "RuleId") id (put_optional (codes "ObligationExpressions") obligations (put (codes "Effect") effect
+    (put_optional (codes "Condition") condition (put_optional (codes "AdviceExpressions") advice json.no_members)))))
+    ≡ optional (codes "AdviceExpressions") advice (optional (codes "Condition") condition (json.member (codes "Effect") effect
+    (optional (codes "ObligationExpressions") obligations (json.member (codes "RuleId") id (optional (codes "Target") target json.no_members)))))
+rule_members effect id None None None None = refl
+rule_members effect id None None None (Some target) = refl
+rule_members effect id None None (Some obligations) None = refl
+rule_members effect id None None (Some obligations) (Some target) = refl
+rule_members effect id None (Some condition) None None = refl
+rule_members effect id None (Some condition) None (Some target) = refl
+rule_members effect id None (Some condition) (Some obligations) None = refl
+rule_members effect id None (Some condition) (Some obligations) (Some target) = refl
+rule_members effect id (Some advice) None None None = refl
+rule_members effect id (Some advice) None None (Some target) = refl
+rule_members effect id (Some advice) None (Some obligations) None = refl
+rule_members effect id (Some advice) None (Some obligations) (Some target) = refl
+rule_members effect id (Some advice) (Some condition) None None = refl
+rule_members effect id (Some advice) (Some condition) None (Some target) = refl
+rule_members effect id (Some advice) (Some condition) (Some obligations) None = refl
+rule_members effect id (Some advice) (Some condition) (Some obligations) (Some target) = refl
 
-pub set_members : (id algorithm version : Data) (children target : Option Data) →
-    put (codes "Version") version (put_optional (codes "Target") target (put (codes "PolicySetId") id (put (codes "PolicyCombiningAlgId") algorithm (put_optional (codes "Children") children json.no_members))))
-    ≡ optional (codes "Children") children (json.member (codes "PolicyCombiningAlgId") algorithm (json.member (codes "PolicySetId") id (optional (codes "Target") target (json.member (codes "Version") version json.no_members))))
-set_members id algorithm version None None = refl
-set_members id algorithm version None (Some target) = refl
-set_members id algorithm version (Some children) None = refl
-set_members id algorithm version (Some children) (Some target) = refl
+pub policy_members : (id algorithm version : Data) (advice obligations rules target variables : Option Data) →
+    put (codes "Version") version (put_optional (codes "VariableDefinition") variables (put_optional (codes "Target") target (put (codes "RuleCombiningAlgId") algorithm
+    (put_optional (codes "Rule") rules (put (codes "PolicyId") id (put_optional (codes "ObligationExpressions") obligations (put_optional (codes "AdviceExpressions") advice json.no_members)))))))
+    ≡ optional (codes "AdviceExpressions") advice (optional (codes "ObligationExpressions") obligations (json.member (codes "PolicyId") id (optional (codes "Rule") rules
+    (json.member (codes "RuleCombiningAlgId") algorithm (optional (codes "Target") target (optional (codes "VariableDefinition") variables (json.member (codes "Version") version json.no_members)))))))
+policy_members id algorithm version None None None None None = refl
+policy_members id algorithm version None None None None (Some variables) = refl
+policy_members id algorithm version None None None (Some target) None = refl
+policy_members id algorithm version None None None (Some target) (Some variables) = refl
+policy_members id algorithm version None None (Some rules) None None = refl
+policy_members id algorithm version None None (Some rules) None (Some variables) = refl
+policy_members id algorithm version None None (Some rules) (Some target) None = refl
+policy_members id algorithm version None None (Some rules) (Some target) (Some variables) = refl
+policy_members id algorithm version None (Some obligations) None None None = refl
+policy_members id algorithm version None (Some obligations) None None (Some variables) = refl
+policy_members id algorithm version None (Some obligations) None (Some target) None = refl
+policy_members id algorithm version None (Some obligations) None (Some target) (Some variables) = refl
+policy_members id algorithm version None (Some obligations) (Some rules) None None = refl
+policy_members id algorithm version None (Some obligations) (Some rules) None (Some variables) = refl
+policy_members id algorithm version None (Some obligations) (Some rules) (Some target) None = refl
+policy_members id algorithm version None (Some obligations) (Some rules) (Some target) (Some variables) = refl
+policy_members id algorithm version (Some advice) None None None None = refl
+policy_members id algorithm version (Some advice) None None None (Some variables) = refl
+policy_members id algorithm version (Some advice) None None (Some target) None = refl
+policy_members id algorithm version (Some advice) None None (Some target) (Some variables) = refl
+policy_members id algorithm version (Some advice) None (Some rules) None None = refl
+policy_members id algorithm version (Some advice) None (Some rules) None (Some variables) = refl
+policy_members id algorithm version (Some advice) None (Some rules) (Some target) None = refl
+policy_members id algorithm version (Some advice) None (Some rules) (Some target) (Some variables) = refl
+policy_members id algorithm version (Some advice) (Some obligations) None None None = refl
+policy_members id algorithm version (Some advice) (Some obligations) None None (Some variables) = refl
+policy_members id algorithm version (Some advice) (Some obligations) None (Some target) None = refl
+policy_members id algorithm version (Some advice) (Some obligations) None (Some target) (Some variables) = refl
+policy_members id algorithm version (Some advice) (Some obligations) (Some rules) None None = refl
+policy_members id algorithm version (Some advice) (Some obligations) (Some rules) None (Some variables) = refl
+policy_members id algorithm version (Some advice) (Some obligations) (Some rules) (Some target) None = refl
+policy_members id algorithm version (Some advice) (Some obligations) (Some rules) (Some target) (Some variables) = refl
+
+pub set_members : (id algorithm version : Data) (advice children obligations target : Option Data) →
+    put (codes "Version") version (put_optional (codes "Target") target (put (codes "PolicySetId") id (put (codes "PolicyCombiningAlgId") algorithm
+    (put_optional (codes "ObligationExpressions") obligations (put_optional (codes "Children") children (put_optional (codes "AdviceExpressions") advice json.no_members))))))
+    ≡ optional (codes "AdviceExpressions") advice (optional (codes "Children") children (optional (codes "ObligationExpressions") obligations (json.member (codes "PolicyCombiningAlgId") algorithm
+    (json.member (codes "PolicySetId") id (optional (codes "Target") target (json.member (codes "Version") version json.no_members))))))
+set_members id algorithm version None None None None = refl
+set_members id algorithm version None None None (Some target) = refl
+set_members id algorithm version None None (Some obligations) None = refl
+set_members id algorithm version None None (Some obligations) (Some target) = refl
+set_members id algorithm version None (Some children) None None = refl
+set_members id algorithm version None (Some children) None (Some target) = refl
+set_members id algorithm version None (Some children) (Some obligations) None = refl
+set_members id algorithm version None (Some children) (Some obligations) (Some target) = refl
+set_members id algorithm version (Some advice) None None None = refl
+set_members id algorithm version (Some advice) None None (Some target) = refl
+set_members id algorithm version (Some advice) None (Some obligations) None = refl
+set_members id algorithm version (Some advice) None (Some obligations) (Some target) = refl
+set_members id algorithm version (Some advice) (Some children) None None = refl
+set_members id algorithm version (Some advice) (Some children) None (Some target) = refl
+set_members id algorithm version (Some advice) (Some children) (Some obligations) None = refl
+set_members id algorithm version (Some advice) (Some children) (Some obligations) (Some target) = refl
 
 pub reference_members : (id : Data) (earliest latest version : Option Data) →
     put_optional (codes "Version") version (put_optional (codes "LatestVersion") latest (put (codes "Id") id (put_optional (codes "EarliestVersion") earliest json.no_members)))

@@ -3,8 +3,6 @@
 use Rattle.std.specs.Prelude.{ℕ, ◌&&◌, List, [], ◌∷◌, if◌then◌else◌, Option, Some, None, option_and_then, Result, Ok, Err, codes, bytes_eq}
 use Rattle.serde_json.specs.Data.{Data}
 use Rattle.serde_json.specs.Find.{get}
-use Rattle.ent_policy.specs.declared.document.Effect.{Effect}
-use Rattle.ent_policy.specs.declared.document.Effect.TheVariants.{Permit, Deny}
 use Rattle.ent_policy.specs.declared.fault.DocFault.{DocFault}
 use Rattle.ent_policy.specs.declared.fault.DocFault.TheVariants as fault
 use Rattle.ent_policy.specs.declared.key.Kind.{Kind}
@@ -21,6 +19,7 @@ use Rattle.ent_policy.specs.Check.{checked}
 use Rattle.ent_polform.specs.Objects.{◌>>=◌, has_only, one_member, text_at, text_or_absent, list_at, list_by}
 use Rattle.ent_polform.specs.Reading.{part, formed, maybe, nested}
 use Rattle.ent_polform.specs.Expressions.{expression_of}
+use Rattle.ent_polform.specs.Given.{effect_of, given_of}
 use Rattle.ent_polform.specs.Reference.{kind_of, reference_by}
 use Rattle.ent_polform.specs.Targets.{target_or_empty}
 
@@ -33,41 +32,40 @@ definition_of d = formed (has_only (codes "Expression" ∷ codes "VariableId" �
   expression ← part (get (codes "Expression") d) >>= expression_of
   Ok (record { id = id; expression = expression }))
 
--- an Effect (section 5.22)
-abbrev pub effect_of : List ℕ → Option Effect
-effect_of word = if bytes_eq word (codes "Permit") then Some Permit else (if bytes_eq word (codes "Deny") then Some Deny else None)
-
 -- a Rule (section 5.21). Its description is not kept
 unfoldable pub rule_of : Data → Result RawRule DocFault
-rule_of d = formed (has_only (codes "Condition" ∷ codes "Description" ∷ codes "Effect" ∷ codes "RuleId" ∷ codes "Target" ∷ []) d && text_or_absent (codes "Description") d) (do
+rule_of d = formed (has_only (codes "AdviceExpressions" ∷ codes "Condition" ∷ codes "Description" ∷ codes "Effect" ∷ codes "ObligationExpressions" ∷ codes "RuleId" ∷ codes "Target" ∷ []) d && text_or_absent (codes "Description") d) (do
   id ← part (text_at (codes "RuleId") d)
   effect ← part (option_and_then effect_of (text_at (codes "Effect") d))
   target ← target_or_empty (get (codes "Target") d)
   condition ← maybe expression_of (get (codes "Condition") d)
-  Ok (record { id = id; effect = effect; target = target; condition = condition }))
+  given ← given_of d
+  Ok (record { id = id; effect = effect; target = target; condition = condition; given = given }))
 
 -- a Policy (section 5.14). Its description is not kept
 unfoldable pub policy_of : Data → Result RawPolicy DocFault
-policy_of d = formed (has_only (codes "Description" ∷ codes "PolicyId" ∷ codes "Rule" ∷ codes "RuleCombiningAlgId" ∷ codes "Target" ∷ codes "VariableDefinition" ∷ codes "Version" ∷ []) d && text_or_absent (codes "Description") d) (do
+policy_of d = formed (has_only (codes "AdviceExpressions" ∷ codes "Description" ∷ codes "ObligationExpressions" ∷ codes "PolicyId" ∷ codes "Rule" ∷ codes "RuleCombiningAlgId" ∷ codes "Target" ∷ codes "VariableDefinition" ∷ codes "Version" ∷ []) d && text_or_absent (codes "Description") d) (do
   id ← part (text_at (codes "PolicyId") d)
   version ← part (text_at (codes "Version") d)
   algorithm ← part (text_at (codes "RuleCombiningAlgId") d)
   target ← target_or_empty (get (codes "Target") d)
   variables ← list_by fault.Form definition_of (list_at (codes "VariableDefinition") d)
   rules ← list_by fault.Form rule_of (list_at (codes "Rule") d)
-  Ok (record { id = id; version = version; algorithm = algorithm; target = target; variables = variables; rules = rules }))
+  given ← given_of d
+  Ok (record { id = id; version = version; algorithm = algorithm; target = target; variables = variables; rules = rules; given = given }))
 
 -- ---- policy sets and documents
 
 -- a PolicySet (section 5.1) whose children f reads. Its description is not kept
 unfoldable pub set_by : (Data → Result RawChild DocFault) → Data → Result RawPolicySet DocFault
-set_by f d = formed (has_only (codes "Children" ∷ codes "Description" ∷ codes "PolicyCombiningAlgId" ∷ codes "PolicySetId" ∷ codes "Target" ∷ codes "Version" ∷ []) d && text_or_absent (codes "Description") d) (do
+set_by f d = formed (has_only (codes "AdviceExpressions" ∷ codes "Children" ∷ codes "Description" ∷ codes "ObligationExpressions" ∷ codes "PolicyCombiningAlgId" ∷ codes "PolicySetId" ∷ codes "Target" ∷ codes "Version" ∷ []) d && text_or_absent (codes "Description") d) (do
   id ← part (text_at (codes "PolicySetId") d)
   version ← part (text_at (codes "Version") d)
   algorithm ← part (text_at (codes "PolicyCombiningAlgId") d)
   target ← target_or_empty (get (codes "Target") d)
   children ← list_by fault.Form f (list_at (codes "Children") d)
-  Ok (record { id = id; version = version; algorithm = algorithm; target = target; children = children }))
+  given ← given_of d
+  Ok (record { id = id; version = version; algorithm = algorithm; target = target; children = children; given = given }))
 
 -- the document of that key, any children read by f
 unfoldable pub raw_named : (Data → Result RawChild DocFault) → List ℕ → Data → Result RawDocument DocFault

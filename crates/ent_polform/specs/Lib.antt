@@ -3,6 +3,7 @@ pub mod Reading
 pub mod Expressions
 pub mod Targets
 pub mod Reference
+pub mod Given
 pub mod Form
 pub mod Values
 pub mod Written

@@ -21,6 +21,9 @@ use Rattle.ent_policy.specs.declared.document.Tree.{Tree}
 use Rattle.ent_policy.specs.declared.expression.Expression.{Expression}
 use Rattle.ent_policy.specs.declared.expression.Expression.TheOpen.{Expression-F}
 use Rattle.ent_policy.specs.declared.expression.Expression.TheFolds.{fold-Expression}
+use Rattle.ent_policy.specs.declared.given.AssignmentExpression.{AssignmentExpression}
+use Rattle.ent_policy.specs.declared.given.GivenExpression.{GivenExpression}
+use Rattle.ent_policy.specs.declared.given.GivenExpressions.{GivenExpressions}
 use Rattle.ent_policy.specs.declared.expression.VariableDefinition.{VariableDefinition}
 use Rattle.ent_polform.specs.Form.{document_of}
 use Rattle.ent_polform.specs.Values.{value_in}
@@ -68,13 +71,25 @@ target_values t = flat_map any_of_values t.any_of
 abbrev pub definition_values : VariableDefinition → List Value
 definition_values d = expression_values d.expression
 
+-- the value in an assignment's expression
+abbrev pub assignment_values : AssignmentExpression → List Value
+assignment_values a = expression_values a.expression
+
+-- the values in an obligation expression or an advice expression
+abbrev pub values_given : GivenExpression → List Value
+values_given g = flat_map assignment_values g.assignments
+
+-- the values in both sorts
+abbrev pub given_values : GivenExpressions → List Value
+given_values g = flat_map values_given g.obligations ++ flat_map values_given g.advice
+
 -- the values in a rule
 abbrev pub rule_values : Rule → List Value
-rule_values r = target_values r.target ++ flat_map expression_values (option_to_list r.condition)
+rule_values r = target_values r.target ++ (flat_map expression_values (option_to_list r.condition) ++ given_values r.given)
 
 -- the values in a policy
 abbrev pub policy_values : Policy → List Value
-policy_values p = target_values p.target ++ (flat_map definition_values p.variables ++ flat_map rule_values p.rules)
+policy_values p = target_values p.target ++ (flat_map definition_values p.variables ++ (flat_map rule_values p.rules ++ given_values p.given))
 
 -- the values in one level of a child of a set, with those of a set already seen
 abbrev pub values_in_level : Child-F (List Value) (List Value) → List Value
@@ -84,7 +99,7 @@ values_in_level (Child-F.Reference reference) = []
 
 -- the values in a set
 abbrev pub values_in_set : PolicySet-F (List Value) (List Value) → List Value
-values_in_set set = target_values set.target ++ joined set.children
+values_in_set set = target_values set.target ++ (joined set.children ++ given_values set.given)
 
 -- the values in a child of a set
 abbrev pub child_values : Child → List Value

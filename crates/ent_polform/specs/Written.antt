@@ -2,7 +2,7 @@
 -- a value too; MustBePresent is always written. The keys of an object stand in byte order.
 use Rattle.std.specs.Prelude.{ℕ, List, [], ◌∷◌, map, Option, Some, None, option_map, codes}
 use Rattle.serde_json.specs.Data as json
-use Rattle.serde_json.specs.Data.{Data, Members}
+use Rattle.serde_json.specs.Data.{Data, Members, put}
 use Rattle.serde_json.specs.Find.{of_integer}
 use Rattle.serde_json.specs.View.{items_of}
 use Rattle.ent_values.specs.Types.{datatype_of, uri_of}
@@ -33,8 +33,12 @@ use Rattle.ent_policy.specs.declared.expression.Expression.{Expression}
 use Rattle.ent_policy.specs.declared.expression.Expression.TheOpen.{Expression-F}
 use Rattle.ent_policy.specs.declared.expression.Expression.TheFolds.{fold-Expression}
 use Rattle.ent_policy.specs.declared.expression.VariableDefinition.{VariableDefinition}
+use Rattle.ent_policy.specs.declared.given.AssignmentExpression.{AssignmentExpression}
+use Rattle.ent_policy.specs.declared.given.GivenExpression.{GivenExpression}
+use Rattle.ent_policy.specs.declared.given.GivenExpressions.{GivenExpressions}
 use Rattle.ent_policy.specs.declared.key.Reference.{Reference}
 use Rattle.ent_policy.specs.declared.pattern.PatternPart.{PatternPart}
+use Rattle.ent_polform.specs.Objects.{put_optional}
 use Rattle.ent_polform.specs.Reference.{reference_key}
 
 -- ---- members
@@ -124,6 +128,38 @@ any_of_written a = only_member (codes "AllOf") (json.array (items_of (map all_of
 unfoldable pub target_written : Target → Option Data
 target_written t = option_map (only_member (codes "AnyOf")) (filled_list (map any_of_written t.any_of))
 
+-- ---- obligations and advice, which have the same parts under keys of their own
+
+-- the word of an Effect (section 5.22)
+abbrev pub effect_word : Effect → List ℕ
+effect_word Permit = codes "Permit"
+effect_word Deny = codes "Deny"
+
+-- an AttributeAssignmentExpression (section 5.41)
+unfoldable pub assignment_written : AssignmentExpression → Data
+assignment_written a = json.object (
+    json.member (codes "AttributeId") (json.string a.attribute)
+    (optional (codes "Category") (option_map json.string a.category)
+    (json.member (codes "Expression") (expression_written a.expression)
+    (optional (codes "Issuer") (option_map json.string a.issuer)
+    json.no_members))))
+
+-- an ObligationExpression (section 5.39) or an AdviceExpression (section 5.40), its id and its effect put at these keys
+unfoldable pub given_written : List ℕ → List ℕ → GivenExpression → Data
+given_written id_key effect_key g = json.object (
+    put id_key (json.string g.id)
+    (put effect_key (json.string (effect_word g.effect))
+    (put_optional (codes "AttributeAssignmentExpression") (filled_list (map assignment_written g.assignments))
+    json.no_members)))
+
+-- ObligationExpressions (section 5.37), left out where there is none
+abbrev pub obligations_written : GivenExpressions → Option Data
+obligations_written g = filled_list (map (given_written (codes "ObligationId") (codes "FulfillOn")) g.obligations)
+
+-- AdviceExpressions (section 5.38), left out where there is none
+abbrev pub advice_written : GivenExpressions → Option Data
+advice_written g = filled_list (map (given_written (codes "AdviceId") (codes "AppliesTo")) g.advice)
+
 -- ---- rules and policies
 
 -- a VariableDefinition (section 5.23)
@@ -133,30 +169,29 @@ definition_written d = json.object (
     (json.member (codes "VariableId") (json.string d.id)
     json.no_members))
 
--- the word of an Effect (section 5.22)
-abbrev pub effect_word : Effect → List ℕ
-effect_word Permit = codes "Permit"
-effect_word Deny = codes "Deny"
-
 -- a Rule (section 5.21)
 unfoldable pub rule_written : Rule → Data
 rule_written r = json.object (
-    optional (codes "Condition") (option_map expression_written r.condition)
+    optional (codes "AdviceExpressions") (advice_written r.given)
+    (optional (codes "Condition") (option_map expression_written r.condition)
     (json.member (codes "Effect") (json.string (effect_word r.effect))
+    (optional (codes "ObligationExpressions") (obligations_written r.given)
     (json.member (codes "RuleId") (json.string r.id)
     (optional (codes "Target") (target_written r.target)
-    json.no_members))))
+    json.no_members))))))
 
 -- a Policy (section 5.14)
 unfoldable pub policy_written : Policy → Data
 policy_written p = json.object (
-    json.member (codes "PolicyId") (json.string p.id)
+    optional (codes "AdviceExpressions") (advice_written p.given)
+    (optional (codes "ObligationExpressions") (obligations_written p.given)
+    (json.member (codes "PolicyId") (json.string p.id)
     (optional (codes "Rule") (filled_list (map rule_written p.rules))
     (json.member (codes "RuleCombiningAlgId") (json.string (rule_id_of p.algorithm))
     (optional (codes "Target") (target_written p.target)
     (optional (codes "VariableDefinition") (filled_list (map definition_written p.variables))
     (json.member (codes "Version") (json.string (version_text p.version))
-    json.no_members))))))
+    json.no_members))))))))
 
 -- ---- policy sets and documents
 
@@ -180,12 +215,14 @@ reference_written r = only_member (reference_key r.kind) (reference_body r)
 -- a PolicySet (section 5.1), with its children as they are written
 abbrev pub set_with : PolicySet-F Data Data → Data
 set_with s = json.object (
-    optional (codes "Children") (filled_list s.children)
+    optional (codes "AdviceExpressions") (advice_written s.given)
+    (optional (codes "Children") (filled_list s.children)
+    (optional (codes "ObligationExpressions") (obligations_written s.given)
     (json.member (codes "PolicyCombiningAlgId") (json.string (policy_id_of s.algorithm))
     (json.member (codes "PolicySetId") (json.string s.id)
     (optional (codes "Target") (target_written s.target)
     (json.member (codes "Version") (json.string (version_text s.version))
-    json.no_members)))))
+    json.no_members)))))))
 
 -- one level of a child of a set, with a set as it is written
 abbrev pub child_step : Child-F Data Data → Data
@@ -203,4 +240,4 @@ written t = child_written (as_child t)
 
 -- a PolicySet
 unfoldable pub set_written : PolicySet → Data
-set_written s = set_with (record { id = s.id; version = s.version; algorithm = s.algorithm; target = s.target; children = map child_written s.children })
+set_written s = set_with (record { id = s.id; version = s.version; algorithm = s.algorithm; target = s.target; children = map child_written s.children; given = s.given })

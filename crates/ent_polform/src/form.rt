@@ -1,18 +1,18 @@
 //! Documents and their rules, as the form has them.
 
-ghost use Rattle.std.specs.Prelude.{◌≡◌};
 ghost use Rattle.serde_json.specs.View.{items_view, view};
 ghost use Rattle.ent_policy.specs.Gives.{Gives};
-ghost use Rattle.ent_polform.specs.Form.{child_by, child_of, definition_of, document_of, effect_of, policy_of, raw_named, raw_of, rule_of, set_by};
+ghost use Rattle.ent_polform.specs.Form.{child_by, child_of, definition_of, document_of, policy_of, raw_named, raw_of, rule_of, set_by};
 ghost use Rattle.ent_polform.specs.Objects.{each_by};
 
 use crate::expression::{condition_at, expression};
+use crate::given::{effect, given_at};
 use crate::objects::{has_only, list_at, one_member, required, text_at, text_or_absent};
 use crate::reference::{kind, reference};
 use crate::target::target_at;
 use ent_policy::{
-    CheckFault, DocFault, Document, Effect, RawChild, RawDocument, RawPolicy, RawPolicySet,
-    RawRule, RawVariableDefinition, check,
+    CheckFault, DocFault, Document, RawChild, RawDocument, RawPolicy, RawPolicySet, RawRule,
+    RawVariableDefinition, check,
 };
 use ent_values::Items;
 use serde_json::Value;
@@ -43,25 +43,20 @@ fn definitions(alloc: Global, values: &[Value]) -> Result<Items<RawVariableDefin
     Ok(all)
 }
 
-/// The effect of that name.
-fn effect(word: &str) -> Option<Effect>
-    ensures { result ≡ effect_of word.now }
-{
-    if word == "Permit" {
-        return Some(Effect::Permit);
-    }
-    if word == "Deny" {
-        return Some(Effect::Deny);
-    }
-    None
-}
-
 /// A Rule.
 #[tactic(auto, unfolding(crate::specs::Form::rule_of))]
 fn rule(alloc: Global, object: &Value) -> Result<RawRule, CheckFault>
     ensures { Gives result (rule_of (view object.now)) }
 {
-    let keys = ["Condition", "Description", "Effect", "RuleId", "Target"];
+    let keys = [
+        "AdviceExpressions",
+        "Condition",
+        "Description",
+        "Effect",
+        "ObligationExpressions",
+        "RuleId",
+        "Target",
+    ];
     if !has_only(object, &keys) || !text_or_absent(object, "Description") {
         return Err(CheckFault::Doc(DocFault::Form));
     }
@@ -71,11 +66,13 @@ fn rule(alloc: Global, object: &Value) -> Result<RawRule, CheckFault>
         .ok_or(DocFault::Form)?;
     let target = target_at(alloc, object)?;
     let condition = condition_at(alloc, object)?;
+    let given = given_at(alloc, object)?;
     Ok(RawRule {
         id,
         effect,
         target,
         condition,
+        given,
     })
 }
 
@@ -96,7 +93,9 @@ fn policy(alloc: Global, object: &Value) -> Result<RawPolicy, CheckFault>
     ensures { Gives result (policy_of (view object.now)) }
 {
     let keys = [
+        "AdviceExpressions",
         "Description",
+        "ObligationExpressions",
         "PolicyId",
         "Rule",
         "RuleCombiningAlgId",
@@ -114,6 +113,7 @@ fn policy(alloc: Global, object: &Value) -> Result<RawPolicy, CheckFault>
     let listed = list_at(object, "VariableDefinition").ok_or(DocFault::Form)?;
     let variables = definitions(alloc, listed)?;
     let rules = rules(alloc, list_at(object, "Rule").ok_or(DocFault::Form)?)?;
+    let given = given_at(alloc, object)?;
     Ok(RawPolicy {
         id,
         version,
@@ -121,6 +121,7 @@ fn policy(alloc: Global, object: &Value) -> Result<RawPolicy, CheckFault>
         target,
         variables,
         rules,
+        given,
     })
 }
 
@@ -131,8 +132,10 @@ fn set(alloc: Global, object: &Value) -> Result<RawPolicySet, CheckFault>
     ensures { Gives result (set_by child_of (view object.now)) }
 {
     let keys = [
+        "AdviceExpressions",
         "Children",
         "Description",
+        "ObligationExpressions",
         "PolicyCombiningAlgId",
         "PolicySetId",
         "Target",
@@ -149,12 +152,14 @@ fn set(alloc: Global, object: &Value) -> Result<RawPolicySet, CheckFault>
         return Err(CheckFault::Doc(DocFault::Form));
     };
     let children = children(alloc, values)?;
+    let given = given_at(alloc, object)?;
     Ok(RawPolicySet {
         id,
         version,
         algorithm,
         target,
         children,
+        given,
     })
 }
 
@@ -219,6 +224,10 @@ fn raw_document(alloc: Global, json: &Value) -> Result<RawDocument, CheckFault>
 /// Description, Target and Condition, an expression. A VariableDefinition has VariableId and Expression. A Target may have AnyOf, a
 /// list of objects with AllOf, each a list of objects with Match; neither AllOf nor Match may be empty. A Match has MatchId,
 /// AttributeValue and AttributeDesignator.
+///
+/// Each of a Policy, a PolicySet and a Rule may also have ObligationExpressions, a list of {ObligationId, FulfillOn,
+/// AttributeAssignmentExpression?}, and AdviceExpressions, a list of {AdviceId, AppliesTo, AttributeAssignmentExpression?}. FulfillOn
+/// and AppliesTo are Permit or Deny; an AttributeAssignmentExpression is a list of {AttributeId, Category?, Issuer?, Expression}.
 ///
 /// An expression is an object with one key: AttributeValue {DataType?, Value}, AttributeDesignator {Category, AttributeId,
 /// DataType, Issuer?, MustBePresent?}, VariableReference {VariableId}, Apply {FunctionId, Arguments?} or Function {FunctionId}.

@@ -3,6 +3,7 @@
 
 mod expression;
 mod form;
+mod given;
 mod law;
 mod members;
 mod objects;
@@ -12,12 +13,14 @@ mod text;
 mod value;
 mod written_documents;
 mod written_expressions;
+mod written_given;
 mod written_references;
 mod written_targets;
 mod written_values;
 
 pub use form::read_document;
 pub use law::{documents_read_back, values_read_back};
+pub use members::{filled, only_member, put_optional, put_text};
 pub use objects::{
     filled_list_at, flag_at, has_only, list_at, one_member, text_at, text_or_absent,
 };

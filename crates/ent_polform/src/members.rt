@@ -10,7 +10,11 @@ use serde_json::{Map, Value, put};
 use std::alloc::{AllocError, Global};
 
 /// An object that has one member.
-pub(crate) fn only_member(alloc: Global, key: &str, value: Value) -> Result<Value, AllocError>
+///
+/// # Errors
+///
+/// `AllocError` if memory runs out.
+pub fn only_member(alloc: Global, key: &str, value: Value) -> Result<Value, AllocError>
     ensures { IfOk result (λ v. view v ≡ only_member key.now (view value)) }
 {
     let mut members = Map::new(alloc);
@@ -18,8 +22,12 @@ pub(crate) fn only_member(alloc: Global, key: &str, value: Value) -> Result<Valu
     Ok(Value::Object(members))
 }
 
-/// Puts a text at the key.
-pub(crate) fn put_text(
+/// Puts a text at the key of an object's members.
+///
+/// # Errors
+///
+/// `AllocError` if memory runs out.
+pub fn put_text(
     alloc: Global,
     members: &mut Map<String, Value>,
     key: &str,
@@ -31,8 +39,12 @@ pub(crate) fn put_text(
     put(members, alloc, key, value)
 }
 
-/// Puts the value at the key, if there is one.
-pub(crate) fn put_optional(
+/// Puts the value at the key of an object's members, if there is one.
+///
+/// # Errors
+///
+/// `AllocError` if memory runs out.
+pub fn put_optional(
     alloc: Global,
     members: &mut Map<String, Value>,
     key: &str,
@@ -46,8 +58,8 @@ pub(crate) fn put_optional(
     }
 }
 
-/// The list, if it has a member.
-pub(crate) fn filled(values: Vec<Value>) -> Option<Value>
+/// The list as JSON, if it has a member. Nothing is allocated.
+pub fn filled(values: Vec<Value>) -> Option<Value>
     ensures { option_map view result ≡ filled_list (map view values.items) }
 {
     if values.is_empty() {

@@ -1,6 +1,6 @@
 //! JSON that is written straight into its text.
 
-ghost use Rattle.std.specs.Prelude.{◌≡◌, [], ◌∷◌, ◌++◌, OnOk, string_bytes};
+ghost use Rattle.std.specs.Prelude.{◌≡◌, [], ◌∷◌, ◌++◌, OnOk, decimal, string_bytes};
 ghost use Rattle.std.specs.Fmt.{signed_decimal};
 ghost use Rattle.json.specs.Print.{print};
 ghost use Rattle.json.specs.Token as token;
@@ -86,6 +86,13 @@ impl JsonText {
         ensures { OnOk result (self.new ≡ self.old ++ token.number (signed_decimal integer) ∷ []) }
     {
         self.writer.i64(integer)
+    }
+
+    /// A number of things.
+    pub fn count(&mut self, count: u64) -> Result<(), AllocError>
+        ensures { OnOk result (self.new ≡ self.old ++ token.number (decimal count) ∷ []) }
+    {
+        self.writer.u64(count)
     }
 
     /// `true` or `false`.

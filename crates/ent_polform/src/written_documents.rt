@@ -3,13 +3,14 @@
 ghost use Rattle.std.specs.Prelude.{◌≡◌, IfOk, map};
 ghost use Rattle.serde_json.specs.View.{view};
 ghost use Rattle.ent_polform.specs.ReadBack.{ReadsBack};
-ghost use Rattle.ent_polform.specs.Written.{child_written, definition_written, effect_word, policy_written, rule_written, set_written, written};
+ghost use Rattle.ent_polform.specs.Written.{child_written, definition_written, policy_written, rule_written, set_written, written};
 
 use crate::members::{filled, only_member, put_optional, put_text};
 use crate::written_expressions::{condition, expression};
+use crate::written_given::{advice, effect_word, obligations};
 use crate::written_references::reference;
 use crate::written_targets::target;
-use ent_policy::{Child, Document, Effect, Policy, PolicySet, Rule, Tree, VariableDefinition};
+use ent_policy::{Child, Document, Policy, PolicySet, Rule, Tree, VariableDefinition};
 use serde_json::{Map, Value as Json, json};
 use std::alloc::{AllocError, Global};
 
@@ -33,26 +34,20 @@ fn definitions(alloc: Global, all: &[VariableDefinition]) -> Result<Vec<Json>, A
     Ok(values)
 }
 
-/// The word of an effect.
-fn effect_word(effect: Effect) -> &'static str
-    ensures { result.now ≡ effect_word effect }
-{
-    match effect {
-        Effect::Permit => "Permit",
-        Effect::Deny => "Deny",
-    }
-}
-
 /// A Rule.
 #[tactic(auto, unfolding(crate::specs::Written::rule_written), using(crate::proofs::MemberLemmas::rule_members))]
 fn rule(alloc: Global, rule: &Rule) -> Result<Json, AllocError>
     ensures { IfOk result (λ v. view v ≡ rule_written rule.now) }
 {
+    let advice = advice(alloc, &rule.given)?;
     let condition = condition(alloc, &rule.condition)?;
+    let obligations = obligations(alloc, &rule.given)?;
     let target = target(alloc, &rule.target)?;
     let mut members = Map::new(alloc);
+    put_optional(alloc, &mut members, "AdviceExpressions", advice)?;
     put_optional(alloc, &mut members, "Condition", condition)?;
     put_text(alloc, &mut members, "Effect", effect_word(rule.effect))?;
+    put_optional(alloc, &mut members, "ObligationExpressions", obligations)?;
     put_text(alloc, &mut members, "RuleId", rule.id.as_str())?;
     put_optional(alloc, &mut members, "Target", target)?;
     Ok(Json::Object(members))
@@ -74,11 +69,15 @@ fn rules(alloc: Global, all: &[Rule]) -> Result<Vec<Json>, AllocError>
 fn policy(alloc: Global, policy: &Policy) -> Result<Json, AllocError>
     ensures { IfOk result (λ v. view v ≡ policy_written policy.now) }
 {
+    let advice = advice(alloc, &policy.given)?;
+    let obligations = obligations(alloc, &policy.given)?;
     let rules = rules(alloc, policy.rules.as_slice())?;
     let target = target(alloc, &policy.target)?;
     let definitions = definitions(alloc, policy.variables.as_slice())?;
     let version = policy.version.text(alloc)?;
     let mut members = Map::new(alloc);
+    put_optional(alloc, &mut members, "AdviceExpressions", advice)?;
+    put_optional(alloc, &mut members, "ObligationExpressions", obligations)?;
     put_text(alloc, &mut members, "PolicyId", policy.id.as_str())?;
     put_optional(alloc, &mut members, "Rule", filled(rules))?;
     put_text(
@@ -104,11 +103,15 @@ fn policy(alloc: Global, policy: &Policy) -> Result<Json, AllocError>
 fn set(alloc: Global, set: &PolicySet) -> Result<Json, AllocError>
     ensures { IfOk result (λ v. view v ≡ set_written set.now) }
 {
+    let advice = advice(alloc, &set.given)?;
     let children = children(alloc, set.children.as_slice())?;
+    let obligations = obligations(alloc, &set.given)?;
     let target = target(alloc, &set.target)?;
     let version = set.version.text(alloc)?;
     let mut members = Map::new(alloc);
+    put_optional(alloc, &mut members, "AdviceExpressions", advice)?;
     put_optional(alloc, &mut members, "Children", filled(children))?;
+    put_optional(alloc, &mut members, "ObligationExpressions", obligations)?;
     put_text(
         alloc,
         &mut members,

@@ -40,7 +40,7 @@ pub(crate) fn literal(alloc: Global, value: &Value) -> Result<Json, AllocError>
 }
 
 /// A text, if there is one.
-fn optional_text(alloc: Global, text: &Option<Text>) -> Result<Option<Json>, AllocError>
+pub(crate) fn optional_text(alloc: Global, text: &Option<Text>) -> Result<Option<Json>, AllocError>
     ensures { IfOk result (λ v. option_map view v ≡ option_map string text.now) }
 {
     match text {

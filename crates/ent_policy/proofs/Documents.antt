@@ -32,6 +32,7 @@ use Rattle.ent_policy.specs.contracts.document.Match as match
 use Rattle.ent_policy.specs.contracts.document.Policy as policy
 use Rattle.ent_policy.specs.contracts.document.PolicyPartialEq.TheImpl as policies
 use Rattle.ent_policy.specs.contracts.document.Rule as rule
+use Rattle.ent_policy.specs.contracts.document.RulePartialEq.TheImpl as rules
 use Rattle.ent_policy.specs.contracts.document.Target as target
 use Rattle.ent_policy.specs.contracts.document.TargetPartialEq.TheImpl as targets
 use Rattle.ent_policy.specs.contracts.document.Tree as tree
@@ -40,9 +41,15 @@ use Rattle.ent_policy.specs.contracts.expression.Expression as expression
 use Rattle.ent_policy.specs.contracts.expression.ExpressionPartialEq.TheImpl.{ghosts}
 use Rattle.ent_policy.specs.contracts.expression.ExpressionPartialEq.TheImpl.Laws as expressions
 use Rattle.ent_policy.specs.contracts.expression.VariableDefinition as definition
+use Rattle.ent_policy.specs.contracts.given.AssignmentExpression as assignment
+use Rattle.ent_policy.specs.contracts.given.GivenExpression as given_expression
+use Rattle.ent_policy.specs.contracts.given.GivenExpressionPartialEq.TheImpl as given_expressions
+use Rattle.ent_policy.specs.contracts.given.GivenExpressions as given
+use Rattle.ent_policy.specs.contracts.given.GivenExpressionsPartialEq.TheImpl as givens
 use Rattle.ent_policy.specs.declared.document.Designator.{Designator}
 use Rattle.ent_policy.specs.declared.document.Policy.{Policy}
 use Rattle.ent_policy.specs.declared.document.PolicySet.{PolicySet}
+use Rattle.ent_policy.specs.declared.document.Rule.{Rule}
 use Rattle.ent_policy.specs.declared.document.Target.{Target}
 use Rattle.ent_policy.specs.declared.document.Tree.{Tree}
 use Rattle.ent_policy.specs.declared.document.Child.{Child}
@@ -50,6 +57,8 @@ use Rattle.ent_policy.specs.declared.document.Child.TheBlock as block
 use Rattle.ent_policy.specs.declared.document.Child.TheFolds.{ind-PolicySet, map-Child, map-PolicySet}
 use Rattle.ent_policy.specs.declared.document.Child.TheOpen.{Child-F, PolicySet-F}
 use Rattle.ent_policy.specs.declared.document.Child.TheViews.{out-roll-Child, roll-Child, roll-PolicySet}
+use Rattle.ent_policy.specs.declared.given.GivenExpression.{GivenExpression}
+use Rattle.ent_policy.specs.declared.given.GivenExpressions.{GivenExpressions}
 use Rattle.ent_policy.specs.declared.expression.Expression.{Expression}
 use Rattle.ent_policy.specs.declared.expression.Expression.TheBlock as expression_block
 use Rattle.ent_policy.specs.declared.expression.Expression.TheFolds.{ind-Expression, map-Expression}
@@ -112,11 +121,22 @@ expression-layer y e h =
 expression-tells : (e : Expression) → Tells same_expression e
 expression-tells = ind-Expression (Tells same_expression) (λ x y is. subst (λ z. Tells same_expression (roll-Expression z)) is (expression-layer y))
 
+given_expression-tells : (g : GivenExpression) → Tells (given_expressions.ghosts).eq g
+given_expression-tells =
+    struct given_expression.struct given_expression.the_propositions (more (decided bytes_eq-Decides) (more (same_true effect.the_type tt) (last (list
+    (struct assignment.struct assignment.the_propositions (more (decided bytes_eq-Decides) (more (maybe (decided bytes_eq-Decides)) (more (maybe (decided bytes_eq-Decides)) (last expression-tells)))))))))
+
+given-tells : (g : GivenExpressions) → Tells (givens.ghosts).eq g
+given-tells = struct given.struct given.the_propositions (more (list given_expression-tells) (last (list given_expression-tells)))
+
+rule-tells : (r : Rule) → Tells (rules.ghosts).eq r
+rule-tells = struct rule.struct rule.the_propositions (more (decided bytes_eq-Decides) (more (same_true effect.the_type tt) (more target-tells (more (maybe expression-tells) (last given-tells)))))
+
 policy-tells : (p : Policy) → Tells (policies.ghosts).eq p
 policy-tells =
     struct policy.struct policy.the_propositions (more (decided bytes_eq-Decides) (more (decided same_version-Decides) (more (same_true rule_alg.the_type tt) (more target-tells (more
     (list (struct definition.struct definition.the_propositions (more (decided bytes_eq-Decides) (last expression-tells))))
-    (last (list (struct rule.struct rule.the_propositions (more (decided bytes_eq-Decides) (more (same_true effect.the_type tt) (more target-tells (last (maybe expression-tells)))))))))))))
+    (more (list rule-tells) (last given-tells)))))))
 
 algorithm-tells : (a : PolicyAlg) → Tells (policy_algs.ghosts).eq a
 algorithm-tells = enum policy_alg.enum _ (last (same_true rule_alg.the_type tt), tt)
@@ -139,13 +159,15 @@ set-layer y s h =
     let ids = and_parts _ _ (sym (compared_is _ _ _ _ _ _ children.local block.member-PolicySet x s) ∙ h) in
     let versions = and_parts _ _ ids.1 in
     let algorithms = and_parts _ _ versions.1 in
-    let others = and_parts _ _ algorithms.1 in
+    let targets = and_parts _ _ algorithms.1 in
+    let others = and_parts _ _ targets.1 in
     λ i. record {
       id = (bytes_eq-Decides y.id s.id).0 ids.0 i;
       version = (same_version-Decides y.version s.version).0 versions.0 i;
       algorithm = algorithm-tells y.algorithm s.algorithm algorithms.0 i;
-      target = target-tells y.target s.target others.0 i;
-      children = listed same_child (λ c. c.0) (λ c. c.1) y.children s.children others.1 i;
+      target = target-tells y.target s.target targets.0 i;
+      children = listed same_child (λ c. c.0) (λ c. c.1) y.children s.children others.0 i;
+      given = given-tells y.given s.given others.1 i;
     }
 
 abbrev same_kept : Each Bool child.enum.parts

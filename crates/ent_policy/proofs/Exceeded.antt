@@ -13,7 +13,7 @@ use Rattle.ent_policy.specs.declared.expression.Expression.TheOpen.{Expression-F
 use Rattle.ent_policy.specs.declared.expression.Expression.TheFolds.{fold-roll-Expression}
 use Rattle.ent_policy.specs.declared.fault.DocFault.{DocFault}
 use Rattle.ent_policy.specs.First.{earlier, first_of}
-use Rattle.ent_policy.specs.Limits.{expression_fault, expression_limits, length_fault, limit_fault, name_fault, set_limits, target_fault, child_limits}
+use Rattle.ent_policy.specs.Limits.{expression_fault, expression_limits, given_fault, length_fault, limit_fault, name_fault, set_limits, target_fault, child_limits}
 
 length_of_map : {A B : Type 0} (f : A → B) (xs : List A) → length_fault (map f xs) ≡ length_fault xs
 length_of_map f xs = rw (length-map) refl
@@ -24,9 +24,9 @@ limits_of_apply function arguments =
     fold-roll-Expression (Option DocFault) expression_limits (Expression-F.Apply function arguments)
     ∙ ap (λ f. earlier f (first_of (map expression_fault arguments))) (length_of_map expression_fault arguments)
 
-pub limits_of_set : (set : PolicySet) → limit_fault (children.Set set) ≡ first_of (name_fault set.id ∷ length_fault set.children ∷ target_fault set.target ∷ first_of (map limit_fault set.children) ∷ [])
+pub limits_of_set : (set : PolicySet) → limit_fault (children.Set set) ≡ first_of (name_fault set.id ∷ length_fault set.children ∷ target_fault set.target ∷ first_of (map limit_fault set.children) ∷ given_fault set.given ∷ [])
 unfolding Rattle.ent_policy.specs.declared.document.Child.TheViews.roll-Child denote.Hole.Carrier.roll
 limits_of_set set =
     fold-roll-Child (Option DocFault) (Option DocFault) child_limits set_limits (Child-F.Set set)
     ∙ fold_out-PolicySet (Option DocFault) (Option DocFault) child_limits set_limits set
-    ∙ ap (λ f. first_of (name_fault set.id ∷ f ∷ target_fault set.target ∷ first_of (map limit_fault set.children) ∷ [])) (length_of_map limit_fault set.children)
+    ∙ ap (λ f. first_of (name_fault set.id ∷ f ∷ target_fault set.target ∷ first_of (map limit_fault set.children) ∷ given_fault set.given ∷ [])) (length_of_map limit_fault set.children)

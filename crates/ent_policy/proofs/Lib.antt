@@ -16,3 +16,4 @@ pub mod Ids
 pub mod References
 pub mod Telling
 pub mod Documents
+pub mod Used

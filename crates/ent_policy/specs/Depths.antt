@@ -10,6 +10,9 @@ use Rattle.ent_policy.specs.declared.expression.Expression.{Expression}
 use Rattle.ent_policy.specs.declared.expression.Expression.TheOpen.{Expression-F}
 use Rattle.ent_policy.specs.declared.expression.Expression.TheFolds.{fold-Expression}
 use Rattle.ent_policy.specs.declared.expression.VariableDefinition.{VariableDefinition}
+use Rattle.ent_policy.specs.declared.given.AssignmentExpression.{AssignmentExpression}
+use Rattle.ent_policy.specs.declared.given.GivenExpression.{GivenExpression}
+use Rattle.ent_policy.specs.declared.given.GivenExpressions.{GivenExpressions}
 use Rattle.ent_policy.specs.Variables.{variable_by}
 
 -- the greatest of some numbers, 0 where there is none
@@ -42,11 +45,24 @@ abbrev pub is_deep_condition : (List ℕ → ℕ) → Option Expression → Bool
 is_deep_condition refer None = false
 is_deep_condition refer (Some e) = is_deep refer e
 
--- a definition or a condition of the policy is
+-- an assignment of an obligation or an advice is
+abbrev pub is_deep_given_expression : (List ℕ → ℕ) → GivenExpression → Bool
+is_deep_given_expression refer g = list_any (λ (a : AssignmentExpression). is_deep refer a.expression) g.assignments
+
+-- an assignment of some obligations and advice is
+abbrev pub is_deep_given : (List ℕ → ℕ) → GivenExpressions → Bool
+is_deep_given refer g = list_any (is_deep_given_expression refer) g.obligations || list_any (is_deep_given_expression refer) g.advice
+
+-- a condition or an assignment of a rule is
+abbrev pub is_deep_rule : (List ℕ → ℕ) → Rule → Bool
+is_deep_rule refer r = is_deep_condition refer r.condition || is_deep_given refer r.given
+
+-- a definition, a rule's condition or an assignment of the policy is
 abbrev pub has_deep_expression : Policy → Bool
 has_deep_expression p =
     list_any (λ (d : VariableDefinition). is_deep (defined_depth p.variables) d.expression) p.variables
-    || list_any (λ (r : Rule). is_deep_condition (defined_depth p.variables) r.condition) p.rules
+    || list_any (is_deep_rule (defined_depth p.variables)) p.rules
+    || is_deep_given (defined_depth p.variables) p.given
 
 -- one level of a child, with a set already seen
 abbrev pub deep_in_child : Child-F Bool Bool → Bool
@@ -56,7 +72,7 @@ deep_in_child (Child-F.Reference reference) = false
 
 -- a set, with each child already seen
 abbrev pub deep_in_set : PolicySet-F Bool Bool → Bool
-deep_in_set set = list_any (λ child. child) set.children
+deep_in_set set = list_any (λ child. child) set.children || is_deep_given (defined_depth []) set.given
 
 -- some expression of a child is deeper than 16
 abbrev pub has_deep : Child → Bool

@@ -17,6 +17,9 @@ use Rattle.ent_policy.specs.declared.expression.Expression.TheFolds.{fold-Expres
 use Rattle.ent_policy.specs.declared.expression.VariableDefinition.{VariableDefinition}
 use Rattle.ent_policy.specs.declared.fault.DocFault.{DocFault}
 use Rattle.ent_policy.specs.declared.fault.DocFault.TheVariants.{Form, Identifier, Size}
+use Rattle.ent_policy.specs.declared.given.AssignmentExpression.{AssignmentExpression}
+use Rattle.ent_policy.specs.declared.given.GivenExpression.{GivenExpression}
+use Rattle.ent_policy.specs.declared.given.GivenExpressions.{GivenExpressions}
 use Rattle.ent_policy.specs.First.{earlier, first_of, if_so}
 use Rattle.ent_policy.specs.Names.{is_bad_name}
 
@@ -88,9 +91,22 @@ target_fault t = earlier (length_fault t.any_of) (first_of (map any_of_fault t.a
 unfoldable pub definition_fault : VariableDefinition → Option DocFault
 definition_fault d = earlier (name_fault d.id) (expression_fault d.expression)
 
+-- of an assignment: its attribute, category and issuer are identifiers
+unfoldable pub assignment_fault : AssignmentExpression → Option DocFault
+assignment_fault a = first_of (name_fault a.attribute ∷ maybe_fault name_fault a.category ∷ maybe_fault name_fault a.issuer ∷ expression_fault a.expression ∷ [])
+
+-- of an obligation or an advice
+unfoldable pub given_expression_fault : GivenExpression → Option DocFault
+given_expression_fault g = first_of (name_fault g.id ∷ length_fault g.assignments ∷ first_of (map assignment_fault g.assignments) ∷ [])
+
+-- of obligations and advice
+unfoldable pub given_fault : GivenExpressions → Option DocFault
+given_fault g = first_of (length_fault g.obligations ∷ length_fault g.advice
+    ∷ first_of (map given_expression_fault g.obligations) ∷ first_of (map given_expression_fault g.advice) ∷ [])
+
 -- of a rule
 unfoldable pub rule_fault : Rule → Option DocFault
-rule_fault r = first_of (name_fault r.id ∷ target_fault r.target ∷ maybe_fault expression_fault r.condition ∷ [])
+rule_fault r = first_of (name_fault r.id ∷ target_fault r.target ∷ maybe_fault expression_fault r.condition ∷ given_fault r.given ∷ [])
 
 -- two rules of one identifier
 abbrev pub has_double_rule : List Rule → Bool
@@ -99,7 +115,7 @@ has_double_rule rules = has_double (map (λ r. r.id) rules)
 -- of a policy
 unfoldable pub policy_fault : Policy → Option DocFault
 policy_fault p = first_of (name_fault p.id ∷ if_so (has_double_rule p.rules) Identifier ∷ length_fault p.variables ∷ length_fault p.rules
-    ∷ target_fault p.target ∷ first_of (map definition_fault p.variables) ∷ first_of (map rule_fault p.rules) ∷ [])
+    ∷ target_fault p.target ∷ first_of (map definition_fault p.variables) ∷ first_of (map rule_fault p.rules) ∷ given_fault p.given ∷ [])
 
 -- of one level of a child, with those of a set already seen: the identifier of a reference is a name
 abbrev pub child_limits : Child-F (Option DocFault) (Option DocFault) → Option DocFault
@@ -109,7 +125,7 @@ child_limits (Child-F.Reference reference) = None
 
 -- of a set, with those of each child already seen
 abbrev pub set_limits : PolicySet-F (Option DocFault) (Option DocFault) → Option DocFault
-set_limits s = first_of (name_fault s.id ∷ length_fault s.children ∷ target_fault s.target ∷ first_of s.children ∷ [])
+set_limits s = first_of (name_fault s.id ∷ length_fault s.children ∷ target_fault s.target ∷ first_of s.children ∷ given_fault s.given ∷ [])
 
 -- the first limit that is exceeded in a child
 abbrev pub limit_fault : Child → Option DocFault

@@ -15,6 +15,9 @@ use Rattle.ent_policy.specs.declared.document.Target.{Target}
 use Rattle.ent_policy.specs.declared.document.Child.{Child}
 use Rattle.ent_policy.specs.declared.expression.Expression.{Expression}
 use Rattle.ent_policy.specs.declared.expression.VariableDefinition.{VariableDefinition}
+use Rattle.ent_policy.specs.declared.given.AssignmentExpression.{AssignmentExpression}
+use Rattle.ent_policy.specs.declared.given.GivenExpression.{GivenExpression}
+use Rattle.ent_policy.specs.declared.given.GivenExpressions.{GivenExpressions}
 use Rattle.ent_policy.specs.declared.measure.Measured.{Measured}
 use Rattle.ent_policy.specs.declared.extent.Extent.{Extent}
 use Rattle.ent_policy.specs.Depths.{defined_depth, depth_with, greatest, has_deep, has_deep_expression}
@@ -100,18 +103,34 @@ target_extent t = limited (target_nodes t) 0 false (target_is_typed t)
 abbrev pub measured_extent : (Option ArgType → Bool) → Measured → Extent
 measured_extent is_right m = record { nodes = m.nodes; references = 0; is_deep = m.depth == 17; is_typed = is_right m.datatype }
 
--- a definition gives a value or a bag
+-- an expression that gives a value or a bag
+abbrev pub held_extent : (List ℕ → Measured) → Expression → Extent
+held_extent refer e = measured_extent (λ t. is_some (held t)) (measured_with refer e)
+
+-- a definition
 abbrev pub definition_extent : (List ℕ → Measured) → VariableDefinition → Extent
-definition_extent refer d = measured_extent (λ t. is_some (held t)) (measured_with refer d.expression)
+definition_extent refer d = held_extent refer d.expression
 
 -- a condition gives one boolean
 abbrev pub condition_extent : (List ℕ → Measured) → Option Expression → Extent
 condition_extent refer None = nothing
 condition_extent refer (Some e) = measured_extent is_boolean (measured_with refer e)
 
+-- an assignment
+abbrev pub assignment_extent : (List ℕ → Measured) → AssignmentExpression → Extent
+assignment_extent refer a = held_extent refer a.expression
+
+-- an obligation or an advice
+abbrev pub given_expression_extent : (List ℕ → Measured) → GivenExpression → Extent
+given_expression_extent refer g = whole (assignment_extent refer) g.assignments
+
+-- obligations and advice
+abbrev pub given_extent : (List ℕ → Measured) → GivenExpressions → Extent
+given_extent refer g = together (whole (given_expression_extent refer) g.obligations) (whole (given_expression_extent refer) g.advice)
+
 -- a rule
 abbrev pub rule_extent : (List ℕ → Measured) → Rule → Extent
-rule_extent refer r = together (target_extent r.target) (condition_extent refer r.condition)
+rule_extent refer r = together (together (target_extent r.target) (condition_extent refer r.condition)) (given_extent refer r.given)
 
 -- a policy
 abbrev pub policy_extent : Policy → Extent

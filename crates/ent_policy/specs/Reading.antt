@@ -38,6 +38,9 @@ use Rattle.ent_policy.specs.declared.raw.RawChild.{RawChild}
 use Rattle.ent_policy.specs.declared.raw.RawChild.TheOpen.{RawChild-F, RawPolicySet-F}
 use Rattle.ent_policy.specs.declared.raw.RawChild.TheFolds.{fold-RawChild}
 use Rattle.ent_policy.specs.declared.raw.RawReference.{RawReference}
+use Rattle.ent_policy.specs.declared.given.AssignmentExpression.{AssignmentExpression}
+use Rattle.ent_policy.specs.declared.given.GivenExpression.{GivenExpression}
+use Rattle.ent_policy.specs.declared.given.GivenExpressions.{GivenExpressions}
 use Rattle.ent_policy.specs.declared.key.Reference.{Reference}
 use Rattle.ent_policy.specs.declared.pattern.PatternPart.{PatternPart}
 use Rattle.ent_policy.specs.declared.pattern.PatternPart.TheVariants.{Any}
@@ -45,6 +48,9 @@ use Rattle.ent_policy.specs.declared.pattern.VersionConstraints.{VersionConstrai
 use Rattle.ent_policy.specs.declared.raw.RawPolicy.{RawPolicy}
 use Rattle.ent_policy.specs.declared.raw.RawPolicySet.{RawPolicySet}
 use Rattle.ent_policy.specs.declared.raw.RawRule.{RawRule}
+use Rattle.ent_policy.specs.declared.raw.RawAssignment.{RawAssignment}
+use Rattle.ent_policy.specs.declared.raw.RawGivenExpression.{RawGivenExpression}
+use Rattle.ent_policy.specs.declared.raw.RawGivenExpressions.{RawGivenExpressions}
 use Rattle.ent_policy.specs.declared.raw.RawVariableDefinition.{RawVariableDefinition}
 use Rattle.ent_policy.specs.declared.raw.RawExpression.{RawExpression}
 use Rattle.ent_policy.specs.declared.raw.RawExpression.TheOpen.{RawExpression-F}
@@ -207,12 +213,28 @@ target_read t = made (λ parts. record { any_of = parts }) (each_read any_of_rea
 unfoldable pub definition_read : RawVariableDefinition → Read VariableDefinition
 definition_read d = made (λ expression. record { id = d.id; expression = expression }) (expression_read d.expression)
 
+-- an assignment (section 5.41)
+unfoldable pub assignment_read : RawAssignment → Read AssignmentExpression
+assignment_read a = made (λ expression. record { attribute = a.attribute; category = a.category; issuer = a.issuer; expression = expression }) (expression_read a.expression)
+
+-- an obligation or an advice (sections 5.39 and 5.40)
+unfoldable pub given_expression_read : RawGivenExpression → Read GivenExpression
+given_expression_read g = made (λ parts. record { id = g.id; effect = g.effect; assignments = parts }) (each_read assignment_read g.assignments)
+
+-- obligations and advice
+unfoldable pub given_read : RawGivenExpressions → Read GivenExpressions
+given_read g = do
+  obligations ← each_read given_expression_read g.obligations
+  advice ← each_read given_expression_read g.advice
+  done (record { obligations = obligations; advice = advice })
+
 -- a rule
 unfoldable pub rule_read : RawRule → Read Rule
 rule_read r = do
   target ← target_read r.target
   condition ← maybe_read expression_read r.condition
-  done (record { id = r.id; effect = r.effect; target = target; condition = condition })
+  given ← given_read r.given
+  done (record { id = r.id; effect = r.effect; target = target; condition = condition; given = given })
 
 -- a policy
 unfoldable pub policy_read : RawPolicy → Read Policy
@@ -222,7 +244,8 @@ policy_read p = do
   target ← target_read p.target
   variables ← each_read definition_read p.variables
   rules ← each_read rule_read p.rules
-  done (record { id = p.id; version = version; algorithm = algorithm; target = target; variables = variables; rules = rules })
+  given ← given_read p.given
+  done (record { id = p.id; version = version; algorithm = algorithm; target = target; variables = variables; rules = rules; given = given })
 
 -- a version pattern (section 5.13)
 abbrev pub pattern_read : List ℕ → Read (List PatternPart)
@@ -249,18 +272,19 @@ child_step (RawChild-F.Policy p) = made (λ policy. child.Policy policy) (policy
 child_step (RawChild-F.Set s) = made (λ set. child.Set set) s
 child_step (RawChild-F.Reference r) = made (λ reference. child.Reference reference) (reference_read r)
 
--- a set of that name and target, with its children as they are read
-abbrev pub set_of : List ℕ → List ℕ → List ℕ → RawTarget → Read (List Child) → Read PolicySet
-set_of id version algorithm target children = do
+-- a set of that name, target, obligations and advice, with its children as they are read
+abbrev pub set_of : List ℕ → List ℕ → List ℕ → RawTarget → RawGivenExpressions → Read (List Child) → Read PolicySet
+set_of id version algorithm target given children = do
   version ← version_read version
   algorithm ← policy_algorithm_read algorithm
   target ← target_read target
   children ← children
-  done (record { id = id; version = version; algorithm = algorithm; target = target; children = children })
+  given ← given_read given
+  done (record { id = id; version = version; algorithm = algorithm; target = target; children = children; given = given })
 
 -- a set, with each child already read
 abbrev pub set_step : RawPolicySet-F (Read Child) (Read PolicySet) → Read PolicySet
-set_step s = set_of s.id s.version s.algorithm s.target (all_read s.children)
+set_step s = set_of s.id s.version s.algorithm s.target s.given (all_read s.children)
 
 -- a child of a set
 abbrev pub child_read : RawChild → Read Child
@@ -268,7 +292,7 @@ child_read = fold-RawChild (Read Child) (Read PolicySet) child_step set_step
 
 -- a set
 abbrev pub set_read : RawPolicySet → Read PolicySet
-set_read s = set_of s.id s.version s.algorithm s.target (each_read child_read s.children)
+set_read s = set_of s.id s.version s.algorithm s.target s.given (each_read child_read s.children)
 
 -- a document
 abbrev pub document_read : RawDocument → Read Tree

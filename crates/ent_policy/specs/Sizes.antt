@@ -1,5 +1,5 @@
 -- How many nodes expressions and documents have, and how many references.
-use Rattle.std.specs.Prelude.{ℕ, ◌+◌, ◌*◌, List, Bool, ◌||◌, Option, Some, None, length, map, nat_lt}
+use Rattle.std.specs.Prelude.{ℕ, ◌+◌, ◌*◌, List, [], Bool, ◌||◌, Option, Some, None, length, map, nat_lt}
 use Rattle.std.specs.List.{sum}
 use Rattle.ent_policy.specs.declared.document.AllOf.{AllOf}
 use Rattle.ent_policy.specs.declared.document.AnyOf.{AnyOf}
@@ -13,6 +13,9 @@ use Rattle.ent_policy.specs.declared.expression.Expression.{Expression}
 use Rattle.ent_policy.specs.declared.expression.Expression.TheOpen.{Expression-F}
 use Rattle.ent_policy.specs.declared.expression.Expression.TheFolds.{fold-Expression}
 use Rattle.ent_policy.specs.declared.expression.VariableDefinition.{VariableDefinition}
+use Rattle.ent_policy.specs.declared.given.AssignmentExpression.{AssignmentExpression}
+use Rattle.ent_policy.specs.declared.given.GivenExpression.{GivenExpression}
+use Rattle.ent_policy.specs.declared.given.GivenExpressions.{GivenExpressions}
 use Rattle.ent_policy.specs.Variables.{variable_by}
 
 -- one level of an expression, where `refer` gives the nodes that a variable stands for
@@ -44,15 +47,24 @@ any_of_nodes a = sum (map (λ (b : AllOf). 2 * length b.matches) a.all_of)
 abbrev pub target_nodes : Target → ℕ
 target_nodes t = sum (map any_of_nodes t.any_of)
 
--- the nodes of a rule, its target and its condition
-abbrev pub rule_nodes : (List ℕ → ℕ) → Rule → ℕ
-rule_nodes refer r = target_nodes r.target + condition_nodes refer r.condition
+-- the nodes of an obligation or an advice: those of its assignments' expressions
+abbrev pub given_expression_nodes : (List ℕ → ℕ) → GivenExpression → ℕ
+given_expression_nodes refer g = sum (map (λ (a : AssignmentExpression). nodes_with refer a.expression) g.assignments)
 
--- the nodes of a policy: its target, its definitions where they stand, and its rules
+-- the nodes of obligations and advice
+abbrev pub given_nodes : (List ℕ → ℕ) → GivenExpressions → ℕ
+given_nodes refer g = sum (map (given_expression_nodes refer) g.obligations) + sum (map (given_expression_nodes refer) g.advice)
+
+-- the nodes of a rule: its target, its condition, its obligations and its advice
+abbrev pub rule_nodes : (List ℕ → ℕ) → Rule → ℕ
+rule_nodes refer r = target_nodes r.target + condition_nodes refer r.condition + given_nodes refer r.given
+
+-- the nodes of a policy: its target, its definitions where they stand, its rules, its obligations and its advice
 abbrev pub policy_nodes : Policy → ℕ
 policy_nodes p = target_nodes p.target
     + sum (map (λ (d : VariableDefinition). nodes_with (defined_nodes p.variables) d.expression) p.variables)
     + sum (map (rule_nodes (defined_nodes p.variables)) p.rules)
+    + given_nodes (defined_nodes p.variables) p.given
 
 -- one level of a child, with the nodes of a set
 abbrev pub child_nodes_step : Child-F ℕ ℕ → ℕ
@@ -62,7 +74,7 @@ child_nodes_step (Child-F.Reference reference) = 0
 
 -- one level of a policy set, with the nodes of each child
 abbrev pub set_nodes_step : PolicySet-F ℕ ℕ → ℕ
-set_nodes_step set = target_nodes set.target + sum set.children
+set_nodes_step set = target_nodes set.target + sum set.children + given_nodes (defined_nodes []) set.given
 
 -- how many nodes a child has
 abbrev pub nodes : Child → ℕ

@@ -19,6 +19,9 @@ use Rattle.ent_policy.specs.declared.document.Target.{Target}
 use Rattle.ent_policy.specs.declared.document.AnyOf.{AnyOf}
 use Rattle.ent_policy.specs.declared.document.AllOf.{AllOf}
 use Rattle.ent_policy.specs.declared.document.Match.{Match}
+use Rattle.ent_policy.specs.declared.given.AssignmentExpression.{AssignmentExpression}
+use Rattle.ent_policy.specs.declared.given.GivenExpression.{GivenExpression}
+use Rattle.ent_policy.specs.declared.given.GivenExpressions.{GivenExpressions}
 use Rattle.ent_policy.specs.Variables.{followed}
 
 -- ---- expressions
@@ -94,13 +97,26 @@ unfoldable pub condition_is_typed : List VariableDefinition → Option Expressio
 condition_is_typed definitions None = true
 condition_is_typed definitions (Some e) = is_boolean (type_in definitions e)
 
--- a rule's target and condition
-unfoldable pub rule_is_typed : List VariableDefinition → Rule → Bool
-rule_is_typed definitions r = target_is_typed r.target && condition_is_typed definitions r.condition
+-- an assignment gives a value or a bag (section 5.41)
+unfoldable pub assignment_is_typed : List VariableDefinition → AssignmentExpression → Bool
+assignment_is_typed definitions a = is_some (held (type_in definitions a.expression))
 
--- a policy's target, definitions and rules
+-- each assignment of an obligation or an advice
+unfoldable pub given_expression_is_typed : List VariableDefinition → GivenExpression → Bool
+given_expression_is_typed definitions g = list_all (assignment_is_typed definitions) g.assignments
+
+-- each assignment of obligations and advice
+unfoldable pub given_is_typed : List VariableDefinition → GivenExpressions → Bool
+given_is_typed definitions g = list_all (given_expression_is_typed definitions) g.obligations && list_all (given_expression_is_typed definitions) g.advice
+
+-- a rule's target, condition, obligations and advice
+unfoldable pub rule_is_typed : List VariableDefinition → Rule → Bool
+rule_is_typed definitions r = target_is_typed r.target && condition_is_typed definitions r.condition && given_is_typed definitions r.given
+
+-- a policy's target, definitions, rules, obligations and advice
 unfoldable pub policy_is_typed : Policy → Bool
 policy_is_typed p = target_is_typed p.target && list_all (definition_is_typed p.variables) p.variables && list_all (rule_is_typed p.variables) p.rules
+    && given_is_typed p.variables p.given
 
 -- one level of a child, with a set already seen
 abbrev pub child_step : Child-F Bool Bool → Bool
@@ -108,9 +124,9 @@ child_step (Child-F.Policy policy) = policy_is_typed policy
 child_step (Child-F.Set set) = set
 child_step (Child-F.Reference reference) = true
 
--- a set's target and its children
+-- a set's target, its children, and its obligations and advice, for which no variable is defined
 abbrev pub set_step : PolicySet-F Bool Bool → Bool
-set_step set = target_is_typed set.target && list_all (λ child. child) set.children
+set_step set = target_is_typed set.target && list_all (λ child. child) set.children && given_is_typed [] set.given
 
 -- each expression of a child has its type
 abbrev pub is_typed : Child → Bool

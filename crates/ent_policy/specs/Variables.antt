@@ -1,5 +1,5 @@
 -- The variables of a policy: which are used, which are defined, and which lead to no end (sections 5.23 and 5.24).
-use Rattle.std.specs.Prelude.{◌≡◌, ℕ, zero, suc, List, [], ◌∷◌, Bool, true, false, not, ◌||◌, Option, Some, None, bytes_eq, find, length, map}
+use Rattle.std.specs.Prelude.{◌≡◌, ℕ, zero, suc, List, [], ◌∷◌, ◌++◌, Bool, true, false, not, ◌||◌, Option, Some, None, bytes_eq, find, length, map}
 use Rattle.std.specs.List.{flat_map, list_any, list_all}
 use Rattle.ent_policy.specs.declared.document.Policy.{Policy}
 use Rattle.ent_policy.specs.declared.document.Rule.{Rule}
@@ -10,6 +10,9 @@ use Rattle.ent_policy.specs.declared.expression.Expression.{Expression}
 use Rattle.ent_policy.specs.declared.expression.Expression.TheOpen.{Expression-F}
 use Rattle.ent_policy.specs.declared.expression.Expression.TheFolds.{fold-Expression}
 use Rattle.ent_policy.specs.declared.expression.VariableDefinition.{VariableDefinition}
+use Rattle.ent_policy.specs.declared.given.AssignmentExpression.{AssignmentExpression}
+use Rattle.ent_policy.specs.declared.given.GivenExpression.{GivenExpression}
+use Rattle.ent_policy.specs.declared.given.GivenExpressions.{GivenExpressions}
 use Rattle.ent_policy.specs.Limits.{has_double, is_among}
 
 -- one level of an expression, with the variables of each argument
@@ -29,9 +32,25 @@ abbrev pub condition_variables : Option Expression → List (List ℕ)
 condition_variables None = []
 condition_variables (Some e) = variables e
 
--- those that the conditions of a policy use
+-- those that an assignment uses
+abbrev pub assignment_variables : AssignmentExpression → List (List ℕ)
+assignment_variables a = variables a.expression
+
+-- those that an obligation or an advice uses
+abbrev pub given_expression_variables : GivenExpression → List (List ℕ)
+given_expression_variables g = flat_map assignment_variables g.assignments
+
+-- those that obligations and advice use
+abbrev pub given_variables : GivenExpressions → List (List ℕ)
+given_variables g = flat_map given_expression_variables g.obligations ++ flat_map given_expression_variables g.advice
+
+-- those that a rule uses: its condition, its obligations and its advice
+abbrev pub rule_variables : Rule → List (List ℕ)
+rule_variables r = condition_variables r.condition ++ given_variables r.given
+
+-- those that the rules, the obligations and the advice of a policy use
 abbrev pub used : Policy → List (List ℕ)
-used p = flat_map (λ (r : Rule). condition_variables r.condition) p.rules
+used p = flat_map rule_variables p.rules ++ given_variables p.given
 
 -- the ids of some definitions
 abbrev pub ids_of : List VariableDefinition → List (List ℕ)
@@ -88,10 +107,10 @@ variables_of_child (Child-F.Policy policy) = has_bad_variable policy
 variables_of_child (Child-F.Set set) = set
 variables_of_child (Child-F.Reference reference) = false
 
--- a set, with each child already seen
+-- a set, with each child already seen: for its obligations and advice no variable is defined
 abbrev pub variables_of_set : PolicySet-F Bool Bool → Bool
-variables_of_set set = list_any (λ child. child) set.children
+variables_of_set set = list_any (λ child. child) set.children || not (list_all (is_resolved []) (given_variables set.given))
 
--- some policy of a child has a variable that is defined twice, not at all, or through itself
+-- a policy or a set of a child has a variable that is defined twice, not at all, or through itself
 abbrev pub has_variable_fault : Child → Bool
 has_variable_fault = fold-Child Bool Bool variables_of_child variables_of_set

@@ -14,14 +14,16 @@ use crate::limits::limit_fault;
 use crate::measure::{TOO_DEEP, TOO_MANY};
 use crate::raw::{RawDocument, RawReference};
 use crate::read::Read;
-use crate::reading::{document, reference};
+use crate::reading::document;
+use crate::reading_reference::reference;
 use std::alloc::{AllocError, Global};
 
 /// The document that was read, or the one of its faults that stands first in the order of `DocFault`.
 ///
 /// Identifiers have 1 to 256 bytes, lists at most 256 members, a document at most 65,536 expressions and 32 references, and
 /// expressions and policy sets nest at most 16 deep. Each expression has a type, also in definitions that aren't used: a match gives a boolean
-/// (section 7.6), and so does a condition (section 5.26). The texts are moved, not copied.
+/// (section 7.6), and so does a condition (section 5.26); an assignment of an obligation or an advice gives a value or a bag (section 5.41), and
+/// in those of a set no variable is defined. The texts are moved, not copied.
 #[tactic(auto, unfolding(crate::specs::Check::checked, crate::specs::Check::fault_of))]
 pub fn check(alloc: Global, raw: RawDocument) -> Result<Document, CheckFault>
     ensures { Gives result (checked raw) }

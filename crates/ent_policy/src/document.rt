@@ -4,6 +4,7 @@ ghost use Rattle.std.specs.Prelude.{◌≡◌, IfOk};
 ghost use Rattle.ent_policy.specs.Key.{key_of};
 
 use crate::expression::{Expression, VariableDefinition};
+use crate::given::GivenExpressions;
 use crate::key::{DocKey, Kind, Reference};
 use crate::version::Version;
 use ent_combine::{PolicyAlg, RuleAlg};
@@ -65,6 +66,7 @@ pub struct Rule {
     pub target: Target,
     /// What must be true for the rule to apply; an absent condition is true (section 5.26).
     pub condition: Option<Expression>,
+    pub given: GivenExpressions,
 }
 
 /// A policy (section 5.14).
@@ -76,6 +78,7 @@ pub struct Policy {
     pub target: Target,
     pub variables: Items<VariableDefinition>,
     pub rules: Items<Rule>,
+    pub given: GivenExpressions,
 }
 
 /// A policy set (section 5.1).
@@ -87,6 +90,7 @@ pub struct PolicySet {
     pub algorithm: PolicyAlg,
     pub target: Target,
     pub children: Items<Child>,
+    pub given: GivenExpressions,
 }
 
 /// A child of a policy set: a policy, a set, or a reference to a stored document.

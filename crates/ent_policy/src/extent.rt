@@ -4,11 +4,13 @@ ghost use Rattle.std.specs.Prelude.{◌≡◌, IfOk, map, min};
 ghost use Rattle.ent_policy.specs.Children.{as_child};
 ghost use Rattle.ent_policy.specs.declared.document.Child.TheVariants.{Set};
 ghost use Rattle.ent_policy.specs.Depths.{depth, greatest};
-ghost use Rattle.ent_policy.specs.Measure.{IsExtentOf, IsExtentOfAll, IsExtentOfPolicy, condition_extent, definition_extent, found, rule_extent, target_extent, together, whole};
+ghost use Rattle.ent_policy.specs.Measure.{IsExtentOf, IsExtentOfAll, IsExtentOfPolicy, condition_extent, found, given_extent, held_extent, target_extent, together, whole};
 
 use crate::document::{AllOf, AnyOf, Child, Match, Policy, PolicySet, Rule, Target, Tree};
 use crate::expression::{Expression, VariableDefinition};
+use crate::given::{AssignmentExpression, GivenExpression, GivenExpressions};
 use crate::measure::{Measured, TOO_DEEP, added, deeper, held, is_boolean, measure, table};
+use crate::variables::uses_none;
 use ent_functions::ArgType;
 use std::alloc::{AllocError, Global};
 use std::collections::BTreeMap;
@@ -121,34 +123,54 @@ fn target_extent(target: &Target) -> Extent
     extent_of_all(target.any_of.as_slice())
 }
 
-fn definition_extent(
+/// A part whose expressions may use variables.
+trait Measurable {
+    ghost use Rattle.std.specs.Prelude.{◌≡◌, ℕ, List, IfOk};
+    ghost use Rattle.ent_policy.specs.declared.extent.Extent.{Extent};
+    ghost use Rattle.ent_policy.specs.declared.measure.Measured.{Measured};
+    ghost use Rattle.ent_policy.specs.Measure.{found};
+
+    ghost of: { (List ℕ → Measured) → Self → Extent };
+
+    /// What stands in the part, where the table has what was measured of variables.
+    fn extent_by(
+        &self,
+        alloc: Global,
+        table: &BTreeMap<&str, Measured>,
+    ) -> Result<Extent, AllocError>
+        ensures { IfOk result (λ e. e ≡ of (found table.now) self.now) };
+}
+
+/// What stands in some parts.
+fn extent_of_each<M: Measurable>(
     alloc: Global,
     table: &BTreeMap<&str, Measured>,
-    definition: &VariableDefinition,
+    parts: &[M],
 ) -> Result<Extent, AllocError>
-    ensures { IfOk result (λ e. e ≡ definition_extent (found table.now) definition.now) }
+    ensures { IfOk result (λ e. e ≡ whole (M.of (found table.now)) parts.now) }
 {
-    let one = measure(alloc, table, &definition.expression)?;
+    let mut all = NOTHING;
+    for part in parts {
+        all = all.and(part.extent_by(alloc, table)?);
+    }
+    Ok(all)
+}
+
+/// What stands in an expression that gives a value or a bag.
+fn held_extent(
+    alloc: Global,
+    table: &BTreeMap<&str, Measured>,
+    expression: &Expression,
+) -> Result<Extent, AllocError>
+    ensures { IfOk result (λ e. e ≡ held_extent (found table.now) expression.now) }
+{
+    let one = measure(alloc, table, expression)?;
     Ok(Extent {
         nodes: one.nodes,
         references: 0,
         is_deep: one.depth == TOO_DEEP,
         is_typed: held(one.datatype).is_some(),
     })
-}
-
-fn definitions_extent(
-    alloc: Global,
-    table: &BTreeMap<&str, Measured>,
-    definitions: &[VariableDefinition],
-) -> Result<Extent, AllocError>
-    ensures { IfOk result (λ e. e ≡ whole (definition_extent (found table.now)) definitions.now) }
-{
-    let mut all = NOTHING;
-    for definition in definitions {
-        all = all.and(definition_extent(alloc, table, definition)?);
-    }
-    Ok(all)
 }
 
 fn condition_extent(
@@ -172,19 +194,74 @@ fn condition_extent(
     }
 }
 
-fn rules_extent(
+fn given_extent(
     alloc: Global,
     table: &BTreeMap<&str, Measured>,
-    rules: &[Rule],
+    given: &GivenExpressions,
 ) -> Result<Extent, AllocError>
-    ensures { IfOk result (λ e. e ≡ whole (rule_extent (found table.now)) rules.now) }
+    ensures { IfOk result (λ e. e ≡ given_extent (found table.now) given.now) }
 {
-    let mut all = NOTHING;
-    for rule in rules {
-        let condition = condition_extent(alloc, table, &rule.condition)?;
-        all = all.and(target_extent(&rule.target).and(condition));
+    let obligations = extent_of_each(alloc, table, given.obligations.as_slice())?;
+    let advice = extent_of_each(alloc, table, given.advice.as_slice())?;
+    Ok(obligations.and(advice))
+}
+
+impl Measurable for VariableDefinition {
+    ghost use Rattle.ent_policy.specs.Measure.{definition_extent};
+
+    ghost of = { definition_extent };
+
+    fn extent_by(
+        &self,
+        alloc: Global,
+        table: &BTreeMap<&str, Measured>,
+    ) -> Result<Extent, AllocError> {
+        held_extent(alloc, table, &self.expression)
     }
-    Ok(all)
+}
+
+impl Measurable for AssignmentExpression {
+    ghost use Rattle.ent_policy.specs.Measure.{assignment_extent};
+
+    ghost of = { assignment_extent };
+
+    fn extent_by(
+        &self,
+        alloc: Global,
+        table: &BTreeMap<&str, Measured>,
+    ) -> Result<Extent, AllocError> {
+        held_extent(alloc, table, &self.expression)
+    }
+}
+
+impl Measurable for GivenExpression {
+    ghost use Rattle.ent_policy.specs.Measure.{given_expression_extent};
+
+    ghost of = { given_expression_extent };
+
+    fn extent_by(
+        &self,
+        alloc: Global,
+        table: &BTreeMap<&str, Measured>,
+    ) -> Result<Extent, AllocError> {
+        extent_of_each(alloc, table, self.assignments.as_slice())
+    }
+}
+
+impl Measurable for Rule {
+    ghost use Rattle.ent_policy.specs.Measure.{rule_extent};
+
+    ghost of = { rule_extent };
+
+    fn extent_by(
+        &self,
+        alloc: Global,
+        table: &BTreeMap<&str, Measured>,
+    ) -> Result<Extent, AllocError> {
+        let condition = condition_extent(alloc, table, &self.condition)?;
+        let given = given_extent(alloc, table, &self.given)?;
+        Ok(target_extent(&self.target).and(condition).and(given))
+    }
 }
 
 /// What stands in a policy; or `None`, if a variable of it is defined twice, not at all, or through itself.
@@ -194,13 +271,14 @@ fn policy_extent(alloc: Global, policy: &Policy) -> Result<Option<Extent>, Alloc
     let Some(table) = table(alloc, policy)? else {
         return Ok(None);
     };
-    let definitions = definitions_extent(alloc, &table, policy.variables.as_slice())?;
-    let rules = rules_extent(alloc, &table, policy.rules.as_slice())?;
+    let definitions = extent_of_each(alloc, &table, policy.variables.as_slice())?;
+    let rules = extent_of_each(alloc, &table, policy.rules.as_slice())?;
+    let given = given_extent(alloc, &table, &policy.given)?;
     let target = target_extent(&policy.target);
-    Ok(Some(target.and(definitions).and(rules)))
+    Ok(Some(target.and(definitions).and(rules).and(given)))
 }
 
-/// What stands in a document; or `None`, if a variable of a policy is defined twice, not at all, or through itself.
+/// What stands in a document; or `None`, if a variable in it is defined twice, not at all, or through itself.
 pub(crate) fn extent_of(alloc: Global, tree: &Tree) -> Result<Option<Extent>, AllocError>
     ensures { IfOk result (λ found. IsExtentOf (as_child tree.now) found) }
 {
@@ -228,14 +306,19 @@ fn child_extent(alloc: Global, child: &Child) -> Result<Option<Extent>, AllocErr
 
 /// What stands in a set.
 #[cycle(child)]
-#[tactic(auto, using(crate::proofs::Extents::bad_set, crate::proofs::Extents::set_whole))]
+#[tactic(auto, using(crate::proofs::Extents::bad_set, crate::proofs::Extents::set_extent))]
 fn set_extent(alloc: Global, set: &PolicySet) -> Result<Option<Extent>, AllocError>
     ensures { IfOk result (λ found. IsExtentOf (Set set.now) found) }
 {
     let Some(children) = extent_of_children(alloc, set.children.as_slice())? else {
         return Ok(None);
     };
-    Ok(Some(target_extent(&set.target).and(children)))
+    if !uses_none(alloc, &set.given) {
+        return Ok(None);
+    }
+    let given = given_extent(alloc, &BTreeMap::new(alloc), &set.given)?;
+    let target = target_extent(&set.target);
+    Ok(Some(target.and(children).and(given)))
 }
 
 /// What stands in the children of a set.

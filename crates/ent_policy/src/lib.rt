@@ -7,6 +7,7 @@ mod expression;
 mod extent;
 mod fault;
 mod first;
+mod given;
 mod key;
 mod law;
 mod limits;
@@ -17,6 +18,8 @@ mod pattern;
 mod raw;
 mod read;
 mod reading;
+mod reading_given;
+mod reading_reference;
 mod variables;
 mod version;
 
@@ -26,6 +29,7 @@ pub use document::{
 };
 pub use expression::{Expression, VariableDefinition};
 pub use fault::{CheckFault, DocFault};
+pub use given::{AssignmentExpression, GivenExpression, GivenExpressions};
 pub use key::{DocKey, Kind, Reference};
 pub use law::{more_references_change_nothing, same_is_equal};
 pub use literals::{boolean_as, integer_as};
@@ -34,7 +38,8 @@ pub use pattern::{
     PatternPart, VersionConstraints, VersionMatch, pattern_text_reads_back, what_a_pattern_accepts,
 };
 pub use raw::{
-    RawAllOf, RawAnyOf, RawChild, RawDesignator, RawDocument, RawExpression, RawLiteral, RawMatch,
-    RawPolicy, RawPolicySet, RawReference, RawRule, RawTarget, RawValue, RawVariableDefinition,
+    RawAllOf, RawAnyOf, RawAssignment, RawChild, RawDesignator, RawDocument, RawExpression,
+    RawGivenExpression, RawGivenExpressions, RawLiteral, RawMatch, RawPolicy, RawPolicySet,
+    RawReference, RawRule, RawTarget, RawValue, RawVariableDefinition,
 };
 pub use version::{Version, text_reads_back};

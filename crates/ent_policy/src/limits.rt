@@ -4,7 +4,7 @@ ghost use Rattle.std.specs.Prelude.{◌≡◌, IfOk, length, map};
 ghost use Rattle.ent_policy.specs.Children.{as_child};
 ghost use Rattle.ent_policy.specs.First.{first_of};
 ghost use Rattle.ent_policy.specs.Names.{is_bad_name};
-ghost use Rattle.ent_policy.specs.Limits.{designator_fault, expression_fault, filled_fault, has_double, length_fault, limit_fault, maybe_fault, name_fault, policy_fault, target_fault};
+ghost use Rattle.ent_policy.specs.Limits.{designator_fault, expression_fault, filled_fault, given_fault, has_double, length_fault, limit_fault, maybe_fault, name_fault, policy_fault, target_fault};
 ghost use Rattle.ent_policy.specs.declared.document.Child.TheVariants.{Set};
 
 use crate::document::{
@@ -13,6 +13,8 @@ use crate::document::{
 use crate::expression::{Expression, VariableDefinition};
 use crate::fault::DocFault;
 use crate::first::{earlier, first_of, if_so};
+use crate::given::{AssignmentExpression, GivenExpression, GivenExpressions};
+use ent_values::Text;
 use std::alloc::{AllocError, Global};
 use std::collections::BTreeSet;
 
@@ -55,6 +57,15 @@ fn name_fault(name: &str) -> Option<DocFault>
     if_so(is_bad_name(name), DocFault::Identifier)
 }
 
+fn maybe_name_fault(name: &Option<Text>) -> Option<DocFault>
+    ensures { result ≡ maybe_fault name_fault name.now }
+{
+    match name {
+        None => None,
+        Some(name) => name_fault(name.as_str()),
+    }
+}
+
 fn length_fault<T>(parts: &[T]) -> Option<DocFault>
     ensures { result ≡ length_fault parts.now }
 {
@@ -74,14 +85,10 @@ fn filled_fault<T>(parts: &[T]) -> Option<DocFault>
 fn designator_fault(designator: &Designator) -> Option<DocFault>
     ensures { result ≡ designator_fault designator.now }
 {
-    let issuer = match &designator.issuer {
-        None => None,
-        Some(issuer) => name_fault(issuer.as_str()),
-    };
     first_of(&[
         name_fault(designator.category.as_str()),
         name_fault(designator.attribute.as_str()),
-        issuer,
+        maybe_name_fault(&designator.issuer),
     ])
 }
 
@@ -167,6 +174,52 @@ impl Limited for VariableDefinition {
     }
 }
 
+impl Limited for AssignmentExpression {
+    ghost use Rattle.ent_policy.specs.Limits.{assignment_fault};
+
+    ghost exceeds = { assignment_fault };
+
+    #[tactic(auto, unfolding(crate::specs::Limits::assignment_fault))]
+    fn fault(&self) -> Option<DocFault> {
+        first_of(&[
+            name_fault(self.attribute.as_str()),
+            maybe_name_fault(&self.category),
+            maybe_name_fault(&self.issuer),
+            expression_fault(&self.expression),
+        ])
+    }
+}
+
+impl Limited for GivenExpression {
+    ghost use Rattle.ent_policy.specs.Limits.{given_expression_fault};
+
+    ghost exceeds = { given_expression_fault };
+
+    #[tactic(auto, unfolding(crate::specs::Limits::given_expression_fault))]
+    fn fault(&self) -> Option<DocFault> {
+        let assignments = self.assignments.as_slice();
+        first_of(&[
+            name_fault(self.id.as_str()),
+            length_fault(assignments),
+            fault_in(assignments),
+        ])
+    }
+}
+
+#[tactic(auto, unfolding(crate::specs::Limits::given_fault))]
+fn given_fault(given: &GivenExpressions) -> Option<DocFault>
+    ensures { result ≡ given_fault given.now }
+{
+    let obligations = given.obligations.as_slice();
+    let advice = given.advice.as_slice();
+    first_of(&[
+        length_fault(obligations),
+        length_fault(advice),
+        fault_in(obligations),
+        fault_in(advice),
+    ])
+}
+
 impl Limited for Rule {
     ghost use Rattle.ent_policy.specs.Limits.{rule_fault};
 
@@ -182,6 +235,7 @@ impl Limited for Rule {
             name_fault(self.id.as_str()),
             target_fault(&self.target),
             condition,
+            given_fault(&self.given),
         ])
     }
 }
@@ -214,6 +268,7 @@ fn policy_fault(alloc: Global, policy: &Policy) -> Result<Option<DocFault>, Allo
         target_fault(&policy.target),
         fault_in(variables),
         fault_in(rules),
+        given_fault(&policy.given),
     ]))
 }
 
@@ -251,6 +306,7 @@ fn set_fault(alloc: Global, set: &PolicySet) -> Result<Option<DocFault>, AllocEr
         length_fault(children),
         target_fault(&set.target),
         inside,
+        given_fault(&set.given),
     ]))
 }
 

@@ -4,7 +4,8 @@ ghost use Rattle.std.specs.Prelude.{◌≡◌, ◌∷◌, [], IfOk, Some, not, r
 ghost use Rattle.std.specs.Cmp as Cmp;
 ghost use Rattle.std.specs.Cmp.Lexicographic.{lists_equiv, lists_per, lists_ties, lists_total, pointwise, slice_cmp};
 ghost use Rattle.std.specs.List.{list_all};
-ghost use Rattle.ent_policy.specs.Patterns.{beside, is_more, matches, more_is_last, part_of, part_text, pattern_of, pattern_text, AnyAcceptsOneNumber, MoreAcceptsWhatGoesOn, NumbersAcceptThemselves, PatternsReadBack};
+ghost use Rattle.ent_policy.specs.Patterns.{beside, is_more, matches, more_is_last, part_of, part_text};
+ghost use Rattle.ent_policy.specs.Patterns.{pattern_of, pattern_text, AnyAcceptsOneNumber, MoreAcceptsWhatGoesOn, NumbersAcceptThemselves, PatternsReadBack};
 
 use crate::version::{Piece, Version, dotted, joined, number};
 use ent_values::Text;

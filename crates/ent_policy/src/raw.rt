@@ -1,8 +1,11 @@
 //! Documents as they are read, before they are checked.
 
+ghost use Rattle.std.specs.Prelude.{◌≡◌, []};
+
 use crate::document::Effect;
 use crate::key::Kind;
 use ent_values::{Items, Text};
+use std::alloc::Global;
 
 /// A literal as read: a JSON text, boolean or number.
 #[derive(Drop)]
@@ -72,6 +75,43 @@ pub struct RawTarget {
     pub any_of: Items<RawAnyOf>,
 }
 
+/// An assignment as read.
+#[derive(Drop)]
+pub struct RawAssignment {
+    pub attribute: Text,
+    pub category: Option<Text>,
+    pub issuer: Option<Text>,
+    pub expression: RawExpression,
+}
+
+/// An obligation or an advice as read.
+#[derive(Drop)]
+pub struct RawGivenExpression {
+    pub id: Text,
+    pub effect: Effect,
+    pub assignments: Items<RawAssignment>,
+}
+
+/// The obligations and the advice of a rule, a policy or a policy set, as read.
+#[derive(Drop)]
+pub struct RawGivenExpressions {
+    pub obligations: Items<RawGivenExpression>,
+    pub advice: Items<RawGivenExpression>,
+}
+
+impl RawGivenExpressions {
+    /// No obligation and no advice, for which nothing is allocated.
+    pub fn none(alloc: Global) -> RawGivenExpressions
+        ensures obligations { result.obligations ≡ [] }
+        ensures advice { result.advice ≡ [] }
+    {
+        RawGivenExpressions {
+            obligations: Items::new(alloc),
+            advice: Items::new(alloc),
+        }
+    }
+}
+
 /// A rule as read.
 #[derive(Drop)]
 pub struct RawRule {
@@ -79,6 +119,7 @@ pub struct RawRule {
     pub effect: Effect,
     pub target: RawTarget,
     pub condition: Option<RawExpression>,
+    pub given: RawGivenExpressions,
 }
 
 /// A policy as read: version and algorithm by their texts.
@@ -90,6 +131,7 @@ pub struct RawPolicy {
     pub target: RawTarget,
     pub variables: Items<RawVariableDefinition>,
     pub rules: Items<RawRule>,
+    pub given: RawGivenExpressions,
 }
 
 /// A reference as read: its id and its version patterns by their texts.
@@ -111,6 +153,7 @@ pub struct RawPolicySet {
     pub algorithm: Text,
     pub target: RawTarget,
     pub children: Items<RawChild>,
+    pub given: RawGivenExpressions,
 }
 
 /// A child of a policy set, as read.

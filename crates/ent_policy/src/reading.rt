@@ -1,9 +1,8 @@
 //! From the parts of a document as read to those that are stored.
 
-ghost use Rattle.std.specs.Prelude.{◌≡◌, IfOk, codes};
-ghost use Rattle.ent_policy.specs.Names.{name_of};
-ghost use Rattle.ent_policy.specs.declared.fault.DocFault.TheVariants.{Identifier};
-ghost use Rattle.ent_policy.specs.Reading.{apply_read, designator_read, child_read, constraints_read, document_read, each_read, expression_read, function_read, known, maybe_read, pattern_read, policy_algorithm_read, policy_read, reference_read, rule_algorithm_read, set_read, target_read, version_read};
+ghost use Rattle.std.specs.Prelude.{◌≡◌, IfOk};
+ghost use Rattle.ent_policy.specs.Reading.{apply_read, designator_read, child_read, document_read, each_read, expression_read, function_read};
+ghost use Rattle.ent_policy.specs.Reading.{maybe_read, policy_algorithm_read, policy_read, rule_algorithm_read, set_read, target_read, version_read};
 
 use crate::document::{
     AllOf, AnyOf, Child, Designator, Match, Policy, PolicySet, Rule, Target, Tree,
@@ -11,15 +10,14 @@ use crate::document::{
 use crate::expression::{Expression, VariableDefinition};
 use crate::fault::DocFault;
 use crate::first::{earlier, first_of};
-use crate::key::Reference;
 use crate::literals::value;
-use crate::name::Name;
-use crate::pattern::{PatternPart, VersionConstraints, VersionMatch};
 use crate::raw::{
     RawAllOf, RawAnyOf, RawChild, RawDesignator, RawDocument, RawExpression, RawMatch, RawPolicy,
-    RawPolicySet, RawReference, RawRule, RawTarget, RawVariableDefinition,
+    RawPolicySet, RawRule, RawTarget, RawVariableDefinition,
 };
 use crate::read::{Read, Readable, done, each, known, made};
+use crate::reading_given::given;
+use crate::reading_reference::reference;
 use crate::version::Version;
 use ent_combine::{PolicyAlg, RuleAlg};
 use ent_functions::Function;
@@ -80,7 +78,7 @@ fn designator(raw: RawDesignator) -> Read<Designator>
 /// An expression.
 #[cycle(expression)]
 #[tactic(auto, using(crate::proofs::WhatIsRead::apply_is_read))]
-fn expression(alloc: Global, raw: RawExpression) -> Result<Read<Expression>, AllocError>
+pub(crate) fn expression(alloc: Global, raw: RawExpression) -> Result<Read<Expression>, AllocError>
     ensures { IfOk result (λ r. r ≡ expression_read raw) }
 {
     match raw {
@@ -228,16 +226,19 @@ impl Readable<Rule> for RawRule {
             effect,
             target: meant,
             condition: tested,
+            given: meant_given,
         } = self;
         let target = target(alloc, meant)?;
         let condition = condition(alloc, tested)?;
+        let given = given(alloc, meant_given)?;
         Ok(Read {
-            fault: first_of(&[target.fault, condition.fault]),
+            fault: first_of(&[target.fault, condition.fault, given.fault]),
             value: Rule {
                 id,
                 effect,
                 target: target.value,
                 condition: condition.value,
+                given: given.value,
             },
         })
     }
@@ -252,6 +253,7 @@ fn policy(alloc: Global, raw: RawPolicy) -> Result<Read<Policy>, AllocError>
     let target = target(alloc, raw.target)?;
     let variables = each(alloc, raw.variables)?;
     let rules = each(alloc, raw.rules)?;
+    let given = given(alloc, raw.given)?;
     Ok(Read {
         fault: first_of(&[
             version.fault,
@@ -259,6 +261,7 @@ fn policy(alloc: Global, raw: RawPolicy) -> Result<Read<Policy>, AllocError>
             target.fault,
             variables.fault,
             rules.fault,
+            given.fault,
         ]),
         value: Policy {
             id: raw.id,
@@ -267,72 +270,7 @@ fn policy(alloc: Global, raw: RawPolicy) -> Result<Read<Policy>, AllocError>
             target: target.value,
             variables: variables.value,
             rules: rules.value,
-        },
-    })
-}
-
-fn pattern(text: &str) -> Read<VersionMatch>
-    ensures { result ≡ pattern_read text.now }
-{
-    known(
-        VersionMatch::any(),
-        DocFault::Version,
-        VersionMatch::parse(text),
-    )
-}
-
-fn maybe_pattern(text: &Option<Text>) -> Read<Option<VersionMatch>>
-    ensures { result ≡ maybe_read pattern_read text.now }
-{
-    match text {
-        None => done(None),
-        Some(text) => made(pattern(text.as_str()), |pattern| Some(pattern)),
-    }
-}
-
-#[tactic(auto, unfolding(crate::specs::Reading::constraints_read))]
-fn constraints(raw: &RawReference) -> Read<VersionConstraints>
-    ensures { result ≡ constraints_read raw.now }
-{
-    let version = maybe_pattern(&raw.version);
-    let earliest = maybe_pattern(&raw.earliest);
-    let latest = maybe_pattern(&raw.latest);
-    Read {
-        fault: first_of(&[version.fault, earliest.fault, latest.fault]),
-        value: VersionConstraints {
-            version: version.value,
-            earliest: earliest.value,
-            latest: latest.value,
-        },
-    }
-}
-
-/// The name, or a stand-in.
-fn name(alloc: Global, id: Text) -> Result<Read<Name>, AllocError>
-    ensures { IfOk result (λ r. r ≡ known (codes "-") Identifier (name_of id)) }
-{
-    match Name::new(id) {
-        None => Ok(Read {
-            value: Name::dash(alloc)?,
-            fault: Some(DocFault::Identifier),
-        }),
-        Some(name) => Ok(done(name)),
-    }
-}
-
-/// A reference.
-#[tactic(auto, unfolding(crate::specs::Reading::reference_read))]
-pub(crate) fn reference(alloc: Global, raw: RawReference) -> Result<Read<Reference>, AllocError>
-    ensures { IfOk result (λ r. r ≡ reference_read raw) }
-{
-    let constraints = constraints(&raw);
-    let id = name(alloc, raw.id)?;
-    Ok(Read {
-        fault: first_of(&[id.fault, constraints.fault]),
-        value: Reference {
-            kind: raw.kind,
-            id: id.value,
-            constraints: constraints.value,
+            given: given.value,
         },
     })
 }
@@ -375,14 +313,22 @@ fn set(alloc: Global, raw: RawPolicySet) -> Result<Read<PolicySet>, AllocError>
     let algorithm = policy_algorithm(raw.algorithm.as_str());
     let target = target(alloc, raw.target)?;
     let children = children(alloc, raw.children)?;
+    let given = given(alloc, raw.given)?;
     Ok(Read {
-        fault: first_of(&[version.fault, algorithm.fault, target.fault, children.fault]),
+        fault: first_of(&[
+            version.fault,
+            algorithm.fault,
+            target.fault,
+            children.fault,
+            given.fault,
+        ]),
         value: PolicySet {
             id: raw.id,
             version: version.value,
             algorithm: algorithm.value,
             target: target.value,
             children: children.value,
+            given: given.value,
         },
     })
 }

@@ -1,14 +1,15 @@
 //! The variables of policies: whether each is defined once and not through itself.
 
-ghost use Rattle.std.specs.Prelude.{◌≡◌, false, IfOk, map};
+ghost use Rattle.std.specs.Prelude.{◌≡◌, [], false, IfOk, map};
 ghost use Rattle.std.specs.List.{flat_map, list_all};
 ghost use Rattle.std.specs.List.Sorted.{IsPermutation};
 ghost use Rattle.ent_policy.specs.Limits.{has_double};
 ghost use Rattle.ent_policy.specs.Order.{AreDistinctIds, IsFoundOrder, IsOrdered, has_id};
-ghost use Rattle.ent_policy.specs.Variables.{condition_variables, ids_of, uses_only, variables};
+ghost use Rattle.ent_policy.specs.Variables.{condition_variables, given_variables, ids_of, is_resolved, used, uses_only, variables};
 
 use crate::document::{Policy, Rule};
 use crate::expression::{Expression, VariableDefinition};
+use crate::given::{AssignmentExpression, GivenExpression, GivenExpressions};
 use std::alloc::{AllocError, Global};
 use std::collections::{BTreeMap, BTreeSet};
 
@@ -47,16 +48,87 @@ fn condition_uses_only(condition: &Option<Expression>, known: &BTreeSet<&str>) -
     }
 }
 
-/// Whether all variables of the rules' conditions are known.
-fn conditions_use_only(rules: &[Rule], known: &BTreeSet<&str>) -> bool
-    ensures { result ≡ list_all (has_id known.now) (flat_map (λ r. condition_variables r.condition) rules.now) }
+/// A part whose expressions use variables.
+trait Using {
+    ghost use Rattle.std.specs.Prelude.{◌≡◌, ℕ, List};
+    ghost use Rattle.std.specs.List.{list_all};
+    ghost use Rattle.ent_policy.specs.Order.{has_id};
+
+    ghost uses: { Self → List (List ℕ) };
+
+    /// Whether all variables of the part are known.
+    fn knows(&self, known: &BTreeSet<&str>) -> bool
+        ensures { result ≡ list_all (has_id known.now) (uses self.now) };
+}
+
+/// Whether all variables of some parts are known.
+fn each_knows<U: Using>(parts: &[U], known: &BTreeSet<&str>) -> bool
+    ensures { result ≡ list_all (has_id known.now) (flat_map U.uses parts.now) }
 {
-    for rule in rules {
-        if !condition_uses_only(&rule.condition, known) {
+    for part in parts {
+        if !part.knows(known) {
             return false;
         }
     }
     true
+}
+
+impl Using for AssignmentExpression {
+    ghost use Rattle.ent_policy.specs.Variables.{assignment_variables};
+
+    ghost uses = { assignment_variables };
+
+    fn knows(&self, known: &BTreeSet<&str>) -> bool {
+        uses_only(&self.expression, known)
+    }
+}
+
+impl Using for GivenExpression {
+    ghost use Rattle.ent_policy.specs.Variables.{given_expression_variables};
+
+    ghost uses = { given_expression_variables };
+
+    fn knows(&self, known: &BTreeSet<&str>) -> bool {
+        each_knows(self.assignments.as_slice(), known)
+    }
+}
+
+impl Using for GivenExpressions {
+    ghost use Rattle.ent_policy.specs.Variables.{given_variables};
+
+    ghost uses = { given_variables };
+
+    #[tactic(auto, using(crate::proofs::Used::all_of_both))]
+    fn knows(&self, known: &BTreeSet<&str>) -> bool {
+        each_knows(self.obligations.as_slice(), known) && each_knows(self.advice.as_slice(), known)
+    }
+}
+
+impl Using for Rule {
+    ghost use Rattle.ent_policy.specs.Variables.{rule_variables};
+
+    ghost uses = { rule_variables };
+
+    #[tactic(auto, using(crate::proofs::Used::all_of_both))]
+    fn knows(&self, known: &BTreeSet<&str>) -> bool {
+        condition_uses_only(&self.condition, known) && self.given.knows(known)
+    }
+}
+
+/// Whether all variables of a policy's rules, obligations and advice are known.
+#[tactic(auto, using(crate::proofs::Used::all_of_both))]
+fn policy_uses_only(policy: &Policy, known: &BTreeSet<&str>) -> bool
+    ensures { result ≡ list_all (has_id known.now) (used policy.now) }
+{
+    each_knows(policy.rules.as_slice(), known) && policy.given.knows(known)
+}
+
+/// Whether the obligations and the advice of a set use no variable, as none is defined for them.
+pub(crate) fn uses_none(alloc: Global, given: &GivenExpressions) -> bool
+    ensures { result ≡ list_all (is_resolved []) (given_variables given.now) }
+{
+    let known = BTreeSet::new(alloc);
+    given.knows(&known)
 }
 
 /// The ids of some definitions, or `None` if two are the same.
@@ -216,7 +288,7 @@ pub(crate) fn ordered(
     let Some(order) = in_order(alloc, definitions)? else {
         return Ok(None);
     };
-    if !conditions_use_only(policy.rules.as_slice(), &ids) {
+    if !policy_uses_only(policy, &ids) {
         return Ok(None);
     }
     Ok(Some(order))

@@ -13,13 +13,13 @@ use Rattle.ent_finder.proofs.Held.{entries-held, filled}
 use Rattle.ent_eval.specs.LooksOf.{held_by}
 use Rattle.ent_eval.specs.declared.pdp.Pdp.{Pdp}
 use Rattle.ent_table.specs.Limits.{standard_limits}
-use Rattle.ent_table.specs.State.{State, initial}
+use Rattle.ent_table.specs.State.{initial}
+use Rattle.ent_report.specs.World.{World}
 use Rattle.ent_table.specs.declared.limits.Limits.{Limits}
-use Rattle.ent_line.specs.Serving.{ServesUntil}
-use Rattle.ent_line.specs.Step.{Answers}
+use Rattle.ent_line.specs.Headline.{Headline, IsHeadline}
 use Rattle.ent_line.specs.declared.fault.ServeFault.{ServeFault}
 use Rattle.ent_line.specs.declared.fault.ServeFault.TheVariants.{Memory}
-use Rattle.ent_program.specs.Starting.{no_rows, start_of}
+use Rattle.ent_program.specs.Starting.{no_rows, state_at_start}
 
 none_of_length : {A : Type 0} (xs : List A) → length xs ≡ 0 → xs ≡ []
 none_of_length [] e = refl
@@ -61,12 +61,12 @@ alike f x y is xs n count are all = ap (map f) are ∙ map-replicate f x y is n 
 -- a decision point over modules that hold nothing, with no root and no day
 pub started : {A P : Type 0} (sources : A → List Source) (slots : P → List Slots) (pdp : Pdp A P) (limits : Limits) (attributes : A) (policies : P) (os : List Source) (ms : List Slots) (n m a p : ℕ)
     → pdp.root ≡ None → pdp.day ≡ None → pdp.attributes ≡ attributes → pdp.policies ≡ policies → sources attributes ≡ os → slots policies ≡ ms
-    → os ≡ replicate n no_rows → ms ≡ replicate m empty → n ≡ a → m ≡ p → limits ≡ standard_limits → initial (held_by sources slots pdp) limits ≡ start_of a p
+    → os ≡ replicate n no_rows → ms ≡ replicate m empty → n ≡ a → m ≡ p → limits ≡ standard_limits → initial (held_by sources slots pdp) limits ≡ state_at_start a p
 started sources slots pdp limits attributes policies os ms n m a p no_root no_day rows documents rows-seen documents-seen no_row no_document all_a all_p standard =
     let rowless : map filled_source (sources pdp.attributes) ≡ replicate a no_rows = ap (λ v. map filled_source (sources v)) rows ∙ ap (map filled_source) rows-seen ∙ alike filled_source no_rows no_rows filled-no_rows os n a no_row all_a in
     let empty_ones : map held (slots pdp.policies) ≡ replicate p empty = ap (λ v. map held (slots v)) documents ∙ ap (map held) documents-seen ∙ alike held empty empty held-empty ms m p no_document all_p in
     λ t. initial (record { root = no_root t; modules = empty_ones t; sources = rowless t; day = no_day t }) (standard t)
 
 -- where memory was wanting, nothing was served
-pub not_begun : (s : State) (unread wrote : Option (List ℕ)) (r : Result ℕ ServeFault) → r ≡ Err Memory → (end : State) × ServesUntil Answers (record { start = s; end = end; unread = unread; left = unread; wrote = wrote; holds = wrote }) r
-not_begun s unread wrote r e = rw e (s, (refl, Consumes-nil unread, Appends-nil wrote))
+pub not_begun : (replies : IsHeadline) (w : World) (unread wrote : Option (List ℕ)) (r : Result ℕ ServeFault) → r ≡ Err Memory → (end : World) × Headline (record { start = w; end = end; unread = unread; left = unread; wrote = wrote; holds = wrote }) r
+not_begun replies w unread wrote r e = rw e (w, record { bytes = (refl, Consumes-nil unread, Appends-nil wrote); replies = replies })

@@ -6,6 +6,7 @@ use Rattle.ent_eval.specs.Held.{Held}
 use Rattle.ent_eval.specs.Uris as uris
 use Rattle.ent_table.specs.Limits.{standard_limits}
 use Rattle.ent_table.specs.State.{State, initial}
+use Rattle.ent_report.specs.World.{World, unmarked}
 
 -- a number of modules that there may be
 abbrev pub IsFew : ℕ → Type 0
@@ -24,5 +25,9 @@ abbrev pub nothing_held : ℕ → ℕ → Held
 nothing_held attributes policies = record { root = None; modules = replicate policies empty; sources = replicate attributes no_rows; day = None }
 
 -- the same, with no names and the standard limits
-abbrev pub start_of : ℕ → ℕ → State
-start_of attributes policies = initial (nothing_held attributes policies) standard_limits
+abbrev pub state_at_start : ℕ → ℕ → State
+state_at_start attributes policies = initial (nothing_held attributes policies) standard_limits
+
+-- the same, with no marks
+abbrev pub start_of : ℕ → ℕ → World
+start_of attributes policies = record { state = state_at_start attributes policies; marks = unmarked }

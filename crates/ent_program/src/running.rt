@@ -2,9 +2,8 @@
 
 ghost use Rattle.std.specs.Prelude.{◌≡◌, ◌≤◌, ◌+◌, ◌++◌, ◌∷◌, [], IfOk, OnOk, map, vec_len};
 ghost use Rattle.std.specs.FinMap.{empty};
-ghost use Rattle.ent_table.specs.State.{State};
-ghost use Rattle.ent_line.specs.Serving.{ServesUntil};
-ghost use Rattle.ent_line.specs.Step.{Answers};
+ghost use Rattle.ent_report.specs.World.{World};
+ghost use Rattle.ent_line.specs.Headline.{Headline};
 ghost use Rattle.ent_program.specs.Starting.{IsFew, categories, no_rows, start_of};
 
 use crate::checking::{Verdict, check, is_passed};
@@ -16,7 +15,8 @@ use ent_eval::{ACCESS_SUBJECT, ACTION, Pdp, RESOURCE};
 use ent_finder::{
     AttributeFinder, AttributeFinderModule, MapDocs, MapRows, PolicyFinder, PolicyFinderModule,
 };
-use ent_line::{ServeFault, Service, serve};
+use ent_line::{ServeFault, Service, replies_are_fresh, serve_review};
+use ent_report::Desk;
 use ent_table::{Limits, Review};
 use ent_values::{Items, Text};
 use std::alloc::{AllocError, Global};
@@ -79,7 +79,7 @@ fn serve_from<R: BufRead, W: Write>(
 ) -> Result<u64, ServeFault>
     requires attributes { IsFew count.attributes }
     requires policies { IsFew count.policies }
-    ensures { (end : State) × ServesUntil Answers (record {
+    ensures { (end : World) × Headline (record {
       start = start_of count.attributes count.policies;
       end = end;
       unread = R.remaining reader.old;
@@ -88,6 +88,7 @@ fn serve_from<R: BufRead, W: Write>(
       holds = W.contents writer.new;
     }) result }
 {
+    replies_are_fresh();
     let mut attributes: Vec<Box<dyn AttributeFinderModule>> = Vec::new(alloc);
     for _ in 0..count.attributes {
         let store = MapRows::new(alloc, categories(alloc)?);
@@ -102,8 +103,9 @@ fn serve_from<R: BufRead, W: Write>(
         AttributeFinder::new(attributes),
         PolicyFinder::new(policies),
     );
-    let mut service = Service::new(alloc, Review::new(alloc, pdp, Limits::standard()));
-    serve(alloc, &mut service, reader, writer)
+    let review = Review::new(alloc, pdp, Limits::standard());
+    let mut service = Service::new(alloc, Desk::new(alloc, review));
+    serve_review(alloc, &mut service, reader, writer)
 }
 
 /// Serves standard input to standard output, with modules of those numbers.

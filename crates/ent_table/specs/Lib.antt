@@ -1,3 +1,4 @@
+pub mod Ask
 pub mod Difference
 pub mod Grid
 pub mod Left

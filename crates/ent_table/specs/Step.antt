@@ -53,6 +53,10 @@ abbrev pub with_policy : State → ℕ → DocKey → Option Tree → State
 with_policy s number key document =
     record s { held = record s.held { modules = slice_set s.held.modules number (with_document (module_at s.held.modules number) key document) } }
 
+-- the state behind that
+abbrev pub policy_next : State → ℕ → DocKey → Option Tree → Result State EditFault
+policy_next s number key document = Ok (next (with_policy s number key document))
+
 -- a document is put under its key, where none is yet
 abbrev pub policy_added : State → ℕ → Tree → Result State EditFault
 policy_added s number d =
@@ -89,6 +93,10 @@ with_values s number key values = record s {
     sources = slice_set s.held.sources number (record (source_at s.held.sources number) { rows = with_row (source_at s.held.sources number).rows key values });
   };
 }
+
+-- the state behind that
+abbrev pub values_next : State → ℕ → RowKey → List Value → Result State EditFault
+values_next s number key values = Ok (next (with_values s number key values))
 
 -- whether the attribute is the id of what its category is about, which the name of an entity stands for
 abbrev pub is_reserved : List ℕ → List ℕ → Bool

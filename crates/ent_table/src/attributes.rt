@@ -1,6 +1,6 @@
 //! Edits of values of attributes.
 
-ghost use Rattle.std.specs.Prelude.{◌≡◌, ◌<◌, ◌^◌, false, IfOk, IsSome, None, Ok, OnErr, OnOk, length};
+ghost use Rattle.std.specs.Prelude.{◌≡◌, ◌<◌, ◌^◌, false, IfOk, IsSome, None, OnErr, OnOk, length};
 ghost use Rattle.std.specs.FinMap as finmap;
 ghost use Rattle.std.specs.List.{list_all};
 ghost use Rattle.std.specs.Option.{option_map_or};
@@ -10,7 +10,7 @@ ghost use Rattle.ent_values.specs.Types.{datatype_of};
 ghost use Rattle.ent_policy.specs.Names.{is_bad_name};
 ghost use Rattle.ent_finder.specs.Rows.{source_at};
 ghost use Rattle.ent_table.specs.Review.{IsFresh, OnlyAttributes, row_at, state_of};
-ghost use Rattle.ent_table.specs.Step.{IsAnswered, IsTested, attribute_set, is_bad_row, is_reserved, is_source, next, with_values};
+ghost use Rattle.ent_table.specs.Step.{IsAnswered, IsTested, attribute_set, is_bad_row, is_reserved, is_source, values_next, with_values};
 
 use crate::edit::{Accepted, EditFault};
 use crate::lists::is_bad_name;
@@ -116,7 +116,7 @@ impl<A: Attributes, P: Policies> Review<A, P> {
         requires number { number < length (A.sources self.old.pdp.attributes) }
         requires types { AllOfType key.now.datatype values }
         ensures fresh { IsFresh A.sources P.slots self.new }
-        ensures step { IsAnswered (Ok (next (with_values (state_of A.sources P.slots self.old) number key.now values))) (state_of A.sources P.slots self.old) (state_of A.sources P.slots self.new) result }
+        ensures step { IsAnswered (values_next (state_of A.sources P.slots self.old) number key.now values) (state_of A.sources P.slots self.old) (state_of A.sources P.slots self.new) result }
     {
         let Ok(()) = self.swap_row(number, key, &mut values) else {
             return Err(EditFault::Memory);

@@ -1,6 +1,7 @@
 //! Values in order, each under a key that lasts as long as the value.
 
-ghost use Rattle.std.specs.Prelude.{◌≡◌, ◌<◌, ◌≤◌, ◌++◌, ◌∷◌, [], length, slice_set, slice_get, IfSome, MatchOption, OnOk, OnErr, IsSome, Some, option_copied, take, drop, vec_capacity};
+ghost use Rattle.std.specs.Prelude.{◌≡◌, ◌<◌, ◌≤◌, ◌++◌, ◌∷◌, [], length, slice_set, slice_get, IfSome};
+ghost use Rattle.std.specs.Prelude.{MatchOption, OnOk, OnErr, IsSome, Some, option_copied, take, drop, vec_capacity};
 ghost use Rattle.slab.specs.Slab.{get, Updates};
 ghost use Rattle.ent_table.specs.Shape.{woven, without};
 

@@ -1,8 +1,10 @@
 //! The review table: the answer to each listed request, kept right over every edit.
 #![tactic(auto)]
 
+mod ask;
 mod attributes;
 mod blocks;
+mod by_place;
 mod cells;
 mod count;
 mod edit;

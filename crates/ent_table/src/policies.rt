@@ -1,12 +1,12 @@
 //! Edits of documents.
 
-ghost use Rattle.std.specs.Prelude.{◌≡◌, ◌<◌, ◌^◌, ◌&&◌, IfOk, IsSome, None, Ok, OnErr, OnOk, length, not};
+ghost use Rattle.std.specs.Prelude.{◌≡◌, ◌<◌, ◌^◌, ◌&&◌, IfOk, IsSome, None, OnErr, OnOk, length, not};
 ghost use Rattle.std.specs.FinMap as finmap;
 ghost use Rattle.std.specs.Option.{ForSome};
 ghost use Rattle.ent_policy.specs.Key.{key_of};
 ghost use Rattle.ent_finder.specs.Slots.{document_count, module_at};
 ghost use Rattle.ent_table.specs.Review.{IsFresh, OnlyPolicies, policy_at, state_of};
-ghost use Rattle.ent_table.specs.Step.{IsAnswered, IsTested, holds, is_module, next, policy_added, policy_replaced, policy_withdrawn, with_policy};
+ghost use Rattle.ent_table.specs.Step.{IsAnswered, IsTested, holds, is_module, policy_added, policy_next, policy_replaced, policy_withdrawn, with_policy};
 
 use crate::edit::{Accepted, EditFault};
 use crate::lists::is_bad_name;
@@ -154,7 +154,7 @@ impl<A: Attributes, P: Policies> Review<A, P> {
         requires key { ForSome document (λ d. key_of d ≡ key.now) }
         requires documents { documents ≡ document_count (with_policy (state_of A.sources P.slots self.old) number key.now document).held.modules }
         ensures fresh { IsFresh A.sources P.slots self.new }
-        ensures step { IsAnswered (Ok (next (with_policy (state_of A.sources P.slots self.old) number key.now document))) (state_of A.sources P.slots self.old) (state_of A.sources P.slots self.new) result }
+        ensures step { IsAnswered (policy_next (state_of A.sources P.slots self.old) number key.now document) (state_of A.sources P.slots self.old) (state_of A.sources P.slots self.new) result }
     {
         let Ok(()) = self.swap(number, key, &mut document) else {
             return Err(EditFault::Memory);

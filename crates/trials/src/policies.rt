@@ -3,8 +3,8 @@
 use crate::documents::document;
 use ent_combine::{PolicyAlg, RuleAlg};
 use ent_policy::{
-    Child, DocKey, Document, Kind, Name, Policy, RawDocument, RawPolicy, RawTarget, Reference,
-    Tree, Version, VersionConstraints, VersionMatch, check,
+    Child, DocKey, Document, Kind, Name, Policy, RawDocument, RawGivenExpressions, RawPolicy,
+    RawTarget, Reference, Tree, Version, VersionConstraints, VersionMatch, check,
 };
 use ent_values::{Items, Text};
 use std::alloc::{AllocError, Global};
@@ -204,6 +204,7 @@ fn least(alloc: Global) -> Result<RawPolicy, AllocError> {
         },
         variables: Items::new(alloc),
         rules: Items::new(alloc),
+        given: RawGivenExpressions::none(alloc),
     })
 }
 

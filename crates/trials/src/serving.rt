@@ -5,6 +5,7 @@ use ent_finder::{
     AttributeFinder, AttributeFinderModule, MapDocs, MapRows, PolicyFinder, PolicyFinderModule,
 };
 use ent_line::{Answering, LINE_LIMIT, Reply, ServeFault, Service, serve};
+use ent_report::Desk;
 use ent_table::{Accepted, Limits, Review};
 use ent_values::Items;
 use std::alloc::{AllocError, Global};
@@ -307,7 +308,7 @@ fn reply_to(alloc: Global, line: &[u8]) -> Result<Reply, AllocError> {
         PolicyFinder::new(modules),
     );
     let review = Review::new(alloc, pdp, Limits::standard());
-    Ok(Service::new(alloc, review).handle(line))
+    Ok(Service::new(alloc, Desk::new(alloc, review)).handle(line))
 }
 
 /// Whether a reply is the report of an empty table.

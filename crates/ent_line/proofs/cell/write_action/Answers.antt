@@ -9,4 +9,4 @@ returns c =
     let action = token.key (codes "action") ∷ token.string c.args.action.now ∷ [] in
     let key = token.key (codes "advice") ∷ [] in
     let front = joined c.args.out.now _ _ start action c.in_ok-begin_object.ensures c.in_ok-write_text.ensures in
-    ends _ c.args.out.now _ _ _ _ (joined c.args.out.now _ _ (start ++ action) key front c.in_ok-key.ensures) c.write_no_items.ensures
+    ends _ c.args.out.now _ _ _ _ (joined c.args.out.now _ _ (start ++ action) key front c.in_ok-key.ensures) c.write_given_text.ensures

@@ -1,20 +1,23 @@
+use Rattle.std.proofs.Common.{arith}
+use Rattle.std.proofs.lemmas.Result.{IfOk-weaker}
 use Rattle.ent_eval.specs.Rule.{rule_part}
-use Rattle.ent_eval.proofs.Children.{last_child, next_child}
+use Rattle.ent_eval.proofs.Children.{all_children, all_reads, last_child, last_reads, next_child}
+use Rattle.ent_eval.proofs.Parts.{on_ok}
 use Rattle.ent_eval.proofs.scene.Scene.rules.Goals as goal
 
 pub returns-in-Stop-clause-value : goal.returns-in-Stop-clause-value
 returns-in-Stop-clause-value g c =
-    (last_child c.args.algorithm (rule_part (g.L.LookUps.looks c.args.self.now.held.now) c.args.self.now.request.now c.args.definitions.now c.args.path.now) c.args.rules.now c.loop-rule.rule-index c.rule-item.result c.in_ok-answer.answer c.in_ok-take.field-0
-    c.loop-rule.gathering c.take.new.self c.finish.result c.args.reads.now c.loop-rule.reads c.rule.new.reads
+    IfOk-weaker c.finish.result _ _ (λ a is. last_child c.args.path.now c.args.algorithm (rule_part (g.L.LookUps.looks c.args.self.now.held.now) c.args.self.now.request.now c.args.definitions.now c.args.path.now) c.args.rules.now c.loop-rule.rule-index c.rule-item.result c.in_ok-answer.answer c.in_ok-take.field-0
+    c.loop-rule.gathering c.take.new.self c.args.reads.now c.loop-rule.reads c.rule.new.reads
     c.loop-rule-test.true c.rule-item.is c.loop-rule.invariant.going c.loop-rule.invariant.gathered c.in_ok-answer.ensures.value c.in_ok-answer.ensures.reads
-    c.in_ok-take.ensures.gathered c.in_ok-take.ensures.progress c.in-Stop.is c.finish.ensures).value
+    c.in_ok-take.ensures.gathered c.in_ok-take.ensures.progress c.in-Stop.is a is) c.finish.ensures
 
 pub returns-in-Stop-clause-reads : goal.returns-in-Stop-clause-reads
 returns-in-Stop-clause-reads g c =
-    (last_child c.args.algorithm (rule_part (g.L.LookUps.looks c.args.self.now.held.now) c.args.self.now.request.now c.args.definitions.now c.args.path.now) c.args.rules.now c.loop-rule.rule-index c.rule-item.result c.in_ok-answer.answer c.in_ok-take.field-0
-    c.loop-rule.gathering c.take.new.self c.finish.result c.args.reads.now c.loop-rule.reads c.rule.new.reads
+    on_ok c.finish.result _ (last_reads c.args.path.now c.args.algorithm (rule_part (g.L.LookUps.looks c.args.self.now.held.now) c.args.self.now.request.now c.args.definitions.now c.args.path.now) c.args.rules.now c.loop-rule.rule-index c.rule-item.result c.in_ok-answer.answer c.in_ok-take.field-0
+    c.loop-rule.gathering c.take.new.self c.args.reads.now c.loop-rule.reads c.rule.new.reads
     c.loop-rule-test.true c.rule-item.is c.loop-rule.invariant.going c.loop-rule.invariant.gathered c.in_ok-answer.ensures.value c.in_ok-answer.ensures.reads
-    c.in_ok-take.ensures.gathered c.in_ok-take.ensures.progress c.in-Stop.is c.finish.ensures).reads
+    c.in_ok-take.ensures.gathered c.in_ok-take.ensures.progress c.in-Stop.is)
 
 pub loop-rule-preserved : goal.loop-rule-preserved
 loop-rule-preserved g c =
@@ -22,3 +25,13 @@ loop-rule-preserved g c =
     c.loop-rule.gathering c.take.new.self c.args.reads.now c.loop-rule.reads c.rule.new.reads
     c.loop-rule-test.true c.rule-item.is c.loop-rule.invariant.going c.loop-rule.invariant.gathered c.in_ok-answer.ensures.value c.in_ok-answer.ensures.reads
     c.in_ok-take.ensures.gathered c.in_ok-take.ensures.progress c.in_default.is
+
+pub returns-clause-value : goal.returns-clause-value
+returns-clause-value g c =
+    IfOk-weaker c.finish-2.result _ _ (λ a is. all_children c.args.algorithm (rule_part (g.L.LookUps.looks c.args.self.now.held.now) c.args.self.now.request.now c.args.definitions.now c.args.path.now) c.args.rules.now c.loop-rule.rule-index c.args.reads.now c.loop-rule.reads c.loop-rule.invariant.going
+    (omega (arith, c.loop-rule-test.false)) c.args.path.now c.loop-rule.gathering a c.loop-rule.invariant.gathered is) c.finish-2.ensures
+
+pub returns-clause-reads : goal.returns-clause-reads
+returns-clause-reads g c =
+    on_ok c.finish-2.result _ (all_reads c.args.algorithm (rule_part (g.L.LookUps.looks c.args.self.now.held.now) c.args.self.now.request.now c.args.definitions.now c.args.path.now) c.args.rules.now c.loop-rule.rule-index c.args.reads.now c.loop-rule.reads c.loop-rule.invariant.going
+    (omega (arith, c.loop-rule-test.false)))

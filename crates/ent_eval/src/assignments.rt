@@ -1,0 +1,119 @@
+//! The assignments of obligations and advice.
+
+ghost use Rattle.std.specs.Prelude.{◌≡◌, ◌++◌, IfOk, OnOk, Ok, length, map, true};
+ghost use Rattle.std.specs.List.{list_all};
+ghost use Rattle.ent_policy.specs.Typing.{assignment_is_typed};
+ghost use Rattle.ent_eval.specs.Given.{added, assigned, assignment_of, assignment_part, given_in_turn, joined, joined_with};
+ghost use Rattle.ent_eval.specs.Noted.{noted};
+ghost use Rattle.ent_eval.specs.Typed.{is_held};
+
+use crate::answer::{Status, copied_text};
+use crate::evaluated::Evaluated;
+use crate::given::Assignment;
+use crate::look_ups::LookUps;
+use crate::reads::Reads;
+use crate::scene::Scene;
+use ent_functions::Arg;
+use ent_policy::{AssignmentExpression, VariableDefinition};
+use ent_values::{Items, Value};
+use std::alloc::{AllocError, Global};
+
+impl<L: LookUps> Scene<'_, L> {
+    // Assignments, up to the first that is Indeterminate, whose status is given.
+    pub(crate) fn assignments(
+        &self,
+        reads: &mut Reads,
+        definitions: &[VariableDefinition],
+        expressions: &[AssignmentExpression],
+    ) -> Result<Result<Items<Assignment>, Status>, AllocError>
+        requires { list_all (assignment_is_typed definitions.now) expressions.now ≡ true }
+        ensures value { IfOk result (λ a. a ≡ (given_in_turn (assignment_part (L.looks self.now.held.now) self.now.request.now definitions.now) expressions.now).value) }
+        ensures reads { OnOk result (reads.new ≡ noted reads.old (given_in_turn (assignment_part (L.looks self.now.held.now) self.now.request.now definitions.now) expressions.now).reads) }
+    {
+        let mut assignments = Items::with_capacity(self.alloc, expressions.len())?;
+        for expression in expressions {
+            let stopped = self.assign(reads, definitions, expression, &mut assignments)?;
+            if let Some(status) = stopped {
+                return Ok(Err(status));
+            }
+        }
+        Ok(Ok(assignments))
+    }
+
+    // One more. The status is given of one that is Indeterminate.
+    #[tactic(auto, unfolding(ent_policy::specs::Typing::assignment_is_typed))]
+    fn assign(
+        &self,
+        reads: &mut Reads,
+        definitions: &[VariableDefinition],
+        expression: &AssignmentExpression,
+        assignments: &mut Items<Assignment>,
+    ) -> Result<Option<Status>, AllocError>
+        requires { assignment_is_typed definitions.now expression.now ≡ true }
+        ensures value { IfOk result (λ s. added assignments.new s ≡ joined_with assignments.old (assignment_part (L.looks self.now.held.now) self.now.request.now definitions.now expression.now)) }
+        ensures reads { OnOk result (reads.new ≡ noted reads.old (assignment_part (L.looks self.now.held.now) self.now.request.now definitions.now expression.now).reads) }
+    {
+        let evaluated = self.expression(
+            reads,
+            definitions,
+            definitions.len(),
+            &expression.expression,
+        )?;
+        add_assigned(self.alloc, expression, evaluated, assignments)
+    }
+}
+
+// Adds what an assignment gives. The status is given of one that is Indeterminate.
+fn add_assigned(
+    alloc: Global,
+    expression: &AssignmentExpression,
+    evaluated: Evaluated,
+    assignments: &mut Items<Assignment>,
+) -> Result<Option<Status>, AllocError>
+    requires { is_held evaluated ≡ true }
+    ensures { IfOk result (λ s. added assignments.new s ≡ joined (Ok assignments.old) (assigned expression.now evaluated)) }
+{
+    match evaluated {
+        Evaluated::Indeterminate(status) => Ok(Some(status)),
+        Evaluated::Known(Arg::One(value)) => {
+            assignments.push(assignment_of(alloc, expression, value)?)?;
+            Ok(None)
+        }
+        Evaluated::Known(Arg::Many(bag)) => {
+            add_values(alloc, expression, bag.values(), assignments)?;
+            Ok(None)
+        }
+        Evaluated::Known(Arg::Fun(_)) => unreachable!(),
+    }
+}
+
+// Adds an assignment of each value.
+fn add_values(
+    alloc: Global,
+    expression: &AssignmentExpression,
+    values: &[Value],
+    assignments: &mut Items<Assignment>,
+) -> Result<(), AllocError>
+    ensures { OnOk result (assignments.new ≡ assignments.old ++ map (assignment_of expression.now) values.now) }
+{
+    for value in values {
+        assignments.push(assignment_of(alloc, expression, value.copy(alloc)?)?)?;
+    }
+    Ok(())
+}
+
+// The assignment of a value.
+fn assignment_of(
+    alloc: Global,
+    expression: &AssignmentExpression,
+    value: Value,
+) -> Result<Assignment, AllocError>
+    ensures { IfOk result (λ a. a ≡ assignment_of expression.now value) }
+{
+    Ok(Assignment {
+        attribute: expression.attribute.copy(alloc)?,
+        category: copied_text(alloc, &expression.category)?,
+        issuer: copied_text(alloc, &expression.issuer)?,
+        value,
+    })
+}

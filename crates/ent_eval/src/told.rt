@@ -1,0 +1,88 @@
+//! What children tell of a decision.
+
+ghost use Rattle.std.specs.Prelude.{◌≡◌, [], false, IfOk, OnOk};
+ghost use Rattle.ent_eval.specs.Gathered.{told_more};
+ghost use Rattle.ent_eval.specs.Judged.{decided_by, has_default};
+
+use crate::answer::{Answer, Status, WhyEntry};
+use crate::given::Given;
+use ent_combine::{Outcome, RuleAlg};
+use ent_policy::DocKey;
+use ent_values::{Items, Shared};
+use std::alloc::{AllocError, Global};
+
+// What the children with one decision tell of it, in document order.
+#[derive(Drop)]
+pub(crate) struct Told {
+    /// Whether there is such a child.
+    pub(crate) any: bool,
+    pub(crate) why: Items<WhyEntry>,
+    pub(crate) obligations: Items<Given>,
+    pub(crate) advice: Items<Given>,
+}
+
+impl Told {
+    // No children.
+    pub(crate) fn nothing(alloc: Global) -> Told
+        ensures { result ≡ record { any = false; why = []; obligations = []; advice = [] } }
+    {
+        Told {
+            any: false,
+            why: Items::new(alloc),
+            obligations: Items::new(alloc),
+            advice: Items::new(alloc),
+        }
+    }
+
+    // One child more. Its lists are moved, not copied.
+    pub(crate) fn add(&mut self, more: Told) -> Result<(), AllocError>
+        ensures { OnOk result (self.new ≡ told_more self.old more) }
+    {
+        self.any = true;
+        self.why.append(more.why)?;
+        self.obligations.append(more.obligations)?;
+        self.advice.append(more.advice)
+    }
+
+    // The element at the end of the path, with that decision.
+    pub(crate) fn decided(
+        self,
+        alloc: Global,
+        here: &Shared<Items<DocKey>>,
+        algorithm: RuleAlg,
+        decision: Outcome,
+    ) -> Result<Answer, AllocError>
+        ensures { IfOk result (λ a. a ≡ decided_by here.now algorithm decision self) }
+    {
+        let Told {
+            any,
+            mut why,
+            obligations,
+            advice,
+        } = self;
+        if has_default(algorithm) && !any {
+            let entry = WhyEntry {
+                path: here.copy()?,
+                rule: None,
+            };
+            why.append(Items::of_one(alloc, entry)?)?;
+        }
+        Ok(Answer {
+            decision,
+            status: Status::Okay,
+            why,
+            obligations,
+            advice,
+        })
+    }
+}
+
+// Whether an algorithm decides where no child does.
+fn has_default(algorithm: RuleAlg) -> bool
+    ensures { result ≡ has_default algorithm }
+{
+    match algorithm {
+        RuleAlg::DenyUnlessPermit | RuleAlg::PermitUnlessDeny => true,
+        _ => false,
+    }
+}

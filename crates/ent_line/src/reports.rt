@@ -1,0 +1,241 @@
+//! The JSON of reports and notices.
+
+ghost use Rattle.std.specs.Prelude.{◌≡◌, [], ◌∷◌, ◌++◌, IfOk, OnOk, codes, decimal, map, string_bytes};
+ghost use Rattle.json.specs.Token as token;
+ghost use Rattle.serde_json.specs.Data as json;
+ghost use Rattle.serde_json.specs.View.{items_of};
+ghost use Rattle.ent_polform.specs.Text.{items_tokens_of, tokens_of};
+ghost use Rattle.ent_line.specs.Reports.{by_rule_text, can_text, count_data, counts_data, counts_text, decision_data, notice_data, notices_text, pair_data, reply_data, triple_data, who_text};
+
+use crate::cell::{decision_text, write_text};
+use ent_combine::Outcome;
+use ent_polform::JsonText;
+use ent_report::{Counts, Notice};
+use ent_values::Text;
+use std::alloc::{AllocError, Global};
+
+/// Writes a number of cells at a key.
+fn write_count(out: &mut JsonText, key: &str, count: u64) -> Result<(), AllocError>
+    ensures { OnOk result (out.new ≡ out.old ++ token.key key.now ∷ token.number (decimal count) ∷ []) }
+{
+    out.key(key)?;
+    out.count(count)
+}
+
+/// Writes how many cells have each decision.
+fn write_counts(out: &mut JsonText, counts: Counts) -> Result<(), AllocError>
+    ensures { OnOk result (out.new ≡ out.old ++ tokens_of (counts_data counts)) }
+{
+    out.begin_object()?;
+    write_count(out, "Deny", counts.deny)?;
+    write_count(out, "Indeterminate", counts.indeterminate)?;
+    write_count(out, "NotApplicable", counts.not_applicable)?;
+    write_count(out, "Permit", counts.permit)?;
+    out.end_object()
+}
+
+/// Writes an action and a resource.
+fn write_pair(out: &mut JsonText, action: &str, resource: &str) -> Result<(), AllocError>
+    ensures { OnOk result (out.new ≡ out.old ++ tokens_of (pair_data (action.now, resource.now))) }
+{
+    out.begin_object()?;
+    write_text(out, "action", action)?;
+    write_text(out, "resource", resource)?;
+    out.end_object()
+}
+
+/// Writes a person, an action and a resource.
+fn write_triple(
+    out: &mut JsonText,
+    person: &str,
+    action: &str,
+    resource: &str,
+) -> Result<(), AllocError>
+    ensures { OnOk result (out.new ≡ out.old ++ tokens_of (triple_data (person.now, action.now, resource.now))) }
+{
+    out.begin_object()?;
+    write_text(out, "action", action)?;
+    write_text(out, "person", person)?;
+    write_text(out, "resource", resource)?;
+    out.end_object()
+}
+
+/// Writes a decision at a key, null for a request that isn't listed.
+fn write_optional(
+    out: &mut JsonText,
+    key: &str,
+    decision: Option<Outcome>,
+) -> Result<(), AllocError>
+    ensures { OnOk result (out.new ≡ out.old ++ token.key key.now ∷ tokens_of (decision_data decision)) }
+{
+    out.key(key)?;
+    match decision {
+        None => out.null(),
+        Some(decision) => out.string(decision_text(decision)),
+    }
+}
+
+/// Begins a notice: its action and its decisions.
+fn write_decisions(out: &mut JsonText, notice: &Notice) -> Result<(), AllocError>
+    ensures { OnOk result (out.new ≡ out.old ++ token.begin_object ∷ token.key (codes "action") ∷ token.string notice.now.action
+        ∷ token.key (codes "after") ∷ (tokens_of (decision_data notice.now.after)
+        ++ token.key (codes "before") ∷ tokens_of (decision_data notice.now.before))) }
+{
+    out.begin_object()?;
+    write_text(out, "action", notice.action.as_str())?;
+    write_optional(out, "after", notice.after)?;
+    write_optional(out, "before", notice.before)
+}
+
+/// Writes a notice.
+fn write_notice(out: &mut JsonText, notice: &Notice) -> Result<(), AllocError>
+    ensures { OnOk result (out.new ≡ out.old ++ tokens_of (notice_data notice.now)) }
+{
+    write_decisions(out, notice)?;
+    write_text(out, "person", notice.person.as_str())?;
+    write_text(out, "resource", notice.resource.as_str())?;
+    out.end_object()
+}
+
+/// Writes actions and resources, to the end of their list.
+fn write_pairs(out: &mut JsonText, found: &[(Text, Text)]) -> Result<(), AllocError>
+    ensures { OnOk result (out.new ≡ out.old ++ items_tokens_of (map pair_data found.now)) }
+{
+    for (action, resource) in found {
+        write_pair(out, action.as_str(), resource.as_str())?;
+    }
+    out.end_array()
+}
+
+/// Writes people, to the end of their list.
+fn write_people(out: &mut JsonText, people: &[Text]) -> Result<(), AllocError>
+    ensures { OnOk result (out.new ≡ out.old ++ items_tokens_of (map json.string people.now)) }
+{
+    for person in people {
+        out.string(person.as_str())?;
+    }
+    out.end_array()
+}
+
+/// Writes requests, to the end of their list.
+fn write_triples(out: &mut JsonText, found: &[(Text, Text, Text)]) -> Result<(), AllocError>
+    ensures { OnOk result (out.new ≡ out.old ++ items_tokens_of (map triple_data found.now)) }
+{
+    for (person, action, resource) in found {
+        write_triple(out, person.as_str(), action.as_str(), resource.as_str())?;
+    }
+    out.end_array()
+}
+
+/// Writes notices, to the end of their list.
+fn write_notices(out: &mut JsonText, notices: &[Notice]) -> Result<(), AllocError>
+    ensures { OnOk result (out.new ≡ out.old ++ items_tokens_of (map notice_data notices.now)) }
+{
+    for notice in notices {
+        write_notice(out, notice)?;
+    }
+    out.end_array()
+}
+
+/// Writes the reply to `counts`.
+fn write_counts_reply(out: &mut JsonText, counts: Counts) -> Result<(), AllocError>
+    ensures { OnOk result (out.new ≡ out.old ++ tokens_of (reply_data (codes "counts") (counts_data counts))) }
+{
+    out.begin_object()?;
+    out.key("counts")?;
+    write_counts(out, counts)?;
+    out.end_object()
+}
+
+/// Begins a reply with a list.
+fn begin_list(out: &mut JsonText, name: &str) -> Result<(), AllocError>
+    ensures { OnOk result (out.new ≡ out.old ++ token.begin_object ∷ token.key name.now ∷ token.begin_array ∷ []) }
+{
+    out.begin_object()?;
+    out.key(name)?;
+    out.begin_array()
+}
+
+/// Writes the reply to `can`.
+fn write_can_reply(out: &mut JsonText, found: &[(Text, Text)]) -> Result<(), AllocError>
+    ensures { OnOk result (out.new ≡ out.old ++ tokens_of (reply_data (codes "can") (json.array (items_of (map pair_data found.now))))) }
+{
+    begin_list(out, "can")?;
+    write_pairs(out, found)?;
+    out.end_object()
+}
+
+/// Writes the reply to `who`.
+fn write_who_reply(out: &mut JsonText, people: &[Text]) -> Result<(), AllocError>
+    ensures { OnOk result (out.new ≡ out.old ++ tokens_of (reply_data (codes "who") (json.array (items_of (map json.string people.now))))) }
+{
+    begin_list(out, "who")?;
+    write_people(out, people)?;
+    out.end_object()
+}
+
+/// Writes the reply to `by_rule`.
+fn write_by_rule_reply(out: &mut JsonText, found: &[(Text, Text, Text)]) -> Result<(), AllocError>
+    ensures { OnOk result (out.new ≡ out.old ++ tokens_of (reply_data (codes "by_rule") (json.array (items_of (map triple_data found.now))))) }
+{
+    begin_list(out, "by_rule")?;
+    write_triples(out, found)?;
+    out.end_object()
+}
+
+/// Writes the reply to `notices`.
+fn write_notices_reply(out: &mut JsonText, notices: &[Notice]) -> Result<(), AllocError>
+    ensures { OnOk result (out.new ≡ out.old ++ tokens_of (reply_data (codes "notices") (json.array (items_of (map notice_data notices.now))))) }
+{
+    begin_list(out, "notices")?;
+    write_notices(out, notices)?;
+    out.end_object()
+}
+
+/// The text of the reply to `counts`.
+pub(crate) fn counts_text(alloc: Global, counts: Counts) -> Result<String, AllocError>
+    ensures { IfOk result (λ s. string_bytes s ≡ counts_text counts) }
+{
+    let mut out = JsonText::new(alloc);
+    write_counts_reply(&mut out, counts)?;
+    Ok(out.into_string())
+}
+
+/// The text of the reply to `can`.
+pub(crate) fn can_text(alloc: Global, found: &[(Text, Text)]) -> Result<String, AllocError>
+    ensures { IfOk result (λ s. string_bytes s ≡ can_text found.now) }
+{
+    let mut out = JsonText::new(alloc);
+    write_can_reply(&mut out, found)?;
+    Ok(out.into_string())
+}
+
+/// The text of the reply to `who`.
+pub(crate) fn who_text(alloc: Global, people: &[Text]) -> Result<String, AllocError>
+    ensures { IfOk result (λ s. string_bytes s ≡ who_text people.now) }
+{
+    let mut out = JsonText::new(alloc);
+    write_who_reply(&mut out, people)?;
+    Ok(out.into_string())
+}
+
+/// The text of the reply to `by_rule`.
+pub(crate) fn by_rule_text(
+    alloc: Global,
+    found: &[(Text, Text, Text)],
+) -> Result<String, AllocError>
+    ensures { IfOk result (λ s. string_bytes s ≡ by_rule_text found.now) }
+{
+    let mut out = JsonText::new(alloc);
+    write_by_rule_reply(&mut out, found)?;
+    Ok(out.into_string())
+}
+
+/// The text of the reply to `notices`.
+pub(crate) fn notices_text(alloc: Global, notices: &[Notice]) -> Result<String, AllocError>
+    ensures { IfOk result (λ s. string_bytes s ≡ notices_text notices.now) }
+{
+    let mut out = JsonText::new(alloc);
+    write_notices_reply(&mut out, notices)?;
+    Ok(out.into_string())
+}

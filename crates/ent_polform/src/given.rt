@@ -1,0 +1,120 @@
+//! Obligation expressions and advice expressions, as the form has them.
+
+ghost use Rattle.std.specs.Prelude.{◌≡◌};
+ghost use Rattle.serde_json.specs.View.{items_view, view};
+ghost use Rattle.ent_policy.specs.Gives.{Gives};
+ghost use Rattle.ent_polform.specs.Given.{assignment_of, effect_of, given_by, given_of};
+ghost use Rattle.ent_polform.specs.Objects.{each_by};
+
+use crate::expression::expression;
+use crate::objects::{has_only, list_at, optional, required, text_at};
+use ent_policy::{
+    CheckFault, DocFault, Effect, RawAssignment, RawGivenExpression, RawGivenExpressions,
+};
+use ent_values::Items;
+use serde_json::Value;
+use std::alloc::Global;
+
+/// The effect of that name.
+pub(crate) fn effect(word: &str) -> Option<Effect>
+    ensures { result ≡ effect_of word.now }
+{
+    if word == "Permit" {
+        return Some(Effect::Permit);
+    }
+    if word == "Deny" {
+        return Some(Effect::Deny);
+    }
+    None
+}
+
+/// An AttributeAssignmentExpression.
+#[tactic(auto, unfolding(crate::specs::Given::assignment_of))]
+fn assignment(alloc: Global, object: &Value) -> Result<RawAssignment, CheckFault>
+    ensures { Gives result (assignment_of (view object.now)) }
+{
+    let keys = ["AttributeId", "Category", "Expression", "Issuer"];
+    if !has_only(object, &keys) {
+        return Err(CheckFault::Doc(DocFault::Form));
+    }
+    let attribute = required(alloc, object, "AttributeId")?;
+    let category = optional(alloc, object, "Category")?;
+    let issuer = optional(alloc, object, "Issuer")?;
+    let value = object.get("Expression").ok_or(DocFault::Form)?;
+    let expression = expression(alloc, value)?;
+    Ok(RawAssignment {
+        attribute,
+        category,
+        issuer,
+        expression,
+    })
+}
+
+/// AttributeAssignmentExpressions, one for each value.
+fn assignments(alloc: Global, values: &[Value]) -> Result<Items<RawAssignment>, CheckFault>
+    ensures { Gives result (each_by assignment_of (items_view values.now)) }
+{
+    let mut all = Items::with_capacity(alloc, values.len())?;
+    for value in values {
+        all.push(assignment(alloc, value)?)?;
+    }
+    Ok(all)
+}
+
+/// An ObligationExpression or an AdviceExpression, by the keys of its id and of its effect.
+#[tactic(auto, unfolding(crate::specs::Given::given_by))]
+fn given_expression(
+    alloc: Global,
+    object: &Value,
+    id_key: &str,
+    effect_key: &str,
+) -> Result<RawGivenExpression, CheckFault>
+    ensures { Gives result (given_by id_key.now effect_key.now (view object.now)) }
+{
+    let keys = ["AttributeAssignmentExpression", effect_key, id_key];
+    if !has_only(object, &keys) {
+        return Err(CheckFault::Doc(DocFault::Form));
+    }
+    let id = required(alloc, object, id_key)?;
+    let effect = text_at(object, effect_key)
+        .and_then(effect)
+        .ok_or(DocFault::Form)?;
+    let listed = list_at(object, "AttributeAssignmentExpression").ok_or(DocFault::Form)?;
+    let assignments = assignments(alloc, listed)?;
+    Ok(RawGivenExpression {
+        id,
+        effect,
+        assignments,
+    })
+}
+
+/// ObligationExpressions or AdviceExpressions, one for each value.
+fn given_expressions(
+    alloc: Global,
+    values: &[Value],
+    id_key: &str,
+    effect_key: &str,
+) -> Result<Items<RawGivenExpression>, CheckFault>
+    ensures { Gives result (each_by (given_by id_key.now effect_key.now) (items_view values.now)) }
+{
+    let mut all = Items::with_capacity(alloc, values.len())?;
+    for value in values {
+        all.push(given_expression(alloc, value, id_key, effect_key)?)?;
+    }
+    Ok(all)
+}
+
+/// The ObligationExpressions and the AdviceExpressions of a rule, a policy or a set.
+#[tactic(auto, unfolding(crate::specs::Given::given_of))]
+pub(crate) fn given_at(alloc: Global, object: &Value) -> Result<RawGivenExpressions, CheckFault>
+    ensures { Gives result (given_of (view object.now)) }
+{
+    let listed = list_at(object, "ObligationExpressions").ok_or(DocFault::Form)?;
+    let obligations = given_expressions(alloc, listed, "ObligationId", "FulfillOn")?;
+    let listed = list_at(object, "AdviceExpressions").ok_or(DocFault::Form)?;
+    let advice = given_expressions(alloc, listed, "AdviceId", "AppliesTo")?;
+    Ok(RawGivenExpressions {
+        obligations,
+        advice,
+    })
+}

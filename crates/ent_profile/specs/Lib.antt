@@ -1,0 +1,6 @@
+pub mod Faults
+pub mod Reading
+pub mod Categories
+pub mod Asks
+pub mod Response
+pub mod Written

@@ -1,0 +1,126 @@
+//! Obligations and advice, written straight into a text.
+
+ghost use Rattle.std.specs.Prelude.{◌≡◌, [], ◌∷◌, ◌++◌, OnOk, map, option_map};
+ghost use Rattle.json.specs.Token as token;
+ghost use Rattle.serde_json.specs.Data as json;
+ghost use Rattle.serde_json.specs.View.{items_of};
+ghost use Rattle.ent_polform.specs.Text.{items_tokens_of, tokens_of};
+ghost use Rattle.ent_polform.specs.Written.{value_written};
+ghost use Rattle.ent_profile.specs.Response.{assignment_written, given_written};
+ghost use Rattle.ent_profile.specs.Written.{optional_tokens};
+
+use ent_eval::{Assignment, Given};
+use ent_polform::JsonText;
+use ent_values::{Text, Value};
+use std::alloc::{AllocError, Global};
+
+/// Writes a text at a key.
+pub(crate) fn write_text(out: &mut JsonText, key: &str, text: &str) -> Result<(), AllocError>
+    ensures { OnOk result (out.new ≡ out.old ++ token.key key.now ∷ token.string text.now ∷ []) }
+{
+    out.key(key)?;
+    out.string(text)
+}
+
+/// Writes a text at a key, if there is one.
+pub(crate) fn write_optional(
+    out: &mut JsonText,
+    key: &str,
+    text: &Option<Text>,
+) -> Result<(), AllocError>
+    ensures { OnOk result (out.new ≡ out.old ++ optional_tokens key.now (option_map json.string text.now)) }
+{
+    match text {
+        None => Ok(()),
+        Some(text) => write_text(out, key, text.as_str()),
+    }
+}
+
+/// Writes a value: an integer as a number, a boolean as a boolean, every other value as its written text.
+#[tactic(auto, unfolding(ent_polform::specs::Written::value_written), using(crate::proofs::TokenLemmas::integer_tokens))]
+pub(crate) fn write_value(
+    alloc: Global,
+    out: &mut JsonText,
+    value: &Value,
+) -> Result<(), AllocError>
+    ensures { OnOk result (out.new ≡ out.old ++ tokens_of (value_written value.now)) }
+{
+    match value {
+        Value::Boolean(flag) => out.boolean(*flag),
+        Value::Integer(integer) => out.integer(*integer),
+        _ => {
+            let text = value.text(alloc)?;
+            out.string(text.as_str())
+        }
+    }
+}
+
+/// Writes an AttributeAssignment.
+fn write_assignment(
+    alloc: Global,
+    out: &mut JsonText,
+    assignment: &Assignment,
+) -> Result<(), AllocError>
+    ensures { OnOk result (out.new ≡ out.old ++ tokens_of (assignment_written assignment.now)) }
+{
+    out.begin_object()?;
+    write_text(out, "AttributeId", assignment.attribute.as_str())?;
+    write_optional(out, "Category", &assignment.category)?;
+    write_text(out, "DataType", assignment.value.datatype().uri())?;
+    write_optional(out, "Issuer", &assignment.issuer)?;
+    out.key("Value")?;
+    write_value(alloc, out, &assignment.value)?;
+    out.end_object()
+}
+
+/// Writes AttributeAssignments, to the end of their list.
+fn write_assignments(
+    alloc: Global,
+    out: &mut JsonText,
+    assignments: &[Assignment],
+) -> Result<(), AllocError>
+    ensures { OnOk result (out.new ≡ out.old ++ items_tokens_of (map assignment_written assignments.now)) }
+{
+    for assignment in assignments {
+        write_assignment(alloc, out, assignment)?;
+    }
+    out.end_array()
+}
+
+/// Writes an obligation or an advice.
+fn write_one(alloc: Global, out: &mut JsonText, given: &Given) -> Result<(), AllocError>
+    ensures { OnOk result (out.new ≡ out.old ++ tokens_of (given_written given.now)) }
+{
+    out.begin_object()?;
+    out.key("AttributeAssignment")?;
+    out.begin_array()?;
+    write_assignments(alloc, out, given.assignments.as_slice())?;
+    write_text(out, "Id", given.id.as_str())?;
+    out.end_object()
+}
+
+/// Writes obligations or advice, to the end of their list.
+fn write_each(alloc: Global, out: &mut JsonText, given: &[Given]) -> Result<(), AllocError>
+    ensures { OnOk result (out.new ≡ out.old ++ items_tokens_of (map given_written given.now)) }
+{
+    for one in given {
+        write_one(alloc, out, one)?;
+    }
+    out.end_array()
+}
+
+/// Writes the list of obligations or of advice into a text, as [`write_given`](crate::write_given) has it.
+///
+/// # Errors
+///
+/// `AllocError` if memory runs out; a front of the list may have been written.
+pub fn write_given_text(
+    alloc: Global,
+    out: &mut JsonText,
+    given: &[Given],
+) -> Result<(), AllocError>
+    ensures { OnOk result (out.new ≡ out.old ++ tokens_of (json.array (items_of (map given_written given.now)))) }
+{
+    out.begin_array()?;
+    write_each(alloc, out, given)
+}

@@ -1,0 +1,164 @@
+//! The desk: a review, and the marks of its sessions.
+
+ghost use Rattle.std.specs.Prelude.{◌≡◌, ◌<◌, IfOk, OnErr, OnOk, option_copied};
+ghost use Rattle.ent_table.specs.Ask.{answer_in};
+ghost use Rattle.ent_table.specs.Review.{IsFresh, OnlyEvaluates, state_of};
+ghost use Rattle.ent_table.specs.Step.{IsAnswered, IsSure, step};
+ghost use Rattle.ent_report.specs.Notices.{IsNoticed};
+ghost use Rattle.ent_report.specs.Reports.{IsReported, by_rule, can, counts, who};
+ghost use Rattle.ent_report.specs.World.{IsReady, mark_of, marked, unmarked, world_of};
+
+use crate::compare::Comparison;
+use crate::counts::{Counts, counted};
+use crate::fault::{NoticeFault, ReportFault};
+use crate::kept::Kept;
+use crate::notices::Notice;
+use crate::reports::{by_rule_in, can_in, who_in};
+use ent_eval::{Answer, Request};
+use ent_finder::{AttributeFinder, Attributes, Policies, PolicyFinder};
+use ent_table::{Accepted, Edit, EditFault, List, Review};
+use ent_values::{Items, Text};
+use std::alloc::{AllocError, Global};
+
+/// How many sessions there are. They are numbered from 0 on.
+pub const SESSIONS: u8 = 16;
+
+/// A review, and for each of sixteen sessions the table that it marked last, if it did.
+#[derive(Drop)]
+pub struct Desk<A = AttributeFinder, P = PolicyFinder> {
+    pub(crate) alloc: Global,
+    pub(crate) review: Review<A, P>,
+    pub(crate) marks: [Option<Kept>; 16],
+}
+
+impl<A: Attributes, P: Policies> Desk<A, P> {
+    /// A desk with a review and no marks.
+    pub fn new(alloc: Global, review: Review<A, P>) -> Desk<A, P>
+        requires { IsFresh A.sources P.slots review }
+        ensures ready { IsReady A.sources P.slots result }
+        ensures world { world_of A.sources P.slots result ≡ record { state = state_of A.sources P.slots review; marks = unmarked } }
+    {
+        Desk {
+            alloc,
+            review,
+            marks: [
+                None, None, None, None, None, None, None, None, None, None, None, None, None, None,
+                None, None,
+            ],
+        }
+    }
+
+    /// The review.
+    pub fn review(&self) -> &Review<A, P>
+        ensures { result.now ≡ self.now.review }
+    {
+        &self.review
+    }
+
+    /// Makes an edit of the review. The marks stay.
+    pub fn edit(&mut self, edit: Edit) -> Result<Accepted, EditFault>
+        requires { IsReady A.sources P.slots self.old }
+        ensures ready { IsReady A.sources P.slots self.new }
+        ensures step { IsAnswered (step (state_of A.sources P.slots self.old.review) edit) (state_of A.sources P.slots self.old.review) (state_of A.sources P.slots self.new.review) result }
+        ensures sure { IsSure (step (state_of A.sources P.slots self.old.review) edit) edit result }
+        ensures marks { self.new.marks ≡ self.old.marks }
+    {
+        self.review.edit(edit)
+    }
+
+    /// The answer to any request, listed or not, by what is held alone (section 7): neither the table nor a mark has a part in it.
+    ///
+    /// It counts as one evaluation, and changes nothing else.
+    ///
+    /// # Errors
+    ///
+    /// `AllocError` if memory runs out.
+    pub fn ask(&mut self, request: &Request) -> Result<Answer, AllocError>
+        requires { IsReady A.sources P.slots self.old }
+        ensures ready { IsReady A.sources P.slots self.new }
+        ensures answer { IfOk result (λ a. a ≡ answer_in (world_of A.sources P.slots self.old).state request.now) }
+        ensures rest { OnlyEvaluates self.old.review self.new.review }
+        ensures world { world_of A.sources P.slots self.new ≡ world_of A.sources P.slots self.old }
+    {
+        self.review.ask(request)
+    }
+
+    /// Marks the present table for a session in place of its last mark, and gives the number of edits so far. After a refusal the
+    /// last mark is still there.
+    pub fn mark(&mut self, session: u8) -> Result<u64, AllocError>
+        requires ready { IsReady A.sources P.slots self.old }
+        requires session { session < 16 }
+        ensures ready { IsReady A.sources P.slots self.new }
+        ensures serial { IfOk result (λ serial. serial ≡ (world_of A.sources P.slots self.old).state.serial) }
+        ensures ok { OnOk result (world_of A.sources P.slots self.new ≡ marked (world_of A.sources P.slots self.old) session) }
+        ensures err { OnErr result (world_of A.sources P.slots self.new ≡ world_of A.sources P.slots self.old) }
+    {
+        let kept = Kept::of(self.alloc, &self.review)?;
+        self.marks[session as usize] = Some(kept);
+        Ok(self.review.serial())
+    }
+
+    /// The requests whose answers differ between the session's mark and now, in byte order of person, then action, then resource.
+    /// The mark stays.
+    pub fn notices(&self, session: u8) -> Result<Items<Notice>, NoticeFault>
+        requires ready { IsReady A.sources P.slots self.now }
+        requires session { session < 16 }
+        ensures { IsNoticed (mark_of (world_of A.sources P.slots self.now) session) (world_of A.sources P.slots self.now).state result }
+    {
+        let Some(kept) = &self.marks[session as usize] else {
+            return Err(NoticeFault::NoMark);
+        };
+        let comparison = Comparison {
+            alloc: self.alloc,
+            kept,
+            review: &self.review,
+        };
+        Ok(comparison.notices()?)
+    }
+
+    /// How many cells have each decision. It takes no memory.
+    pub fn counts(&self) -> Counts
+        requires { IsReady A.sources P.slots self.now }
+        ensures { result ≡ counts (world_of A.sources P.slots self.now).state }
+    {
+        let _count = self.review.cell_count();
+        counted(self.review.cells())
+    }
+
+    /// What a person may do: the actions and resources of the person's Permit cells, in list order.
+    pub fn can(&self, person: &str) -> Result<Items<(Text, Text)>, ReportFault>
+        requires { IsReady A.sources P.slots self.now }
+        ensures { IsReported (can (world_of A.sources P.slots self.now).state person.now) result }
+    {
+        if !self.review.listed(List::People, person) {
+            return Err(ReportFault::NotThere);
+        }
+        Ok(can_in(self.alloc, person, self.review.cells())?)
+    }
+
+    /// Who may do an action to a resource: the people of the Permit cells, in list order.
+    pub fn who(&self, action: &str, resource: &str) -> Result<Items<Text>, ReportFault>
+        requires { IsReady A.sources P.slots self.now }
+        ensures { IsReported (who (world_of A.sources P.slots self.now).state action.now resource.now) result }
+    {
+        if !self.review.listed(List::Actions, action)
+            || !self.review.listed(List::Resources, resource)
+        {
+            return Err(ReportFault::NotThere);
+        }
+        Ok(who_in(self.alloc, action, resource, self.review.cells())?)
+    }
+
+    /// The requests whose decision was given by that rule of a policy, or without a rule by the default of a policy or policy set,
+    /// in list order. Of the path to it only the last id counts. A rule that gave nothing has no requests.
+    pub fn by_rule(
+        &self,
+        policy: &str,
+        rule: Option<&str>,
+    ) -> Result<Items<(Text, Text, Text)>, AllocError>
+        requires { IsReady A.sources P.slots self.now }
+        ensures { IfOk result (λ found. found ≡ by_rule (world_of A.sources P.slots self.now).state policy.now (option_copied rule.entry)) }
+    {
+        by_rule_in(self.alloc, policy, rule, self.review.cells())
+    }
+}

@@ -1,0 +1,18 @@
+//! The desk: a review with a mark for each of sixteen sessions, notices of what changed since a mark, and reports of the present table.
+#![tactic(auto)]
+
+mod compare;
+mod counts;
+mod desk;
+mod fault;
+mod kept;
+mod notices;
+mod order;
+mod reports;
+mod rules;
+
+pub use counts::Counts;
+pub use desk::{Desk, SESSIONS};
+pub use fault::{NoticeFault, ReportFault};
+pub use kept::Kept;
+pub use notices::Notice;

@@ -1,0 +1,13 @@
+use Rattle.std.proofs.Common.{◌≡◌, List, length, map, min, sym, ap, ◌∙◌, arith}
+use Rattle.std.proofs.lemmas.List.{length-map}
+use Rattle.std.proofs.lemmas.Slice.Zip.{length-zip}
+use Rattle.ent_table.specs.Names.{triples}
+use Rattle.ent_table.specs.Review.{state_of}
+use Rattle.ent_table.specs.State.{State, answer_to, fresh, table_of}
+use Rattle.ent_table.proofs.review.Review.cell_count.Goals as goal
+
+pub returns : goal.returns
+returns g c =
+    let s : State = state_of g.A.Attributes.sources g.P.Policies.slots c.args.self.now in
+    let counted : c.len.result ≡ length (fresh s) = c.len.ensures ∙ ap length c.requires.cells in
+    omega (arith, counted, length-zip (triples s.names) (fresh s), length-map (triples s.names) (answer_to s))

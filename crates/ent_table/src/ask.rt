@@ -1,0 +1,31 @@
+//! Requests that are asked beside the table.
+
+ghost use Rattle.std.specs.Prelude.{◌≡◌, ◌+◌, ◌-◌, ◌^◌, min, IfOk};
+ghost use Rattle.ent_table.specs.Ask.{answer_in};
+ghost use Rattle.ent_table.specs.Review.{IsFresh, OnlyEvaluates, state_of};
+
+use crate::review::Review;
+use ent_eval::{Answer, Request};
+use ent_finder::{Attributes, Policies};
+use std::alloc::AllocError;
+
+impl<A: Attributes, P: Policies> Review<A, P> {
+    /// The answer to any request, listed or not, by what is held alone (section 7): the table has no part in it.
+    ///
+    /// Each call counts as one evaluation, also one that is refused for want of memory. It changes nothing but the count, which
+    /// stays at its greatest value.
+    ///
+    /// # Errors
+    ///
+    /// `AllocError` if memory runs out.
+    pub fn ask(&mut self, request: &Request) -> Result<Answer, AllocError>
+        requires { IsFresh A.sources P.slots self.old }
+        ensures fresh { IsFresh A.sources P.slots self.new }
+        ensures answer { IfOk result (λ a. a ≡ answer_in (state_of A.sources P.slots self.old) request.now) }
+        ensures counted { self.new.pdp.evaluations ≡ min (self.old.pdp.evaluations + 1) (2 ^ 128 - 1) }
+        ensures rest { OnlyEvaluates self.old self.new }
+    {
+        let evaluation = self.pdp.evaluate(request)?;
+        Ok(evaluation.answer)
+    }
+}
