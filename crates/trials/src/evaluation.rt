@@ -24,7 +24,8 @@ const DENYING: &str =
 const BETWEEN: &str =
     r#"{"Policy":{"PolicyId":"p1","Version":"1.9","RuleCombiningAlgId":"urn:oasis:names:tc:xacml:3.0:rule-combining-algorithm:deny-unless-permit"}}"#;
 
-fn reference(alloc: Global, id: &str) -> Result<Reference, Fail> {
+/// A reference to a policy of that id, in any version.
+pub(crate) fn reference(alloc: Global, id: &str) -> Result<Reference, Fail> {
     Ok(Reference {
         kind: Kind::Policy,
         id: Name::new(Text::from_str(alloc, id)?).ok_or("no name")?,
@@ -48,7 +49,7 @@ fn key(alloc: Global, version: &str) -> Result<DocKey, Fail> {
 }
 
 /// Stores the document that the text spells in the first module.
-fn put(alloc: Global, pdp: &mut Pdp, text: &str) -> Result<(), Fail> {
+pub(crate) fn put(alloc: Global, pdp: &mut Pdp, text: &str) -> Result<(), Fail> {
     let document = document(alloc, text)?;
     let key = document.key(alloc)?;
     let mut slot = Some(document);

@@ -15,6 +15,8 @@ mod functions;
 #[cfg(test)]
 mod policies;
 #[cfg(test)]
+mod responses;
+#[cfg(test)]
 mod serving;
 #[cfg(test)]
 mod table;
