@@ -4,3 +4,4 @@ pub mod DoubleLemmas
 pub mod WrittenLemmas
 pub mod TextLemmas
 pub mod TokenLemmas
+pub mod SpelledLemmas

@@ -2,5 +2,6 @@ pub mod Faults
 pub mod Reading
 pub mod Categories
 pub mod Asks
+pub mod Spelled
 pub mod Response
 pub mod Written
