@@ -1,6 +1,7 @@
 pub mod BlockRows
 pub mod Boxes
 pub mod Filled
+pub mod Fronts
 pub mod Gathered
 pub mod Held
 pub mod Kept

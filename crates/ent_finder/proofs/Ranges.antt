@@ -9,6 +9,7 @@ use Rattle.std.specs.declared.cmp.Ordering.{Ordering}
 use Rattle.std.specs.declared.cmp.Ordering.TheVariants.{Less, Equal, Greater}
 use Rattle.std.proofs.lemmas.Bool.{cases_lt}
 use Rattle.std.proofs.lemmas.List.Sorted.{searchable_from_sorted}
+use Rattle.ent_finder.proofs.Fronts.{EndsAt, ends_in_rest, rest, rest_parted}
 use Rattle.ent_finder.proofs.Sorted.{adjacent, element}
 
 -- ---- tests that hold up to a point
@@ -97,10 +98,23 @@ between Less = refl
 between Equal = refl
 between Greater = refl
 
+lt_le : (o : Ordering) → is_lt o ≡ true → is_le o ≡ true
+lt_le Less h = refl
+lt_le Equal h = refl
+lt_le Greater h = cc
+
 not_both : (o : Ordering) → is_lt o ≡ true → is_le o ≡ false → ⊥
 not_both Less h g = cc
 not_both Equal h g = cc
 not_both Greater h g = cc
+
+-- the end is looked for from the start on
+module _ {X : Type 0} (order : X → Ordering) (xs : List X) (rises : Rises order xs) (a : ℕ) (le : a ≤ length xs) where
+  pub le_partitioned_rest : IsPartitionedBy (λ x. is_le (order x)) (rest a xs)
+  le_partitioned_rest = rest_parted (λ x. is_le (order x)) xs a le (le_partitioned order xs rises)
+
+  pub ends_after : (n : ℕ) → EndsAt (λ x. is_lt (order x)) xs a → EndsAt (λ x. is_le (order x)) (rest a xs) n → EndsAt (λ x. is_le (order x)) xs (a + n)
+  ends_after n starts ends = ends_in_rest (λ x. is_le (order x)) xs a le n (λ k d lo hi. lt_le _ (starts.0 k d lo hi)) ends
 
 module _ {X : Type 0} (order : X → Ordering) (xs : List X) (a b : ℕ) (starts : IsPartitionPoint (λ x. is_lt (order x) ≡ true) (λ x. is_lt (order x) ≡ false) xs a)
     (ends : IsPartitionPoint (λ x. is_le (order x) ≡ true) (λ x. is_le (order x) ≡ false) xs b) where

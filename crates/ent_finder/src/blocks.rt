@@ -12,6 +12,7 @@ ghost use Rattle.ent_finder.specs.RowEntry.{RowsAreSorted, rows_of};
 ghost use Rattle.ent_finder.specs.Rows.{filled, row_cmp, values_at};
 
 use crate::block::Block;
+use crate::passing::count_passing;
 use crate::row::{AttrKey, Row, RowKey};
 use crate::rows;
 use ent_values::{Bag, Items, Value};
@@ -205,8 +206,11 @@ fn bounds(blocks: &[Block], key: &AttrKey) -> (usize, usize)
     ensures named { filter (λ r. names_row key.now r.key) (rows_in (slice_range blocks.now result.0 result.1)) ≡ filter (λ r. names_row key.now r.key) (rows_in blocks.now) }
 {
     let passed = blocks.partition_point(|block| first_to_named(block, key).is_lt());
-    let end = blocks.partition_point(|block| first_to_named(block, key).is_le());
-    (passed.saturating_sub(1), end)
+    let begun = count_passing(
+        &blocks[passed..],
+        |block| first_to_named(block, key).is_le(),
+    );
+    (passed.saturating_sub(1), passed + begun)
 }
 
 /// The values of the rows that a key names.

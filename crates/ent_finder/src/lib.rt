@@ -15,6 +15,7 @@ mod list;
 mod map_docs;
 mod map_rows;
 mod module;
+mod passing;
 mod policies;
 mod row;
 mod rows;

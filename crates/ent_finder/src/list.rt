@@ -12,6 +12,7 @@ ghost use Rattle.ent_finder.specs.Order.{name_cmp, name_of, name_wanted};
 ghost use Rattle.ent_finder.specs.Places.{IsPlace, IsSeat, is_at};
 ghost use Rattle.ent_finder.specs.Slots.{document_at, held, key_cmp};
 
+use crate::passing::count_passing;
 use crate::slot::DocSlot;
 use ent_policy::{DocKey, Document, Reference};
 use std::alloc::{AllocError, Global};
@@ -83,8 +84,8 @@ fn bounds(slots: &[DocSlot], reference: &Reference) -> (usize, usize)
     ensures versions { slice_range slots.now result.0 result.1 ≡ filter (λ s. is_of reference.now s.key) slots.now }
 {
     let start = slots.partition_point(|slot| order(&slot.key, reference).is_lt());
-    let end = slots.partition_point(|slot| order(&slot.key, reference).is_le());
-    (start, end)
+    let named = count_passing(&slots[start..], |slot| order(&slot.key, reference).is_le());
+    (start, start + named)
 }
 
 /// The document of a slot, if there is one and its version meets the constraints of a reference.

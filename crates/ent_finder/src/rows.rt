@@ -10,6 +10,7 @@ ghost use Rattle.ent_finder.specs.Places.{IsPlace, IsSeat, is_at};
 ghost use Rattle.ent_finder.specs.RowEntry.{RowsAreSorted, row_entries, rows_of};
 ghost use Rattle.ent_finder.specs.Rows.{filled, row_cmp, values_at};
 
+use crate::passing::count_passing;
 use crate::row::{AttrKey, Row, RowKey};
 use ent_values::{Bag, Items, Text, Value};
 use std::alloc::{AllocError, Global};
@@ -87,16 +88,13 @@ fn issuer_order(issuer: &Option<Text>, wanted: &Option<Text>) -> Ordering
 pub fn order(row: &RowKey, key: &AttrKey) -> Ordering
     ensures { result ≡ named_cmp row.now key.now }
 {
-    let categories = row.category.as_str().cmp(key.category.as_str());
-    let entities = row.entity.as_str().cmp(key.entity.as_str());
-    let attributes = row.attribute.as_str().cmp(key.attribute.as_str());
-    let types = row.datatype.cmp(&key.datatype);
-    let issuers = issuer_order(&row.issuer, &key.issuer);
-    categories
-        .then(entities)
-        .then(attributes)
-        .then(types)
-        .then(issuers)
+    row.category
+        .as_str()
+        .cmp(key.category.as_str())
+        .then_with(|| row.entity.as_str().cmp(key.entity.as_str()))
+        .then_with(|| row.attribute.as_str().cmp(key.attribute.as_str()))
+        .then_with(|| row.datatype.cmp(&key.datatype))
+        .then_with(|| issuer_order(&row.issuer, &key.issuer))
 }
 
 /// Where the rows that a key names begin, and where they end.
@@ -107,8 +105,8 @@ fn bounds(rows: &[Row], key: &AttrKey) -> (usize, usize)
     ensures named { slice_range rows.now result.0 result.1 ≡ filter (λ r. names_row key.now r.key) rows.now }
 {
     let start = rows.partition_point(|row| order(&row.key, key).is_lt());
-    let end = rows.partition_point(|row| order(&row.key, key).is_le());
-    (start, end)
+    let named = count_passing(&rows[start..], |row| order(&row.key, key).is_le());
+    (start, start + named)
 }
 
 /// Puts copies of the values last.
