@@ -16,9 +16,8 @@ use Rattle.ent_functions.specs.declared.types.ArgType.{ArgType}
 use Rattle.ent_policy.specs.Typing.{all_typed}
 use Rattle.ent_eval.specs.declared.evaluated.Evaluated.{Evaluated}
 use Rattle.ent_eval.specs.declared.evaluated.Evaluated.TheVariants.{Known, Indeterminate}
-use Rattle.ent_eval.specs.declared.key.ReadKey.{ReadKey}
 use Rattle.ent_eval.specs.Expression.{arguments_of, evaluated_of, decides, is_result, result_of}
-use Rattle.ent_eval.specs.Noted.{noted}
+use Rattle.ent_eval.specs.Noted.{Notes, noting}
 use Rattle.ent_eval.specs.Part.{Part, reads_of, seen_parts, values}
 use Rattle.ent_eval.specs.Typed.{HasType}
 use Rattle.ent_eval.proofs.Booleans.{find_behind, find_none}
@@ -113,20 +112,20 @@ after_first a t done others is = ap (λ u. option_map (λ ts. map type_of_arg do
   at (Some ts) = ap Some (sym (append_assoc (map type_of_arg done) (type_of_arg a ∷ []) ts) ∙ ap (λ us. us ++ ts) (sym (map-append type_of_arg done (a ∷ []))))
 
 -- none of the first i arguments is the result, and `done` are what they come to; the types of those left follow theirs
-pub record AreEvaluated {X : Type 0} (f : Function) (part : X → Part Evaluated) (type : X → Option ArgType) (xs : List X) (i : ℕ) (done : List Arg) (start now : List ReadKey) : Type 0 where
+pub record AreEvaluated {X : Type 0} (f : Function) (part : X → Part Evaluated) (type : X → Option ArgType) (xs : List X) (i : ℕ) (done : List Arg) (start now : Notes) : Type 0 where
   pub going : IsGoing (is_result f) part xs i start now
   pub known : values_to part xs i ≡ map Known done
   pub typed : option_map (λ ts. map type_of_arg done ++ ts) (all_typed (map type (drop i xs))) ≡ all_typed (map type xs)
 
-module _ {X : Type 0} (f : Function) (part : X → Part Evaluated) (type : X → Option ArgType) (xs : List X) (i : ℕ) (done : List Arg) (start now : List ReadKey) where
+module _ {X : Type 0} (f : Function) (part : X → Part Evaluated) (type : X → Option ArgType) (xs : List X) (i : ℕ) (done : List Arg) (start now : Notes) where
   pub argument_typed : (x : X) → i < length xs → x ≡ get_or xs i x → AreEvaluated f part type xs i done start now → IsSome (option_and_then (result_type_of f) (all_typed (map type xs))) → IsSome (type x)
   argument_typed x below at so_far some =
       let all = subst IsSome (sym so_far.typed) (chained_some (result_type_of f) (all_typed (map type xs)) some) in
       let left = mapped_some (λ ts. map type_of_arg done ++ ts) (all_typed (map type (drop i xs))) all in
       first_some (type x) (map type (drop (i + 1) xs)) (subst (λ ys. IsSome (all_typed (map type ys))) (at_item xs i x below at) left)
 
-  pub next_argument : (x : X) (v : Evaluated) (a : Arg) (more : List Arg) (next : List ReadKey) → i < length xs → x ≡ get_or xs i x → AreEvaluated f part type xs i done start now
-      → v ≡ (part x).value → next ≡ noted now (part x).reads → HasType (type x) v → v ≡ Known a → is_result f v ≡ false → more ≡ done ++ a ∷ []
+  pub next_argument : (x : X) (v : Evaluated) (a : Arg) (more : List Arg) (next : Notes) → i < length xs → x ≡ get_or xs i x → AreEvaluated f part type xs i done start now
+      → v ≡ (part x).value → next ≡ noting now (part x).reads → HasType (type x) v → v ≡ Known a → is_result f v ≡ false → more ≡ done ++ a ∷ []
       → AreEvaluated f part type xs (i + 1) more start next
   next_argument x v a more next below at so_far v-is next-is has a-is not more-is = record {
     going = goes_on (is_result f) part xs i x start now next below at so_far.going (ap (is_result f) (sym v-is) ∙ not) next-is;
@@ -141,8 +140,8 @@ module _ {X : Type 0} (f : Function) (part : X → Part Evaluated) (type : X →
       sym (ap (result_of f) (so_far.going.all ∙ ap (λ ys. values_to part xs i ++ values (map part ys)) (at_item xs i x below at) ∙ ap (λ w. values_to part xs i ++ w ∷ values (map part (drop (i + 1) xs))) (sym v-is))
       ∙ result_settled f (values_to part xs i) v (values (map part (drop (i + 1) xs))) so_far.going.passed fixed)
 
-  pub settled-reads : (x : X) (v : Evaluated) (next : List ReadKey) → i < length xs → x ≡ get_or xs i x → AreEvaluated f part type xs i done start now → v ≡ (part x).value → is_result f v ≡ true
-      → next ≡ noted now (part x).reads → next ≡ noted start (reads_of (seen_parts (is_result f) (map part xs)))
+  pub settled-reads : (x : X) (v : Evaluated) (next : Notes) → i < length xs → x ≡ get_or xs i x → AreEvaluated f part type xs i done start now → v ≡ (part x).value → is_result f v ≡ true
+      → next ≡ noting now (part x).reads → next ≡ noting start (reads_of (seen_parts (is_result f) (map part xs)))
   settled-reads x v next below at so_far v-is fixed next-is = (stops_at (is_result f) part xs i x start now next below at so_far.going (ap (is_result f) (sym v-is) ∙ fixed) next-is).reads
 
   all_left : length xs ≤ i → AreEvaluated f part type xs i done start now → Some (map type_of_arg done) ≡ all_typed (map type xs)
@@ -157,8 +156,8 @@ module _ {X : Type 0} (f : Function) (part : X → Part Evaluated) (type : X →
       sym (ap (result_of f) (so_far.going.all ∙ ap (λ ys. values_to part xs i ++ values (map part ys)) (drop_of_length-le xs past) ∙ append-nil (values_to part xs i))
       ∙ result_unsettled f (values_to part xs i) done so_far.going.passed so_far.known)
 
-  pub all-reads : length xs ≤ i → AreEvaluated f part type xs i done start now → now ≡ noted start (reads_of (seen_parts (is_result f) (map part xs)))
-  all-reads past so_far = ap (λ ys. noted now (reads_of (seen_parts (is_result f) (map part ys)))) (sym (drop_of_length-le xs past)) ∙ so_far.going.reads
+  pub all-reads : length xs ≤ i → AreEvaluated f part type xs i done start now → now ≡ noting start (reads_of (seen_parts (is_result f) (map part xs)))
+  all-reads past so_far = ap (λ ys. noting now (reads_of (seen_parts (is_result f) (map part ys)))) (sym (drop_of_length-le xs past)) ∙ so_far.going.reads
 
 pub settled-type : (f : Function) (v : Evaluated) (types : Option (List ArgType)) → is_result f v ≡ true → IsSome (option_and_then (result_type_of f) types) → HasType (option_and_then (result_type_of f) types) v
 settled-type f v types is some = settled_typed f v types is some

@@ -1,5 +1,5 @@
 -- One more child.
-use Rattle.std.proofs.Common.{◌≡◌, Bool, true, false, ◌||◌, List, [], ◌∷◌, ◌++◌, refl, sym, ap, ◌∙◌, append_assoc, subst, Option, None}
+use Rattle.std.proofs.Common.{◌≡◌, Bool, true, false, ◌||◌, List, [], ◌∷◌, ◌++◌, refl, sym, ap, ◌∙◌, append_assoc, subst, Option, None, Some}
 use Rattle.std.specs.Prelude.{if◌then◌else◌}
 use Rattle.std.specs.List.{list_any}
 use Rattle.std.proofs.lemmas.List.{append-nil}
@@ -71,6 +71,11 @@ alone (Ind kind) status = refl
 pub first_status-more : (js : List Answer) (j : Answer) → first_status (js ++ j ∷ []) ≡ status_with (first_status js) j.decision j.status
 first_status-more [] j = alone j.decision j.status
 first_status-more (k ∷ js) j = ap (status_before k.decision k.status) (first_status-more js j) ∙ first_of-more k.decision k.status (first_status js) j.decision j.status
+
+-- the status stays where one more child isn't applicable
+pub status_stays : (status : Option Status) (s : Status) → status ≡ status_with status NotApplicable s
+status_stays None s = refl
+status_stays (Some first) s = refl
 
 -- with one more child, given what each part of the gathering became
 pub gathers : (algorithm : RuleAlg) (g : Gathering) (js : List Answer) (j : Answer) (combiner : Taken) (status : Option Status) (permitted denied : Told)

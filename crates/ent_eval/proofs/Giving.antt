@@ -1,5 +1,5 @@
 -- A loop over what gives lists, which stops at the first that is Indeterminate.
-use Rattle.std.proofs.Common.{◌≡◌, ℕ, ◌+◌, ◌<◌, ◌≤◌, Bool, true, false, List, [], ◌∷◌, ◌++◌, length, map, drop, get_or, refl, sym, ap, ◌∙◌, append_assoc, Option, Some, None}
+use Rattle.std.proofs.Common.{◌≡◌, ℕ, ◌+◌, ◌<◌, ◌≤◌, true, false, List, [], length, map, drop, get_or, refl, sym, ap, ◌∙◌, append_assoc, Option, Some, None}
 use Rattle.std.specs.Prelude.{Result, Ok, Err, is_err, is_some, IsSome}
 use Rattle.std.proofs.Math.ListN.{drop_of_length-le}
 use Rattle.std.proofs.lemmas.List.{append-nil}
@@ -9,9 +9,8 @@ use Rattle.ent_policy.specs.Typing.{held}
 use Rattle.ent_eval.specs.declared.answer.Status.{Status}
 use Rattle.ent_eval.specs.declared.evaluated.Evaluated.{Evaluated}
 use Rattle.ent_eval.specs.declared.evaluated.Evaluated.TheVariants.{Known, Indeterminate}
-use Rattle.ent_eval.specs.declared.key.ReadKey.{ReadKey}
 use Rattle.ent_eval.specs.Given.{joined, together}
-use Rattle.ent_eval.specs.Noted.{noted}
+use Rattle.ent_eval.specs.Noted.{Notes, noting}
 use Rattle.ent_eval.specs.Part.{Part, reads_of, seen_parts, values}
 use Rattle.ent_eval.specs.Typed.{HasType, is_held}
 use Rattle.ent_eval.proofs.Walk.{IsGoing, at_item, goes_on, stops_at}
@@ -35,24 +34,24 @@ is_an_err xs status (Ok zs) is = absurd (cc)
 is_an_err xs status (Err other) is = refl
 
 -- none of the first i is Indeterminate, and `so_far` is what they give
-pub record IsGiving {X A : Type 0} (part : X → Part (Result (List A) Status)) (xs : List X) (i : ℕ) (so_far : List A) (start now : List ReadKey) : Type 0 where
+pub record IsGiving {X A : Type 0} (part : X → Part (Result (List A) Status)) (xs : List X) (i : ℕ) (so_far : List A) (start now : Notes) : Type 0 where
   pub going : IsGoing is_err part xs i start now
   pub given : joined (Ok so_far) (together (values (map part (drop i xs)))) ≡ together (values (map part xs))
 
 -- at the start nothing is given
-pub starts : {X A : Type 0} (part : X → Part (Result (List A) Status)) (xs : List X) (so_far : List A) (start : List ReadKey) → so_far ≡ [] → IsGiving part xs 0 so_far start start
+pub starts : {X A : Type 0} (part : X → Part (Result (List A) Status)) (xs : List X) (so_far : List A) (start : Notes) → so_far ≡ [] → IsGiving part xs 0 so_far start start
 starts part xs so_far start is = record {
   going = record { passed = refl; seen = refl; all = refl; reads = refl };
   given = ap (λ ys. joined (Ok ys) (together (values (map part xs)))) is ∙ joined-nil (together (values (map part xs)));
 }
 
-module _ {X A : Type 0} (part : X → Part (Result (List A) Status)) (xs : List X) (i : ℕ) (so_far : List A) (start now : List ReadKey) (giving : IsGiving part xs i so_far start now) where
+module _ {X A : Type 0} (part : X → Part (Result (List A) Status)) (xs : List X) (i : ℕ) (so_far : List A) (start now : Notes) (giving : IsGiving part xs i so_far start now) where
   one_more : (x : X) (r : Result (List A) Status) → i < length xs → x ≡ get_or xs i x → r ≡ joined (Ok so_far) (part x).value → joined r (together (values (map part (drop (i + 1) xs)))) ≡ together (values (map part xs))
   one_more x r below at is =
       let left = together (values (map part (drop (i + 1) xs))) in
       ap (λ s. joined s left) is ∙ joined-assoc (Ok so_far) (part x).value left ∙ ap (λ ys. joined (Ok so_far) (together (values (map part ys)))) (sym (at_item xs i x below at)) ∙ giving.given
 
-  pub gives_on : (x : X) (more : List A) (next : List ReadKey) → i < length xs → x ≡ get_or xs i x → Ok more ≡ joined (Ok so_far) (part x).value → next ≡ noted now (part x).reads → IsGiving part xs (i + 1) more start next
+  pub gives_on : (x : X) (more : List A) (next : Notes) → i < length xs → x ≡ get_or xs i x → Ok more ≡ joined (Ok so_far) (part x).value → next ≡ noting now (part x).reads → IsGiving part xs (i + 1) more start next
   gives_on x more next below at is next-is = record {
     going = goes_on is_err part xs i x start now next below at giving.going (isn't_err so_far more (part x).value is) next-is;
     given = one_more x (Ok more) below at is;
@@ -61,15 +60,15 @@ module _ {X A : Type 0} (part : X → Part (Result (List A) Status)) (xs : List 
   pub stopped-value : (x : X) (status : Status) → i < length xs → x ≡ get_or xs i x → Err status ≡ joined (Ok so_far) (part x).value → Err status ≡ together (values (map part xs))
   stopped-value x status below at is = one_more x (Err status) below at is
 
-  pub stopped-reads : (x : X) (status : Status) (next : List ReadKey) → i < length xs → x ≡ get_or xs i x → Err status ≡ joined (Ok so_far) (part x).value → next ≡ noted now (part x).reads
-      → next ≡ noted start (reads_of (seen_parts is_err (map part xs)))
+  pub stopped-reads : (x : X) (status : Status) (next : Notes) → i < length xs → x ≡ get_or xs i x → Err status ≡ joined (Ok so_far) (part x).value → next ≡ noting now (part x).reads
+      → next ≡ noting start (reads_of (seen_parts is_err (map part xs)))
   stopped-reads x status next below at is next-is = (stops_at is_err part xs i x start now next below at giving.going (is_an_err so_far status (part x).value is) next-is).reads
 
   pub whole-value : length xs ≤ i → Ok so_far ≡ together (values (map part xs))
   whole-value past = ap Ok (sym (append-nil so_far)) ∙ ap (λ ys. joined (Ok so_far) (together (values (map part ys)))) (sym (drop_of_length-le xs past)) ∙ giving.given
 
-  pub whole-reads : length xs ≤ i → now ≡ noted start (reads_of (seen_parts is_err (map part xs)))
-  whole-reads past = ap (λ ys. noted now (reads_of (seen_parts is_err (map part ys)))) (sym (drop_of_length-le xs past)) ∙ giving.going.reads
+  pub whole-reads : length xs ≤ i → now ≡ noting start (reads_of (seen_parts is_err (map part xs)))
+  whole-reads past = ap (λ ys. noting now (reads_of (seen_parts is_err (map part ys)))) (sym (drop_of_length-le xs past)) ∙ giving.going.reads
 
 -- ---- types
 

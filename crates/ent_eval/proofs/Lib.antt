@@ -1,5 +1,6 @@
 pub mod Alone
 pub mod AnswersRest
+pub mod Apart
 pub mod Arguments
 pub mod Booleans
 pub mod Children
@@ -13,6 +14,7 @@ pub mod Keys
 pub mod Literals
 pub mod Once
 pub mod Parts
+pub mod PathKeys
 pub mod Reached
 pub mod Recorded
 pub mod Rests

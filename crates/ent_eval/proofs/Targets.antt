@@ -1,16 +1,15 @@
 -- Parts of a target of which some are seen.
 use Rattle.std.proofs.Common.{◌≡◌, ℕ, ◌+◌, ◌<◌, Bool, true, false, List, [], ◌∷◌, ◌++◌, length, get_or, refl, sym, ap, ◌∙◌, Some, None}
 use Rattle.std.specs.Prelude.{find, if◌then◌else◌, unwrap_or}
-use Rattle.ent_eval.specs.declared.key.ReadKey.{ReadKey}
 use Rattle.ent_eval.specs.declared.target.Targeted.{Targeted}
 use Rattle.ent_eval.specs.declared.target.Targeted.TheVariants as is
-use Rattle.ent_eval.specs.Noted.{noted}
+use Rattle.ent_eval.specs.Noted.{Notes, noting}
 use Rattle.ent_eval.specs.Part.{Part}
 use Rattle.ent_eval.specs.Target.{first_indeterminate, is_indeterminate, is_match, is_no_match, unless_indeterminate}
 use Rattle.ent_eval.proofs.Walk.{IsGoing, goes_on, values_to, values_to-next}
 
 -- none of the first i parts stops, and `so_far` is the first of them that is Indeterminate
-pub record IsSoFar {X : Type 0} (stop : Targeted → Bool) (otherwise : Targeted) (part : X → Part Targeted) (xs : List X) (i : ℕ) (so_far : Targeted) (start now : List ReadKey) : Type 0 where
+pub record IsSoFar {X : Type 0} (stop : Targeted → Bool) (otherwise : Targeted) (part : X → Part Targeted) (xs : List X) (i : ℕ) (so_far : Targeted) (start now : Notes) : Type 0 where
   pub going : IsGoing stop part xs i start now
   pub first : so_far ≡ first_indeterminate (values_to part xs i) otherwise
 
@@ -42,8 +41,8 @@ first-more stop otherwise other plain (s ∷ ts) t not = more_at (is_indetermina
   more_at false s ts t is later = later
 
 module _ {X : Type 0} (stop : Targeted → Bool) (otherwise : Targeted) (part : X → Part Targeted) (xs : List X) where
-  pub next_so_far : IsOther stop otherwise → is_indeterminate otherwise ≡ false → (i : ℕ) (x : X) (so_far t next : Targeted) (start now later : List ReadKey) → i < length xs → x ≡ get_or xs i x
-      → IsSoFar stop otherwise part xs i so_far start now → t ≡ (part x).value → later ≡ noted now (part x).reads → stop t ≡ false → next ≡ unless_indeterminate so_far t
+  pub next_so_far : IsOther stop otherwise → is_indeterminate otherwise ≡ false → (i : ℕ) (x : X) (so_far t next : Targeted) (start now later : Notes) → i < length xs → x ≡ get_or xs i x
+      → IsSoFar stop otherwise part xs i so_far start now → t ≡ (part x).value → later ≡ noting now (part x).reads → stop t ≡ false → next ≡ unless_indeterminate so_far t
       → IsSoFar stop otherwise part xs (i + 1) next start later
   next_so_far other plain i x so_far t next start now later h at was t-is later-is not next-is =
       let not_here : stop (part x).value ≡ false = ap stop (sym t-is) ∙ not in
@@ -54,10 +53,10 @@ module _ {X : Type 0} (stop : Targeted → Bool) (otherwise : Targeted) (part : 
 
 -- the same where a part is what the list inside it comes to
 pub next_inner : {X Y : Type 0} (stop : Targeted → Bool) (otherwise : Targeted) (inner : List Y → Part Targeted) (list : X → List Y) (xs : List X) → IsOther stop otherwise → is_indeterminate otherwise ≡ false
-    → (i : ℕ) (x : X) (ys : List Y) (so_far t next : Targeted) (start now later : List ReadKey) → i < length xs → x ≡ get_or xs i x → IsSoFar stop otherwise (λ x. inner (list x)) xs i so_far start now
-    → ys ≡ list x → t ≡ (inner ys).value → later ≡ noted now (inner ys).reads → stop t ≡ false → next ≡ unless_indeterminate so_far t → IsSoFar stop otherwise (λ x. inner (list x)) xs (i + 1) next start later
+    → (i : ℕ) (x : X) (ys : List Y) (so_far t next : Targeted) (start now later : Notes) → i < length xs → x ≡ get_or xs i x → IsSoFar stop otherwise (λ x. inner (list x)) xs i so_far start now
+    → ys ≡ list x → t ≡ (inner ys).value → later ≡ noting now (inner ys).reads → stop t ≡ false → next ≡ unless_indeterminate so_far t → IsSoFar stop otherwise (λ x. inner (list x)) xs (i + 1) next start later
 next_inner stop otherwise inner list xs other plain i x ys so_far t next start now later h at was ys-is t-is later-is not next-is =
-    next_so_far stop otherwise (λ x. inner (list x)) xs other plain i x so_far t next start now later h at was (t-is ∙ ap (λ zs. (inner zs).value) ys-is) (later-is ∙ ap (λ zs. noted now (inner zs).reads) ys-is) not next-is
+    next_so_far stop otherwise (λ x. inner (list x)) xs other plain i x so_far t next start now later h at was (t-is ∙ ap (λ zs. (inner zs).value) ys-is) (later-is ∙ ap (λ zs. noting now (inner zs).reads) ys-is) not next-is
 
 pub other_than_no_match : IsOther is_no_match is.Match
 other_than_no_match is.Match not plain = refl

@@ -1,11 +1,6 @@
--- What is known of typed documents and of values of one type.
-use Rattle.std.proofs.Common.{◌≡◌, ℕ, ◌<◌, Bool, true, false, ◌&&◌, List, [], ◌∷◌, length, get_or, zero, suc, refl, ap, subst, ◌∙◌, arith}
+-- What is known of typed documents.
+use Rattle.std.proofs.Common.{◌≡◌, ℕ, ◌<◌, Bool, true, false, ◌&&◌, List, [], ◌∷◌, length, get_or, zero, suc, refl, ap, ◌∙◌, arith}
 use Rattle.std.specs.List.{list_all}
-use Rattle.std.proofs.lemmas.List.Elements.{All-tail}
-use Rattle.ent_values.specs.Bags.{AllOfType}
-use Rattle.ent_values.specs.Types.{datatype_of}
-use Rattle.ent_values.specs.declared.datatype.DataType.{DataType}
-use Rattle.ent_values.specs.declared.value.Value.{Value}
 use Rattle.ent_policy.specs.declared.document.AllOf.{AllOf}
 use Rattle.ent_policy.specs.declared.document.AnyOf.{AnyOf}
 use Rattle.ent_policy.specs.declared.document.Match.{Match}
@@ -29,7 +24,3 @@ matches_typed xs i x members all below at is = ap (list_all match_is_typed) is �
 pub alternatives_typed : (xs : List AnyOf) (i : ℕ) (x : AnyOf) (members : List AllOf) → list_all any_of_is_typed xs ≡ true → i < length xs → x ≡ get_or xs i x → members ≡ x.all_of → list_all all_of_is_typed members ≡ true
 unfolding any_of_is_typed
 alternatives_typed xs i x members all below at is = ap (list_all all_of_is_typed) is ∙ holds_at any_of_is_typed xs i x all below at
-
--- values of a type without the first
-pub later_typed : (datatype : DataType) (all : List Value) (first : Value) (later : List Value) → all ≡ first ∷ later → AllOfType datatype all → AllOfType datatype later
-later_typed datatype all first later is typed = All-tail (λ value. datatype_of value ≡ datatype) first later (subst (AllOfType datatype) is typed)

@@ -5,7 +5,7 @@ use Rattle.ent_functions.specs.declared.types.ArgType.{ArgType}
 use Rattle.ent_functions.specs.declared.types.ArgType.TheVariants.{One, Many, Fun}
 use Rattle.ent_policy.specs.declared.expression.Expression.{size-Expression}
 use Rattle.ent_policy.specs.declared.expression.VariableDefinition.{VariableDefinition}
-use Rattle.ent_policy.specs.Typing.{held, type_with, variable_type}
+use Rattle.ent_policy.specs.Typing.{held, variable_type}
 use Rattle.ent_policy.specs.Typing as typing
 use Rattle.ent_policy.specs.Variables.{defined, definition_of}
 use Rattle.ent_eval.specs.declared.request.Request.{Request}

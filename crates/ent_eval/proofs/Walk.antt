@@ -1,21 +1,26 @@
 -- A loop over parts that stops at the first whose value says so.
-use Rattle.std.proofs.Common.{◌≡◌, ℕ, ◌+◌, ◌<◌, Bool, true, false, List, [], ◌∷◌, ◌++◌, length, take, drop, map, get_or, suc, refl, sym, ap, ◌∙◌, add-one, drop-cons, append_assoc}
+use Rattle.std.proofs.Common.{◌≡◌, ℕ, ◌+◌, ◌<◌, Bool, true, false, List, [], ◌∷◌, ◌++◌, length, take, drop, map, get_or, suc, refl, sym, ap, ◌∙◌, Some, add-one, drop-cons, append_assoc}
 use Rattle.std.specs.List.{list_any}
 use Rattle.std.proofs.lemmas.List.Folds.{list_any-append}
 use Rattle.std.proofs.Math.Seq.{take-suc}
 use Rattle.std.proofs.lemmas.List.{append-nil, map-append}
 use Rattle.ent_combine.specs.Seen.{up_to_first}
 use Rattle.ent_eval.specs.declared.key.ReadKey.{ReadKey}
-use Rattle.ent_eval.specs.Noted.{noted, with_key}
+use Rattle.ent_eval.specs.Noted.{Notes, noted, noting, with_key, with_note}
 use Rattle.ent_eval.specs.Part.{Part, reads_of, values, seen_parts}
 
-pub noted-append : (keys first more : List ReadKey) → noted keys (first ++ more) ≡ noted (noted keys first) more
-noted-append keys [] more = refl
-noted-append keys (k ∷ first) more = noted-append (with_key keys k) first more
+pub noting-append : (keys : Notes) (first more : List ReadKey) → noting keys (first ++ more) ≡ noting (noting keys first) more
+noting-append keys [] more = refl
+noting-append keys (k ∷ first) more = noting-append (with_note keys k) first more
+
+-- where look-ups are asked for, the notes are the set of their keys
+pub noting-keys : (keys more : List ReadKey) → noting (Some keys) more ≡ Some (noted keys more)
+noting-keys keys [] = refl
+noting-keys keys (k ∷ more) = noting-keys (with_key keys k) more
 
 -- keys of two parts, one after the other
-pub noted_both : (keys first more : List ReadKey) → noted (noted keys first) more ≡ noted keys (first ++ more)
-noted_both keys first more = sym (noted-append keys first more)
+pub noting_both : (keys : Notes) (first more : List ReadKey) → noting (noting keys first) more ≡ noting keys (first ++ more)
+noting_both keys first more = sym (noting-append keys first more)
 
 pub at_item : {A : Type 0} (xs : List A) (i : ℕ) (x : A) → i < length xs → x ≡ get_or xs i x → drop i xs ≡ x ∷ drop (i + 1) xs
 at_item xs i x h is = rw (add-one, drop-cons xs i x h) (ap (λ y. y ∷ drop (suc i) xs) (sym is))
@@ -34,11 +39,11 @@ values_to-next part xs i x h is =
     ap (λ ys. values (map part ys)) taken ∙ ap values (map-append part (take i xs) (x ∷ [])) ∙ values-append (map part (take i xs)) (part x ∷ [])
 
 -- none of the first i parts stops, and those left are looked at as they would be from the start
-pub record IsGoing {X A : Type 0} (stop : A → Bool) (part : X → Part A) (xs : List X) (i : ℕ) (start now : List ReadKey) : Type 0 where
+pub record IsGoing {X A : Type 0} (stop : A → Bool) (part : X → Part A) (xs : List X) (i : ℕ) (start now : Notes) : Type 0 where
   pub passed : list_any stop (values_to part xs i) ≡ false
   pub seen : up_to_first stop (values (map part xs)) ≡ values_to part xs i ++ up_to_first stop (values (map part (drop i xs)))
   pub all : values (map part xs) ≡ values_to part xs i ++ values (map part (drop i xs))
-  pub reads : noted now (reads_of (seen_parts stop (map part (drop i xs)))) ≡ noted start (reads_of (seen_parts stop (map part xs)))
+  pub reads : noting now (reads_of (seen_parts stop (map part (drop i xs)))) ≡ noting start (reads_of (seen_parts stop (map part xs)))
 
 seen_on : {A : Type 0} (stop : A → Bool) (p : Part A) (ps : List (Part A)) → stop p.value ≡ false → seen_parts stop (p ∷ ps) ≡ p ∷ seen_parts stop ps
 seen_on stop p ps not = rw not refl
@@ -52,8 +57,8 @@ first_on stop v vs not = rw not refl
 first_off : {A : Type 0} (stop : A → Bool) (v : A) (vs : List A) → stop v ≡ true → up_to_first stop (v ∷ vs) ≡ v ∷ []
 first_off stop v vs is = rw is refl
 
-pub goes_on : {X A : Type 0} (stop : A → Bool) (part : X → Part A) (xs : List X) (i : ℕ) (x : X) (start now next : List ReadKey)
-    → i < length xs → x ≡ get_or xs i x → IsGoing stop part xs i start now → stop (part x).value ≡ false → next ≡ noted now (part x).reads
+pub goes_on : {X A : Type 0} (stop : A → Bool) (part : X → Part A) (xs : List X) (i : ℕ) (x : X) (start now next : Notes)
+    → i < length xs → x ≡ get_or xs i x → IsGoing stop part xs i start now → stop (part x).value ≡ false → next ≡ noting now (part x).reads
     → IsGoing stop part xs (i + 1) start next
 goes_on stop part xs i x start now next h at so_far not is =
     let here : drop i xs ≡ x ∷ drop (i + 1) xs = at_item xs i x h at in
@@ -64,21 +69,21 @@ goes_on stop part xs i x start now next h at so_far not is =
       seen = so_far.seen ∙ ap (λ ys. values_to part xs i ++ up_to_first stop (values (map part ys))) here ∙ ap (λ vs. values_to part xs i ++ vs) (first_on stop (part x).value (values left) not)
           ∙ sym (append_assoc (values_to part xs i) ((part x).value ∷ []) (up_to_first stop (values left))) ∙ ap (λ vs. vs ++ up_to_first stop (values left)) (sym to);
       all = so_far.all ∙ ap (λ ys. values_to part xs i ++ values (map part ys)) here ∙ sym (append_assoc (values_to part xs i) ((part x).value ∷ []) (values left)) ∙ ap (λ vs. vs ++ values left) (sym to);
-      reads = rw is (sym (noted-append now (part x).reads (reads_of (seen_parts stop left)))) ∙ ap (λ ps. noted now (reads_of ps)) (sym (seen_on stop (part x) left not)) ∙ ap (λ ys. noted now (reads_of (seen_parts stop (map part ys)))) (sym here) ∙ so_far.reads;
+      reads = rw is (sym (noting-append now (part x).reads (reads_of (seen_parts stop left)))) ∙ ap (λ ps. noting now (reads_of ps)) (sym (seen_on stop (part x) left not)) ∙ ap (λ ys. noting now (reads_of (seen_parts stop (map part ys)))) (sym here) ∙ so_far.reads;
     }
 
 -- what a loop has that stops at a part
-pub record Stops {X A : Type 0} (stop : A → Bool) (part : X → Part A) (xs : List X) (done : List A) (start now : List ReadKey) : Type 0 where
+pub record Stops {X A : Type 0} (stop : A → Bool) (part : X → Part A) (xs : List X) (done : List A) (start now : Notes) : Type 0 where
   pub seen : up_to_first stop (values (map part xs)) ≡ done
-  pub reads : now ≡ noted start (reads_of (seen_parts stop (map part xs)))
+  pub reads : now ≡ noting start (reads_of (seen_parts stop (map part xs)))
 
-pub stops_at : {X A : Type 0} (stop : A → Bool) (part : X → Part A) (xs : List X) (i : ℕ) (x : X) (start now next : List ReadKey)
-    → i < length xs → x ≡ get_or xs i x → IsGoing stop part xs i start now → stop (part x).value ≡ true → next ≡ noted now (part x).reads
+pub stops_at : {X A : Type 0} (stop : A → Bool) (part : X → Part A) (xs : List X) (i : ℕ) (x : X) (start now next : Notes)
+    → i < length xs → x ≡ get_or xs i x → IsGoing stop part xs i start now → stop (part x).value ≡ true → next ≡ noting now (part x).reads
     → Stops stop part xs (values_to part xs i ++ (part x).value ∷ []) start next
 stops_at stop part xs i x start now next h at so_far fixed is =
     let here : drop i xs ≡ x ∷ drop (i + 1) xs = at_item xs i x h at in
     let left = map part (drop (i + 1) xs) in
     record {
       seen = so_far.seen ∙ ap (λ ys. values_to part xs i ++ up_to_first stop (values (map part ys))) here ∙ ap (λ vs. values_to part xs i ++ vs) (first_off stop (part x).value (values left) fixed);
-      reads = is ∙ ap (λ ks. noted now ks) (sym (append-nil (part x).reads)) ∙ ap (λ ps. noted now (reads_of ps)) (sym (seen_off stop (part x) left fixed)) ∙ ap (λ ys. noted now (reads_of (seen_parts stop (map part ys)))) (sym here) ∙ so_far.reads;
+      reads = is ∙ ap (λ ks. noting now ks) (sym (append-nil (part x).reads)) ∙ ap (λ ps. noting now (reads_of ps)) (sym (seen_off stop (part x) left fixed)) ∙ ap (λ ys. noting now (reads_of (seen_parts stop (map part ys)))) (sym here) ∙ so_far.reads;
     }

@@ -1,5 +1,5 @@
 -- The obligations and the advice that an element gives itself (section 7.18).
-use Rattle.std.specs.Prelude.{◌≡◌, ℕ, List, [], ◌∷◌, ◌++◌, Bool, true, false, if◌then◌else◌, Option, Some, None, Result, Ok, Err, is_err, length, map}
+use Rattle.std.specs.Prelude.{ℕ, List, [], ◌∷◌, ◌++◌, Bool, true, false, if◌then◌else◌, Option, Some, None, Result, Ok, Err, is_err, length, map}
 use Rattle.ent_values.specs.declared.value.Value.{Value}
 use Rattle.ent_combine.specs.declared.outcome.IndKind.{IndKind}
 use Rattle.ent_combine.specs.declared.outcome.IndKind.TheVariants.{P, D}

@@ -8,7 +8,6 @@ pub mod Lending
 pub mod Hops
 pub mod Judged
 pub mod Law
-pub mod Left
 pub mod Listed
 pub mod Looks
 pub mod LooksOf
@@ -17,8 +16,10 @@ pub mod Noted
 pub mod Only
 pub mod Own
 pub mod Part
+pub mod Path
 pub mod Rule
 pub mod Same
+pub mod Sought
 pub mod Sources
 pub mod Target
 pub mod Typed

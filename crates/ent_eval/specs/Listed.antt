@@ -1,5 +1,5 @@
 -- The request of a cell of the table (sections 5.42, 5.44 and 5.46).
-use Rattle.std.specs.Prelude.{◌≡◌, ℕ, List, [], ◌∷◌, ◌++◌, None, false, take}
+use Rattle.std.specs.Prelude.{◌≡◌, ℕ, List, [], ◌∷◌, None, false, slice_set}
 use Rattle.ent_values.specs.declared.datatype.DataType.TheVariants as types
 use Rattle.ent_values.specs.declared.value.Value.TheVariants as value
 use Rattle.ent_eval.specs.declared.request.Category.{Category}
@@ -23,10 +23,11 @@ listed person action resource = record {
   categories = named uris.access_subject uris.subject_id person ∷ named uris.action uris.action_id action ∷ about resource ∷ [];
 }
 
--- the same of another resource, which takes the place of the third category and of all behind it
-abbrev pub asked_of : List ℕ → Request → Request
-asked_of resource request = record { categories = take 2 request.categories ++ about resource ∷ [] }
+-- the same with another category in place of the third, if there is one
+abbrev pub asked_about : Category → Request → Request
+asked_about category request = record { categories = slice_set request.categories 2 category }
 
--- what was listed for one resource is listed for another, whoever does whatever
-abbrev pub IsListedAgain : List ℕ → Request → Request → Type 0
-IsListedAgain resource old new = (person action other : List ℕ) → old ≡ listed person action other → new ≡ listed person action resource
+-- what was listed for one resource is listed for another, whoever does whatever, and the categories of the two change places
+abbrev pub ExchangesResource : Request → Category → Request → Category → Type 0
+ExchangesResource old category new exchanged = (person action resource other : List ℕ) → old ≡ listed person action resource → category ≡ about other
+    → (new ≡ listed person action other) × (exchanged ≡ about resource)

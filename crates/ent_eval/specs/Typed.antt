@@ -1,6 +1,6 @@
 -- The types of what expressions come to.
 use Rattle.std.specs.Prelude.{◌≡◌, ℕ, ◌+◌, ◌*◌, max, List, [], ◌∷◌, Bool, true, ◌&&◌, Option, Some, is_some, option_and_then, length, map, nat_le}
-use Rattle.std.specs.List.{list_all}
+use Rattle.std.specs.List.{All, list_all}
 use Rattle.ent_values.specs.declared.datatype.DataType.{DataType}
 use Rattle.ent_values.specs.declared.value.Value.{Value}
 use Rattle.ent_values.specs.Types.{datatype_of}
@@ -40,6 +40,10 @@ is_held (Indeterminate status) = true
 -- a function gives one boolean for a literal and a value of that type
 abbrev pub Tests : Function → Value → DataType → Type 0
 Tests function literal datatype = is_boolean (result_type_of function (One (datatype_of literal) ∷ One datatype ∷ [])) ≡ true
+
+-- it does for a literal and each of several values
+abbrev pub TestsEach : Function → Value → List Value → Type 0
+TestsEach function literal values = All (λ value. Tests function literal (datatype_of value)) values
 
 -- how deep the deepest of several definitions is
 abbrev pub deepest : List VariableDefinition → ℕ

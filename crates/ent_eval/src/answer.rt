@@ -1,11 +1,11 @@
 //! What a request is answered.
 
-ghost use Rattle.std.specs.Prelude.{◌≡◌, [], ◌∷◌, ◌++◌, IfOk, OnOk};
+ghost use Rattle.std.specs.Prelude.{◌≡◌, IfOk};
 ghost use Rattle.ent_eval.specs.Judged.{bad, indeterminate, nothing, unresolved};
 
 use crate::given::{Given, copied_given};
 use ent_combine::{IndKind, Outcome};
-use ent_policy::{DocKey, Kind, Version};
+use ent_policy::DocKey;
 use ent_values::{Items, Shared, Text};
 use std::alloc::{AllocError, Global};
 
@@ -22,7 +22,7 @@ pub enum Status {
 /// A rule that gave the decision, or an element that gave it by default.
 #[derive(PartialEq, Eq, Drop)]
 pub struct WhyEntry {
-    /// The policies from the root on to the one in which the rule stands, or to the element. The entries of an element share it.
+    /// The policies from the root on to the one in which the rule stands, or to the element. Entries with equal paths may share it.
     pub path: Shared<Items<DocKey>>,
     /// The rule's id, or `None` for a default.
     pub rule: Option<Text>,
@@ -107,36 +107,6 @@ impl Answer {
             advice: copied_given(alloc, self.advice.as_slice())?,
         })
     }
-}
-
-/// The path to a document or an embedded element of that kind, id and version, where `path` leads to what it stands in.
-pub(crate) fn path_to(
-    alloc: Global,
-    path: &[DocKey],
-    kind: Kind,
-    id: &Text,
-    version: &Version,
-) -> Result<Items<DocKey>, AllocError>
-    ensures { IfOk result (λ p. p ≡ path.now ++ record { kind = kind; id = id.now; version = version.now } ∷ []) }
-{
-    let mut here = Items::with_capacity(alloc, path.len() + 1)?;
-    add_copies(alloc, &mut here, path)?;
-    here.push(DocKey {
-        kind,
-        id: id.copy(alloc)?,
-        version: version.copy(),
-    })?;
-    Ok(here)
-}
-
-// Puts equal keys last.
-fn add_copies(alloc: Global, copies: &mut Items<DocKey>, path: &[DocKey]) -> Result<(), AllocError>
-    ensures { OnOk result (copies.new ≡ copies.old ++ path.now) }
-{
-    for key in path {
-        copies.push(key.copy(alloc)?)?;
-    }
-    Ok(())
 }
 
 // An equal list of entries.

@@ -4,14 +4,14 @@ ghost use Rattle.std.specs.Prelude.{◌≡◌, ◌++◌, IfOk, OnOk, Ok, length,
 ghost use Rattle.std.specs.List.{list_all};
 ghost use Rattle.ent_policy.specs.Typing.{assignment_is_typed};
 ghost use Rattle.ent_eval.specs.Given.{added, assigned, assignment_of, assignment_part, given_in_turn, joined, joined_with};
-ghost use Rattle.ent_eval.specs.Noted.{noted};
+ghost use Rattle.ent_eval.specs.Noted.{noting};
 ghost use Rattle.ent_eval.specs.Typed.{is_held};
 
 use crate::answer::{Status, copied_text};
 use crate::evaluated::Evaluated;
 use crate::given::Assignment;
 use crate::look_ups::LookUps;
-use crate::reads::Reads;
+use crate::notes::Notes;
 use crate::scene::Scene;
 use ent_functions::Arg;
 use ent_policy::{AssignmentExpression, VariableDefinition};
@@ -22,13 +22,13 @@ impl<L: LookUps> Scene<'_, L> {
     // Assignments, up to the first that is Indeterminate, whose status is given.
     pub(crate) fn assignments(
         &self,
-        reads: &mut Reads,
+        reads: &mut Notes,
         definitions: &[VariableDefinition],
         expressions: &[AssignmentExpression],
     ) -> Result<Result<Items<Assignment>, Status>, AllocError>
         requires { list_all (assignment_is_typed definitions.now) expressions.now ≡ true }
         ensures value { IfOk result (λ a. a ≡ (given_in_turn (assignment_part (L.looks self.now.held.now) self.now.request.now definitions.now) expressions.now).value) }
-        ensures reads { OnOk result (reads.new ≡ noted reads.old (given_in_turn (assignment_part (L.looks self.now.held.now) self.now.request.now definitions.now) expressions.now).reads) }
+        ensures reads { OnOk result (reads.new ≡ noting reads.old (given_in_turn (assignment_part (L.looks self.now.held.now) self.now.request.now definitions.now) expressions.now).reads) }
     {
         let mut assignments = Items::with_capacity(self.alloc, expressions.len())?;
         for expression in expressions {
@@ -44,14 +44,14 @@ impl<L: LookUps> Scene<'_, L> {
     #[tactic(auto, unfolding(ent_policy::specs::Typing::assignment_is_typed))]
     fn assign(
         &self,
-        reads: &mut Reads,
+        reads: &mut Notes,
         definitions: &[VariableDefinition],
         expression: &AssignmentExpression,
         assignments: &mut Items<Assignment>,
     ) -> Result<Option<Status>, AllocError>
         requires { assignment_is_typed definitions.now expression.now ≡ true }
         ensures value { IfOk result (λ s. added assignments.new s ≡ joined_with assignments.old (assignment_part (L.looks self.now.held.now) self.now.request.now definitions.now expression.now)) }
-        ensures reads { OnOk result (reads.new ≡ noted reads.old (assignment_part (L.looks self.now.held.now) self.now.request.now definitions.now expression.now).reads) }
+        ensures reads { OnOk result (reads.new ≡ noting reads.old (assignment_part (L.looks self.now.held.now) self.now.request.now definitions.now expression.now).reads) }
     {
         let evaluated = self.expression(
             reads,

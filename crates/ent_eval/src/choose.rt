@@ -3,14 +3,14 @@
 ghost use Rattle.std.specs.Prelude.{◌≡◌, ◌≤◌, IfOk, OnOk, length, map, true};
 ghost use Rattle.std.specs.List.{list_all};
 ghost use Rattle.ent_eval.specs.Hops.{child_target};
-ghost use Rattle.ent_eval.specs.Noted.{noted};
+ghost use Rattle.ent_eval.specs.Noted.{noting};
 ghost use Rattle.ent_eval.specs.Only.{choice_part, result_of_target, status_of_target};
 ghost use Rattle.ent_eval.specs.Typed.{is_fit};
 
 use crate::answer::Status;
 use crate::look_ups::LookUps;
+use crate::notes::Notes;
 use crate::only::Only;
-use crate::reads::Reads;
 use crate::scene::Scene;
 use crate::target::Targeted;
 use ent_combine::{Choice, Chooser, Progress, TargetResult};
@@ -22,14 +22,14 @@ impl<L: LookUps> Scene<'_, L> {
     // matches.
     pub(crate) fn choose(
         &self,
-        reads: &mut Reads,
+        reads: &mut Notes,
         hops: usize,
         children: &[Child],
     ) -> Result<Only, AllocError>
         requires fit { list_all is_fit children.now ≡ true }
         requires room { length children.now ≤ 256 }
         ensures value { IfOk result (λ o. o ≡ (choice_part (map (child_target (L.looks self.now.held.now) self.now.request.now hops) children.now)).value) }
-        ensures reads { OnOk result (reads.new ≡ noted reads.old (choice_part (map (child_target (L.looks self.now.held.now) self.now.request.now hops) children.now)).reads) }
+        ensures reads { OnOk result (reads.new ≡ noting reads.old (choice_part (map (child_target (L.looks self.now.held.now) self.now.request.now hops) children.now)).reads) }
     {
         let mut chooser = Chooser::new();
         for child in children {
@@ -49,13 +49,13 @@ impl<L: LookUps> Scene<'_, L> {
     #[tactic(auto, using(crate::proofs::Typing::both_true), unfolding(ent_policy::specs::Typing::policy_is_typed))]
     fn target_of(
         &self,
-        reads: &mut Reads,
+        reads: &mut Notes,
         hops: usize,
         child: &Child,
     ) -> Result<Targeted, AllocError>
         requires { is_fit child.now ≡ true }
         ensures value { IfOk result (λ t. t ≡ (child_target (L.looks self.now.held.now) self.now.request.now hops child.now).value) }
-        ensures reads { OnOk result (reads.new ≡ noted reads.old (child_target (L.looks self.now.held.now) self.now.request.now hops child.now).reads) }
+        ensures reads { OnOk result (reads.new ≡ noting reads.old (child_target (L.looks self.now.held.now) self.now.request.now hops child.now).reads) }
     {
         match child {
             Child::Policy(policy) => self.target(reads, &policy.target),

@@ -10,14 +10,14 @@ ghost use Rattle.ent_policy.specs.Typing.{variable_type};
 ghost use Rattle.ent_policy.specs.Variables.{definition_of};
 ghost use Rattle.ent_eval.specs.Expression.{apply_part, evaluated_of, designated, is_result, meaning, settles, variable_part};
 ghost use Rattle.ent_eval.specs.declared.evaluated.Evaluated.TheVariants.{Known};
-ghost use Rattle.ent_eval.specs.Noted.{noted};
+ghost use Rattle.ent_eval.specs.Noted.{noting};
 ghost use Rattle.ent_eval.specs.Typed.{HasType, apply_type, type_of};
 
 use crate::answer::Status;
 use crate::evaluated::Evaluated;
 use crate::look_ups::LookUps;
+use crate::notes::Notes;
 use crate::own_bag::is_empty;
-use crate::reads::Reads;
 use crate::scene::Scene;
 use crate::uncopied::without_copies;
 use ent_functions::{Arg, Fault, Function, apply};
@@ -30,14 +30,14 @@ impl<L: LookUps> Scene<'_, L> {
     #[cycle(expression)]
     pub(crate) fn expression(
         &self,
-        reads: &mut Reads,
+        reads: &mut Notes,
         definitions: &[VariableDefinition],
         references: usize,
         expression: &Expression,
     ) -> Result<Evaluated, AllocError>
         requires typed { IsSome (type_of definitions.now references expression.now) }
         ensures value { IfOk result (λ v. v ≡ (meaning (L.looks self.now.held.now) self.now.request.now definitions.now references expression.now).value) }
-        ensures reads { OnOk result (reads.new ≡ noted reads.old (meaning (L.looks self.now.held.now) self.now.request.now definitions.now references expression.now).reads) }
+        ensures reads { OnOk result (reads.new ≡ noting reads.old (meaning (L.looks self.now.held.now) self.now.request.now definitions.now references expression.now).reads) }
         ensures typed { IfOk result (λ v. HasType (type_of definitions.now references expression.now) v) }
     {
         match expression {
@@ -59,14 +59,14 @@ impl<L: LookUps> Scene<'_, L> {
     #[cycle(expression)]
     fn variable(
         &self,
-        reads: &mut Reads,
+        reads: &mut Notes,
         definitions: &[VariableDefinition],
         references: usize,
         id: &Text,
     ) -> Result<Evaluated, AllocError>
         requires typed { IsSome (variable_type definitions.now references id.now) }
         ensures value { IfOk result (λ v. v ≡ (variable_part (L.looks self.now.held.now) self.now.request.now definitions.now references id.now).value) }
-        ensures reads { OnOk result (reads.new ≡ noted reads.old (variable_part (L.looks self.now.held.now) self.now.request.now definitions.now references id.now).reads) }
+        ensures reads { OnOk result (reads.new ≡ noting reads.old (variable_part (L.looks self.now.held.now) self.now.request.now definitions.now references id.now).reads) }
         ensures typed { IfOk result (λ v. HasType (variable_type definitions.now references id.now) v) }
     {
         match definition_of(definitions, id) {
@@ -84,7 +84,7 @@ impl<L: LookUps> Scene<'_, L> {
     #[cycle(expression)]
     fn application(
         &self,
-        reads: &mut Reads,
+        reads: &mut Notes,
         definitions: &[VariableDefinition],
         references: usize,
         function: Function,
@@ -92,7 +92,7 @@ impl<L: LookUps> Scene<'_, L> {
     ) -> Result<Evaluated, AllocError>
         requires typed { IsSome (apply_type definitions.now references function arguments.now) }
         ensures value { IfOk result (λ v. v ≡ (apply_part (L.looks self.now.held.now) self.now.request.now definitions.now references function arguments.now).value) }
-        ensures reads { OnOk result (reads.new ≡ noted reads.old (apply_part (L.looks self.now.held.now) self.now.request.now definitions.now references function arguments.now).reads) }
+        ensures reads { OnOk result (reads.new ≡ noting reads.old (apply_part (L.looks self.now.held.now) self.now.request.now definitions.now references function arguments.now).reads) }
         ensures typed { IfOk result (λ v. HasType (apply_type definitions.now references function arguments.now) v) }
     {
         if let Some(value) = without_copies(self.request, function, arguments) {
@@ -112,11 +112,11 @@ impl<L: LookUps> Scene<'_, L> {
     // A designator.
     fn designator(
         &self,
-        reads: &mut Reads,
+        reads: &mut Notes,
         designator: &Designator,
     ) -> Result<Evaluated, AllocError>
         ensures value { IfOk result (λ v. v ≡ (designated (L.looks self.now.held.now) self.now.request.now designator.now).value) }
-        ensures reads { OnOk result (reads.new ≡ noted reads.old (designated (L.looks self.now.held.now) self.now.request.now designator.now).reads) }
+        ensures reads { OnOk result (reads.new ≡ noting reads.old (designated (L.looks self.now.held.now) self.now.request.now designator.now).reads) }
         ensures typed { IfOk result (λ v. HasType (Some (Many designator.now.datatype)) v) }
     {
         let bag = self.values(reads, designator)?;

@@ -3,13 +3,15 @@
 ghost use Rattle.std.specs.Prelude.{◌≡◌, List, [], ◌∷◌, ◌++◌, IfOk, OnOk};
 ghost use Rattle.ent_combine.specs.Combine.{progress_at};
 ghost use Rattle.ent_eval.specs.Gathered.{HasGathered, judged_by, status_with};
+ghost use Rattle.ent_eval.specs.Path.{keys_of};
+ghost use Rattle.ent_eval.specs.Judged.{or_nothing};
 ghost use Rattle.ent_eval.specs.declared.answer.Answer.{Answer};
 
 use crate::answer::{Answer, Status};
+use crate::notes::Notes;
+use crate::path::Path;
 use crate::told::Told;
 use ent_combine::{Combiner, Outcome, Progress, RuleAlg};
-use ent_policy::DocKey;
-use ent_values::{Items, Shared};
 use std::alloc::{AllocError, Global};
 
 // The children that were seen: what they come to, the first status that isn't `Okay`, and what those of each decision tell.
@@ -35,7 +37,18 @@ pub(crate) fn gather(alloc: Global, algorithm: RuleAlg) -> Gathering
 
 impl Gathering {
     // One more child, and whether it fixes the decision.
-    pub(crate) fn take(&mut self, answer: Answer) -> Result<Progress, AllocError>
+    pub(crate) fn take(&mut self, answer: Option<Answer>) -> Result<Progress, AllocError>
+        ensures gathered { OnOk result ((algorithm : _) (answers : List Answer) → HasGathered algorithm self.old answers → HasGathered algorithm self.new (answers ++ or_nothing answer ∷ [])) }
+        ensures progress { IfOk result (λ p. (algorithm : _) (answers : List Answer) → HasGathered algorithm self.old answers → p ≡ progress_at algorithm (or_nothing answer).decision) }
+    {
+        match answer {
+            None => Ok(self.combiner.take(Outcome::NotApplicable)),
+            Some(answer) => self.take_answer(answer),
+        }
+    }
+
+    // A child that has an answer.
+    fn take_answer(&mut self, answer: Answer) -> Result<Progress, AllocError>
         ensures gathered { OnOk result ((algorithm : _) (answers : List Answer) → HasGathered algorithm self.old answers → HasGathered algorithm self.new (answers ++ answer ∷ [])) }
         ensures progress { IfOk result (λ p. (algorithm : _) (answers : List Answer) → HasGathered algorithm self.old answers → p ≡ progress_at algorithm answer.decision) }
     {
@@ -71,21 +84,31 @@ impl Gathering {
     pub(crate) fn finish(
         self,
         alloc: Global,
-        here: &Shared<Items<DocKey>>,
+        reads: &mut Notes,
+        here: &Path<'_>,
         algorithm: RuleAlg,
-    ) -> Result<Answer, AllocError>
-        ensures { IfOk result (λ a. (answers : List Answer) → HasGathered algorithm self answers → a ≡ judged_by here.now algorithm answers) }
+    ) -> Result<Option<Answer>, AllocError>
+        ensures value { IfOk result (λ a. (answers : List Answer) → HasGathered algorithm self answers → or_nothing a ≡ judged_by (keys_of here.now) algorithm answers) }
+        ensures reads { reads.new ≡ reads.old }
     {
         let decision = self.combiner.finish();
         match decision {
-            Outcome::Permit => self.permitted.decided(alloc, here, algorithm, decision),
-            Outcome::Deny => self.denied.decided(alloc, here, algorithm, decision),
-            Outcome::NotApplicable => Ok(Answer::not_applicable(alloc)),
-            Outcome::Ind(kind) => Ok(Answer::indeterminate(
+            Outcome::Permit => {
+                let permitted = self.permitted;
+                let answer = permitted.decided(alloc, reads, here, algorithm, decision)?;
+                Ok(Some(answer))
+            }
+            Outcome::Deny => {
+                let denied = self.denied;
+                let answer = denied.decided(alloc, reads, here, algorithm, decision)?;
+                Ok(Some(answer))
+            }
+            Outcome::NotApplicable => Ok(None),
+            Outcome::Ind(kind) => Ok(Some(Answer::indeterminate(
                 alloc,
                 kind,
                 self.status.unwrap_or(Status::ProcessingError),
-            )),
+            ))),
         }
     }
 }

@@ -2,25 +2,23 @@
 
 ghost use Rattle.std.specs.Prelude.{◌≡◌, IfOk};
 ghost use Rattle.std.specs.List.{list_any};
-ghost use Rattle.ent_eval.specs.Left.{values_left};
+ghost use Rattle.ent_eval.specs.Own.{own_values};
+ghost use Rattle.ent_eval.specs.Sought.{designator_of, values_of};
 ghost use Rattle.ent_eval.specs.Target.{is_true};
-ghost use Rattle.ent_eval.specs.Typed.{Tests};
+ghost use Rattle.ent_eval.specs.Typed.{Tests, TestsEach};
 ghost use Rattle.ent_values.specs.Types.{datatype_of};
 
-use crate::own::OwnValues;
+use crate::own::{Sought, attributes_in, values_in};
+use crate::request::{Category, Request};
 use ent_functions::{Arg, Fault, Function, apply};
 use ent_policy::Match;
-use ent_values::{Bag, Value};
+use ent_values::Value;
 use std::alloc::{AllocError, Global};
 
 // Whether the function of a match is True of its literal and one of the values.
-pub(crate) fn holds_in(
-    alloc: Global,
-    test: &Match,
-    values: OwnValues<'_>,
-) -> Result<bool, AllocError>
-    requires { Tests test.now.function test.now.literal values.datatype }
-    ensures { IfOk result (λ b. b ≡ list_any (is_true test.now.function test.now.literal) (values_left values.entry)) }
+pub(crate) fn holds_in(alloc: Global, test: &Match, values: &[Value]) -> Result<bool, AllocError>
+    requires { TestsEach test.now.function test.now.literal values.now }
+    ensures { IfOk result (λ b. b ≡ list_any (is_true test.now.function test.now.literal) values.now) }
 {
     for value in values {
         if is_true(alloc, test.function, &test.literal, value)? {
@@ -30,13 +28,32 @@ pub(crate) fn holds_in(
     Ok(false)
 }
 
-// The same of the values in a bag.
-pub(crate) fn holds_of(alloc: Global, test: &Match, bag: &Bag) -> Result<bool, AllocError>
-    requires { Tests test.now.function test.now.literal bag.now.datatype }
-    ensures { IfOk result (λ b. b ≡ list_any (is_true test.now.function test.now.literal) bag.now.values) }
+// The same of the request's own values, which lie in several attributes.
+pub(crate) fn holds_of(alloc: Global, test: &Match, request: &Request) -> Result<bool, AllocError>
+    requires { Tests test.now.function test.now.literal test.now.designator.datatype }
+    ensures { IfOk result (λ b. b ≡ list_any (is_true test.now.function test.now.literal) (own_values test.now.designator request.now)) }
 {
-    for value in bag.values() {
-        if is_true(alloc, test.function, &test.literal, value)? {
+    let sought = Sought::of(&test.designator);
+    for category in request.categories.as_slice() {
+        if holds_of_category(alloc, test, category, &sought)? {
+            return Ok(true);
+        }
+    }
+    Ok(false)
+}
+
+// The same of those in one category.
+fn holds_of_category(
+    alloc: Global,
+    test: &Match,
+    category: &Category,
+    sought: &Sought<'_>,
+) -> Result<bool, AllocError>
+    requires { Tests test.now.function test.now.literal sought.now.datatype }
+    ensures { IfOk result (λ b. b ≡ list_any (is_true test.now.function test.now.literal) (values_of (designator_of sought.now) category.now)) }
+{
+    for attribute in attributes_in(sought.category, category) {
+        if holds_in(alloc, test, values_in(attribute, sought))? {
             return Ok(true);
         }
     }

@@ -4,13 +4,14 @@ ghost use Rattle.std.specs.Prelude.{◌≡◌, IfOk, OnOk, Ok, true};
 ghost use Rattle.std.specs.List.{list_all};
 ghost use Rattle.ent_policy.specs.Typing.{given_expression_is_typed, given_is_typed};
 ghost use Rattle.ent_eval.specs.Given.{added, advice_after, effect_of, finished, given_part, given_with, givens_part, goes_with, indeterminate_of, joined, with_own};
-ghost use Rattle.ent_eval.specs.Noted.{noted};
+ghost use Rattle.ent_eval.specs.Judged.{or_nothing};
+ghost use Rattle.ent_eval.specs.Noted.{noting};
 ghost use Rattle.std.specs.Prelude.{Some};
 
 use crate::answer::{Answer, Status};
 use crate::given::Given;
 use crate::look_ups::LookUps;
-use crate::reads::Reads;
+use crate::notes::Notes;
 use crate::scene::Scene;
 use ent_combine::{IndKind, Outcome};
 use ent_policy::{Effect, GivenExpression, GivenExpressions, VariableDefinition};
@@ -22,26 +23,30 @@ impl<L: LookUps> Scene<'_, L> {
     #[tactic(auto, using(crate::proofs::Typing::both_true), unfolding(ent_policy::specs::Typing::given_is_typed))]
     pub(crate) fn finished(
         &self,
-        reads: &mut Reads,
+        reads: &mut Notes,
         definitions: &[VariableDefinition],
         given: &GivenExpressions,
-        answer: Answer,
-    ) -> Result<Answer, AllocError>
+        answer: Option<Answer>,
+    ) -> Result<Option<Answer>, AllocError>
         requires { given_is_typed definitions.now given.now ≡ true }
-        ensures value { IfOk result (λ a. a ≡ (finished (L.looks self.now.held.now) self.now.request.now definitions.now given.now answer).value) }
-        ensures reads { OnOk result (reads.new ≡ noted reads.old (finished (L.looks self.now.held.now) self.now.request.now definitions.now given.now answer).reads) }
+        ensures value { IfOk result (λ a. or_nothing a ≡ (finished (L.looks self.now.held.now) self.now.request.now definitions.now given.now (or_nothing answer)).value) }
+        ensures reads { OnOk result (reads.new ≡ noting reads.old (finished (L.looks self.now.held.now) self.now.request.now definitions.now given.now (or_nothing answer)).reads) }
     {
-        match effect_of(answer.decision) {
-            None => Ok(answer),
-            Some(effect) => self.with_own(reads, definitions, given, effect, answer),
-        }
+        let Some(answer) = answer else {
+            return Ok(None);
+        };
+        let Some(effect) = effect_of(answer.decision) else {
+            return Ok(Some(answer));
+        };
+        let answer = self.with_own(reads, definitions, given, effect, answer)?;
+        Ok(Some(answer))
     }
 
     // The obligations first.
-    #[tactic(auto, using(crate::proofs::Walk::noted_both))]
+    #[tactic(auto, using(crate::proofs::Walk::noting_both))]
     fn with_own(
         &self,
-        reads: &mut Reads,
+        reads: &mut Notes,
         definitions: &[VariableDefinition],
         given: &GivenExpressions,
         effect: Effect,
@@ -50,7 +55,7 @@ impl<L: LookUps> Scene<'_, L> {
         requires obligations { list_all (given_expression_is_typed definitions.now) given.now.obligations ≡ true }
         requires advice { list_all (given_expression_is_typed definitions.now) given.now.advice ≡ true }
         ensures value { IfOk result (λ a. a ≡ (given_with (L.looks self.now.held.now) self.now.request.now definitions.now given.now (Some effect) answer).value) }
-        ensures reads { OnOk result (reads.new ≡ noted reads.old (given_with (L.looks self.now.held.now) self.now.request.now definitions.now given.now (Some effect) answer).reads) }
+        ensures reads { OnOk result (reads.new ≡ noting reads.old (given_with (L.looks self.now.held.now) self.now.request.now definitions.now given.now (Some effect) answer).reads) }
     {
         let obligations = self.givens(reads, definitions, effect, given.obligations.as_slice())?;
         self.with_advice(reads, definitions, given, effect, answer, obligations)
@@ -59,7 +64,7 @@ impl<L: LookUps> Scene<'_, L> {
     // The advice behind them, if none of them is Indeterminate.
     fn with_advice(
         &self,
-        reads: &mut Reads,
+        reads: &mut Notes,
         definitions: &[VariableDefinition],
         given: &GivenExpressions,
         effect: Effect,
@@ -68,7 +73,7 @@ impl<L: LookUps> Scene<'_, L> {
     ) -> Result<Answer, AllocError>
         requires { list_all (given_expression_is_typed definitions.now) given.now.advice ≡ true }
         ensures value { IfOk result (λ a. a ≡ (advice_after (L.looks self.now.held.now) self.now.request.now definitions.now given.now effect answer obligations).value) }
-        ensures reads { OnOk result (reads.new ≡ noted reads.old (advice_after (L.looks self.now.held.now) self.now.request.now definitions.now given.now effect answer obligations).reads) }
+        ensures reads { OnOk result (reads.new ≡ noting reads.old (advice_after (L.looks self.now.held.now) self.now.request.now definitions.now given.now effect answer obligations).reads) }
     {
         match obligations {
             Err(status) => Ok(Answer::indeterminate(self.alloc, indeterminate_of(effect), status)),
@@ -102,14 +107,14 @@ impl<L: LookUps> Scene<'_, L> {
     // Obligations or advice, up to the first that is Indeterminate, whose status is given.
     fn givens(
         &self,
-        reads: &mut Reads,
+        reads: &mut Notes,
         definitions: &[VariableDefinition],
         effect: Effect,
         expressions: &[GivenExpression],
     ) -> Result<Result<Items<Given>, Status>, AllocError>
         requires { list_all (given_expression_is_typed definitions.now) expressions.now ≡ true }
         ensures value { IfOk result (λ g. g ≡ (givens_part (L.looks self.now.held.now) self.now.request.now definitions.now effect expressions.now).value) }
-        ensures reads { OnOk result (reads.new ≡ noted reads.old (givens_part (L.looks self.now.held.now) self.now.request.now definitions.now effect expressions.now).reads) }
+        ensures reads { OnOk result (reads.new ≡ noting reads.old (givens_part (L.looks self.now.held.now) self.now.request.now definitions.now effect expressions.now).reads) }
     {
         let mut givens = Items::with_capacity(self.alloc, expressions.len())?;
         for expression in expressions {
@@ -125,7 +130,7 @@ impl<L: LookUps> Scene<'_, L> {
     #[tactic(auto, unfolding(ent_policy::specs::Typing::given_expression_is_typed))]
     fn give(
         &self,
-        reads: &mut Reads,
+        reads: &mut Notes,
         definitions: &[VariableDefinition],
         effect: Effect,
         expression: &GivenExpression,
@@ -133,7 +138,7 @@ impl<L: LookUps> Scene<'_, L> {
     ) -> Result<Option<Status>, AllocError>
         requires { given_expression_is_typed definitions.now expression.now ≡ true }
         ensures value { IfOk result (λ s. added givens.new s ≡ joined (Ok givens.old) (given_part (L.looks self.now.held.now) self.now.request.now definitions.now effect expression.now).value) }
-        ensures reads { OnOk result (reads.new ≡ noted reads.old (given_part (L.looks self.now.held.now) self.now.request.now definitions.now effect expression.now).reads) }
+        ensures reads { OnOk result (reads.new ≡ noting reads.old (given_part (L.looks self.now.held.now) self.now.request.now definitions.now effect expression.now).reads) }
     {
         if !goes_with(effect, expression.effect) {
             return Ok(None);

@@ -1,13 +1,16 @@
 //! The decision point.
 
-ghost use Rattle.std.specs.Prelude.{◌≡◌, ◌+◌, ◌-◌, ◌^◌, min, None, IfOk};
+ghost use Rattle.std.specs.Prelude.{◌≡◌, ◌+◌, ◌-◌, ◌^◌, min, None, IfOk, OnOk};
 ghost use Rattle.std.specs.Borrow.{sem};
-ghost use Rattle.ent_eval.specs.Answer.{answer, recorded};
+ghost use Rattle.ent_eval.specs.Answer.{answer, looked_up, recorded};
 ghost use Rattle.ent_eval.specs.Lending.{LendsAttributes, LendsPolicies};
 ghost use Rattle.ent_eval.specs.LooksOf.{looks_of};
+ghost use Rattle.ent_eval.specs.Noted.{noting};
 
 use crate::answer::Answer;
 use crate::look_ups::LookUps;
+use crate::notes::Notes;
+use crate::paths::Paths;
 use crate::reads::Reads;
 use crate::request::Request;
 use crate::scene::Scene;
@@ -27,6 +30,7 @@ pub struct Pdp<A = AttributeFinder, P = PolicyFinder> {
     root: Option<Reference>,
     day: Option<Date>,
     evaluations: u128,
+    paths: Paths,
 }
 
 /// The answer to a request, and the look-ups that it rests on.
@@ -74,6 +78,7 @@ impl<A: Attributes, P: Policies> Pdp<A, P> {
             root: None,
             day: None,
             evaluations: 0,
+            paths: Paths::new(alloc),
         }
     }
 
@@ -89,18 +94,43 @@ impl<A: Attributes, P: Policies> Pdp<A, P> {
         ensures counted { self.new.evaluations ≡ min (self.old.evaluations + 1) (2 ^ 128 - 1) }
         ensures rest { self.new ≡ record self.old { evaluations = self.new.evaluations } }
     {
+        let mut notes = Notes::asked(self.alloc);
+        let answer = self.answered(&mut notes, request)?;
+        match notes.into_reads() {
+            None => unreachable!(),
+            Some(reads) => Ok(Evaluation { answer, reads }),
+        }
+    }
+
+    /// The answer alone, for which no look-up is recorded. For the rest it is as `evaluate`.
+    pub fn answer(&mut self, request: &Request) -> Result<Answer, AllocError>
+        ensures answer { IfOk result (λ a. a ≡ answer (looks_of A.sources P.slots self.old) request.now) }
+        ensures counted { self.new.evaluations ≡ min (self.old.evaluations + 1) (2 ^ 128 - 1) }
+        ensures rest { self.new ≡ record self.old { evaluations = self.new.evaluations } }
+    {
+        self.answered(&mut Notes::unasked(self.alloc), request)
+    }
+
+    // The answer, which is counted, and its look-ups, which are noted where they are asked for.
+    fn answered(&mut self, notes: &mut Notes, request: &Request) -> Result<Answer, AllocError>
+        ensures answer { IfOk result (λ a. a ≡ answer (looks_of A.sources P.slots self.old) request.now) }
+        ensures notes { OnOk result (notes.new ≡ noting notes.old (looked_up (looks_of A.sources P.slots self.old) request.now)) }
+        ensures counted { self.new.evaluations ≡ min (self.old.evaluations + 1) (2 ^ 128 - 1) }
+        ensures rest { self.new ≡ record self.old { evaluations = self.new.evaluations } }
+    {
         self.evaluations = self.evaluations.saturating_add(1);
-        let mut reads = Reads::new(self.alloc);
+        notes.swap_paths(&mut self.paths);
         let scene = Scene {
             alloc: self.alloc,
             held: self,
             request,
         };
-        let answer = scene.answer(&mut reads)?;
-        Ok(Evaluation { answer, reads })
+        let answer = scene.answer(notes);
+        notes.swap_paths(&mut self.paths);
+        answer
     }
 
-    /// How many times `evaluate` was called. The count stays at its greatest value.
+    /// How many times `evaluate` or `answer` was called. The count stays at its greatest value.
     pub fn evaluations(&self) -> u128
         ensures { result ≡ self.now.evaluations }
     {

@@ -5,17 +5,19 @@ ghost use Rattle.std.specs.Option.{option_copied};
 ghost use Rattle.ent_policy.specs.Children.{as_child};
 ghost use Rattle.ent_policy.specs.Depths.{depth};
 ghost use Rattle.ent_eval.specs.Hops.{child_part, child_target, followed_part, reference_part, reference_target};
-ghost use Rattle.ent_eval.specs.Noted.{noted, with_key};
+ghost use Rattle.ent_eval.specs.Judged.{or_nothing};
+ghost use Rattle.ent_eval.specs.Noted.{noting, with_note};
+ghost use Rattle.ent_eval.specs.Path.{keys_of};
 ghost use Rattle.ent_eval.specs.Typed.{is_fit};
 ghost use Rattle.ent_eval.specs.declared.key.ReadKey.TheVariants.{Ref};
 
 use crate::answer::{Answer, Status};
-use crate::key::ReadKey;
 use crate::look_ups::LookUps;
-use crate::reads::Reads;
+use crate::notes::Notes;
+use crate::path::Path;
 use crate::scene::Scene;
 use crate::target::Targeted;
-use ent_policy::{DocKey, Document, Reference, Tree};
+use ent_policy::{Document, Reference, Tree};
 use std::alloc::AllocError;
 
 impl<L: LookUps> Scene<'_, L> {
@@ -23,16 +25,16 @@ impl<L: LookUps> Scene<'_, L> {
     #[cycle(child)]
     pub(crate) fn reference(
         &self,
-        reads: &mut Reads,
+        reads: &mut Notes,
         hops: usize,
-        path: &[DocKey],
+        path: &Path<'_>,
         reference: &Reference,
-    ) -> Result<Answer, AllocError>
-        ensures value { IfOk result (λ a. a ≡ (reference_part (L.looks self.now.held.now) self.now.request.now hops path.now reference.now).value) }
-        ensures reads { OnOk result (reads.new ≡ noted reads.old (reference_part (L.looks self.now.held.now) self.now.request.now hops path.now reference.now).reads) }
+    ) -> Result<Option<Answer>, AllocError>
+        ensures value { IfOk result (λ a. or_nothing a ≡ (reference_part (L.looks self.now.held.now) self.now.request.now hops (keys_of path.now) reference.now).value) }
+        ensures reads { OnOk result (reads.new ≡ noting reads.old (reference_part (L.looks self.now.held.now) self.now.request.now hops (keys_of path.now) reference.now).reads) }
     {
         if hops == 0 {
-            return Ok(Answer::unresolved(self.alloc));
+            return Ok(Some(Answer::unresolved(self.alloc)));
         }
         self.followed(reads, hops - 1, path, reference)
     }
@@ -41,16 +43,16 @@ impl<L: LookUps> Scene<'_, L> {
     #[cycle(child)]
     pub(crate) fn followed(
         &self,
-        reads: &mut Reads,
+        reads: &mut Notes,
         hops: usize,
-        path: &[DocKey],
+        path: &Path<'_>,
         reference: &Reference,
-    ) -> Result<Answer, AllocError>
-        ensures value { IfOk result (λ a. a ≡ (followed_part (L.looks self.now.held.now) self.now.request.now hops path.now reference.now).value) }
-        ensures reads { OnOk result (reads.new ≡ noted reads.old (followed_part (L.looks self.now.held.now) self.now.request.now hops path.now reference.now).reads) }
+    ) -> Result<Option<Answer>, AllocError>
+        ensures value { IfOk result (λ a. or_nothing a ≡ (followed_part (L.looks self.now.held.now) self.now.request.now hops (keys_of path.now) reference.now).value) }
+        ensures reads { OnOk result (reads.new ≡ noting reads.old (followed_part (L.looks self.now.held.now) self.now.request.now hops (keys_of path.now) reference.now).reads) }
     {
         match self.look_up(reads, reference)? {
-            None => Ok(Answer::unresolved(self.alloc)),
+            None => Ok(Some(Answer::unresolved(self.alloc))),
             Some(document) => self.tree(reads, hops, path, document.tree()),
         }
     }
@@ -59,15 +61,15 @@ impl<L: LookUps> Scene<'_, L> {
     #[cycle(child)]
     fn tree(
         &self,
-        reads: &mut Reads,
+        reads: &mut Notes,
         hops: usize,
-        path: &[DocKey],
+        path: &Path<'_>,
         tree: &Tree,
-    ) -> Result<Answer, AllocError>
+    ) -> Result<Option<Answer>, AllocError>
         requires fit { is_fit (as_child tree.now) ≡ true }
         requires shallow { depth (as_child tree.now) ≤ 16 }
-        ensures value { IfOk result (λ a. a ≡ (child_part (L.looks self.now.held.now) self.now.request.now hops path.now (as_child tree.now)).value) }
-        ensures reads { OnOk result (reads.new ≡ noted reads.old (child_part (L.looks self.now.held.now) self.now.request.now hops path.now (as_child tree.now)).reads) }
+        ensures value { IfOk result (λ a. or_nothing a ≡ (child_part (L.looks self.now.held.now) self.now.request.now hops (keys_of path.now) (as_child tree.now)).value) }
+        ensures reads { OnOk result (reads.new ≡ noting reads.old (child_part (L.looks self.now.held.now) self.now.request.now hops (keys_of path.now) (as_child tree.now)).reads) }
     {
         match tree {
             Tree::Policy(policy) => self.policy(reads, path, policy),
@@ -78,12 +80,12 @@ impl<L: LookUps> Scene<'_, L> {
     // The target of a reference: that of the document that it names.
     pub(crate) fn reference_target(
         &self,
-        reads: &mut Reads,
+        reads: &mut Notes,
         hops: usize,
         reference: &Reference,
     ) -> Result<Targeted, AllocError>
         ensures value { IfOk result (λ t. t ≡ (reference_target (L.looks self.now.held.now) self.now.request.now hops reference.now).value) }
-        ensures reads { OnOk result (reads.new ≡ noted reads.old (reference_target (L.looks self.now.held.now) self.now.request.now hops reference.now).reads) }
+        ensures reads { OnOk result (reads.new ≡ noting reads.old (reference_target (L.looks self.now.held.now) self.now.request.now hops reference.now).reads) }
     {
         if hops == 0 {
             return Ok(Targeted::Indeterminate(Status::ProcessingError));
@@ -98,13 +100,13 @@ impl<L: LookUps> Scene<'_, L> {
     #[tactic(auto, using(crate::proofs::Typing::both_true), unfolding(ent_policy::specs::Typing::policy_is_typed))]
     fn tree_target(
         &self,
-        reads: &mut Reads,
+        reads: &mut Notes,
         hops: usize,
         tree: &Tree,
     ) -> Result<Targeted, AllocError>
         requires { is_fit (as_child tree.now) ≡ true }
         ensures value { IfOk result (λ t. t ≡ (child_target (L.looks self.now.held.now) self.now.request.now hops (as_child tree.now)).value) }
-        ensures reads { OnOk result (reads.new ≡ noted reads.old (child_target (L.looks self.now.held.now) self.now.request.now hops (as_child tree.now)).reads) }
+        ensures reads { OnOk result (reads.new ≡ noting reads.old (child_target (L.looks self.now.held.now) self.now.request.now hops (as_child tree.now)).reads) }
     {
         match tree {
             Tree::Policy(policy) => self.target(reads, &policy.target),
@@ -115,13 +117,13 @@ impl<L: LookUps> Scene<'_, L> {
     // The document that a reference names. The look-up is noted.
     fn look_up(
         &self,
-        reads: &mut Reads,
+        reads: &mut Notes,
         reference: &Reference,
     ) -> Result<Option<&Document>, AllocError>
         ensures found { IfOk result (λ d. option_copied d ≡ (L.looks self.now.held.now).document reference.now) }
-        ensures reads { OnOk result (reads.new ≡ with_key reads.old (Ref reference.now)) }
+        ensures reads { OnOk result (reads.new ≡ with_note reads.old (Ref reference.now)) }
     {
-        reads.note(ReadKey::Ref(reference.copy(self.alloc)?))?;
+        reads.note_reference(self.alloc, reference)?;
         Ok(self.held.document(reference))
     }
 }

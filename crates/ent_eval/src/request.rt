@@ -1,7 +1,7 @@
 //! Requests.
 
-ghost use Rattle.std.specs.Prelude.{◌≡◌, IfOk, OnErr, OnOk, codes};
-ghost use Rattle.ent_eval.specs.Listed.{IsListedAgain, about, asked_of, listed, named};
+ghost use Rattle.std.specs.Prelude.{◌≡◌, IfOk, codes, slice_index_or};
+ghost use Rattle.ent_eval.specs.Listed.{ExchangesResource, about, asked_about, listed, named};
 
 use crate::uris::{ACCESS_SUBJECT, ACTION, ACTION_ID, RESOURCE, RESOURCE_ID, SUBJECT_ID};
 use ent_values::{Bag, Items, Text, Value};
@@ -26,6 +26,15 @@ pub struct Category {
     pub attributes: Items<Attribute>,
 }
 
+impl Category {
+    /// The category of a resource by its id, a text without an issuer (appendix B.2 and B.5).
+    pub fn of_resource(alloc: Global, resource: &str) -> Result<Category, AllocError>
+        ensures { IfOk result (λ c. c ≡ about resource.now) }
+    {
+        named(alloc, RESOURCE, RESOURCE_ID, resource)
+    }
+}
+
 /// What is asked: the attributes of the subject, of the action, of the resource (section 5.42).
 #[derive(PartialEq, Eq, Drop)]
 pub struct Request {
@@ -46,35 +55,23 @@ impl Request {
         let mut categories = Items::with_capacity(alloc, 3)?;
         categories.push(named(alloc, ACCESS_SUBJECT, SUBJECT_ID, person)?)?;
         categories.push(named(alloc, ACTION, ACTION_ID, action)?)?;
-        categories.push(about(alloc, resource)?)?;
+        categories.push(Category::of_resource(alloc, resource)?)?;
         Ok(Request { categories })
     }
 
-    /// Asks the same of another resource, which takes the place of the third category and of all behind it. What was listed for one
-    /// resource is then listed for the other. After a refusal the request is as before.
-    pub fn ask_of(&mut self, alloc: Global, resource: &str) -> Result<(), AllocError>
-        ensures ok { OnOk result (self.new ≡ asked_of resource.now self.old) }
-        ensures listed { OnOk result (IsListedAgain resource.now self.old self.new) }
-        ensures err { OnErr result (self.new ≡ self.old) }
+    /// Exchanges the third category, which in a listed request is that of the resource, with another: what was listed for one
+    /// resource is then listed for the other. Where there is no third one, nothing changes. No memory is needed.
+    pub fn exchange_resource(&mut self, alloc: Global, resource: &mut Category)
+        ensures request { self.new ≡ asked_about resource.old self.old }
+        ensures resource { resource.new ≡ slice_index_or self.old.categories 2 resource.old }
+        ensures listed { ExchangesResource self.old resource.old self.new resource.new }
     {
-        let category = about(alloc, resource)?;
-        if self.categories.len() < 3 {
-            return self.categories.push(category);
-        }
-        // From here on no memory is needed.
         let mut categories = mem::replace(&mut self.categories, Items::new(alloc)).into_vec();
-        categories.truncate(3);
-        categories[2] = category;
+        if categories.len() > 2 {
+            mem::swap(&mut categories[2], resource);
+        }
         self.categories = Items::from_vec(categories);
-        Ok(())
     }
-}
-
-// The category of a resource.
-fn about(alloc: Global, resource: &str) -> Result<Category, AllocError>
-    ensures { IfOk result (λ c. c ≡ about resource.now) }
-{
-    named(alloc, RESOURCE, RESOURCE_ID, resource)
 }
 
 // A category with one attribute of one text.

@@ -3,64 +3,67 @@
 ghost use Rattle.std.specs.Prelude.{◌≡◌, IfOk, OnOk, Some, true};
 ghost use Rattle.ent_functions.specs.Types.{boolean};
 ghost use Rattle.ent_policy.specs.Typing.{condition_is_typed, given_is_typed, rule_is_typed};
-ghost use Rattle.ent_eval.specs.Noted.{noted};
+ghost use Rattle.ent_eval.specs.Judged.{or_nothing};
+ghost use Rattle.ent_eval.specs.Noted.{noting};
+ghost use Rattle.ent_eval.specs.Path.{keys_of};
 ghost use Rattle.ent_eval.specs.Rule.{condition_part, decided, decision_of, rule_part, rule_under, truth_of};
 ghost use Rattle.ent_eval.specs.Typed.{HasType};
 
 use crate::answer::{Answer, Status, WhyEntry};
 use crate::evaluated::{Evaluated, Truth};
 use crate::look_ups::LookUps;
+use crate::notes::Notes;
 use crate::own_given::indeterminate_of;
-use crate::reads::Reads;
+use crate::path::Path;
 use crate::scene::Scene;
 use crate::target::Targeted;
 use ent_combine::Outcome;
 use ent_functions::Arg;
-use ent_policy::{DocKey, Effect, Expression, Rule, VariableDefinition};
-use ent_values::{Items, Shared, Value};
+use ent_policy::{Effect, Expression, Rule, VariableDefinition};
+use ent_values::{Items, Value};
 use std::alloc::{AllocError, Global};
 
 impl<L: LookUps> Scene<'_, L> {
     // A rule of the policy at the end of the path, among the policy's definitions.
-    #[tactic(auto, using(crate::proofs::Walk::noted_both, crate::proofs::Typing::both_true), unfolding(ent_policy::specs::Typing::rule_is_typed))]
+    #[tactic(auto, using(crate::proofs::Walk::noting_both, crate::proofs::Typing::both_true), unfolding(ent_policy::specs::Typing::rule_is_typed))]
     pub(crate) fn rule(
         &self,
-        reads: &mut Reads,
+        reads: &mut Notes,
         definitions: &[VariableDefinition],
-        path: &Shared<Items<DocKey>>,
+        path: &Path<'_>,
         rule: &Rule,
-    ) -> Result<Answer, AllocError>
+    ) -> Result<Option<Answer>, AllocError>
         requires { rule_is_typed definitions.now rule.now ≡ true }
-        ensures value { IfOk result (λ a. a ≡ (rule_part (L.looks self.now.held.now) self.now.request.now definitions.now path.now rule.now).value) }
-        ensures reads { OnOk result (reads.new ≡ noted reads.old (rule_part (L.looks self.now.held.now) self.now.request.now definitions.now path.now rule.now).reads) }
+        ensures value { IfOk result (λ a. or_nothing a ≡ (rule_part (L.looks self.now.held.now) self.now.request.now definitions.now (keys_of path.now) rule.now).value) }
+        ensures reads { OnOk result (reads.new ≡ noting reads.old (rule_part (L.looks self.now.held.now) self.now.request.now definitions.now (keys_of path.now) rule.now).reads) }
     {
         let targeted = self.target(reads, &rule.target)?;
         self.rule_after(reads, definitions, path, rule, targeted)
     }
 
     // The condition is evaluated where the target matches, and behind it what the rule gives itself.
-    #[tactic(auto, using(crate::proofs::Walk::noted_both))]
+    #[tactic(auto, using(crate::proofs::Walk::noting_both))]
     fn rule_after(
         &self,
-        reads: &mut Reads,
+        reads: &mut Notes,
         definitions: &[VariableDefinition],
-        path: &Shared<Items<DocKey>>,
+        path: &Path<'_>,
         rule: &Rule,
         targeted: Targeted,
-    ) -> Result<Answer, AllocError>
+    ) -> Result<Option<Answer>, AllocError>
         requires condition { condition_is_typed definitions.now rule.now.condition ≡ true }
         requires given { given_is_typed definitions.now rule.now.given ≡ true }
-        ensures value { IfOk result (λ a. a ≡ (rule_under (L.looks self.now.held.now) self.now.request.now definitions.now path.now rule.now targeted).value) }
-        ensures reads { OnOk result (reads.new ≡ noted reads.old (rule_under (L.looks self.now.held.now) self.now.request.now definitions.now path.now rule.now targeted).reads) }
+        ensures value { IfOk result (λ a. or_nothing a ≡ (rule_under (L.looks self.now.held.now) self.now.request.now definitions.now (keys_of path.now) rule.now targeted).value) }
+        ensures reads { OnOk result (reads.new ≡ noting reads.old (rule_under (L.looks self.now.held.now) self.now.request.now definitions.now (keys_of path.now) rule.now targeted).reads) }
     {
         match targeted {
-            Targeted::NoMatch => Ok(Answer::not_applicable(self.alloc)),
+            Targeted::NoMatch => Ok(None),
             Targeted::Indeterminate(status) => {
-                decide(self.alloc, path, rule, Truth::Indeterminate(status))
+                decide(self.alloc, reads, path, rule, Truth::Indeterminate(status))
             }
             Targeted::Match => {
                 let truth = self.condition(reads, definitions, &rule.condition)?;
-                let answer = decide(self.alloc, path, rule, truth)?;
+                let answer = decide(self.alloc, reads, path, rule, truth)?;
                 self.finished(reads, definitions, &rule.given, answer)
             }
         }
@@ -70,13 +73,13 @@ impl<L: LookUps> Scene<'_, L> {
     #[tactic(auto, unfolding(ent_policy::specs::Typing::condition_is_typed))]
     fn condition(
         &self,
-        reads: &mut Reads,
+        reads: &mut Notes,
         definitions: &[VariableDefinition],
         condition: &Option<Expression>,
     ) -> Result<Truth, AllocError>
         requires { condition_is_typed definitions.now condition.now ≡ true }
         ensures value { IfOk result (λ t. t ≡ (condition_part (L.looks self.now.held.now) self.now.request.now definitions.now condition.now).value) }
-        ensures reads { OnOk result (reads.new ≡ noted reads.old (condition_part (L.looks self.now.held.now) self.now.request.now definitions.now condition.now).reads) }
+        ensures reads { OnOk result (reads.new ≡ noting reads.old (condition_part (L.looks self.now.held.now) self.now.request.now definitions.now condition.now).reads) }
     {
         match condition {
             None => Ok(Truth::True),
@@ -104,33 +107,35 @@ fn truth_of(evaluated: Evaluated) -> Truth
 // A rule with a target that matches, by its condition.
 fn decide(
     alloc: Global,
-    path: &Shared<Items<DocKey>>,
+    reads: &mut Notes,
+    path: &Path<'_>,
     rule: &Rule,
     truth: Truth,
-) -> Result<Answer, AllocError>
-    ensures { IfOk result (λ a. a ≡ decided path.now rule.now truth) }
+) -> Result<Option<Answer>, AllocError>
+    ensures value { IfOk result (λ a. or_nothing a ≡ decided (keys_of path.now) rule.now truth) }
+    ensures reads { reads.new ≡ reads.old }
 {
     match truth {
-        Truth::False => Ok(Answer::not_applicable(alloc)),
-        Truth::Indeterminate(status) => Ok(Answer {
+        Truth::False => Ok(None),
+        Truth::Indeterminate(status) => Ok(Some(Answer {
             decision: Outcome::Ind(indeterminate_of(rule.effect)),
             status,
             why: Items::new(alloc),
             obligations: Items::new(alloc),
             advice: Items::new(alloc),
-        }),
+        })),
         Truth::True => {
             let entry = WhyEntry {
-                path: path.copy()?,
+                path: reads.path(alloc, path)?,
                 rule: Some(rule.id.copy(alloc)?),
             };
-            Ok(Answer {
+            Ok(Some(Answer {
                 decision: decision_of(rule.effect),
                 status: Status::Okay,
                 why: Items::of_one(alloc, entry)?,
                 obligations: Items::new(alloc),
                 advice: Items::new(alloc),
-            })
+            }))
         }
     }
 }

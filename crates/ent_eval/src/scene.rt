@@ -2,12 +2,13 @@
 
 ghost use Rattle.std.specs.Prelude.{◌≡◌, IfOk, OnOk};
 ghost use Rattle.ent_eval.specs.Answer.{answer_part};
-ghost use Rattle.ent_eval.specs.Noted.{noted};
+ghost use Rattle.ent_eval.specs.Noted.{noting};
 
 use crate::answer::Answer;
 use crate::key::ReadKey;
 use crate::look_ups::LookUps;
-use crate::reads::Reads;
+use crate::notes::Notes;
+use crate::path::Path;
 use crate::request::Request;
 use std::alloc::{AllocError, Global};
 
@@ -24,14 +25,18 @@ pub(crate) struct Scene<'a, L> {
 
 impl<L: LookUps> Scene<'_, L> {
     // The answer to the request.
-    pub(crate) fn answer(&self, reads: &mut Reads) -> Result<Answer, AllocError>
+    #[tactic(auto, using(crate::proofs::PathKeys::keys_of_root))]
+    pub(crate) fn answer(&self, reads: &mut Notes) -> Result<Answer, AllocError>
         ensures value { IfOk result (λ a. a ≡ (answer_part (L.looks self.now.held.now) self.now.request.now).value) }
-        ensures reads { OnOk result (reads.new ≡ noted reads.old (answer_part (L.looks self.now.held.now) self.now.request.now).reads) }
+        ensures reads { OnOk result (reads.new ≡ noting reads.old (answer_part (L.looks self.now.held.now) self.now.request.now).reads) }
     {
         reads.note(ReadKey::Root)?;
         match self.held.root() {
             None => Ok(Answer::not_applicable(self.alloc)),
-            Some(reference) => self.followed(reads, MOST_HOPS, &[], reference),
+            Some(reference) => {
+                let answer = self.followed(reads, MOST_HOPS, &Path::Root, reference)?;
+                Ok(answer.unwrap_or(Answer::not_applicable(self.alloc)))
+            }
         }
     }
 }

@@ -3,16 +3,16 @@
 ghost use Rattle.std.specs.Prelude.{◌≡◌, IfOk, OnOk};
 ghost use Rattle.std.specs.Option.{option_copied};
 ghost use Rattle.ent_values.specs.declared.datatype.DataType.TheVariants.{Date};
-ghost use Rattle.ent_eval.specs.Noted.{noted, with_key};
+ghost use Rattle.ent_eval.specs.Noted.{noting, with_note};
 ghost use Rattle.ent_eval.specs.Sources.{asks_day, day_values, entity_of, id_attribute, key_for, only_text, source_part, text_of, values_part};
 ghost use Rattle.ent_eval.specs.declared.key.ReadKey.TheVariants.{Attr, Day};
 
 use crate::answer::copied_text;
 use crate::key::ReadKey;
 use crate::look_ups::LookUps;
-use crate::own::OwnValues;
+use crate::notes::Notes;
+use crate::own::Sought;
 use crate::own_bag::{is_empty, only_own, own_bag};
-use crate::reads::Reads;
 use crate::request::Request;
 use crate::scene::Scene;
 use crate::uris::{
@@ -27,11 +27,11 @@ impl<L: LookUps> Scene<'_, L> {
     // The values of a designator: the request's own, which are no look-up, or else those of its source.
     pub(crate) fn values(
         &self,
-        reads: &mut Reads,
+        reads: &mut Notes,
         designator: &Designator,
     ) -> Result<Bag, AllocError>
         ensures value { IfOk result (λ b. b ≡ record { datatype = designator.now.datatype; values = (values_part (L.looks self.now.held.now) self.now.request.now designator.now).value }) }
-        ensures reads { OnOk result (reads.new ≡ noted reads.old (values_part (L.looks self.now.held.now) self.now.request.now designator.now).reads) }
+        ensures reads { OnOk result (reads.new ≡ noting reads.old (values_part (L.looks self.now.held.now) self.now.request.now designator.now).reads) }
     {
         let own = own_bag(self.alloc, self.request, designator)?;
         if !is_empty(&own) {
@@ -43,11 +43,11 @@ impl<L: LookUps> Scene<'_, L> {
     // The values of a designator for which the request has none.
     pub(crate) fn source(
         &self,
-        reads: &mut Reads,
+        reads: &mut Notes,
         designator: &Designator,
     ) -> Result<Bag, AllocError>
         ensures value { IfOk result (λ b. b ≡ record { datatype = designator.now.datatype; values = (source_part (L.looks self.now.held.now) self.now.request.now designator.now).value }) }
-        ensures reads { OnOk result (reads.new ≡ noted reads.old (source_part (L.looks self.now.held.now) self.now.request.now designator.now).reads) }
+        ensures reads { OnOk result (reads.new ≡ noting reads.old (source_part (L.looks self.now.held.now) self.now.request.now designator.now).reads) }
     {
         if asks_day(designator) {
             return self.day(reads);
@@ -59,9 +59,9 @@ impl<L: LookUps> Scene<'_, L> {
     }
 
     // The day. The look-up is noted.
-    fn day(&self, reads: &mut Reads) -> Result<Bag, AllocError>
+    fn day(&self, reads: &mut Notes) -> Result<Bag, AllocError>
         ensures value { IfOk result (λ b. b ≡ record { datatype = Date; values = day_values (L.looks self.now.held.now).day }) }
-        ensures reads { OnOk result (reads.new ≡ with_key reads.old Day) }
+        ensures reads { OnOk result (reads.new ≡ with_note reads.old Day) }
     {
         reads.note(ReadKey::Day)?;
         match self.held.day() {
@@ -73,12 +73,12 @@ impl<L: LookUps> Scene<'_, L> {
     // The values of an entity. The look-up is noted, also where it gives none.
     fn values_of(
         &self,
-        reads: &mut Reads,
+        reads: &mut Notes,
         designator: &Designator,
         entity: &Text,
     ) -> Result<Bag, AllocError>
         ensures value { IfOk result (λ b. b ≡ record { datatype = designator.now.datatype; values = (L.looks self.now.held.now).values (key_for designator.now entity.now) }) }
-        ensures reads { OnOk result (reads.new ≡ with_key reads.old (Attr (key_for designator.now entity.now))) }
+        ensures reads { OnOk result (reads.new ≡ with_note reads.old (Attr (key_for designator.now entity.now))) }
     {
         let key = key_for(self.alloc, designator, entity)?;
         let mut bag = Bag::new(self.alloc, designator.datatype);
@@ -125,8 +125,13 @@ fn entity_of<'a>(request: &'a Request, category: &'a Text) -> Option<&'a Text>
 fn only_text<'a>(request: &'a Request, category: &'a Text, attribute: &'a str) -> Option<&'a Text>
     ensures { option_copied result ≡ only_text request.now category.now attribute.now }
 {
-    let values = OwnValues::new(request, category.as_str(), attribute, DataType::Text, None);
-    text_of(only_own(values)?)
+    let sought = Sought {
+        category: category.as_str(),
+        attribute,
+        datatype: DataType::Text,
+        issuer: None,
+    };
+    text_of(only_own(request, &sought)?)
 }
 
 // The text that a value is.

@@ -1,20 +1,20 @@
 //! Whether targets match.
 
-ghost use Rattle.std.specs.Prelude.{◌≡◌, IfOk, OnOk, map, true};
+ghost use Rattle.std.specs.Prelude.{◌≡◌, IfOk, OnOk, if◌then◌else◌, map, true};
 ghost use Rattle.std.specs.List.{list_all};
 ghost use Rattle.ent_policy.specs.Typing.{all_of_is_typed, any_of_is_typed, match_is_typed, target_is_typed};
 ghost use Rattle.ent_eval.specs.Typed.{Tests};
-ghost use Rattle.ent_eval.specs.Noted.{noted};
+ghost use Rattle.ent_eval.specs.Noted.{noting};
 ghost use Rattle.ent_eval.specs.Own.{own_values};
 ghost use Rattle.ent_eval.specs.Part.{whole};
 ghost use Rattle.ent_eval.specs.Target.{all_match, all_of_part, any_of_part, is_match, is_no_match, match_part, matched, one_matches, own_match, target_part, unless_indeterminate};
 
 use crate::answer::Status;
-use crate::holds::{holds_in, holds_of, is_true};
+use crate::holds::{holds_in, holds_of};
 use crate::look_ups::LookUps;
-use crate::own::OwnValues;
+use crate::notes::Notes;
+use crate::own::{Sought, own_values};
 use crate::own_bag::is_empty;
-use crate::reads::Reads;
 use crate::request::Request;
 use crate::scene::Scene;
 use ent_policy::{AllOf, AnyOf, Match, Target};
@@ -32,19 +32,19 @@ pub enum Targeted {
 impl<L: LookUps> Scene<'_, L> {
     // Whether a target matches.
     #[tactic(auto, unfolding(ent_policy::specs::Typing::target_is_typed))]
-    pub(crate) fn target(&self, reads: &mut Reads, target: &Target) -> Result<Targeted, AllocError>
+    pub(crate) fn target(&self, reads: &mut Notes, target: &Target) -> Result<Targeted, AllocError>
         requires { target_is_typed target.now ≡ true }
         ensures value { IfOk result (λ t. t ≡ (target_part (L.looks self.now.held.now) self.now.request.now target.now).value) }
-        ensures reads { OnOk result (reads.new ≡ noted reads.old (target_part (L.looks self.now.held.now) self.now.request.now target.now).reads) }
+        ensures reads { OnOk result (reads.new ≡ noting reads.old (target_part (L.looks self.now.held.now) self.now.request.now target.now).reads) }
     {
         self.all_any_of(reads, target.any_of.as_slice())
     }
 
     // Whether all any-of elements match, up to the first that doesn't.
-    fn all_any_of(&self, reads: &mut Reads, all: &[AnyOf]) -> Result<Targeted, AllocError>
+    fn all_any_of(&self, reads: &mut Notes, all: &[AnyOf]) -> Result<Targeted, AllocError>
         requires { list_all any_of_is_typed all.now ≡ true }
         ensures value { IfOk result (λ t. t ≡ (whole is_no_match all_match (map (any_of_part (L.looks self.now.held.now) self.now.request.now) all.now)).value) }
-        ensures reads { OnOk result (reads.new ≡ noted reads.old (whole is_no_match all_match (map (any_of_part (L.looks self.now.held.now) self.now.request.now) all.now)).reads) }
+        ensures reads { OnOk result (reads.new ≡ noting reads.old (whole is_no_match all_match (map (any_of_part (L.looks self.now.held.now) self.now.request.now) all.now)).reads) }
     {
         let mut so_far = Targeted::Match;
         for any_of in all {
@@ -58,10 +58,10 @@ impl<L: LookUps> Scene<'_, L> {
     }
 
     // Whether one all-of element matches, up to the first that does.
-    fn one_all_of(&self, reads: &mut Reads, alternatives: &[AllOf]) -> Result<Targeted, AllocError>
+    fn one_all_of(&self, reads: &mut Notes, alternatives: &[AllOf]) -> Result<Targeted, AllocError>
         requires { list_all all_of_is_typed alternatives.now ≡ true }
         ensures value { IfOk result (λ t. t ≡ (whole is_match one_matches (map (all_of_part (L.looks self.now.held.now) self.now.request.now) alternatives.now)).value) }
-        ensures reads { OnOk result (reads.new ≡ noted reads.old (whole is_match one_matches (map (all_of_part (L.looks self.now.held.now) self.now.request.now) alternatives.now)).reads) }
+        ensures reads { OnOk result (reads.new ≡ noting reads.old (whole is_match one_matches (map (all_of_part (L.looks self.now.held.now) self.now.request.now) alternatives.now)).reads) }
     {
         let mut so_far = Targeted::NoMatch;
         for all_of in alternatives {
@@ -75,10 +75,10 @@ impl<L: LookUps> Scene<'_, L> {
     }
 
     // Whether all matches are True, up to the first that is False.
-    fn all_matches(&self, reads: &mut Reads, matches: &[Match]) -> Result<Targeted, AllocError>
+    fn all_matches(&self, reads: &mut Notes, matches: &[Match]) -> Result<Targeted, AllocError>
         requires { list_all match_is_typed matches.now ≡ true }
         ensures value { IfOk result (λ t. t ≡ (whole is_no_match all_match (map (match_part (L.looks self.now.held.now) self.now.request.now) matches.now)).value) }
-        ensures reads { OnOk result (reads.new ≡ noted reads.old (whole is_no_match all_match (map (match_part (L.looks self.now.held.now) self.now.request.now) matches.now)).reads) }
+        ensures reads { OnOk result (reads.new ≡ noting reads.old (whole is_no_match all_match (map (match_part (L.looks self.now.held.now) self.now.request.now) matches.now)).reads) }
     {
         let mut so_far = Targeted::Match;
         for test in matches {
@@ -93,10 +93,10 @@ impl<L: LookUps> Scene<'_, L> {
 
     // Whether a match is True. The request's own values are no look-up, and none of them is copied.
     #[tactic(auto, unfolding(ent_policy::specs::Typing::match_is_typed))]
-    fn one_match(&self, reads: &mut Reads, test: &Match) -> Result<Targeted, AllocError>
+    fn one_match(&self, reads: &mut Notes, test: &Match) -> Result<Targeted, AllocError>
         requires { match_is_typed test.now ≡ true }
         ensures value { IfOk result (λ t. t ≡ (match_part (L.looks self.now.held.now) self.now.request.now test.now).value) }
-        ensures reads { OnOk result (reads.new ≡ noted reads.old (match_part (L.looks self.now.held.now) self.now.request.now test.now).reads) }
+        ensures reads { OnOk result (reads.new ≡ noting reads.old (match_part (L.looks self.now.held.now) self.now.request.now test.now).reads) }
     {
         if let Some(targeted) = own_match(self.alloc, self.request, test)? {
             return Ok(targeted);
@@ -111,14 +111,21 @@ fn own_match(alloc: Global, request: &Request, test: &Match) -> Result<Option<Ta
     requires { Tests test.now.function test.now.literal test.now.designator.datatype }
     ensures { IfOk result (λ t. t ≡ own_match test.now (own_values test.now.designator request.now)) }
 {
-    let mut values = OwnValues::of(request, &test.designator);
-    let Some(first) = values.next() else {
-        return Ok(None);
-    };
-    if is_true(alloc, test.function, &test.literal, first)? || holds_in(alloc, test, values)? {
-        Ok(Some(Targeted::Match))
+    match own_values(request, &Sought::of(&test.designator)) {
+        Some([]) => Ok(None),
+        Some(values) => Ok(Some(told(holds_in(alloc, test, values)?))),
+        None => Ok(Some(told(holds_of(alloc, test, request)?))),
+    }
+}
+
+// A match of values, by whether its function is True of one of them.
+fn told(holds: bool) -> Targeted
+    ensures { result ≡ (if holds then Targeted.Match else Targeted.NoMatch) }
+{
+    if holds {
+        Targeted::Match
     } else {
-        Ok(Some(Targeted::NoMatch))
+        Targeted::NoMatch
     }
 }
 
@@ -127,7 +134,7 @@ fn matched(alloc: Global, test: &Match, bag: &Bag) -> Result<Targeted, AllocErro
     requires { Tests test.now.function test.now.literal bag.now.datatype }
     ensures { IfOk result (λ t. t ≡ matched test.now bag.now.values) }
 {
-    if holds_of(alloc, test, bag)? {
+    if holds_in(alloc, test, bag.values())? {
         return Ok(Targeted::Match);
     }
     if test.designator.must_be_present && is_empty(bag) {

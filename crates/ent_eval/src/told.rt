@@ -3,12 +3,14 @@
 ghost use Rattle.std.specs.Prelude.{◌≡◌, [], false, IfOk, OnOk};
 ghost use Rattle.ent_eval.specs.Gathered.{told_more};
 ghost use Rattle.ent_eval.specs.Judged.{decided_by, has_default};
+ghost use Rattle.ent_eval.specs.Path.{keys_of};
 
 use crate::answer::{Answer, Status, WhyEntry};
 use crate::given::Given;
+use crate::notes::Notes;
+use crate::path::Path;
 use ent_combine::{Outcome, RuleAlg};
-use ent_policy::DocKey;
-use ent_values::{Items, Shared};
+use ent_values::Items;
 use std::alloc::{AllocError, Global};
 
 // What the children with one decision tell of it, in document order.
@@ -48,11 +50,13 @@ impl Told {
     pub(crate) fn decided(
         self,
         alloc: Global,
-        here: &Shared<Items<DocKey>>,
+        reads: &mut Notes,
+        here: &Path<'_>,
         algorithm: RuleAlg,
         decision: Outcome,
     ) -> Result<Answer, AllocError>
-        ensures { IfOk result (λ a. a ≡ decided_by here.now algorithm decision self) }
+        ensures value { IfOk result (λ a. a ≡ decided_by (keys_of here.now) algorithm decision self) }
+        ensures reads { reads.new ≡ reads.old }
     {
         let Told {
             any,
@@ -62,7 +66,7 @@ impl Told {
         } = self;
         if has_default(algorithm) && !any {
             let entry = WhyEntry {
-                path: here.copy()?,
+                path: reads.path(alloc, here)?,
                 rule: None,
             };
             why.append(Items::of_one(alloc, entry)?)?;

@@ -11,8 +11,8 @@ ghost use Rattle.ent_eval.specs.Uncopied.{ComesTo, HasItsType, IsFound, IsOne};
 ghost use Rattle.ent_eval.specs.declared.evaluated.Evaluated.TheVariants.{Known};
 
 use crate::evaluated::Evaluated;
-use crate::own::OwnValues;
-use crate::own_bag::{has_value, is_own, only_own};
+use crate::own::Sought;
+use crate::own_bag::{is_own, only_own};
 use crate::request::Request;
 use ent_functions::{Arg, Function};
 use ent_policy::{Designator, Expression};
@@ -69,7 +69,7 @@ fn only_of<'a>(
 fn only_value<'a>(request: &'a Request, designator: &'a Designator) -> Option<&'a Value>
     ensures { IfSome result (λ v. own_values designator.now request.now ≡ v.now ∷ []) }
 {
-    only_own(OwnValues::of(request, designator))
+    only_own(request, &Sought::of(designator))
 }
 
 // The designator that is the only argument.
@@ -107,9 +107,6 @@ fn found_in(request: &Request, value: &Value, designator: &Designator) -> Option
     ensures typed { IfSome result (λ v. HasType (Some boolean) v) }
     ensures value { IfSome result (λ v. IsFound value.now designator.now (own_values designator.now request.now) v) }
 {
-    if !has_value(request, designator) {
-        return None;
-    }
-    let found = is_own(request, designator, value);
+    let found = is_own(request, designator, value)?;
     Some(Evaluated::Known(Arg::One(Value::Boolean(found))))
 }

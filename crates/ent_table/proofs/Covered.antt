@@ -1,11 +1,10 @@
 -- The places of an entity's cells are all that its rows touch.
-use Rattle.std.proofs.Common.{◌≡◌, inl, inr, ℕ, zero, suc, ◌+◌, ◌-◌, ◌*◌, ◌<◌, ◌≤◌, List, [], ◌∷◌, length, map, nat_eq, Bool, true, false, cond, Option, Some, None, Result, Ok, Err, refl, sym, ap, subst, ◌∙◌, arith, true≢false}
+use Rattle.std.proofs.Common.{◌≡◌, ℕ, ◌+◌, ◌-◌, ◌*◌, ◌<◌, ◌≤◌, List, [], ◌∷◌, length, map, nat_eq, Bool, true, false, cond, Some, None, Result, Ok, Err, refl, sym, ap, subst, ◌∙◌, arith}
 use Rattle.std.specs.Prelude.{◌||◌, ◌&&◌, not, slice_get, bytes_eq, IfOk, String, string_bytes, if◌then◌else◌}
 use Rattle.std.specs.Cmp.Lexicographic.{pointwise, bytes_decides}
-use Rattle.std.specs.List.{AllByRecursion, IsDistinct, list_any}
+use Rattle.std.specs.List.{AllByRecursion, IsDistinct}
 use Rattle.std.specs.Option.{option_map, option_map_or}
 use Rattle.std.specs.String.{string_eq}
-use Rattle.std.proofs.lemmas.Map.Keys.{IsDistinct-cons, IsDistinct-head, IsDistinct-tail}
 use Rattle.std.proofs.lemmas.Option.{slice_get_within}
 use Rattle.indexmap.specs.IndexSet.{remove_key}
 use Rattle.ent_finder.specs.declared.row.RowKey.{RowKey}
@@ -18,7 +17,7 @@ use Rattle.ent_table.specs.Names.{Names, Triple, cell_count, has_name, is_listed
 use Rattle.ent_table.specs.Place.{StandsAt, blocks_of}
 use Rattle.ent_table.specs.Shape.{taken_out, without}
 use Rattle.ent_table.specs.Touched.{IsReach, list_in, names_entity, run, runs}
-use Rattle.ent_table.proofs.Counts.{AllPass, has_others, own_listed}
+use Rattle.ent_table.proofs.Counts.{has_others, own_listed}
 use Rattle.ent_table.proofs.Named.{triples-without}
 use Rattle.ent_table.proofs.Narrowed.{times_parts, without-map}
 use Rattle.ent_table.proofs.Places.{length-all_triples}

@@ -7,6 +7,7 @@ pub mod Grids
 pub mod Named
 pub mod Narrowed
 pub mod OtherRows
+pub mod Parted
 pub mod Places
 pub mod PlaceLemmas
 pub mod Putting

@@ -1,9 +1,8 @@
 -- Answers that are put at some places of a table.
-use Rattle.std.proofs.Common.{◌≡◌, inl, inr, ℕ, zero, suc, ◌+◌, ◌<◌, ◌≤◌, List, [], ◌∷◌, ◌++◌, Bool, true, false, cond, nat_eq, length, map, Option, Some, None, refl, sym, ap, subst, ◌∙◌, arith}
-use Rattle.std.specs.Prelude.{slice_get, slice_set, not, if◌then◌else◌}
+use Rattle.std.proofs.Common.{◌≡◌, inl, inr, ℕ, zero, suc, ◌+◌, ◌<◌, ◌≤◌, List, [], ◌∷◌, ◌++◌, Bool, true, false, cond, length, map, Some, None, refl, sym, ap, ◌∙◌, arith}
+use Rattle.std.specs.Prelude.{slice_get, slice_set, if◌then◌else◌}
 use Rattle.std.specs.List.{AllByRecursion}
 use Rattle.std.specs.Option.{option_map}
-use Rattle.std.proofs.lemmas.Bool.{eq-eqb}
 use Rattle.std.proofs.lemmas.Bool.Decides.{eqb_tells}
 use Rattle.std.proofs.lemmas.List.{length-set}
 use Rattle.std.proofs.lemmas.Option.{slice_get-get_or, slice_get-map, slice_get_within}
@@ -13,7 +12,7 @@ use Rattle.ent_eval.specs.Same.{same_answer}
 use Rattle.ent_table.specs.declared.touched.Placed.{Placed}
 use Rattle.ent_table.specs.Difference.{same_optional, unlike_count}
 use Rattle.ent_table.specs.Grid.{times}
-use Rattle.ent_table.specs.Names.{Names, Triple, cell_count, triple_of, triples}
+use Rattle.ent_table.specs.Names.{Names, cell_count, triple_of, triples}
 use Rattle.ent_table.specs.State.{answer_by}
 use Rattle.ent_table.specs.Touched.{answered, request_at, unlike_answers, with_answers}
 use Rattle.ent_table.proofs.Changes.{same_self}

@@ -1,6 +1,5 @@
 -- Cells that a row touches, put into the table before.
-use Rattle.std.proofs.Common.{◌≡◌, ◌⊎◌, inl, inr, ℕ, ◌<◌, ◌≤◌, List, length, map, Some, None, sym, ap, ◌∙◌, arith}
-use Rattle.std.specs.Prelude.{slice_get}
+use Rattle.std.proofs.Common.{◌≡◌, inl, inr, ℕ, ◌<◌, List, length, map, Some, sym, ap, ◌∙◌, arith}
 use Rattle.std.specs.List.{AllByRecursion}
 use Rattle.std.specs.Option.{option_map}
 use Rattle.std.proofs.lemmas.List.{length-map}
@@ -12,7 +11,7 @@ use Rattle.ent_eval.specs.Looks.{Looks}
 use Rattle.ent_table.specs.declared.touched.Placed.{Placed}
 use Rattle.ent_table.specs.Difference.{unlike_count}
 use Rattle.ent_table.specs.Grid.{times}
-use Rattle.ent_table.specs.Names.{Names, Triple, cell_count, triples}
+use Rattle.ent_table.specs.Names.{Names, cell_count, triples}
 use Rattle.ent_table.specs.State.{State, answer_by, answer_to, fresh}
 use Rattle.ent_table.specs.Step.{with_values}
 use Rattle.ent_table.specs.Touched.{AreAlikeElsewhere, DifferAt, IsReach, answered, unlike_answers, with_answers}

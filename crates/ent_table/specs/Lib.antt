@@ -4,6 +4,7 @@ pub mod Grid
 pub mod Left
 pub mod Limits
 pub mod Names
+pub mod Parts
 pub mod Place
 pub mod Review
 pub mod Shape

@@ -1,5 +1,5 @@
 -- Which cells other values in a row of attributes touch: those whose request names the row's entity in the row's category.
-use Rattle.std.specs.Prelude.{◌≡◌, ℕ, ◌+◌, zero, suc, List, [], ◌∷◌, ◌++◌, Bool, true, false, bytes_eq, filter, length, map, slice_get, slice_index_or, slice_set, Option, Some, None, if◌then◌else◌}
+use Rattle.std.specs.Prelude.{◌≡◌, ℕ, ◌+◌, zero, suc, List, [], ◌∷◌, ◌++◌, Bool, false, bytes_eq, filter, slice_get, slice_index_or, slice_set, Option, Some, None, if◌then◌else◌}
 use Rattle.std.specs.Option.{option_map_or}
 use Rattle.ent_values.specs.declared.value.Value.{Value}
 use Rattle.ent_finder.specs.declared.row.RowKey.{RowKey}
@@ -13,7 +13,6 @@ use Rattle.ent_table.specs.declared.touched.Placed.{Placed}
 use Rattle.ent_table.specs.Difference.{same_optional}
 use Rattle.ent_table.specs.Grid.{times}
 use Rattle.ent_table.specs.Names.{Names, Triple, has_name, triple_of, triples}
-use Rattle.ent_table.specs.Place.{StandsAt}
 use Rattle.ent_table.specs.State.{State, answer_by, answer_to}
 use Rattle.ent_table.specs.Step.{with_values}
 

@@ -25,7 +25,6 @@ impl<A: Attributes, P: Policies> Review<A, P> {
         ensures counted { self.new.pdp.evaluations ≡ min (self.old.pdp.evaluations + 1) (2 ^ 128 - 1) }
         ensures rest { OnlyEvaluates self.old self.new }
     {
-        let evaluation = self.pdp.evaluate(request)?;
-        Ok(evaluation.answer)
+        self.pdp.answer(request)
     }
 }

@@ -1,6 +1,6 @@
 //! The cells of a table in list order.
 
-ghost use Rattle.std.specs.Prelude.{◌≡◌};
+ghost use Rattle.std.specs.Prelude.{◌≡◌, drop};
 ghost use Rattle.std.specs.Iterator.{YieldsFirstBy, item_count};
 ghost use Rattle.std.specs.List.{zip};
 ghost use Rattle.ent_table.specs.Left.{HasTurned, HasTurnedAction, answers_left, cell_of, cells_left};
@@ -25,13 +25,15 @@ pub struct Cells<'a> {
 }
 
 impl<'a> Cells<'a> {
+    /// The requests of these names, with the answers from a place on.
     pub(crate) fn new(
         people: &'a [String],
         actions: &'a [String],
         resources: &'a [String],
         answers: &'a Grid<Shared<Answer>>,
+        place: usize,
     ) -> Cells<'a>
-        ensures { cells_left result ≡ zip (all_triples (texts people.now) (texts actions.now) (texts resources.now)) answers.now }
+        ensures { cells_left result ≡ zip (all_triples (texts people.now) (texts actions.now) (texts resources.now)) (drop place answers.now) }
     {
         Cells {
             people,
@@ -40,7 +42,7 @@ impl<'a> Cells<'a> {
             all_actions: actions,
             all_resources: resources,
             answers,
-            place: 0,
+            place,
         }
     }
 }

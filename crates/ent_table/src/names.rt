@@ -6,7 +6,7 @@ ghost use Rattle.ent_table.specs.State.{fresh_with};
 ghost use Rattle.ent_table.specs.Step.{Exceeds, IsAnswered, IsTested, name_added, name_dropped};
 
 use crate::edit::{Accepted, EditFault, List};
-use crate::fill::evaluate_all;
+use crate::fill::{Nearby, evaluate_all};
 use crate::lists::is_bad_name;
 use crate::review::{LAST_SERIAL, Review};
 use ent_eval::Answer;
@@ -96,6 +96,12 @@ impl<A: Attributes, P: Policies> Review<A, P> {
     {
         let blocks = self.table.names.blocks(list);
         let requests = self.table.names.requests_with(list, slice::from_ref(name));
+        // A new person's cells come last, and are likely those of the person before.
+        let nearby = Nearby {
+            table: &self.table.cells,
+            from: self.table.cells.len().saturating_sub(blocks.each),
+            apart: blocks.each,
+        };
         evaluate_all(
             self.alloc,
             &mut self.pdp,
@@ -103,6 +109,7 @@ impl<A: Attributes, P: Policies> Review<A, P> {
             requests.actions,
             requests.resources,
             blocks.count * blocks.each,
+            &nearby,
         )
     }
 }

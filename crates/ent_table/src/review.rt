@@ -12,7 +12,7 @@ ghost use Rattle.ent_table.specs.Step.{IsAnswered, IsSure, day_set, root_set, st
 
 use crate::cells::Cells;
 use crate::edit::{Accepted, Edit, EditFault, List};
-use crate::fill::evaluate_all;
+use crate::fill::{Nearby, evaluate_all};
 use crate::limits::Limits;
 use crate::table::Table;
 use ent_eval::{Answer, Pdp};
@@ -96,6 +96,7 @@ impl<A: Attributes, P: Policies> Review<A, P> {
             self.table.names.names(List::Actions),
             self.table.names.names(List::Resources),
             &self.table.cells,
+            0,
         )
     }
 
@@ -126,6 +127,12 @@ impl<A: Attributes, P: Policies> Review<A, P> {
         ensures rest { OnlyEvaluates self.old self.new }
     {
         let count = self.table.names.cell_count();
+        let blocks = self.table.names.blocks(List::People);
+        let nearby = Nearby {
+            table: &self.table.cells,
+            from: 0,
+            apart: blocks.each,
+        };
         evaluate_all(
             self.alloc,
             &mut self.pdp,
@@ -133,6 +140,7 @@ impl<A: Attributes, P: Policies> Review<A, P> {
             self.table.names.names(List::Actions),
             self.table.names.names(List::Resources),
             count,
+            &nearby,
         )
     }
 

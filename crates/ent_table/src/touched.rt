@@ -68,10 +68,10 @@ fn evaluate_one<A: Attributes, P: Policies>(
 {
     let (person, action, resource) = requests.at(place);
     let request = Request::listed(alloc, person, action, resource)?;
-    let evaluation = pdp.evaluate(&request)?;
+    let answer = pdp.answer(&request)?;
     Ok(Placed {
         place,
-        answer: Shared::new(alloc, evaluation.answer)?,
+        answer: Shared::new(alloc, answer)?,
     })
 }
 

@@ -2,7 +2,7 @@
 
 use crate::documents::document;
 use ent_combine::{IndKind, Outcome};
-use ent_eval::{Answer, Evaluation, Pdp, ReadKey, Reads, Request, Status, WhyEntry};
+use ent_eval::{Answer, Category, Evaluation, Pdp, ReadKey, Reads, Request, Status, WhyEntry};
 use ent_finder::{
     AttributeFinder, AttributeFinderModule, MapDocs, MapRows, Policies, PolicyFinder,
     PolicyFinderModule,
@@ -161,7 +161,8 @@ fn look_ups_are_noted_once(rt: HostRuntime) -> Result<(), Fail> {
 /// What ann does with the plan, asked anew of another resource.
 fn asked_anew(alloc: Global, action: &str, resource: &str) -> Result<Request, AllocError> {
     let mut request = listed(alloc, action, "plan")?;
-    request.ask_of(alloc, resource)?;
+    let mut resource = Category::of_resource(alloc, resource)?;
+    request.exchange_resource(alloc, &mut resource);
     Ok(request)
 }
 

@@ -1,8 +1,10 @@
 use Rattle.std.proofs.Common.{◌≡◌, drop}
-use Rattle.std.specs.List.{list_any}
+use Rattle.std.specs.List.{flat_map, list_any}
+use Rattle.ent_eval.specs.Sought.{values_of}
 use Rattle.ent_eval.specs.Target.{is_true}
 use Rattle.ent_eval.proofs.holds.holds_of.Given as goal
 
-abbrev pub invariant-loop-value : goal.invariant-loop-value
-invariant-loop-value l =
-    list_any (is_true l.test.function l.test.literal) (drop l.value-index l.value-items) ≡ list_any (is_true l.test.function l.test.literal) l.value-items
+abbrev pub invariant-loop-category : goal.invariant-loop-category
+invariant-loop-category l =
+    list_any (is_true l.test.function l.test.literal) (flat_map (values_of l.test.designator) (drop l.category-index l.category-items))
+    ≡ list_any (is_true l.test.function l.test.literal) (flat_map (values_of l.test.designator) l.category-items)

@@ -1,28 +1,34 @@
-use Rattle.std.proofs.Common.{◌≡◌, ◌+◌, ◌++◌, ◌∷◌, [], take, ◌∙◌, rules}
-use Rattle.std.specs.Prelude.{string_bytes}
-use Rattle.ent_eval.specs.LooksOf.{looks_of}
+use Rattle.std.proofs.Common.{◌≡◌, ◌++◌, map, ap, ◌∙◌, get_or, sym, rules}
+use Rattle.std.specs.Prelude.{slice_set}
+use Rattle.std.proofs.lemmas.List.{set-get_or, take_all}
 use Rattle.ent_eval.specs.Answer.{answer}
-use Rattle.ent_eval.specs.Listed.{about}
-use Rattle.ent_table.specs.Names.{texts, triple_of}
-use Rattle.ent_table.specs.State.{answer_by}
-use Rattle.ent_table.proofs.Fills.{one_more, one_more_text}
+use Rattle.ent_eval.specs.Listed.{asked_about}
+use Rattle.ent_eval.specs.LooksOf.{looks_of}
+use Rattle.ent_table.proofs.Fills.{asked, asked_of_each, one_more_asked}
 use Rattle.ent_table.proofs.fill.evaluate_resources.Goals as goal
 
-pub loop-resource-preserved : goal.loop-resource-preserved
-loop-resource-preserved g c =
+pub loop-category-preserved : goal.loop-category-preserved
+loop-category-preserved g c =
     let looks = looks_of g.A.Attributes.sources g.P.Policies.slots c.args.pdp.now in
-    let resources = c.args.resources.now in
-    let resource = c.resource-item.result in
-    let is : c.in_ok-evaluation.evaluation.answer ≡ answer_by looks (triple_of c.args.person.now c.args.action.now (string_bytes resource)) =
-    c.in_ok-evaluation.ensures.answer
-    ∙ (λ t. answer (looks_of g.A.Attributes.sources g.P.Policies.slots (c.loop-resource.invariant.rest t)) (c.in_ok-ask_of.ensures.ok t))
-    ∙ (λ t. answer looks (record { categories = c.loop-resource.invariant.request t ++ about (c.as_str.ensures.value t) ∷ [] }))
-    in
-    let more = one_more_text resources c.loop-resource.resource-index resource c.loop-resource-test.true c.resource-item.is in
+    let category = c.category-item.result in
+    let there = c.category-item.is in
+    let is : c.in_ok-answer.answer ≡ asked looks c.args.person.now c.args.action.now category =
+    c.in_ok-answer.ensures.answer
+    ∙ (λ t. answer (looks_of g.A.Attributes.sources g.P.Policies.slots (c.loop-category.invariant.rest t)) (asked_about (sym there t) (c.loop-category.invariant.request t))) in
     record {
-      cells = c.in_ok-push.ensures.items ∙ one_more (triple_of c.args.person.now c.args.action.now) (answer_by looks) c.args.cells.now.items c.loop-resource.cells.items (texts (take c.loop-resource.resource-index resources)) (texts (take (c.loop-resource.resource-index + 1) resources)) (string_bytes resource) c.in_ok-answer.answer more (c.in_ok-answer.ensures ∙ is) c.loop-resource.invariant.cells;
-      request =
-          (λ t. take 2 (c.in_ok-ask_of.ensures.ok t).categories)
-          ∙ (λ t. take 2 (c.loop-resource.invariant.request t ++ about c.as_str.result.now ∷ []));
+      cells = c.in_ok-push.ensures.items ∙ one_more_asked (asked looks c.args.person.now c.args.action.now) c.args.cells.now.items c.loop-category.cells.items c.args.categories.now c.loop-category.category-index category c.in_ok-cell.cell
+          c.loop-category-test.true (there ∙ ap (λ cs. get_or cs c.loop-category.category-index category) c.loop-category.invariant.categories) (c.in_ok-cell.ensures ∙ is) c.loop-category.invariant.cells;
+      request = search rules;
+      categories = ap (λ r. slice_set c.loop-category.categories c.loop-category.category-index r) c.in_ok-answer.ensures.resource ∙ set-get_or c.loop-category.categories c.loop-category.category-index category ∙ c.loop-category.invariant.categories;
       rest = search rules;
     }
+
+pub returns-clause-cells : goal.returns-clause-cells
+returns-clause-cells g c resources are =
+    let looks = looks_of g.A.Attributes.sources g.P.Policies.slots c.args.pdp.now in
+    let person = c.args.person.now in
+    let action = c.args.action.now in
+    let whole = take_all c.loop-category.category-index c.args.categories.now c.loop-category-test.false in
+    c.loop-category.invariant.cells
+    ∙ ap (λ l. c.args.cells.now.items ++ map (asked looks person action) l) (whole ∙ are)
+    ∙ ap (λ l. c.args.cells.now.items ++ l) (asked_of_each looks person action resources)

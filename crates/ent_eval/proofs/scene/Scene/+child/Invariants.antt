@@ -2,6 +2,7 @@ use Rattle.std.proofs.Common.{◌+◌, ◌*◌}
 use Rattle.ent_eval.specs.Gathered.{HasGathered}
 use Rattle.ent_eval.specs.Judged.{stops}
 use Rattle.ent_eval.specs.Hops.{child_part}
+use Rattle.ent_eval.specs.Path.{keys_of}
 use Rattle.ent_eval.proofs.Shallow.{worth_of_hop}
 use Rattle.ent_eval.proofs.Walk.{IsGoing, values_to}
 use Rattle.ent_eval.proofs.scene.Scene.+child.Given as goal
@@ -38,6 +39,6 @@ decreases-tree g l = l.hops * worth_of_hop + 8 * 31 + 7
 
 abbrev pub invariant-children-loop-child : goal.invariant-children-loop-child
 invariant-children-loop-child g l = record {
-  going : IsGoing (stops l.fn.algorithm) (child_part (g.L.LookUps.looks l.self.held.now) l.self.request.now l.fn.hops l.path) l.children l.child-index l.initial.reads l.reads;
-  gathered : HasGathered l.fn.algorithm l.gathering (values_to (child_part (g.L.LookUps.looks l.self.held.now) l.self.request.now l.fn.hops l.path) l.children l.child-index);
+  going : IsGoing (stops l.fn.algorithm) (child_part (g.L.LookUps.looks l.self.held.now) l.self.request.now l.fn.hops (keys_of l.path)) l.children l.child-index l.initial.reads l.reads;
+  gathered : HasGathered l.fn.algorithm l.gathering (values_to (child_part (g.L.LookUps.looks l.self.held.now) l.self.request.now l.fn.hops (keys_of l.path)) l.children l.child-index);
 }

@@ -4,7 +4,7 @@ use Rattle.std.proofs.lemmas.Result.{IfOk-weaker, on_ok_weaker}
 use Rattle.ent_functions.specs.Applied.{applied}
 use Rattle.ent_policy.specs.Variables.{definition_of}
 use Rattle.ent_eval.specs.Expression.{evaluated_of, meaning}
-use Rattle.ent_eval.specs.Noted.{noted}
+use Rattle.ent_eval.specs.Noted.{noting}
 use Rattle.ent_eval.specs.Typed.{HasType, type_of}
 use Rattle.ent_eval.proofs.Arguments.{all-value, next_argument, settled-reads, settled-type, settled-value}
 use Rattle.ent_eval.proofs.Variables.{definition_part, definition_type, has_reference, worth-falls}
@@ -54,7 +54,7 @@ variable-returns-clause-value g t c =
 pub variable-returns-clause-reads : goal.variable-returns-clause-reads
 variable-returns-clause-reads g t c =
     let found : definition_of c.args.definitions.now c.args.id.now ≡ Some c.in-Some.definition.now = sym c.in-Some.ensures in
-    on_ok_weaker c.expression.result (λ is. is ∙ ap (λ p. noted c.args.reads.now p.reads) (sym (definition_part c.args.definitions.now c.args.references c.args.id.now c.in-Some.definition.now found
+    on_ok_weaker c.expression.result (λ is. is ∙ ap (λ p. noting c.args.reads.now p.reads) (sym (definition_part c.args.definitions.now c.args.references c.args.id.now c.in-Some.definition.now found
     (g.L.LookUps.looks c.args.self.now.held.now) c.args.self.now.request.now (has_reference c.args.definitions.now c.args.references c.args.id.now c.requires.typed)))) c.expression.ensures.reads
 
 pub variable-returns-clause-typed : goal.variable-returns-clause-typed
@@ -67,7 +67,7 @@ application-returns-in-Some-clause-value g t c =
 
 pub application-returns-in-Some-clause-reads : goal.application-returns-in-Some-clause-reads
 application-returns-in-Some-clause-reads g t c =
-    ap (λ p. noted c.args.reads.now p.reads) (sym (c.in-Some.ensures.value (g.L.LookUps.looks c.args.self.now.held.now) c.args.definitions.now c.args.references))
+    ap (λ p. noting c.args.reads.now p.reads) (sym (c.in-Some.ensures.value (g.L.LookUps.looks c.args.self.now.held.now) c.args.definitions.now c.args.references))
 
 pub application-returns-in-Some-clause-typed : goal.application-returns-in-Some-clause-typed
 application-returns-in-Some-clause-typed g t c = c.in-Some.ensures.typed c.args.definitions.now c.args.references c.requires.typed

@@ -1,5 +1,7 @@
-use Rattle.std.proofs.Common.{arith}
+use Rattle.std.proofs.Common.{◌∙◌, arith}
 use Rattle.std.proofs.lemmas.Result.{IfOk-weaker}
+use Rattle.ent_eval.specs.Path.{keys_of}
+use Rattle.ent_eval.specs.Judged.{or_nothing}
 use Rattle.ent_eval.specs.Rule.{rule_part}
 use Rattle.ent_eval.proofs.Children.{all_children, all_reads, last_child, last_reads, next_child}
 use Rattle.ent_eval.proofs.Parts.{on_ok}
@@ -7,31 +9,31 @@ use Rattle.ent_eval.proofs.scene.Scene.rules.Goals as goal
 
 pub returns-in-Stop-clause-value : goal.returns-in-Stop-clause-value
 returns-in-Stop-clause-value g c =
-    IfOk-weaker c.finish.result _ _ (λ a is. last_child c.args.path.now c.args.algorithm (rule_part (g.L.LookUps.looks c.args.self.now.held.now) c.args.self.now.request.now c.args.definitions.now c.args.path.now) c.args.rules.now c.loop-rule.rule-index c.rule-item.result c.in_ok-answer.answer c.in_ok-take.field-0
+    IfOk-weaker c.finish.result _ _ (λ a is. last_child (keys_of c.args.path.now) c.args.algorithm (rule_part (g.L.LookUps.looks c.args.self.now.held.now) c.args.self.now.request.now c.args.definitions.now (keys_of c.args.path.now)) c.args.rules.now c.loop-rule.rule-index c.rule-item.result (or_nothing c.in_ok-answer.answer) c.in_ok-take.field-0
     c.loop-rule.gathering c.take.new.self c.args.reads.now c.loop-rule.reads c.rule.new.reads
     c.loop-rule-test.true c.rule-item.is c.loop-rule.invariant.going c.loop-rule.invariant.gathered c.in_ok-answer.ensures.value c.in_ok-answer.ensures.reads
-    c.in_ok-take.ensures.gathered c.in_ok-take.ensures.progress c.in-Stop.is a is) c.finish.ensures
+    c.in_ok-take.ensures.gathered c.in_ok-take.ensures.progress c.in-Stop.is (or_nothing a) is) c.finish.ensures.value
 
 pub returns-in-Stop-clause-reads : goal.returns-in-Stop-clause-reads
 returns-in-Stop-clause-reads g c =
-    on_ok c.finish.result _ (last_reads c.args.path.now c.args.algorithm (rule_part (g.L.LookUps.looks c.args.self.now.held.now) c.args.self.now.request.now c.args.definitions.now c.args.path.now) c.args.rules.now c.loop-rule.rule-index c.rule-item.result c.in_ok-answer.answer c.in_ok-take.field-0
+    on_ok c.finish.result _ (c.finish.ensures.reads ∙ last_reads (keys_of c.args.path.now) c.args.algorithm (rule_part (g.L.LookUps.looks c.args.self.now.held.now) c.args.self.now.request.now c.args.definitions.now (keys_of c.args.path.now)) c.args.rules.now c.loop-rule.rule-index c.rule-item.result (or_nothing c.in_ok-answer.answer) c.in_ok-take.field-0
     c.loop-rule.gathering c.take.new.self c.args.reads.now c.loop-rule.reads c.rule.new.reads
     c.loop-rule-test.true c.rule-item.is c.loop-rule.invariant.going c.loop-rule.invariant.gathered c.in_ok-answer.ensures.value c.in_ok-answer.ensures.reads
     c.in_ok-take.ensures.gathered c.in_ok-take.ensures.progress c.in-Stop.is)
 
 pub loop-rule-preserved : goal.loop-rule-preserved
 loop-rule-preserved g c =
-    next_child c.args.algorithm (rule_part (g.L.LookUps.looks c.args.self.now.held.now) c.args.self.now.request.now c.args.definitions.now c.args.path.now) c.args.rules.now c.loop-rule.rule-index c.rule-item.result c.in_ok-answer.answer c.in_ok-take.field-0
+    next_child c.args.algorithm (rule_part (g.L.LookUps.looks c.args.self.now.held.now) c.args.self.now.request.now c.args.definitions.now (keys_of c.args.path.now)) c.args.rules.now c.loop-rule.rule-index c.rule-item.result (or_nothing c.in_ok-answer.answer) c.in_ok-take.field-0
     c.loop-rule.gathering c.take.new.self c.args.reads.now c.loop-rule.reads c.rule.new.reads
     c.loop-rule-test.true c.rule-item.is c.loop-rule.invariant.going c.loop-rule.invariant.gathered c.in_ok-answer.ensures.value c.in_ok-answer.ensures.reads
     c.in_ok-take.ensures.gathered c.in_ok-take.ensures.progress c.in_default.is
 
 pub returns-clause-value : goal.returns-clause-value
 returns-clause-value g c =
-    IfOk-weaker c.finish-2.result _ _ (λ a is. all_children c.args.algorithm (rule_part (g.L.LookUps.looks c.args.self.now.held.now) c.args.self.now.request.now c.args.definitions.now c.args.path.now) c.args.rules.now c.loop-rule.rule-index c.args.reads.now c.loop-rule.reads c.loop-rule.invariant.going
-    (omega (arith, c.loop-rule-test.false)) c.args.path.now c.loop-rule.gathering a c.loop-rule.invariant.gathered is) c.finish-2.ensures
+    IfOk-weaker c.finish-2.result _ _ (λ a is. all_children c.args.algorithm (rule_part (g.L.LookUps.looks c.args.self.now.held.now) c.args.self.now.request.now c.args.definitions.now (keys_of c.args.path.now)) c.args.rules.now c.loop-rule.rule-index c.args.reads.now c.loop-rule.reads c.loop-rule.invariant.going
+    (omega (arith, c.loop-rule-test.false)) (keys_of c.args.path.now) c.loop-rule.gathering (or_nothing a) c.loop-rule.invariant.gathered is) c.finish-2.ensures.value
 
 pub returns-clause-reads : goal.returns-clause-reads
 returns-clause-reads g c =
-    on_ok c.finish-2.result _ (all_reads c.args.algorithm (rule_part (g.L.LookUps.looks c.args.self.now.held.now) c.args.self.now.request.now c.args.definitions.now c.args.path.now) c.args.rules.now c.loop-rule.rule-index c.args.reads.now c.loop-rule.reads c.loop-rule.invariant.going
+    on_ok c.finish-2.result _ (c.finish-2.ensures.reads ∙ all_reads c.args.algorithm (rule_part (g.L.LookUps.looks c.args.self.now.held.now) c.args.self.now.request.now c.args.definitions.now (keys_of c.args.path.now)) c.args.rules.now c.loop-rule.rule-index c.args.reads.now c.loop-rule.reads c.loop-rule.invariant.going
     (omega (arith, c.loop-rule-test.false)))

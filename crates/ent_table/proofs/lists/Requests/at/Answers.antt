@@ -1,4 +1,4 @@
-use Rattle.std.proofs.Common.{◌<◌, ◌*◌, length, string_bytes}
+use Rattle.std.proofs.Common.{length, string_bytes}
 use Rattle.std.proofs.lemmas.List.{length-map}
 use Rattle.ent_table.specs.Place.{names_in}
 use Rattle.ent_table.proofs.Requested.{counted, person_below, requested}

@@ -1,9 +1,9 @@
-use Rattle.std.proofs.Common.{◌≡◌, List, length, map, min, sym, ap, ◌∙◌, arith}
+use Rattle.std.proofs.Common.{◌≡◌, length, ap, ◌∙◌, arith}
 use Rattle.std.proofs.lemmas.List.{length-map}
 use Rattle.std.proofs.lemmas.Slice.Zip.{length-zip}
 use Rattle.ent_table.specs.Names.{triples}
 use Rattle.ent_table.specs.Review.{state_of}
-use Rattle.ent_table.specs.State.{State, answer_to, fresh, table_of}
+use Rattle.ent_table.specs.State.{State, answer_to, fresh}
 use Rattle.ent_table.proofs.review.Review.cell_count.Goals as goal
 
 pub returns : goal.returns

@@ -1,0 +1,64 @@
+//! The answers to one action and one resource, person by person.
+
+ghost use Rattle.std.specs.Prelude.{◌≡◌, ◌+◌, drop};
+ghost use Rattle.std.specs.Iterator.{YieldsFirstBy, item_count};
+ghost use Rattle.ent_table.specs.Names.{texts};
+ghost use Rattle.ent_table.specs.Parts.{answer_of, column, column_left};
+
+use crate::grid::Grid;
+use ent_eval::Answer;
+use ent_values::Shared;
+use std::cmp::min;
+
+/// The people in list order, each with the answer to the person's request of one action and one resource.
+#[derive(Drop)]
+pub struct Column<'a> {
+    // The people that are left.
+    people: &'a [String],
+    // All answers, the place of the next one, and how many places the next person's is behind it.
+    answers: &'a Grid<Shared<Answer>>,
+    place: usize,
+    stride: usize,
+}
+
+impl<'a> Column<'a> {
+    /// The answer at a place for the first person, and a stride further for each of the others.
+    pub(crate) fn new(
+        people: &'a [String],
+        answers: &'a Grid<Shared<Answer>>,
+        place: usize,
+        stride: usize,
+    ) -> Column<'a>
+        ensures { column_left result ≡ column stride (texts people.now) (drop place answers.now) }
+    {
+        Column {
+            people,
+            answers,
+            place,
+            stride,
+        }
+    }
+
+    /// The place of the next person's answer, or one behind all answers.
+    fn next_place(&self) -> usize
+        ensures { drop result self.now.answers.now ≡ drop (self.now.place + self.now.stride) self.now.answers.now }
+    {
+        min(self.place.saturating_add(self.stride), self.answers.len())
+    }
+}
+
+impl<'a> Iterator for Column<'a> {
+    type Item = (&'a str, &'a Answer);
+
+    ghost next_gives = { YieldsFirstBy answer_of column_left };
+
+    ghost remaining = { item_count column_left };
+
+    fn next(&mut self) -> Option<(&'a str, &'a Answer)> {
+        let (person, people) = self.people.split_first()?;
+        let (answer, _) = self.answers.next_from(self.place)?;
+        self.place = self.next_place();
+        self.people = people;
+        Some((person.as_str(), answer.get()))
+    }
+}
