@@ -1,26 +1,71 @@
 -- The replies of the service are those of the headline.
-use Rattle.std.proofs.Common.{refl}
-use Rattle.ent_line.specs.Headline.{IsHeadline}
+use Rattle.std.proofs.Common.{◌<◌, ◌≡◌, ℕ, Bool, List, length, None, Result, Ok, Err, ap, ◌∙◌, refl}
+use Rattle.std.specs.Prelude.{if◌then◌else◌}
+use Rattle.std.proofs.lemmas.Bool.{lt-ltb}
+use Rattle.ent_table.specs.State.{table_of}
+use Rattle.ent_table.specs.declared.edit.Edit.{Edit}
+use Rattle.ent_report.specs.Reports as report
+use Rattle.ent_report.specs.World.{World}
+use Rattle.ent_report.specs.declared.fault.ReportFault.TheVariants.{NotThere}
+use Rattle.ent_line.specs.Asked.{Command}
+use Rattle.ent_line.specs.Edits.{NoEdit, edit_of}
+use Rattle.ent_line.specs.Headline.{IsAnswered, IsEdited, IsHeadline, IsHeard}
+use Rattle.ent_line.specs.Lines.{line_limit}
+use Rattle.ent_line.specs.Replies.{refused}
 use Rattle.ent_line.specs.Reports.{can_text, who_text}
-use Rattle.ent_line.specs.Step.{by_rule_told, can_told, cell_or_refusal, cell_told, changes_told, counts_told, notices_or_refusal, report_or_refusal, request_answered, response_or_refusal, run, settled, table_marked, table_told, who_told}
-use Rattle.ent_line.proofs.SessionLemmas.{refusal_keeps, separate}
+use Rattle.ent_line.specs.Step.{by_rule_told, can_told, cell_or_refusal, cell_told, changes_told, counts_told, data_of, notices_or_refusal}
+use Rattle.ent_line.specs.Step.{report_or_refusal, request_answered, requested, response_or_refusal, run, settled, step, table_marked, table_told, told, who_told}
+use Rattle.ent_line.proofs.AskedLemmas.{refusal_is}
+use Rattle.ent_line.proofs.CommandLemmas.{made, refusal_keeps, run_made, short_told}
+use Rattle.ent_line.proofs.SessionLemmas.{separate}
+
+long_refused : (w : World) (line : List ℕ) → line_limit < length line → step w line ≡ (refused 1 None, w)
+unfolding step
+long_refused w line long = ap (λ (b : Bool). if b then (refused 1 None, w) else told w (data_of line)) (lt-ltb line_limit (length line) long)
+
+heard : (w : World) (line : List ℕ) → IsHeard w line
+heard w line = record {
+  answer = λ v a is. is;
+  too_long = long_refused w line;
+  no_json = λ short none. short_told w line short ∙ ap (told w) none;
+  no_command = λ d number short reads asks.
+      let between = refusal_is d number asks in
+      (between.0, between.1, short_told w line short ∙ ap (told w) reads ∙ ap (requested w) asks);
+  command = λ d session c short reads asks. short_told w line short ∙ ap (told w) reads ∙ ap (requested w) asks;
+  refusal = λ v number sub is. refusal_keeps w v line number sub is;
+}
+
+-- a command is answered as what it makes
+makes : (w : World) (session : ℕ) (c : Command) (r : Result Edit NoEdit) → edit_of c ≡ r → run w session c ≡ made w (run w session c) r
+makes w session c r is = run_made w session (run w session c) c (λ h. refl) ∙ ap (made w (run w session c)) is
+
+edited : (w : World) (session : ℕ) (c : Command) → IsEdited w session c
+edited w session c = record {
+  edit = λ edit t is leads. makes w session c _ is ∙ ap (settled w) leads;
+  no_step = λ edit fault is leads. makes w session c _ is ∙ ap (settled w) leads;
+  fault = λ sub is. makes w session c _ is;
+  no_value = λ is. makes w session c _ is;
+  no_row = λ row is. makes w session c _ is;
+}
+
+answered : (w : World) (session : ℕ) → IsAnswered w session
+unfolding run table_told cell_told counts_told can_told who_told by_rule_told table_marked changes_told request_answered
+answered w session = record {
+  table = refl;
+  cell = λ x a e i. (cell_or_refusal x (e i), w);
+  unlisted = λ x e i. (cell_or_refusal x (e i), w);
+  ask = λ d request e i. (response_or_refusal w.state (e i), w);
+  no_request = λ d e i. (response_or_refusal w.state (e i), w);
+  counts = refl;
+  can = λ person found e i. (report_or_refusal can_text (e i), w);
+  can_unlisted = λ person e i. (report_or_refusal can_text (if e i then Ok (report.can_in person (table_of w.state)) else Err NotThere), w);
+  who = λ action resource people e i. (report_or_refusal who_text (e i), w);
+  who_unlisted = λ action resource e i. (report_or_refusal who_text (if e i then Ok (report.who_in action resource (table_of w.state)) else Err NotThere), w);
+  by_rule = λ policy rule. refl;
+  mark = refl;
+  notices = λ kept e i. (notices_or_refusal w.state (e i), w);
+  no_mark = λ e i. (notices_or_refusal w.state (e i), w);
+}
 
 pub headline : IsHeadline
-unfolding run table_told cell_told counts_told can_told who_told by_rule_told table_marked changes_told request_answered
-headline = record {
-  table = λ w session. refl;
-  cell = λ w session x a e i. (cell_or_refusal x (e i), w);
-  unlisted = λ w session x e i. (cell_or_refusal x (e i), w);
-  ask = λ w session d request e i. (response_or_refusal w.state (e i), w);
-  no_request = λ w session d e i. (response_or_refusal w.state (e i), w);
-  counts = λ w session. refl;
-  can = λ w session person found e i. (report_or_refusal can_text (e i), w);
-  who = λ w session action resource people e i. (report_or_refusal who_text (e i), w);
-  by_rule = λ w session policy rule. refl;
-  mark = λ w session. refl;
-  notices = λ w session kept e i. (notices_or_refusal w.state (e i), w);
-  no_mark = λ w session e i. (notices_or_refusal w.state (e i), w);
-  edit = λ w edit t e i. settled w (e i);
-  refusal = refusal_keeps;
-  sessions = separate;
-}
+headline = record { lines = heard; commands = edited; questions = answered; sessions = separate }

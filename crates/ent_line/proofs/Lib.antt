@@ -1,3 +1,5 @@
+mod AskedLemmas
+mod CommandLemmas
 mod HeadlineLemmas
 pub mod LineLemmas
 pub mod PieceLemmas

@@ -1,5 +1,5 @@
 -- What a line asks for.
-use Rattle.std.specs.Prelude.{ℕ, ◌-◌, ◌^◌, ◌||◌, List, [], ◌∷◌, Bool, true, false, nat_lt, if◌then◌else◌, Option, Some, None, option_and_then, option_map, Result, Ok, Err, codes, bytes_eq}
+use Rattle.std.specs.Prelude.{ℕ, ◌-◌, ◌^◌, ◌||◌, List, [], ◌∷◌, nat_lt, if◌then◌else◌, Option, Some, None, option_and_then, option_map, Result, Ok, Err, codes, bytes_eq}
 use Rattle.serde_json.specs.Data as json
 use Rattle.serde_json.specs.Data.{Data, Items}
 use Rattle.serde_json.specs.Find.{get, as_array, as_number, as_str}

@@ -7,7 +7,8 @@ use Rattle.serde_json.specs.View.{items_view, view}
 use Rattle.ent_line.specs.Asked as asked
 use Rattle.ent_line.specs.declared.attribute_command.AskedRow.{AskedRow}
 use Rattle.ent_line.specs.declared.command.Command.{Command}
-use Rattle.ent_line.specs.declared.command.Command.TheVariants.{AddName, DropName, AddPolicy, ReplacePolicy, WithdrawPolicy, SetAttribute, SetRoot, SetDay, Table, Cell, Ask, Counts, Can, Who, ByRule, Mark, Notices}
+use Rattle.ent_line.specs.declared.command.Command.TheVariants.{AddName, DropName, AddPolicy, ReplacePolicy, WithdrawPolicy, SetAttribute, SetRoot, SetDay}
+use Rattle.ent_line.specs.declared.command.Command.TheVariants.{Table, Cell, Ask, Counts, Can, Who, ByRule, Mark, Notices}
 use Rattle.ent_table.specs.Names.{triple_of}
 
 -- a row without where its parts lie in memory

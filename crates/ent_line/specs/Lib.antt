@@ -1,6 +1,7 @@
 pub mod Asked
 pub mod Cells
 pub mod CommandView
+pub mod Edits
 pub mod Headline
 pub mod Lines
 pub mod LongLines

@@ -54,7 +54,9 @@ pub record Breaks {W : Type 0} (Answers : Handling W) (e : Ends W) (lines : List
 -- how serving ends
 abbrev pub ServesUntil : {W : Type 0} → Handling W → Ends W → Result ℕ ServeFault → Type 0
 -- all was read, each line has its reply, and this is their number
-ServesUntil Answers e (Ok n) = (lines : List (List ℕ)) × (rest : List ℕ) × (answers : List Answer) × Serves Answers e lines rest (with_last lines rest) answers × OnSome e.unread (IsAtEnd e.left) × (n ≡ length (with_last lines rest))
+ServesUntil Answers e (Ok n) =
+    (lines : List (List ℕ)) × (rest : List ℕ) × (answers : List Answer) × Serves Answers e lines rest (with_last lines rest) answers
+    × OnSome e.unread (IsAtEnd e.left) × (n ≡ length (with_last lines rest))
 -- each line that was read to its newline has its reply, and the rest wasn't handled
 ServesUntil Answers e (Err Read) = (lines : List (List ℕ)) × (rest : List ℕ) × (answers : List Answer) × Serves Answers e lines rest lines answers
 -- each line was handled, and the replies before the last were written in full

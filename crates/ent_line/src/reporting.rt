@@ -15,12 +15,15 @@ use ent_report::{NoticeFault, ReportFault};
 use std::alloc::AllocError;
 
 impl<A: Attributes, P: Policies> Service<A, P> {
-    /// `counts`.
+    /// `counts`. They are kept until the next edit.
     #[tactic(auto, unfolding(crate::specs::Step::counts_told))]
-    pub(crate) fn counts(&self) -> Result<Reply, AllocError>
-        requires { IsReady A.sources P.slots self.now }
-        ensures { IfOk result (λ r. reply_view r ≡ counts_told (world_of A.sources P.slots self.now).state) }
+    pub(crate) fn counts(&mut self) -> Result<Reply, AllocError>
+        requires { IsReady A.sources P.slots self.old }
+        ensures ready { IsReady A.sources P.slots self.new }
+        ensures ok { IfOk result (λ r. reply_view r ≡ counts_told (world_of A.sources P.slots self.old).state) }
+        ensures world { world_of A.sources P.slots self.new ≡ world_of A.sources P.slots self.old }
     {
+        self.desk.keep_counts();
         let text = counts_text(self.alloc, self.desk.counts())?;
         Ok(Reply::Text(text))
     }
@@ -63,9 +66,14 @@ impl<A: Attributes, P: Policies> Service<A, P> {
         requires { IsReady A.sources P.slots self.now }
         ensures { IfOk result (λ r. reply_view r ≡ by_rule_told (world_of A.sources P.slots self.now).state policy.now (option_copied rule.entry)) }
     {
-        let found = self.desk.by_rule(policy, rule)?;
-        let text = by_rule_text(self.alloc, found.as_slice())?;
-        Ok(Reply::Text(text))
+        match self.desk.by_rule(policy, rule) {
+            Ok(found) => {
+                let text = by_rule_text(self.alloc, found.as_slice())?;
+                Ok(Reply::Text(text))
+            }
+            Err(ReportFault::NotThere) => unreachable!(),
+            Err(ReportFault::Memory) => Err(AllocError),
+        }
     }
 
     /// `mark`.

@@ -41,8 +41,8 @@ use std::alloc::{AllocError, Global};
 /// `module`, a whole number; `attr.set` with `category`, `entity`, `attribute`, `type`, an optional `issuer`, `values` and an optional
 /// `module`; `root.set` with `reference` and `day.set` with `day`, or null for none; `table`; `cell` with `person`, `action` and
 /// `resource`; `ask` with `request`; `counts`; `can` with `person`, and `who` with `action` and `resource`; `by_rule` with `policy` and
-/// `rule`, or null for a default; `mark` and `notices`, each of the line's session. Each accepted line is one edit of the review, a mark, or
-/// a look at its table; a refused line changes nothing.
+/// `rule`, or null for a default; `mark` and `notices`, each of the line's session. A line that isn't refused is an edit, a mark, or a
+/// question, which changes nothing but the count of evaluations; a refused line changes nothing.
 #[derive(Drop)]
 pub struct Service<A = AttributeFinder, P = PolicyFinder> {
     pub(crate) alloc: Global,

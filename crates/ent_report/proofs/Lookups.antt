@@ -5,7 +5,6 @@ use Rattle.std.specs.BTreeMap.{BTreeMap, Updates, get}
 use Rattle.std.specs.Cmp.Lexicographic.{bytes_decides, nat_list_eq_equiv, pointwise, slice_cmp}
 use Rattle.std.specs.List.{flat_map, list_any, zip}
 use Rattle.std.specs.Map.{lookup}
-use Rattle.std.specs.Ordering.{is_eq}
 use lib.Dec.{ltb}
 use Rattle.std.proofs.lemmas.Bool.{false≢true, lt-ltb}
 use Rattle.std.proofs.lemmas.Option.{get_or_from_slice_get, slice_get_within}
@@ -15,10 +14,10 @@ use Rattle.std.proofs.lemmas.Map.Keys.{any_passes_from_place}
 use Rattle.std.proofs.lemmas.Map.Text.{is_eq-slice_cmp}
 use Rattle.std.proofs.lemmas.Slice.Eq.{bytes_eq-Decides}
 use Rattle.ent_eval.specs.declared.answer.Answer.{Answer}
-use Rattle.ent_table.specs.Names.{Names, Triple, all_triples, has_name, is_listed, triple_of, triples, with_actions, with_resources}
+use Rattle.ent_table.specs.Names.{Names, Triple, has_name, is_listed, triple_of, triples, with_actions, with_resources}
 use Rattle.ent_table.specs.State.{State, answer_to}
 use Rattle.ent_report.specs.Order.{ArePlaces, IsPlaceIn}
-use Rattle.ent_report.specs.Table.{IsKept, answer_in, names_in, same_triple, table_in}
+use Rattle.ent_report.specs.Table.{answer_in, names_in, same_triple, table_in}
 use Rattle.ent_report.specs.declared.kept.Kept.{Kept}
 
 -- ---- one of the elements
@@ -73,14 +72,14 @@ any_with_actions x p as_ rs =
     ∙ any_left (λ a. pointwise nat_eq x.action a && has_name x.resource rs) (pointwise nat_eq x.person p) as_
     ∙ ap (λ l. pointwise nat_eq x.person p && l) (any_right (pointwise nat_eq x.action) (has_name x.resource rs) as_)
 
-any_listed : (x : Triple) (n : Names) → list_any (same_triple x) (triples n) ≡ is_listed n x
+pub any_listed : (x : Triple) (n : Names) → list_any (same_triple x) (triples n) ≡ is_listed n x
 any_listed x n =
     any_flat (same_triple x) (λ p. with_actions p n.actions n.resources) n.people
     ∙ any_same _ (λ p. pointwise nat_eq x.person p && (has_name x.action n.actions && has_name x.resource n.resources)) (λ p. any_with_actions x p n.actions n.resources) n.people
     ∙ any_right (pointwise nat_eq x.person) (has_name x.action n.actions && has_name x.resource n.resources) n.people
 
 -- the same requests are equal
-same_request : (x y : Triple) → same_triple x y ≡ true → x ≡ y
+pub same_request : (x y : Triple) → same_triple x y ≡ true → x ≡ y
 same_request x y e =
     let first = and_true _ _ e in
     let rest = and_true _ _ first.1 in

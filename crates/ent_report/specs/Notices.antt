@@ -1,5 +1,5 @@
 -- Notices: the difference of a table that was kept and the present one.
-use Rattle.std.specs.Prelude.{◌≡◌, ℕ, List, [], ◌∷◌, ◌++◌, if◌then◌else◌, Option, Some, None, option_map, Result, Ok, Err}
+use Rattle.std.specs.Prelude.{◌≡◌, List, [], ◌∷◌, ◌++◌, if◌then◌else◌, Option, Some, None, option_map, Result, Ok, Err}
 use Rattle.std.specs.List.{flat_map}
 use Rattle.ent_combine.specs.declared.outcome.Outcome.{Outcome}
 use Rattle.ent_eval.specs.declared.answer.Answer.{Answer}
@@ -28,7 +28,7 @@ told_of x before after =
     if same_optional before after then []
     else record { person = x.person; action = x.action; resource = x.resource; before = decision_in before; after = decision_in after } ∷ []
 
--- the requests for which a kept table and the present one have different answers, each once, in byte order
+-- the requests for which a kept table and the present one have different answers, each once, in byte order (`Differing` has the law that they are)
 abbrev pub notices : Kept → State → List Notice
 notices k s = flat_map (λ x. told_of x (answer_in (table_in k) x) (answer_at s x)) (requests_of_both (names_in k) s.names)
 

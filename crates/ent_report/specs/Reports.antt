@@ -1,5 +1,5 @@
 -- Reports of the fresh table, in list order.
-use Rattle.std.specs.Prelude.{◌≡◌, ℕ, ◌-◌, List, map, filter, length, Bool, true, false, ◌&&◌, ◌||◌, not, if◌then◌else◌, bytes_eq, Option, Some, None, slice_get, Result, Ok, Err}
+use Rattle.std.specs.Prelude.{◌≡◌, ℕ, ◌-◌, List, map, filter, length, Bool, true, false, ◌&&◌, if◌then◌else◌, bytes_eq, Option, Some, None, slice_get, Result, Ok, Err}
 use Rattle.std.specs.List.{list_any}
 use Rattle.std.specs.Option.{option_map_or}
 use Rattle.ent_combine.specs.declared.outcome.Outcome.{Outcome}

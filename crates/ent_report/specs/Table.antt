@@ -1,5 +1,5 @@
 -- A table that is kept: the names and the answers of one moment.
-use Rattle.std.specs.Prelude.{◌≡◌, ℕ, ◌≤◌, List, Bool, ◌&&◌, length, nat_eq, Option}
+use Rattle.std.specs.Prelude.{◌≡◌, ◌≤◌, List, Bool, ◌&&◌, length, nat_eq, Option}
 use Rattle.std.specs.Cmp.Lexicographic.{pointwise}
 use Rattle.std.specs.List.{zip}
 use Rattle.std.specs.Map.{lookup}

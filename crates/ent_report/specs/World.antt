@@ -1,10 +1,12 @@
 -- What a desk holds: the state of its review, and for each session an optional mark.
-use Rattle.std.specs.Prelude.{◌≡◌, ℕ, List, length, Option, Some, None, get_or, replicate, slice_get, slice_set}
+use Rattle.std.specs.Prelude.{◌≡◌, ℕ, List, length, Option, Some, None, get_or, replicate, slice_set}
 use Rattle.ent_finder.specs.Rows.{Source}
 use Rattle.ent_finder.specs.Slots.{Slots}
 use Rattle.ent_table.specs.Review.{IsFresh, state_of}
 use Rattle.ent_table.specs.State.{State}
+use Rattle.ent_report.specs.Reports.{counts}
 use Rattle.ent_report.specs.Table.{IsKept, kept_of}
+use Rattle.ent_report.specs.declared.counts.Counts.{Counts}
 use Rattle.ent_report.specs.declared.desk.Desk.{Desk}
 use Rattle.ent_report.specs.declared.kept.Kept.{Kept}
 
@@ -33,8 +35,14 @@ world_of sources slots desk = record { state = state_of sources slots desk.revie
 abbrev pub AreKept : List (Option Kept) → Type 0
 AreKept marks = (session : ℕ) (k : Kept) → get_or marks session None ≡ Some k → IsKept k
 
--- the present table is the fresh one, and each mark was one
+-- counts that are kept are those of a state
+abbrev pub AreCountsOf : State → Option Counts → Type 0
+AreCountsOf s None = Unit {0}
+AreCountsOf s (Some c) = c ≡ counts s
+
+-- the present table is the fresh one, each mark was one, and kept counts are those of the present table
 pub record IsReady {A P : Type 0} (sources : A → List Source) (slots : P → List Slots) (desk : Desk A P) : Type 0 where
   pub fresh : IsFresh sources slots desk.review
   pub kept : AreKept desk.marks
   pub sixteen : length desk.marks ≡ 16
+  pub counts : AreCountsOf (state_of sources slots desk.review) desk.counts

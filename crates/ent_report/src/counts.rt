@@ -11,9 +11,13 @@ use ent_table::Cells;
 /// How many cells have each decision. An Indeterminate counts as one whatever it could have been.
 #[derive(Clone, Copy, Debug, PartialEq, Eq)]
 pub struct Counts {
+    /// How many are Deny.
     pub deny: u64,
+    /// How many are Indeterminate, of any kind.
     pub indeterminate: u64,
+    /// How many are NotApplicable.
     pub not_applicable: u64,
+    /// How many are Permit.
     pub permit: u64,
 }
 

@@ -1,8 +1,8 @@
 //! The desk: a review, and the marks of its sessions.
 
-ghost use Rattle.std.specs.Prelude.{◌≡◌, ◌<◌, IfOk, OnErr, OnOk, option_copied};
+ghost use Rattle.std.specs.Prelude.{◌≡◌, ◌+◌, ◌-◌, ◌<◌, ◌^◌, min, IfOk, OnErr, OnOk, Some, option_copied};
 ghost use Rattle.ent_table.specs.Ask.{answer_in};
-ghost use Rattle.ent_table.specs.Review.{IsFresh, OnlyEvaluates, state_of};
+ghost use Rattle.ent_table.specs.Review.{IsFresh, IsIdle, OnlyEvaluates, state_of};
 ghost use Rattle.ent_table.specs.Step.{IsAnswered, IsSure, step};
 ghost use Rattle.ent_report.specs.Notices.{IsNoticed};
 ghost use Rattle.ent_report.specs.Reports.{IsReported, by_rule, can, counts, who};
@@ -23,12 +23,15 @@ use std::alloc::{AllocError, Global};
 /// How many sessions there are. They are numbered from 0 on.
 pub const SESSIONS: u8 = 16;
 
-/// A review, and for each of sixteen sessions the table that it marked last, if it did.
+/// A review, and for each of sixteen sessions the table that it marked last, if it did. Counts of the table may be kept until the next
+/// edit.
 #[derive(Drop)]
 pub struct Desk<A = AttributeFinder, P = PolicyFinder> {
     pub(crate) alloc: Global,
     pub(crate) review: Review<A, P>,
     pub(crate) marks: [Option<Kept>; 16],
+    // The counts of the present table, if they were kept since the last edit.
+    pub(crate) counts: Option<Counts>,
 }
 
 impl<A: Attributes, P: Policies> Desk<A, P> {
@@ -45,6 +48,7 @@ impl<A: Attributes, P: Policies> Desk<A, P> {
                 None, None, None, None, None, None, None, None, None, None, None, None, None, None,
                 None, None,
             ],
+            counts: None,
         }
     }
 
@@ -55,20 +59,25 @@ impl<A: Attributes, P: Policies> Desk<A, P> {
         &self.review
     }
 
-    /// Makes an edit of the review. The marks stay.
+    /// Makes an edit of the review. The marks stay, and kept counts are forgotten.
+    ///
+    /// Dropping a name evaluates nothing and takes no memory.
     pub fn edit(&mut self, edit: Edit) -> Result<Accepted, EditFault>
         requires { IsReady A.sources P.slots self.old }
         ensures ready { IsReady A.sources P.slots self.new }
         ensures step { IsAnswered (step (state_of A.sources P.slots self.old.review) edit) (state_of A.sources P.slots self.old.review) (state_of A.sources P.slots self.new.review) result }
         ensures sure { IsSure (step (state_of A.sources P.slots self.old.review) edit) edit result }
+        ensures idle { IsIdle edit self.old.review.pdp.evaluations self.new.review.pdp.evaluations }
         ensures marks { self.new.marks ≡ self.old.marks }
     {
+        self.counts = None;
         self.review.edit(edit)
     }
 
     /// The answer to any request, listed or not, by what is held alone (section 7): neither the table nor a mark has a part in it.
     ///
-    /// It counts as one evaluation, and changes nothing else.
+    /// Each call counts as one evaluation, also one that is refused for want of memory. It changes nothing but the count, which
+    /// stays at its greatest value.
     ///
     /// # Errors
     ///
@@ -77,6 +86,7 @@ impl<A: Attributes, P: Policies> Desk<A, P> {
         requires { IsReady A.sources P.slots self.old }
         ensures ready { IsReady A.sources P.slots self.new }
         ensures answer { IfOk result (λ a. a ≡ answer_in (world_of A.sources P.slots self.old).state request.now) }
+        ensures counted { self.new.review.pdp.evaluations ≡ min (self.old.review.pdp.evaluations + 1) (2 ^ 128 - 1) }
         ensures rest { OnlyEvaluates self.old.review self.new.review }
         ensures world { world_of A.sources P.slots self.new ≡ world_of A.sources P.slots self.old }
     {
@@ -116,13 +126,37 @@ impl<A: Attributes, P: Policies> Desk<A, P> {
         Ok(comparison.notices()?)
     }
 
-    /// How many cells have each decision. It takes no memory.
+    /// Counts the cells of each decision.
+    fn counted(&self) -> Counts
+        requires { IsReady A.sources P.slots self.now }
+        ensures { result ≡ counts (world_of A.sources P.slots self.now).state }
+    {
+        // There are no more cells than a machine word can count, so no count exceeds its type.
+        let _count = self.review.cell_count();
+        counted(self.review.cells())
+    }
+
+    /// How many cells have each decision. It takes no memory, and visits no cell where `keep_counts` was called since the last edit.
     pub fn counts(&self) -> Counts
         requires { IsReady A.sources P.slots self.now }
         ensures { result ≡ counts (world_of A.sources P.slots self.now).state }
     {
-        let _count = self.review.cell_count();
-        counted(self.review.cells())
+        match self.counts {
+            Some(counts) => counts,
+            None => self.counted(),
+        }
+    }
+
+    /// Counts the cells of each decision if that wasn't done since the last edit, and keeps the counts until the next one. It takes no
+    /// memory.
+    pub fn keep_counts(&mut self)
+        requires { IsReady A.sources P.slots self.old }
+        ensures ready { IsReady A.sources P.slots self.new }
+        ensures kept { self.new.counts ≡ Some (counts (world_of A.sources P.slots self.old).state) }
+        ensures rest { self.new ≡ record self.old { counts = self.new.counts } }
+        ensures world { world_of A.sources P.slots self.new ≡ world_of A.sources P.slots self.old }
+    {
+        self.counts = Some(self.counts());
     }
 
     /// What a person may do: the actions and resources of the person's Permit cells, in list order.
@@ -133,7 +167,7 @@ impl<A: Attributes, P: Policies> Desk<A, P> {
         if !self.review.listed(List::People, person) {
             return Err(ReportFault::NotThere);
         }
-        Ok(can_in(self.alloc, person, self.review.cells())?)
+        Ok(can_in(self.alloc, self.review.cells_of(person))?)
     }
 
     /// Who may do an action to a resource: the people of the Permit cells, in list order.
@@ -146,19 +180,23 @@ impl<A: Attributes, P: Policies> Desk<A, P> {
         {
             return Err(ReportFault::NotThere);
         }
-        Ok(who_in(self.alloc, action, resource, self.review.cells())?)
+        Ok(who_in(self.alloc, self.review.answers_to(action, resource))?)
     }
 
     /// The requests whose decision was given by that rule of a policy, or without a rule by the default of a policy or policy set,
     /// in list order. Of the path to it only the last id counts. A rule that gave nothing has no requests.
+    ///
+    /// # Errors
+    ///
+    /// `ReportFault::Memory` if memory runs out, and never `ReportFault::NotThere`.
     pub fn by_rule(
         &self,
         policy: &str,
         rule: Option<&str>,
-    ) -> Result<Items<(Text, Text, Text)>, AllocError>
+    ) -> Result<Items<(Text, Text, Text)>, ReportFault>
         requires { IsReady A.sources P.slots self.now }
-        ensures { IfOk result (λ found. found ≡ by_rule (world_of A.sources P.slots self.now).state policy.now (option_copied rule.entry)) }
+        ensures { IsReported (Ok (by_rule (world_of A.sources P.slots self.now).state policy.now (option_copied rule.entry))) result }
     {
-        by_rule_in(self.alloc, policy, rule, self.review.cells())
+        Ok(by_rule_in(self.alloc, policy, rule, self.review.cells())?)
     }
 }

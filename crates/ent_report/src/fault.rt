@@ -9,6 +9,7 @@ pub enum NoticeFault {
     /// The session has no mark.
     #[error("no mark")]
     NoMark,
+    /// There is no memory left for the notices.
     #[error("out of memory")]
     Memory,
 }
@@ -19,6 +20,7 @@ pub enum ReportFault {
     /// A name isn't listed.
     #[error("not there")]
     NotThere,
+    /// There is no memory left for the report.
     #[error("out of memory")]
     Memory,
 }

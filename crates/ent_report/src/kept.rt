@@ -77,8 +77,8 @@ impl Kept {
     {
         let row = person.place?;
         let column = action.place?;
-        let depth = resource.place?;
-        Some((row * self.actions.len() + column) * self.resources.len() + depth)
+        let layer = resource.place?;
+        Some((row * self.actions.len() + column) * self.resources.len() + layer)
     }
 
     /// The answer to a request, if it is listed.

@@ -7,8 +7,11 @@ use ent_values::Text;
 /// obligation, an advice or a status differs.
 #[derive(Drop)]
 pub struct Notice {
+    /// The person of the request.
     pub person: Text,
+    /// Its action.
     pub action: Text,
+    /// Its resource.
     pub resource: Text,
     /// The decision at the mark, `None` where the request wasn't listed.
     pub before: Option<Outcome>,

@@ -16,7 +16,7 @@ pub(crate) struct Placed {
     pub(crate) place: Option<usize>,
 }
 
-/// Puts copies of names in their order.
+/// Puts copies of the names of a kept table into a set in byte order.
 fn add_kept(alloc: Global, set: &mut BTreeSet<Text>, names: &[Text]) -> Result<(), AllocError>
     ensures { OnOk result (set.new.keys ≡ inserted set.old.keys names.now) }
 {
@@ -26,7 +26,7 @@ fn add_kept(alloc: Global, set: &mut BTreeSet<Text>, names: &[Text]) -> Result<(
     Ok(())
 }
 
-/// Puts copies of names in their order.
+/// Puts copies of the names of the present table into a set in byte order.
 fn add_present(alloc: Global, set: &mut BTreeSet<Text>, names: &[String]) -> Result<(), AllocError>
     ensures { OnOk result (set.new.keys ≡ inserted set.old.keys (texts names.now)) }
 {

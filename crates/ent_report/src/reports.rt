@@ -2,11 +2,13 @@
 
 ghost use Rattle.std.specs.Prelude.{◌≡◌, IfOk, option_copied};
 ghost use Rattle.ent_table.specs.Left.{cells_left};
-ghost use Rattle.ent_report.specs.Reports.{by_rule_in, can_in, is_permit, who_in};
+ghost use Rattle.ent_table.specs.Parts.{column_left};
+ghost use Rattle.ent_report.specs.Permitted.{permitted, permitted_people};
+ghost use Rattle.ent_report.specs.Reports.{by_rule_in, is_permit};
 
 use crate::rules::has_rule;
 use ent_combine::Outcome;
-use ent_table::Cells;
+use ent_table::{Cells, Column};
 use ent_values::{Items, Text};
 use std::alloc::{AllocError, Global};
 
@@ -19,17 +21,13 @@ fn is_permit(decision: Outcome) -> bool
     }
 }
 
-/// The actions and resources of the Permit cells of a person.
-pub(crate) fn can_in(
-    alloc: Global,
-    wanted: &str,
-    cells: Cells<'_>,
-) -> Result<Items<(Text, Text)>, AllocError>
-    ensures { IfOk result (λ found. found ≡ can_in wanted.now (cells_left cells.entry)) }
+/// The actions and resources of the Permit cells among those of a person.
+pub(crate) fn can_in(alloc: Global, cells: Cells<'_>) -> Result<Items<(Text, Text)>, AllocError>
+    ensures { IfOk result (λ found. found ≡ permitted (cells_left cells.entry)) }
 {
     let mut found = Vec::new(alloc);
-    for (person, action, resource, answer) in cells {
-        if person == wanted && is_permit(answer.decision) {
+    for (_, action, resource, cell) in cells {
+        if is_permit(cell.decision) {
             let action = Text::from_str(alloc, action)?;
             let resource = Text::from_str(alloc, resource)?;
             found.push((action, resource))?;
@@ -38,18 +36,13 @@ pub(crate) fn can_in(
     Ok(Items::from_vec(found))
 }
 
-/// The people of the Permit cells of an action and a resource.
-pub(crate) fn who_in(
-    alloc: Global,
-    wanted: &str,
-    of: &str,
-    cells: Cells<'_>,
-) -> Result<Items<Text>, AllocError>
-    ensures { IfOk result (λ found. found ≡ who_in wanted.now of.now (cells_left cells.entry)) }
+/// The people whose answer is a Permit, among the answers to an action and a resource.
+pub(crate) fn who_in(alloc: Global, answers: Column<'_>) -> Result<Items<Text>, AllocError>
+    ensures { IfOk result (λ found. found ≡ permitted_people (column_left answers.entry)) }
 {
     let mut found = Vec::new(alloc);
-    for (person, action, resource, answer) in cells {
-        if action == wanted && resource == of && is_permit(answer.decision) {
+    for (person, answer) in answers {
+        if is_permit(answer.decision) {
             found.push(Text::from_str(alloc, person)?)?;
         }
     }

@@ -1,4 +1,4 @@
-use Rattle.std.proofs.Common.{◌≡◌, [], ◌∷◌, codes}
+use Rattle.std.proofs.Common.{[], ◌∷◌, codes}
 use Rattle.json.specs.Token as token
 use Rattle.ent_line.proofs.TextLemmas.{ends, joined}
 use Rattle.ent_line.proofs.cell.write_names.Goals as goal

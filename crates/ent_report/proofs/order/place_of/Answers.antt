@@ -1,4 +1,4 @@
-use Rattle.std.proofs.Common.{◌≡◌, sym, subst, ◌∙◌}
+use Rattle.std.proofs.Common.{sym, subst, ◌∙◌}
 use Rattle.ent_report.specs.Order.{IsPlaceIn}
 use Rattle.ent_report.proofs.order.place_of.Goals as goal
 

@@ -1,4 +1,3 @@
-use Rattle.std.proofs.Common.{◌≡◌, ◌∙◌}
 use Rattle.ent_report.proofs.Lookups.{places_next}
 use Rattle.ent_report.proofs.order.places.Goals as goal
 

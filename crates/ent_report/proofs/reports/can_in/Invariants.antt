@@ -1,7 +1,7 @@
-use Rattle.std.proofs.Common.{◌≡◌, ◌++◌, option_copied}
+use Rattle.std.proofs.Common.{◌≡◌, ◌++◌}
 use Rattle.ent_table.specs.Left.{cells_left}
-use Rattle.ent_report.specs.Reports.{can_in}
+use Rattle.ent_report.specs.Permitted.{permitted}
 use Rattle.ent_report.proofs.reports.can_in.Given as goal
 
-abbrev pub invariant-loop-person : goal.invariant-loop-person
-invariant-loop-person l = l.found.items ++ can_in l.wanted (cells_left l.person-iterator) ≡ can_in l.wanted (cells_left l.fn.cells)
+abbrev pub invariant-loop-action : goal.invariant-loop-action
+invariant-loop-action l = l.found.items ++ permitted (cells_left l.action-iterator) ≡ permitted (cells_left l.fn.cells)

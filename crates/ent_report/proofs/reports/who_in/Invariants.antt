@@ -1,7 +1,7 @@
-use Rattle.std.proofs.Common.{◌≡◌, ◌++◌, option_copied}
-use Rattle.ent_table.specs.Left.{cells_left}
-use Rattle.ent_report.specs.Reports.{who_in}
+use Rattle.std.proofs.Common.{◌≡◌, ◌++◌}
+use Rattle.ent_table.specs.Parts.{column_left}
+use Rattle.ent_report.specs.Permitted.{permitted_people}
 use Rattle.ent_report.proofs.reports.who_in.Given as goal
 
 abbrev pub invariant-loop-person : goal.invariant-loop-person
-invariant-loop-person l = l.found.items ++ who_in l.wanted l.of (cells_left l.person-iterator) ≡ who_in l.wanted l.of (cells_left l.fn.cells)
+invariant-loop-person l = l.found.items ++ permitted_people (column_left l.person-iterator) ≡ permitted_people (column_left l.fn.answers)

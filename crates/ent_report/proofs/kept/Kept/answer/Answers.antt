@@ -1,9 +1,9 @@
-use Rattle.std.proofs.Common.{◌≡◌, List, Bool, map, Option, Some, None, option_copied, sym, ap, ◌∙◌}
+use Rattle.std.proofs.Common.{◌≡◌, List, Bool, map, Option, Some, None, sym, ap, ◌∙◌}
 use Rattle.std.specs.Prelude.{slice_get, if◌then◌else◌}
 use Rattle.std.specs.Option.{option_map}
 use Rattle.std.proofs.lemmas.Option.{slice_get-map}
 use Rattle.ent_eval.specs.declared.answer.Answer.{Answer}
-use Rattle.ent_table.specs.Names.{Triple, is_listed, triples}
+use Rattle.ent_table.specs.Names.{Triple, triples}
 use Rattle.ent_table.specs.State.{State, answer_to}
 use Rattle.ent_report.specs.Order.{triple_in}
 use Rattle.ent_report.specs.Table.{names_in}
