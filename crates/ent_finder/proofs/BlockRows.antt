@@ -183,7 +183,7 @@ got_front [] ys i lt = absurd (omega arith)
 got_front (x ∷ xs) ys zero lt = refl
 got_front (x ∷ xs) ys (suc i) lt = got_front xs ys i (omega arith)
 
-got_back : {A : Type 0} (xs ys : List A) (i j : ℕ) → length xs + j ≡ i → slice_get (xs ++ ys) i ≡ slice_get ys j
+pub got_back : {A : Type 0} (xs ys : List A) (i j : ℕ) → length xs + j ≡ i → slice_get (xs ++ ys) i ≡ slice_get ys j
 got_back [] ys i j e = ap (slice_get ys) (let is : i ≡ j = omega arith in is)
 got_back (x ∷ xs) ys zero j e = absurd (omega arith)
 got_back (x ∷ xs) ys (suc i) j e = got_back xs ys i j (omega arith)

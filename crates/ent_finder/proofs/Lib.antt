@@ -1,3 +1,4 @@
+pub mod Behind
 pub mod BlockRows
 pub mod Boxes
 pub mod Filled
@@ -8,6 +9,7 @@ pub mod Kept
 pub mod Homes
 pub mod Keys
 pub mod Latest
+pub mod Lone
 pub mod NamedBlocks
 pub mod Names
 pub mod Orders

@@ -30,7 +30,7 @@ to_named k r = named_cmp r.key k
 pub to_named_follows : (k : AttrKey) → Follows (to_named k)
 to_named_follows k = follows_from (to_named k) (λ rs s. rows_rise rs k s)
 
-lt_down : (a b : Ordering) → ordering_index a ≤ ordering_index b → is_lt b ≡ true → is_lt a ≡ true
+pub lt_down : (a b : Ordering) → ordering_index a ≤ ordering_index b → is_lt b ≡ true → is_lt a ≡ true
 lt_down Less b le h = refl
 lt_down Equal Less le h = absurd (omega arith)
 lt_down Equal Equal le h = cc
@@ -39,7 +39,7 @@ lt_down Greater Less le h = absurd (omega arith)
 lt_down Greater Equal le h = cc
 lt_down Greater Greater le h = cc
 
-past_up : (a b : Ordering) → ordering_index a ≤ ordering_index b → not (is_le a) ≡ true → not (is_le b) ≡ true
+pub past_up : (a b : Ordering) → ordering_index a ≤ ordering_index b → not (is_le a) ≡ true → not (is_le b) ≡ true
 past_up Less b le h = cc
 past_up Equal b le h = cc
 past_up Greater Less le h = absurd (omega arith)

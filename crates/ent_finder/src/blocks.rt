@@ -1,6 +1,6 @@
 //! Rows in the order of their keys, in blocks of a bounded length, so that a row that is made moves those of its own block alone.
 
-ghost use Rattle.std.specs.Prelude.{◌≡◌, ◌≤◌, ◌<◌, ◌+◌, [], IfOk, None, OnErr, OnOk, if◌then◌else◌, is_some, length, slice_get, slice_range};
+ghost use Rattle.std.specs.Prelude.{◌≡◌, ◌≤◌, ◌<◌, ◌+◌, [], ◌∷◌, IfOk, IfSome, None, OnErr, OnOk, if◌then◌else◌, is_some, length, slice_get, slice_range};
 ghost use Rattle.std.specs.FinMap as finmap;
 ghost use Rattle.std.specs.List.{filter};
 ghost use Rattle.std.specs.Option.{option_copied};
@@ -12,12 +12,16 @@ ghost use Rattle.ent_finder.specs.RowEntry.{RowsAreSorted, rows_of};
 ghost use Rattle.ent_finder.specs.Rows.{filled, row_cmp, values_at};
 
 use crate::block::Block;
+use crate::hints::{Hints, mixed};
 use crate::passing::count_passing;
 use crate::row::{AttrKey, Row, RowKey};
 use crate::rows;
 use ent_values::{Bag, Items, Value};
 use std::alloc::{AllocError, Global};
 use std::cmp::Ordering;
+
+/// A place in a block is below that.
+const PLACES: usize = 1024;
 
 /// A block of that many rows is halved before it gets one more.
 const FULL: usize = 256;
@@ -213,8 +217,69 @@ fn bounds(blocks: &[Block], key: &AttrKey) -> (usize, usize)
     (passed.saturating_sub(1), passed + begun)
 }
 
+/// The only row that a key names, if it is the one at a place in the block of that number, and stands between two others there.
+fn only_row<'a>(blocks: &'a [Block], number: usize, place: usize, key: &AttrKey) -> Option<&'a Row>
+    requires { RowsAreSorted (rows_in blocks.now) }
+    ensures { IfSome result (λ r. filter (λ x. names_row key.now x.key) (rows_in blocks.now) ≡ r.now ∷ []) }
+{
+    let rows = &blocks.get(number)?.rows;
+    let before = rows.get(place.checked_sub(1)?)?;
+    let row = rows.get(place)?;
+    let after = rows.get(place.checked_add(1)?)?;
+    if rows::order(&before.key, key).is_lt()
+        && rows::order(&row.key, key).is_eq()
+        && rows::order(&after.key, key).is_gt()
+    {
+        Some(row)
+    } else {
+        None
+    }
+}
+
+/// The number of the block where the rows that a key names begin, and their place there, as one number.
+fn beginning(blocks: &[Block], key: &AttrKey) -> usize {
+    let number = blocks
+        .partition_point(|block| first_to_named(block, key).is_le())
+        .saturating_sub(1);
+    let place = match blocks.get(number) {
+        None => 0,
+        Some(block) => block
+            .rows
+            .partition_point(|row| rows::order(&row.key, key).is_lt()),
+    };
+    number.saturating_mul(PLACES).saturating_add(place)
+}
+
+/// The values of a row, as a bag.
+fn values_in(alloc: Global, row: &Row) -> Result<Bag, AllocError>
+    ensures { IfOk result (λ b. b ≡ record { datatype = row.now.key.datatype; values = row.now.values }) }
+{
+    let mut bag = Bag::new(alloc, row.key.datatype);
+    rows::add_all(alloc, &mut bag, row.values.as_slice())?;
+    Ok(bag)
+}
+
 /// The values of the rows that a key names.
-pub fn values_of(alloc: Global, blocks: &[Block], key: &AttrKey) -> Result<Bag, AllocError>
+pub fn values_of(
+    alloc: Global,
+    blocks: &[Block],
+    hints: &Hints,
+    key: &AttrKey,
+) -> Result<Bag, AllocError>
+    requires { RowsAreSorted (rows_in blocks.now) }
+    ensures { IfOk result (λ b. b ≡ record { datatype = key.now.datatype; values = values_of key.now (filled (rows_of (rows_in blocks.now))) }) }
+{
+    let asked = mixed(mixed(0, key.entity.as_str()), key.attribute.as_str());
+    let hint = hints.place(asked);
+    if let Some(row) = only_row(blocks, hint / PLACES, hint % PLACES, key) {
+        return values_in(alloc, row);
+    }
+    hints.keep(asked, beginning(blocks, key));
+    all_values_of(alloc, blocks, key)
+}
+
+/// The same by a search.
+fn all_values_of(alloc: Global, blocks: &[Block], key: &AttrKey) -> Result<Bag, AllocError>
     requires { RowsAreSorted (rows_in blocks.now) }
     ensures { IfOk result (λ b. b ≡ record { datatype = key.now.datatype; values = values_of key.now (filled (rows_of (rows_in blocks.now))) }) }
 {

@@ -9,6 +9,7 @@ mod blocks;
 mod boxed;
 mod boxed_attributes;
 mod finder;
+mod hints;
 mod law;
 mod law_of_rows;
 mod list;

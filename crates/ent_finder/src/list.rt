@@ -1,6 +1,7 @@
 //! A list of slots in the order of their keys.
 
-ghost use Rattle.std.specs.Prelude.{◌≡◌, ◌≤◌, IfErr, IfOk, None, OnErr, OnOk, false, if◌then◌else◌, length, slice_range, true};
+ghost use Rattle.std.specs.Prelude.{◌≡◌, ◌≤◌, IfErr, IfOk, None, IfSome, OnErr, OnOk, Some, false, if◌then◌else◌, length, slice_get, slice_range, true};
+ghost use Rattle.std.specs.Bool.{OnTrue};
 ghost use Rattle.std.specs.FinMap as finmap;
 ghost use Rattle.std.specs.List.{filter};
 ghost use Rattle.std.specs.Option.{ForSome, option_copied};
@@ -11,7 +12,9 @@ ghost use Rattle.ent_finder.specs.Finding.{is_of, most_recent};
 ghost use Rattle.ent_finder.specs.Order.{name_cmp, name_of, name_wanted};
 ghost use Rattle.ent_finder.specs.Places.{IsPlace, IsSeat, is_at};
 ghost use Rattle.ent_finder.specs.Slots.{document_at, held, key_cmp};
+ghost use Rattle.ent_finder.specs.declared.slot.DocSlot.{DocSlot};
 
+use crate::hints::{Hints, mixed};
 use crate::passing::count_passing;
 use crate::slot::DocSlot;
 use ent_policy::{DocKey, Document, Reference};
@@ -99,12 +102,51 @@ fn accepted<'a>(slot: &'a DocSlot, reference: &Reference) -> Option<&'a Document
     }
 }
 
+/// Whether a key has the kind and id of a reference.
+fn is_named(key: &DocKey, reference: &Reference) -> bool
+    ensures { result ≡ is_of reference.now key.now }
+{
+    reference.kind == key.kind && reference.id.as_str() == key.id.as_str()
+}
+
+/// Whether the slot at a place, if there is one, has another kind or id than a reference.
+fn is_unlike(slots: &[DocSlot], place: usize, reference: &Reference) -> bool
+    ensures { OnTrue result ((s : DocSlot) → slice_get slots.now place ≡ Some s → is_of reference.now s.key ≡ false) }
+{
+    match slots.get(place) {
+        None => true,
+        Some(slot) => !is_named(&slot.key, reference),
+    }
+}
+
+/// The document of the last slot of the reference's kind and id, if that is the one before this place, and is accepted.
+fn last_before<'a>(slots: &'a [DocSlot], end: usize, reference: &Reference) -> Option<&'a Document>
+    requires { AreSorted slots.now }
+    ensures { IfSome result (λ d. most_recent reference.now (held (slots_of slots.now)) ≡ Some d.now) }
+{
+    let slot = slots.get(end.checked_sub(1)?)?;
+    if is_named(&slot.key, reference) && is_unlike(slots, end, reference) {
+        accepted(slot, reference)
+    } else {
+        None
+    }
+}
+
 /// Of the documents that the reference names, the most recent one.
-pub fn find_reference<'a>(slots: &'a [DocSlot], reference: &Reference) -> Option<&'a Document>
+pub fn find_reference<'a>(
+    slots: &'a [DocSlot],
+    hints: &Hints,
+    reference: &Reference,
+) -> Option<&'a Document>
     requires { AreSorted slots.now }
     ensures { option_copied result ≡ most_recent reference.now (held (slots_of slots.now)) }
 {
+    let number = mixed(0, reference.id.as_str());
+    if let Some(document) = last_before(slots, hints.place(number), reference) {
+        return Some(document);
+    }
     let (start, end) = bounds(slots, reference);
+    hints.keep(number, end);
     let mut versions = &slots[start..end];
     while let Some((slot, earlier)) = versions.split_last() {
         if let Some(document) = accepted(slot, reference) {

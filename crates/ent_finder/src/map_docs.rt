@@ -3,6 +3,7 @@
 ghost use Rattle.std.specs.Prelude.{◌≡◌};
 ghost use Rattle.std.specs.FinMap as finmap;
 
+use crate::hints::Hints;
 use crate::list;
 use crate::module::PolicyFinderModule;
 use crate::slot::DocSlot;
@@ -15,6 +16,7 @@ use std::marker::Model;
 pub struct MapDocs {
     alloc: Global,
     slots: Vec<DocSlot>,
+    hints: Hints,
 }
 
 impl Model for MapDocs {
@@ -43,6 +45,7 @@ impl MapDocs {
         MapDocs {
             alloc,
             slots: Vec::new(alloc),
+            hints: Hints::new(alloc),
         }
     }
 }
@@ -51,7 +54,7 @@ impl PolicyFinderModule for MapDocs {
     ghost slots = { λ m. m };
 
     fn find_reference(&self, reference: &Reference) -> Option<&Document> {
-        list::find_reference(&self.slots, reference)
+        list::find_reference(&self.slots, &self.hints, reference)
     }
 
     fn swap_document(
@@ -59,6 +62,7 @@ impl PolicyFinderModule for MapDocs {
         key: &DocKey,
         document: &mut Option<Document>,
     ) -> Result<(), AllocError> {
+        self.hints.prepare(self.alloc);
         list::swap_document(self.alloc, &mut self.slots, key, document)?;
         Ok(())
     }

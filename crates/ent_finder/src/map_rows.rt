@@ -6,6 +6,7 @@ ghost use Rattle.std.specs.FinMap as finmap;
 use crate::attribute_module::AttributeFinderModule;
 use crate::block::Block;
 use crate::blocks;
+use crate::hints::Hints;
 use crate::row::{AttrKey, Row, RowKey};
 use ent_values::{Bag, Items, Text, Value};
 use std::alloc::{AllocError, Global};
@@ -18,6 +19,7 @@ pub struct MapRows {
     categories: Items<Text>,
     blocks: Vec<Block>,
     count: usize,
+    hints: Hints,
 }
 
 impl Model for MapRows {
@@ -49,6 +51,7 @@ impl MapRows {
             categories,
             blocks: Vec::new(alloc),
             count: 0,
+            hints: Hints::new(alloc),
         }
     }
 }
@@ -64,11 +67,12 @@ impl AttributeFinderModule for MapRows {
     }
 
     fn find(&self, key: &AttrKey, bag: &mut Bag) -> Result<(), AllocError> {
-        *bag = blocks::values_of(self.alloc, &self.blocks, key)?;
+        *bag = blocks::values_of(self.alloc, &self.blocks, &self.hints, key)?;
         Ok(())
     }
 
     fn swap_row(&mut self, key: &RowKey, values: &mut Items<Value>) -> Result<(), AllocError> {
+        self.hints.prepare(self.alloc);
         blocks::swap_row(self.alloc, &mut self.blocks, &mut self.count, key, values)?;
         Ok(())
     }

@@ -110,7 +110,7 @@ fn bounds(rows: &[Row], key: &AttrKey) -> (usize, usize)
 }
 
 /// Puts copies of the values last.
-fn add_all(alloc: Global, bag: &mut Bag, values: &[Value]) -> Result<(), AllocError>
+pub fn add_all(alloc: Global, bag: &mut Bag, values: &[Value]) -> Result<(), AllocError>
     requires { AllOfType bag.old.datatype values.now }
     ensures { OnOk result (bag.new ≡ record { datatype = bag.old.datatype; values = bag.old.values ++ values.now }) }
 {

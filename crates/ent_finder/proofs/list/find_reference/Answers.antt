@@ -8,8 +8,8 @@ loop-slot-init c =
 
 pub returns-in-Some-accepted : goal.returns-in-Some-accepted
 returns-in-Some-accepted c =
-    sym (c.loop-slot.invariant ∙ last_accepted_back c.args.reference.now _ _ c.in-Some.slot.now _ c.in-Some.ensures.cases.0 c.in-Some-accepted.ensures)
+    sym (c.loop-slot.invariant ∙ last_accepted_back c.args.reference.now _ _ c.in-Some-split_last.slot.now _ c.in-Some-split_last.ensures.cases.0 c.in-Some-accepted.ensures)
 
 pub loop-slot-preserved : goal.loop-slot-preserved
 loop-slot-preserved c =
-    c.loop-slot.invariant ∙ last_accepted_back c.args.reference.now _ _ c.in-Some.slot.now _ c.in-Some.ensures.cases.0 c.in_default-accepted.ensures
+    c.loop-slot.invariant ∙ last_accepted_back c.args.reference.now _ _ c.in-Some-split_last.slot.now _ c.in-Some-split_last.ensures.cases.0 c.in_default-accepted.ensures

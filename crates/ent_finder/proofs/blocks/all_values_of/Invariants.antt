@@ -4,7 +4,7 @@ use Rattle.ent_finder.specs.Blocks.{rows_in}
 use Rattle.ent_finder.specs.Looking.{values_of}
 use Rattle.ent_finder.specs.RowEntry.{rows_of}
 use Rattle.ent_finder.specs.Rows.{filled}
-use Rattle.ent_finder.proofs.blocks.values_of.Given as goal
+use Rattle.ent_finder.proofs.blocks.all_values_of.Given as goal
 
 -- what is in the bag and what is in the blocks that are left make up what is to be there
 abbrev pub invariant-loop-block : goal.invariant-loop-block
