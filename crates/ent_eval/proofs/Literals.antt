@@ -1,14 +1,15 @@
 -- What functions come to for literals and designators.
-use Rattle.std.proofs.Common.{◌≡◌, ℕ, Bool, true, false, List, [], ◌∷◌, map, refl, sym, ap, ◌∙◌, subst, Option, Some, None}
+use Rattle.std.proofs.Common.{◌≡◌, ℕ, Bool, true, false, List, [], ◌∷◌, map, refl, sym, ap, ap₂, ◌∙◌, subst, Option, Some, None}
 use Rattle.std.specs.Prelude.{IsSome, option_and_then, if◌then◌else◌}
 use Rattle.std.specs.Cmp.Lexicographic.{pointwise}
+use Rattle.std.proofs.lemmas.List.{append-nil}
 use Rattle.ent_values.specs.Same.{same_value}
 use Rattle.ent_values.specs.declared.value.Value.{Value}
 use Rattle.ent_values.specs.declared.value.Value.TheVariants as value
 use Rattle.ent_functions.specs.Applied.{applied, first_order}
 use Rattle.ent_functions.specs.Sets.{is_among}
 use Rattle.ent_functions.specs.Types.{bag_of as bag_type, boolean, first_order_type, result_type_of, same_type, value_of}
-use Rattle.ent_functions.specs.declared.arg.Arg.TheVariants.{One}
+use Rattle.ent_functions.specs.declared.arg.Arg.TheVariants.{Many, One}
 use Rattle.ent_functions.specs.declared.function.Element.{Element}
 use Rattle.ent_functions.specs.declared.function.Function.{Function}
 use Rattle.ent_functions.specs.declared.function.Function.TheVariants as functions
@@ -19,15 +20,17 @@ use Rattle.ent_policy.specs.declared.expression.Expression.TheVariants as expres
 use Rattle.ent_policy.specs.declared.expression.Expression.TheOpen.{Expression-F}
 use Rattle.ent_policy.specs.declared.expression.Expression.TheFolds.{fold-roll-Expression}
 use Rattle.ent_policy.specs.declared.expression.VariableDefinition.{VariableDefinition}
+use Rattle.ent_eval.specs.declared.answer.Status.TheVariants.{MissingAttribute}
 use Rattle.ent_eval.specs.declared.evaluated.Evaluated.{Evaluated}
-use Rattle.ent_eval.specs.declared.evaluated.Evaluated.TheVariants.{Known}
+use Rattle.ent_eval.specs.declared.evaluated.Evaluated.TheVariants.{Indeterminate, Known}
 use Rattle.ent_eval.specs.declared.request.Request.{Request}
 use Rattle.ent_eval.specs.Expression.{bag_of, decides, designated, is_result, meaning, meaning_step, result_of, variable_part}
 use Rattle.ent_eval.specs.Looks.{Looks}
 use Rattle.ent_eval.specs.Own.{is_empty, own_values}
-use Rattle.ent_eval.specs.Part.{Part, without_look, mapped, reads_of, whole}
-use Rattle.ent_eval.specs.Sources.{source_part}
+use Rattle.ent_eval.specs.Part.{Part, without_look, mapped, reads_of, seen_parts, whole}
+use Rattle.ent_eval.specs.Sources.{source_part, values_part}
 use Rattle.ent_eval.specs.Typed.{HasType}
+use Rattle.ent_eval.specs.Uncopied.{member, member_part}
 
 -- a value is no result of a function that no boolean decides
 goes-on : (f : Function) (v : Value) → ((b : Bool) → decides f b ≡ false) → is_result f (Known (One v)) ≡ false
@@ -39,10 +42,33 @@ goes-on f (value.AnyUri t) none = refl
 goes-on f (value.YearMonth t) none = refl
 
 -- what is-in comes to for a bag that isn't empty
-pub found : (e : Element) (d : Designator) (literal : Value) (vs : List Value) → is_empty vs ≡ false → Known (One (value.Boolean (is_among literal vs))) ≡ result_of (functions.IsIn e) (Known (One literal) ∷ bag_of d vs ∷ [])
+found : (e : Element) (d : Designator) (literal : Value) (vs : List Value) → is_empty vs ≡ false → Known (One (value.Boolean (is_among literal vs))) ≡ result_of (functions.IsIn e) (Known (One literal) ∷ bag_of d vs ∷ [])
 unfolding applied first_order
 found e d literal [] some = absurd (cc)
 found e d literal (v ∷ vs) some = rw (goes-on (functions.IsIn e) literal (λ b. refl)) refl
+
+-- what it comes to for any bag
+in_bag : (e : Element) (v : Value) (d : Designator) (vs : List Value) → result_of (functions.IsIn e) (Known (One v) ∷ bag_of d vs ∷ []) ≡ member v d vs
+unfolding applied first_order
+in_bag e v d [] = at d.must_be_present where
+  at : (must : Bool) → result_of (functions.IsIn e) (Known (One v) ∷ (if must then Indeterminate MissingAttribute else Known (Many (record { datatype = d.datatype; values = [] }))) ∷ [])
+      ≡ (if must then Indeterminate MissingAttribute else Known (One (value.Boolean false)))
+  at true = rw (goes-on (functions.IsIn e) v (λ b. refl)) refl
+  at false = rw (goes-on (functions.IsIn e) v (λ b. refl)) refl
+in_bag e v d (w ∷ ws) = sym (found e d v (w ∷ ws) refl)
+
+-- the look-ups of two parts of which the first has none
+two_seen : {A : Type 0} (stop : A → Bool) (a : A) (p : Part A) → stop a ≡ false → reads_of (seen_parts stop (without_look a ∷ p ∷ [])) ≡ p.reads
+two_seen stop a p goes = ap (λ b. reads_of (if b then without_look a ∷ [] else without_look a ∷ (if stop p.value then p ∷ [] else p ∷ []))) goes ∙ last (stop p.value) where
+  last : (b : Bool) → reads_of (without_look a ∷ (if b then p ∷ [] else p ∷ [])) ≡ p.reads
+  last true = append-nil p.reads
+  last false = append-nil p.reads
+
+-- is-in of a value and of what a designator's values come to
+in_designator : (e : Element) (v : Value) (d : Designator) (p : Part (List Value))
+    → whole (is_result (functions.IsIn e)) (result_of (functions.IsIn e)) (without_look (Known (One v)) ∷ mapped (bag_of d) p ∷ []) ≡ mapped (member v d) p
+in_designator e v d p = ap₂ (λ value reads. record { value = value; reads = reads }) (in_bag e v d p.value)
+    (two_seen (is_result (functions.IsIn e)) (Known (One v)) (mapped (bag_of d) p) (goes-on (functions.IsIn e) v (λ b. refl)))
 
 -- what equal comes to
 pub same : (e : Element) (v w : Value) → Known (One (value.Boolean (same_value v w))) ≡ result_of (functions.Equal e) (Known (One v) ∷ Known (One w) ∷ [])
@@ -99,12 +125,16 @@ module _ (looks : Looks) (request : Request) (definitions : List VariableDefinit
       ∙ ap (λ p. whole (is_result f) (result_of f) (p ∷ meaning looks request definitions n y ∷ [])) first
       ∙ ap (λ p. whole (is_result f) (result_of f) (without_look a ∷ p ∷ [])) second ∙ two_known (is_result f) (result_of f) a b
 
+  -- is-in of a value and a designator
   pub is-in-part : (f : Function) (e : Element) (given : List Expression) (x y : Expression) (v : Value) (d : Designator) → f ≡ functions.IsIn e → given ≡ x ∷ y ∷ []
-      → meaning looks request definitions n x ≡ without_look (Known (One v)) → y ≡ expressions.Designator d → is_empty (own_values d request) ≡ false
-      → whole (is_result f) (result_of f) (map (meaning looks request definitions n) given) ≡ without_look (result_of (functions.IsIn e) (Known (One v) ∷ bag_of d (own_values d request) ∷ []))
-  is-in-part f e given x y v d f-is is first second some =
-      of_two f given x y (Known (One v)) (bag_of d (own_values d request)) is first (ap (meaning looks request definitions n) second ∙ designator-part looks request definitions n d ∙ own-part looks request definitions n d some)
-      ∙ ap (λ g. without_look (result_of g (Known (One v) ∷ bag_of d (own_values d request) ∷ []))) f-is
+      → meaning looks request definitions n x ≡ without_look (Known (One v)) → y ≡ expressions.Designator d
+      → whole (is_result f) (result_of f) (map (meaning looks request definitions n) given) ≡ member_part looks request v d
+  is-in-part f e given x y v d f-is is first second =
+      ap (λ xs. whole (is_result f) (result_of f) (map (meaning looks request definitions n) xs)) is
+      ∙ ap (λ p. whole (is_result f) (result_of f) (p ∷ meaning looks request definitions n y ∷ [])) first
+      ∙ ap (λ p. whole (is_result f) (result_of f) (without_look (Known (One v)) ∷ p ∷ [])) (ap (meaning looks request definitions n) second ∙ designator-part looks request definitions n d)
+      ∙ ap (λ g. whole (is_result g) (result_of g) (without_look (Known (One v)) ∷ designated looks request d ∷ [])) f-is
+      ∙ in_designator e v d (values_part looks request d)
 
   pub equal-part : (f : Function) (e : Element) (given : List Expression) (x y : Expression) (v w : Value) → f ≡ functions.Equal e → given ≡ x ∷ y ∷ []
       → meaning looks request definitions n x ≡ without_look (Known (One v)) → meaning looks request definitions n y ≡ without_look (Known (One w))

@@ -8,6 +8,7 @@ pub mod Lending
 pub mod Hops
 pub mod Judged
 pub mod Law
+pub mod Latest
 pub mod Listed
 pub mod Looks
 pub mod LooksOf

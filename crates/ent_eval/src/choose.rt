@@ -17,14 +17,14 @@ use ent_combine::{Choice, Chooser, Progress, TargetResult};
 use ent_policy::Child;
 use std::alloc::AllocError;
 
-impl<L: LookUps> Scene<'_, L> {
+impl<'a, L: LookUps> Scene<'a, L> {
     // The child whose target alone matches: the targets are looked at up to the first that is Indeterminate or the second that
     // matches.
     pub(crate) fn choose(
         &self,
         reads: &mut Notes,
         hops: usize,
-        children: &[Child],
+        children: &'a [Child],
     ) -> Result<Only, AllocError>
         requires fit { list_all is_fit children.now ≡ true }
         requires room { length children.now ≤ 256 }
@@ -51,7 +51,7 @@ impl<L: LookUps> Scene<'_, L> {
         &self,
         reads: &mut Notes,
         hops: usize,
-        child: &Child,
+        child: &'a Child,
     ) -> Result<Targeted, AllocError>
         requires { is_fit child.now ≡ true }
         ensures value { IfOk result (λ t. t ≡ (child_target (L.looks self.now.held.now) self.now.request.now hops child.now).value) }

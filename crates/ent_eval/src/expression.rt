@@ -4,7 +4,7 @@ ghost use Rattle.std.specs.Prelude.{◌≡◌, IfOk, IsSome, MatchResult, OnOk, 
 ghost use Rattle.std.specs.Option.{option_copied};
 ghost use Rattle.ent_functions.specs.Applied.{applied};
 ghost use Rattle.ent_functions.specs.Arguments.{type_of_arg};
-ghost use Rattle.ent_functions.specs.Types.{result_type_of};
+ghost use Rattle.ent_functions.specs.Types.{boolean, result_type_of};
 ghost use Rattle.ent_functions.specs.declared.types.ArgType.TheVariants.{Many};
 ghost use Rattle.ent_policy.specs.Typing.{variable_type};
 ghost use Rattle.ent_policy.specs.Variables.{definition_of};
@@ -12,14 +12,15 @@ ghost use Rattle.ent_eval.specs.Expression.{apply_part, evaluated_of, designated
 ghost use Rattle.ent_eval.specs.declared.evaluated.Evaluated.TheVariants.{Known};
 ghost use Rattle.ent_eval.specs.Noted.{noting};
 ghost use Rattle.ent_eval.specs.Typed.{HasType, apply_type, type_of};
+ghost use Rattle.ent_eval.specs.Uncopied.{member_part};
 
 use crate::answer::Status;
 use crate::evaluated::Evaluated;
 use crate::look_ups::LookUps;
 use crate::notes::Notes;
-use crate::own_bag::is_empty;
+use crate::own_bag::{is_empty, is_own};
 use crate::scene::Scene;
-use crate::uncopied::without_copies;
+use crate::uncopied::{is_found, member, membership, without_copies};
 use ent_functions::{Arg, Fault, Function, apply};
 use ent_policy::{Designator, Expression, VariableDefinition};
 use ent_values::{Items, Text, Value};
@@ -95,6 +96,9 @@ impl<L: LookUps> Scene<'_, L> {
         ensures reads { OnOk result (reads.new ≡ noting reads.old (apply_part (L.looks self.now.held.now) self.now.request.now definitions.now references function arguments.now).reads) }
         ensures typed { IfOk result (λ v. HasType (apply_type definitions.now references function arguments.now) v) }
     {
+        if let Some((value, designator)) = membership(self.request, function, arguments) {
+            return self.is_in(reads, value, designator);
+        }
         if let Some(value) = without_copies(self.request, function, arguments) {
             return Ok(value);
         }
@@ -107,6 +111,24 @@ impl<L: LookUps> Scene<'_, L> {
             }
         }
         applied_to(self.alloc, function, evaluated.as_slice())
+    }
+
+    // Is-in of a value and a designator, of whose values the request's own aren't copied.
+    fn is_in(
+        &self,
+        reads: &mut Notes,
+        value: &Value,
+        designator: &Designator,
+    ) -> Result<Evaluated, AllocError>
+        ensures value { IfOk result (λ v. v ≡ (member_part (L.looks self.now.held.now) self.now.request.now value.now designator.now).value) }
+        ensures reads { OnOk result (reads.new ≡ noting reads.old (member_part (L.looks self.now.held.now) self.now.request.now value.now designator.now).reads) }
+        ensures typed { IfOk result (λ v. HasType (Some boolean) v) }
+    {
+        if let Some(found) = is_own(self.request, designator, value) {
+            return Ok(is_found(found));
+        }
+        let bag = self.source(reads, designator)?;
+        Ok(member(value, designator, bag.values()))
     }
 
     // A designator.

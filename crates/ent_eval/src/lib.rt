@@ -10,6 +10,7 @@ mod gather;
 mod given;
 mod holds;
 mod key;
+mod latest;
 mod law;
 mod look_ups;
 mod node;

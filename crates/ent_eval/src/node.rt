@@ -10,6 +10,7 @@ ghost use Rattle.ent_eval.specs.Path.{keys_of};
 
 use crate::answer::{Answer, Status};
 use crate::gather::gather;
+use crate::latest::Latest;
 use crate::look_ups::LookUps;
 use crate::notes::Notes;
 use crate::path::Path;
@@ -20,21 +21,24 @@ use ent_policy::{Kind, Policy, Rule, VariableDefinition};
 use ent_values::Items;
 use std::alloc::{AllocError, Global};
 
-impl<L: LookUps> Scene<'_, L> {
+impl<'a, L: LookUps> Scene<'a, L> {
     // A policy, where the path leads from the root to what it stands in.
     #[tactic(auto, using(crate::proofs::Walk::noting_both, crate::proofs::Typing::both_true), unfolding(ent_policy::specs::Typing::policy_is_typed))]
     pub(crate) fn policy(
         &self,
         reads: &mut Notes,
+        own: &mut Latest<'a>,
         path: &Path<'_>,
-        policy: &Policy,
+        policy: &'a Policy,
     ) -> Result<Option<Answer>, AllocError>
-        requires { policy_is_typed policy.now ≡ true }
+        requires typed { policy_is_typed policy.now ≡ true }
+        requires own { own.old ≡ self.now.request.now }
         ensures value { IfOk result (λ a. or_nothing a ≡ (policy_part (L.looks self.now.held.now) self.now.request.now (keys_of path.now) policy.now).value) }
         ensures reads { OnOk result (reads.new ≡ noting reads.old (policy_part (L.looks self.now.held.now) self.now.request.now (keys_of path.now) policy.now).reads) }
+        ensures own { own.new ≡ own.old }
     {
-        let targeted = self.target(reads, &policy.target)?;
-        self.policy_after(reads, path, policy, targeted)
+        let targeted = self.target_with(reads, own, &policy.target)?;
+        self.policy_after(reads, own, path, policy, targeted)
     }
 
     // The rules are evaluated unless the target doesn't match, and behind them what the policy gives itself, if it matches.
@@ -42,23 +46,29 @@ impl<L: LookUps> Scene<'_, L> {
     fn policy_after(
         &self,
         reads: &mut Notes,
+        own: &mut Latest<'a>,
         path: &Path<'_>,
-        policy: &Policy,
+        policy: &'a Policy,
         targeted: Targeted,
     ) -> Result<Option<Answer>, AllocError>
         requires rules { list_all (rule_is_typed policy.now.variables) policy.now.rules ≡ true }
         requires given { given_is_typed policy.now.variables policy.now.given ≡ true }
+        requires own { own.old ≡ self.now.request.now }
         ensures value { IfOk result (λ a. or_nothing a ≡ (policy_after (L.looks self.now.held.now) self.now.request.now (keys_of path.now) policy.now targeted).value) }
         ensures reads { OnOk result (reads.new ≡ noting reads.old (policy_after (L.looks self.now.held.now) self.now.request.now (keys_of path.now) policy.now targeted).reads) }
+        ensures own { own.new ≡ own.old }
     {
         match targeted {
             Targeted::NoMatch => Ok(None),
             Targeted::Match => {
-                let answer = self.rules_under(reads, path, policy)?;
+                let answer = self.rules_under(reads, own, path, policy)?;
+                if answer.is_none() {
+                    return Ok(None);
+                }
                 self.finished(reads, policy.variables.as_slice(), &policy.given, answer)
             }
             Targeted::Indeterminate(status) => {
-                let answer = self.rules_under(reads, path, policy)?;
+                let answer = self.rules_under(reads, own, path, policy)?;
                 Ok(under(self.alloc, status, answer))
             }
         }
@@ -69,12 +79,15 @@ impl<L: LookUps> Scene<'_, L> {
     fn rules_under(
         &self,
         reads: &mut Notes,
+        own: &mut Latest<'a>,
         path: &Path<'_>,
-        policy: &Policy,
+        policy: &'a Policy,
     ) -> Result<Option<Answer>, AllocError>
-        requires { list_all (rule_is_typed policy.now.variables) policy.now.rules ≡ true }
+        requires typed { list_all (rule_is_typed policy.now.variables) policy.now.rules ≡ true }
+        requires own { own.old ≡ self.now.request.now }
         ensures value { IfOk result (λ a. or_nothing a ≡ (policy_rules (L.looks self.now.held.now) self.now.request.now (keys_of path.now) policy.now).value) }
         ensures reads { OnOk result (reads.new ≡ noting reads.old (policy_rules (L.looks self.now.held.now) self.now.request.now (keys_of path.now) policy.now).reads) }
+        ensures own { own.new ≡ own.old }
     {
         let here = Path::Below {
             above: &*path,
@@ -84,6 +97,7 @@ impl<L: LookUps> Scene<'_, L> {
         };
         self.rules(
             reads,
+            own,
             policy.variables.as_slice(),
             &here,
             policy.algorithm,
@@ -95,18 +109,21 @@ impl<L: LookUps> Scene<'_, L> {
     fn rules(
         &self,
         reads: &mut Notes,
+        own: &mut Latest<'a>,
         definitions: &[VariableDefinition],
         path: &Path<'_>,
         algorithm: RuleAlg,
-        rules: &[Rule],
+        rules: &'a [Rule],
     ) -> Result<Option<Answer>, AllocError>
-        requires { list_all (rule_is_typed definitions.now) rules.now ≡ true }
+        requires typed { list_all (rule_is_typed definitions.now) rules.now ≡ true }
+        requires own { own.old ≡ self.now.request.now }
         ensures value { IfOk result (λ a. or_nothing a ≡ (rules_combined (L.looks self.now.held.now) self.now.request.now definitions.now (keys_of path.now) algorithm rules.now).value) }
         ensures reads { OnOk result (reads.new ≡ noting reads.old (rules_combined (L.looks self.now.held.now) self.now.request.now definitions.now (keys_of path.now) algorithm rules.now).reads) }
+        ensures own { own.new ≡ own.old }
     {
         let mut gathering = gather(self.alloc, algorithm);
         for rule in rules {
-            let answer = self.rule(reads, definitions, path, rule)?;
+            let answer = self.rule(reads, own, definitions, path, rule)?;
             if let Progress::Stop = gathering.take(answer)? {
                 return gathering.finish(self.alloc, reads, path, algorithm);
             }

@@ -1,6 +1,7 @@
 //! The values that a request itself has for a designator, and where they lie.
 
 ghost use Rattle.std.specs.Prelude.{◌≡◌, ◌++◌, MatchOption, false, option_copied};
+ghost use Rattle.std.specs.Str.{bytes_eq};
 ghost use Rattle.ent_values.specs.Bags.{AllOfType};
 ghost use Rattle.ent_eval.specs.Own.{attributes_in, has_issuer, is_designated, own_values, values_in};
 ghost use Rattle.ent_eval.specs.Sought.{AreSeveral, IsWhole, designator_of, values_of};
@@ -37,7 +38,7 @@ impl<'a> Sought<'a> {
     fn is_met_by(&self, attribute: &Attribute) -> bool
         ensures { result ≡ is_designated (designator_of self.now) attribute.now }
     {
-        attribute.id.as_str() == self.attribute
+        same_text(attribute.id.as_str(), self.attribute)
             && attribute.bag.datatype() == self.datatype
             && has_issuer(self.issuer, &attribute.issuer)
     }
@@ -82,7 +83,7 @@ fn either<'a>(first: &'a [Value], second: &'a [Value]) -> Option<&'a [Value]>
 pub(crate) fn attributes_in<'a>(id: &str, category: &'a Category) -> &'a [Attribute]
     ensures { result.now ≡ attributes_in id.now category.now }
 {
-    if category.id.as_str() == id {
+    if same_text(category.id.as_str(), id) {
         category.attributes.as_slice()
     } else {
         &[]
@@ -119,4 +120,11 @@ fn has_issuer(wanted: Option<&str>, issuer: &Option<Text>) -> bool
         (Some(wanted), Some(issuer)) => issuer.as_str() == wanted,
         (Some(_), None) => false,
     }
+}
+
+// Whether two texts are equal. Most that differ do so in their lengths already, which lie nearer than their bytes.
+pub(crate) fn same_text(first: &str, second: &str) -> bool
+    ensures { result ≡ bytes_eq first.now second.now }
+{
+    first.len() == second.len() && first == second
 }

@@ -112,7 +112,7 @@ fn is_in_category(value: &Value, category: &Category, sought: &Sought<'_>) -> bo
 }
 
 // Whether a value is one of several.
-fn is_among(value: &Value, values: &[Value]) -> bool
+pub(crate) fn is_among(value: &Value, values: &[Value]) -> bool
     ensures { result ≡ is_among value.now values.now }
 {
     for other in values {

@@ -12,6 +12,7 @@ ghost use Rattle.ent_eval.specs.Typed.{is_fit};
 ghost use Rattle.ent_eval.specs.declared.key.ReadKey.TheVariants.{Ref};
 
 use crate::answer::{Answer, Status};
+use crate::latest::Latest;
 use crate::look_ups::LookUps;
 use crate::notes::Notes;
 use crate::path::Path;
@@ -20,23 +21,26 @@ use crate::target::Targeted;
 use ent_policy::{Document, Reference, Tree};
 use std::alloc::AllocError;
 
-impl<L: LookUps> Scene<'_, L> {
+impl<'a, L: LookUps> Scene<'a, L> {
     // A reference, where so many may be followed on the way down from here.
     #[cycle(child)]
     pub(crate) fn reference(
         &self,
         reads: &mut Notes,
+        own: &mut Latest<'a>,
         hops: usize,
         path: &Path<'_>,
         reference: &Reference,
     ) -> Result<Option<Answer>, AllocError>
+        requires own { own.old ≡ self.now.request.now }
         ensures value { IfOk result (λ a. or_nothing a ≡ (reference_part (L.looks self.now.held.now) self.now.request.now hops (keys_of path.now) reference.now).value) }
         ensures reads { OnOk result (reads.new ≡ noting reads.old (reference_part (L.looks self.now.held.now) self.now.request.now hops (keys_of path.now) reference.now).reads) }
+        ensures own { own.new ≡ own.old }
     {
         if hops == 0 {
             return Ok(Some(Answer::unresolved(self.alloc)));
         }
-        self.followed(reads, hops - 1, path, reference)
+        self.followed(reads, own, hops - 1, path, reference)
     }
 
     // The document that a reference names, where so many may be followed on the way down from there.
@@ -44,16 +48,19 @@ impl<L: LookUps> Scene<'_, L> {
     pub(crate) fn followed(
         &self,
         reads: &mut Notes,
+        own: &mut Latest<'a>,
         hops: usize,
         path: &Path<'_>,
         reference: &Reference,
     ) -> Result<Option<Answer>, AllocError>
+        requires own { own.old ≡ self.now.request.now }
         ensures value { IfOk result (λ a. or_nothing a ≡ (followed_part (L.looks self.now.held.now) self.now.request.now hops (keys_of path.now) reference.now).value) }
         ensures reads { OnOk result (reads.new ≡ noting reads.old (followed_part (L.looks self.now.held.now) self.now.request.now hops (keys_of path.now) reference.now).reads) }
+        ensures own { own.new ≡ own.old }
     {
         match self.look_up(reads, reference)? {
             None => Ok(Some(Answer::unresolved(self.alloc))),
-            Some(document) => self.tree(reads, hops, path, document.tree()),
+            Some(document) => self.tree(reads, own, hops, path, document.tree()),
         }
     }
 
@@ -62,18 +69,21 @@ impl<L: LookUps> Scene<'_, L> {
     fn tree(
         &self,
         reads: &mut Notes,
+        own: &mut Latest<'a>,
         hops: usize,
         path: &Path<'_>,
-        tree: &Tree,
+        tree: &'a Tree,
     ) -> Result<Option<Answer>, AllocError>
         requires fit { is_fit (as_child tree.now) ≡ true }
         requires shallow { depth (as_child tree.now) ≤ 16 }
+        requires own { own.old ≡ self.now.request.now }
         ensures value { IfOk result (λ a. or_nothing a ≡ (child_part (L.looks self.now.held.now) self.now.request.now hops (keys_of path.now) (as_child tree.now)).value) }
         ensures reads { OnOk result (reads.new ≡ noting reads.old (child_part (L.looks self.now.held.now) self.now.request.now hops (keys_of path.now) (as_child tree.now)).reads) }
+        ensures own { own.new ≡ own.old }
     {
         match tree {
-            Tree::Policy(policy) => self.policy(reads, path, policy),
-            Tree::Set(set) => self.set(reads, hops, path, set),
+            Tree::Policy(policy) => self.policy(reads, own, path, policy),
+            Tree::Set(set) => self.set(reads, own, hops, path, set),
         }
     }
 
@@ -102,7 +112,7 @@ impl<L: LookUps> Scene<'_, L> {
         &self,
         reads: &mut Notes,
         hops: usize,
-        tree: &Tree,
+        tree: &'a Tree,
     ) -> Result<Targeted, AllocError>
         requires { is_fit (as_child tree.now) ≡ true }
         ensures value { IfOk result (λ t. t ≡ (child_target (L.looks self.now.held.now) self.now.request.now hops (as_child tree.now)).value) }
@@ -119,7 +129,7 @@ impl<L: LookUps> Scene<'_, L> {
         &self,
         reads: &mut Notes,
         reference: &Reference,
-    ) -> Result<Option<&Document>, AllocError>
+    ) -> Result<Option<&'a Document>, AllocError>
         ensures found { IfOk result (λ d. option_copied d ≡ (L.looks self.now.held.now).document reference.now) }
         ensures reads { OnOk result (reads.new ≡ with_note reads.old (Ref reference.now)) }
     {

@@ -11,6 +11,7 @@ ghost use Rattle.ent_eval.specs.Typed.{HasType};
 
 use crate::answer::{Answer, Status, WhyEntry};
 use crate::evaluated::{Evaluated, Truth};
+use crate::latest::Latest;
 use crate::look_ups::LookUps;
 use crate::notes::Notes;
 use crate::own_given::indeterminate_of;
@@ -23,21 +24,24 @@ use ent_policy::{Effect, Expression, Rule, VariableDefinition};
 use ent_values::{Items, Value};
 use std::alloc::{AllocError, Global};
 
-impl<L: LookUps> Scene<'_, L> {
+impl<'a, L: LookUps> Scene<'a, L> {
     // A rule of the policy at the end of the path, among the policy's definitions.
     #[tactic(auto, using(crate::proofs::Walk::noting_both, crate::proofs::Typing::both_true), unfolding(ent_policy::specs::Typing::rule_is_typed))]
     pub(crate) fn rule(
         &self,
         reads: &mut Notes,
+        own: &mut Latest<'a>,
         definitions: &[VariableDefinition],
         path: &Path<'_>,
-        rule: &Rule,
+        rule: &'a Rule,
     ) -> Result<Option<Answer>, AllocError>
-        requires { rule_is_typed definitions.now rule.now ≡ true }
+        requires typed { rule_is_typed definitions.now rule.now ≡ true }
+        requires own { own.old ≡ self.now.request.now }
         ensures value { IfOk result (λ a. or_nothing a ≡ (rule_part (L.looks self.now.held.now) self.now.request.now definitions.now (keys_of path.now) rule.now).value) }
         ensures reads { OnOk result (reads.new ≡ noting reads.old (rule_part (L.looks self.now.held.now) self.now.request.now definitions.now (keys_of path.now) rule.now).reads) }
+        ensures own { own.new ≡ own.old }
     {
-        let targeted = self.target(reads, &rule.target)?;
+        let targeted = self.target_with(reads, own, &rule.target)?;
         self.rule_after(reads, definitions, path, rule, targeted)
     }
 

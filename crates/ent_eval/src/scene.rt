@@ -6,6 +6,7 @@ ghost use Rattle.ent_eval.specs.Noted.{noting};
 
 use crate::answer::Answer;
 use crate::key::ReadKey;
+use crate::latest::Latest;
 use crate::look_ups::LookUps;
 use crate::notes::Notes;
 use crate::path::Path;
@@ -23,7 +24,7 @@ pub(crate) struct Scene<'a, L> {
     pub(crate) request: &'a Request,
 }
 
-impl<L: LookUps> Scene<'_, L> {
+impl<'a, L: LookUps> Scene<'a, L> {
     // The answer to the request.
     #[tactic(auto, using(crate::proofs::PathKeys::keys_of_root))]
     pub(crate) fn answer(&self, reads: &mut Notes) -> Result<Answer, AllocError>
@@ -34,7 +35,8 @@ impl<L: LookUps> Scene<'_, L> {
         match self.held.root() {
             None => Ok(Answer::not_applicable(self.alloc)),
             Some(reference) => {
-                let answer = self.followed(reads, MOST_HOPS, &Path::Root, reference)?;
+                let mut own = Latest::of(self.request);
+                let answer = self.followed(reads, &mut own, MOST_HOPS, &Path::Root, reference)?;
                 Ok(answer.unwrap_or(Answer::not_applicable(self.alloc)))
             }
         }

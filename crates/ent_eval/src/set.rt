@@ -12,6 +12,7 @@ ghost use Rattle.ent_eval.specs.Path.{keys_of};
 
 use crate::answer::Answer;
 use crate::gather::gather;
+use crate::latest::Latest;
 use crate::look_ups::LookUps;
 use crate::node::under;
 use crate::notes::Notes;
@@ -23,24 +24,27 @@ use ent_combine::{PolicyAlg, Progress, RuleAlg};
 use ent_policy::{Child, Kind, PolicySet};
 use std::alloc::AllocError;
 
-impl<L: LookUps> Scene<'_, L> {
+impl<'a, L: LookUps> Scene<'a, L> {
     // A child of a set, where the path leads from the root to the set, and so many references may be followed from here on.
     #[cycle(child)]
     fn child(
         &self,
         reads: &mut Notes,
+        own: &mut Latest<'a>,
         hops: usize,
         path: &Path<'_>,
-        child: &Child,
+        child: &'a Child,
     ) -> Result<Option<Answer>, AllocError>
-        requires { is_fit child.now ≡ true }
+        requires fit { is_fit child.now ≡ true }
+        requires own { own.old ≡ self.now.request.now }
         ensures value { IfOk result (λ a. or_nothing a ≡ (child_part (L.looks self.now.held.now) self.now.request.now hops (keys_of path.now) child.now).value) }
         ensures reads { OnOk result (reads.new ≡ noting reads.old (child_part (L.looks self.now.held.now) self.now.request.now hops (keys_of path.now) child.now).reads) }
+        ensures own { own.new ≡ own.old }
     {
         match child {
-            Child::Policy(policy) => self.policy(reads, path, policy),
-            Child::Set(set) => self.set(reads, hops, path, set),
-            Child::Reference(reference) => self.reference(reads, hops, path, reference),
+            Child::Policy(policy) => self.policy(reads, own, path, policy),
+            Child::Set(set) => self.set(reads, own, hops, path, set),
+            Child::Reference(reference) => self.reference(reads, own, hops, path, reference),
         }
     }
 
@@ -50,16 +54,19 @@ impl<L: LookUps> Scene<'_, L> {
     pub(crate) fn set(
         &self,
         reads: &mut Notes,
+        own: &mut Latest<'a>,
         hops: usize,
         path: &Path<'_>,
-        set: &PolicySet,
+        set: &'a PolicySet,
     ) -> Result<Option<Answer>, AllocError>
-        requires { set_is_fit set.now ≡ true }
+        requires fit { set_is_fit set.now ≡ true }
+        requires own { own.old ≡ self.now.request.now }
         ensures value { IfOk result (λ a. or_nothing a ≡ (set_part (L.looks self.now.held.now) self.now.request.now hops (keys_of path.now) set.now).value) }
         ensures reads { OnOk result (reads.new ≡ noting reads.old (set_part (L.looks self.now.held.now) self.now.request.now hops (keys_of path.now) set.now).reads) }
+        ensures own { own.new ≡ own.old }
     {
-        let targeted = self.target(reads, &set.target)?;
-        self.set_after(reads, hops, path, set, targeted)
+        let targeted = self.target_with(reads, own, &set.target)?;
+        self.set_after(reads, own, hops, path, set, targeted)
     }
 
     // The children are evaluated unless the target doesn't match, and behind them what the set gives itself, if it matches.
@@ -68,25 +75,31 @@ impl<L: LookUps> Scene<'_, L> {
     fn set_after(
         &self,
         reads: &mut Notes,
+        own: &mut Latest<'a>,
         hops: usize,
         path: &Path<'_>,
-        set: &PolicySet,
+        set: &'a PolicySet,
         targeted: Targeted,
     ) -> Result<Option<Answer>, AllocError>
         requires fit { list_all is_fit set.now.children ≡ true }
         requires room { length set.now.children ≤ 256 }
         requires given { given_is_typed [] set.now.given ≡ true }
+        requires own { own.old ≡ self.now.request.now }
         ensures value { IfOk result (λ a. or_nothing a ≡ (set_after (L.looks self.now.held.now) self.now.request.now hops (keys_of path.now) set.now targeted).value) }
         ensures reads { OnOk result (reads.new ≡ noting reads.old (set_after (L.looks self.now.held.now) self.now.request.now hops (keys_of path.now) set.now targeted).reads) }
+        ensures own { own.new ≡ own.old }
     {
         match targeted {
             Targeted::NoMatch => Ok(None),
             Targeted::Match => {
-                let answer = self.children_under(reads, hops, path, set)?;
+                let answer = self.children_under(reads, own, hops, path, set)?;
+                if answer.is_none() {
+                    return Ok(None);
+                }
                 self.finished(reads, &[], &set.given, answer)
             }
             Targeted::Indeterminate(status) => {
-                let answer = self.children_under(reads, hops, path, set)?;
+                let answer = self.children_under(reads, own, hops, path, set)?;
                 Ok(under(self.alloc, status, answer))
             }
         }
@@ -97,14 +110,17 @@ impl<L: LookUps> Scene<'_, L> {
     fn children_under(
         &self,
         reads: &mut Notes,
+        own: &mut Latest<'a>,
         hops: usize,
         path: &Path<'_>,
-        set: &PolicySet,
+        set: &'a PolicySet,
     ) -> Result<Option<Answer>, AllocError>
         requires fit { list_all is_fit set.now.children ≡ true }
         requires room { length set.now.children ≤ 256 }
+        requires own { own.old ≡ self.now.request.now }
         ensures value { IfOk result (λ a. or_nothing a ≡ (set_children (L.looks self.now.held.now) self.now.request.now hops (keys_of path.now) set.now).value) }
         ensures reads { OnOk result (reads.new ≡ noting reads.old (set_children (L.looks self.now.held.now) self.now.request.now hops (keys_of path.now) set.now).reads) }
+        ensures own { own.new ≡ own.old }
     {
         let here = Path::Below {
             above: &*path,
@@ -115,12 +131,13 @@ impl<L: LookUps> Scene<'_, L> {
         match set.algorithm {
             PolicyAlg::Shared(algorithm) => self.children(
                 reads,
+                own,
                 hops,
                 &here,
                 algorithm,
                 set.children.as_slice(),
             ),
-            PolicyAlg::OnlyOne => self.only_one(reads, hops, &here, set.children.as_slice()),
+            PolicyAlg::OnlyOne => self.only_one(reads, own, hops, &here, set.children.as_slice()),
         }
     }
 
@@ -129,18 +146,21 @@ impl<L: LookUps> Scene<'_, L> {
     fn children(
         &self,
         reads: &mut Notes,
+        own: &mut Latest<'a>,
         hops: usize,
         path: &Path<'_>,
         algorithm: RuleAlg,
-        children: &[Child],
+        children: &'a [Child],
     ) -> Result<Option<Answer>, AllocError>
-        requires { list_all is_fit children.now ≡ true }
+        requires fit { list_all is_fit children.now ≡ true }
+        requires own { own.old ≡ self.now.request.now }
         ensures value { IfOk result (λ a. or_nothing a ≡ (children_combined (L.looks self.now.held.now) self.now.request.now hops (keys_of path.now) algorithm children.now).value) }
         ensures reads { OnOk result (reads.new ≡ noting reads.old (children_combined (L.looks self.now.held.now) self.now.request.now hops (keys_of path.now) algorithm children.now).reads) }
+        ensures own { own.new ≡ own.old }
     {
         let mut gathering = gather(self.alloc, algorithm);
         for child in children {
-            let answer = self.child(reads, hops, path, child)?;
+            let answer = self.child(reads, own, hops, path, child)?;
             if let Progress::Stop = gathering.take(answer)? {
                 return gathering.finish(self.alloc, reads, path, algorithm);
             }
@@ -154,17 +174,20 @@ impl<L: LookUps> Scene<'_, L> {
     fn only_one(
         &self,
         reads: &mut Notes,
+        own: &mut Latest<'a>,
         hops: usize,
         path: &Path<'_>,
-        children: &[Child],
+        children: &'a [Child],
     ) -> Result<Option<Answer>, AllocError>
         requires fit { list_all is_fit children.now ≡ true }
         requires room { length children.now ≤ 256 }
+        requires own { own.old ≡ self.now.request.now }
         ensures value { IfOk result (λ a. or_nothing a ≡ (only_child (L.looks self.now.held.now) self.now.request.now hops (keys_of path.now) children.now).value) }
         ensures reads { OnOk result (reads.new ≡ noting reads.old (only_child (L.looks self.now.held.now) self.now.request.now hops (keys_of path.now) children.now).reads) }
+        ensures own { own.new ≡ own.old }
     {
         let only = self.choose(reads, hops, children)?;
-        self.chosen_child(reads, hops, path, children, only)
+        self.chosen_child(reads, own, hops, path, children, only)
     }
 
     // The chosen child alone is evaluated.
@@ -172,21 +195,24 @@ impl<L: LookUps> Scene<'_, L> {
     fn chosen_child(
         &self,
         reads: &mut Notes,
+        own: &mut Latest<'a>,
         hops: usize,
         path: &Path<'_>,
-        children: &[Child],
+        children: &'a [Child],
         only: Only,
     ) -> Result<Option<Answer>, AllocError>
-        requires { list_all is_fit children.now ≡ true }
+        requires fit { list_all is_fit children.now ≡ true }
+        requires own { own.old ≡ self.now.request.now }
         ensures value { IfOk result (λ a. or_nothing a ≡ (chosen_part (map (child_part (L.looks self.now.held.now) self.now.request.now hops (keys_of path.now)) children.now) only).value) }
         ensures reads { OnOk result (reads.new ≡ noting reads.old (chosen_part (map (child_part (L.looks self.now.held.now) self.now.request.now hops (keys_of path.now)) children.now) only).reads) }
+        ensures own { own.new ≡ own.old }
     {
         match only {
             Only::Nobody => Ok(None),
             Only::Bad(status) => Ok(Some(Answer::bad(self.alloc, status))),
             Only::Child(place) => match children.get(place) {
                 None => Ok(None),
-                Some(child) => self.child(reads, hops, path, child),
+                Some(child) => self.child(reads, own, hops, path, child),
             },
         }
     }

@@ -11,11 +11,10 @@ ghost use Rattle.ent_eval.specs.Target.{all_match, all_of_part, any_of_part, is_
 
 use crate::answer::Status;
 use crate::holds::{holds_in, holds_of};
+use crate::latest::Latest;
 use crate::look_ups::LookUps;
 use crate::notes::Notes;
-use crate::own::{Sought, own_values};
 use crate::own_bag::is_empty;
-use crate::request::Request;
 use crate::scene::Scene;
 use ent_policy::{AllOf, AnyOf, Match, Target};
 use ent_values::Bag;
@@ -29,26 +28,55 @@ pub enum Targeted {
     Indeterminate(Status),
 }
 
-impl<L: LookUps> Scene<'_, L> {
+impl<'a, L: LookUps> Scene<'a, L> {
     // Whether a target matches.
     #[tactic(auto, unfolding(ent_policy::specs::Typing::target_is_typed))]
-    pub(crate) fn target(&self, reads: &mut Notes, target: &Target) -> Result<Targeted, AllocError>
+    pub(crate) fn target(
+        &self,
+        reads: &mut Notes,
+        target: &'a Target,
+    ) -> Result<Targeted, AllocError>
         requires { target_is_typed target.now ≡ true }
         ensures value { IfOk result (λ t. t ≡ (target_part (L.looks self.now.held.now) self.now.request.now target.now).value) }
         ensures reads { OnOk result (reads.new ≡ noting reads.old (target_part (L.looks self.now.held.now) self.now.request.now target.now).reads) }
     {
-        self.all_any_of(reads, target.any_of.as_slice())
+        let mut own = Latest::of(self.request);
+        self.target_with(reads, &mut own, target)
+    }
+
+    // The same, with the request's own values that are at hand.
+    #[tactic(auto, unfolding(ent_policy::specs::Typing::target_is_typed))]
+    pub(crate) fn target_with(
+        &self,
+        reads: &mut Notes,
+        own: &mut Latest<'a>,
+        target: &'a Target,
+    ) -> Result<Targeted, AllocError>
+        requires typed { target_is_typed target.now ≡ true }
+        requires own { own.old ≡ self.now.request.now }
+        ensures value { IfOk result (λ t. t ≡ (target_part (L.looks self.now.held.now) self.now.request.now target.now).value) }
+        ensures reads { OnOk result (reads.new ≡ noting reads.old (target_part (L.looks self.now.held.now) self.now.request.now target.now).reads) }
+        ensures own { own.new ≡ own.old }
+    {
+        self.all_any_of(reads, own, target.any_of.as_slice())
     }
 
     // Whether all any-of elements match, up to the first that doesn't.
-    fn all_any_of(&self, reads: &mut Notes, all: &[AnyOf]) -> Result<Targeted, AllocError>
-        requires { list_all any_of_is_typed all.now ≡ true }
+    fn all_any_of(
+        &self,
+        reads: &mut Notes,
+        own: &mut Latest<'a>,
+        all: &'a [AnyOf],
+    ) -> Result<Targeted, AllocError>
+        requires typed { list_all any_of_is_typed all.now ≡ true }
+        requires own { own.old ≡ self.now.request.now }
         ensures value { IfOk result (λ t. t ≡ (whole is_no_match all_match (map (any_of_part (L.looks self.now.held.now) self.now.request.now) all.now)).value) }
         ensures reads { OnOk result (reads.new ≡ noting reads.old (whole is_no_match all_match (map (any_of_part (L.looks self.now.held.now) self.now.request.now) all.now)).reads) }
+        ensures own { own.new ≡ own.old }
     {
         let mut so_far = Targeted::Match;
         for any_of in all {
-            let targeted = self.one_all_of(reads, any_of.all_of.as_slice())?;
+            let targeted = self.one_all_of(reads, own, any_of.all_of.as_slice())?;
             if let Targeted::NoMatch = targeted {
                 return Ok(targeted);
             }
@@ -58,14 +86,21 @@ impl<L: LookUps> Scene<'_, L> {
     }
 
     // Whether one all-of element matches, up to the first that does.
-    fn one_all_of(&self, reads: &mut Notes, alternatives: &[AllOf]) -> Result<Targeted, AllocError>
-        requires { list_all all_of_is_typed alternatives.now ≡ true }
+    fn one_all_of(
+        &self,
+        reads: &mut Notes,
+        own: &mut Latest<'a>,
+        alternatives: &'a [AllOf],
+    ) -> Result<Targeted, AllocError>
+        requires typed { list_all all_of_is_typed alternatives.now ≡ true }
+        requires own { own.old ≡ self.now.request.now }
         ensures value { IfOk result (λ t. t ≡ (whole is_match one_matches (map (all_of_part (L.looks self.now.held.now) self.now.request.now) alternatives.now)).value) }
         ensures reads { OnOk result (reads.new ≡ noting reads.old (whole is_match one_matches (map (all_of_part (L.looks self.now.held.now) self.now.request.now) alternatives.now)).reads) }
+        ensures own { own.new ≡ own.old }
     {
         let mut so_far = Targeted::NoMatch;
         for all_of in alternatives {
-            let targeted = self.all_matches(reads, all_of.matches.as_slice())?;
+            let targeted = self.all_matches(reads, own, all_of.matches.as_slice())?;
             if let Targeted::Match = targeted {
                 return Ok(targeted);
             }
@@ -75,14 +110,21 @@ impl<L: LookUps> Scene<'_, L> {
     }
 
     // Whether all matches are True, up to the first that is False.
-    fn all_matches(&self, reads: &mut Notes, matches: &[Match]) -> Result<Targeted, AllocError>
-        requires { list_all match_is_typed matches.now ≡ true }
+    fn all_matches(
+        &self,
+        reads: &mut Notes,
+        own: &mut Latest<'a>,
+        matches: &'a [Match],
+    ) -> Result<Targeted, AllocError>
+        requires typed { list_all match_is_typed matches.now ≡ true }
+        requires own { own.old ≡ self.now.request.now }
         ensures value { IfOk result (λ t. t ≡ (whole is_no_match all_match (map (match_part (L.looks self.now.held.now) self.now.request.now) matches.now)).value) }
         ensures reads { OnOk result (reads.new ≡ noting reads.old (whole is_no_match all_match (map (match_part (L.looks self.now.held.now) self.now.request.now) matches.now)).reads) }
+        ensures own { own.new ≡ own.old }
     {
         let mut so_far = Targeted::Match;
         for test in matches {
-            let targeted = self.one_match(reads, test)?;
+            let targeted = self.one_match(reads, own, test)?;
             if let Targeted::NoMatch = targeted {
                 return Ok(targeted);
             }
@@ -93,12 +135,19 @@ impl<L: LookUps> Scene<'_, L> {
 
     // Whether a match is True. The request's own values are no look-up, and none of them is copied.
     #[tactic(auto, unfolding(ent_policy::specs::Typing::match_is_typed))]
-    fn one_match(&self, reads: &mut Notes, test: &Match) -> Result<Targeted, AllocError>
-        requires { match_is_typed test.now ≡ true }
+    fn one_match(
+        &self,
+        reads: &mut Notes,
+        own: &mut Latest<'a>,
+        test: &'a Match,
+    ) -> Result<Targeted, AllocError>
+        requires typed { match_is_typed test.now ≡ true }
+        requires own { own.old ≡ self.now.request.now }
         ensures value { IfOk result (λ t. t ≡ (match_part (L.looks self.now.held.now) self.now.request.now test.now).value) }
         ensures reads { OnOk result (reads.new ≡ noting reads.old (match_part (L.looks self.now.held.now) self.now.request.now test.now).reads) }
+        ensures own { own.new ≡ own.old }
     {
-        if let Some(targeted) = own_match(self.alloc, self.request, test)? {
+        if let Some(targeted) = own_match(self.alloc, own, test)? {
             return Ok(targeted);
         }
         let bag = self.source(reads, &test.designator)?;
@@ -107,14 +156,19 @@ impl<L: LookUps> Scene<'_, L> {
 }
 
 // A match of the request's own values, if it has any.
-fn own_match(alloc: Global, request: &Request, test: &Match) -> Result<Option<Targeted>, AllocError>
+fn own_match<'a>(
+    alloc: Global,
+    own: &mut Latest<'a>,
+    test: &'a Match,
+) -> Result<Option<Targeted>, AllocError>
     requires { Tests test.now.function test.now.literal test.now.designator.datatype }
-    ensures { IfOk result (λ t. t ≡ own_match test.now (own_values test.now.designator request.now)) }
+    ensures value { IfOk result (λ t. t ≡ own_match test.now (own_values test.now.designator own.old)) }
+    ensures own { own.new ≡ own.old }
 {
-    match own_values(request, &Sought::of(&test.designator)) {
+    match own.values(&test.designator) {
         Some([]) => Ok(None),
         Some(values) => Ok(Some(told(holds_in(alloc, test, values)?))),
-        None => Ok(Some(told(holds_of(alloc, test, request)?))),
+        None => Ok(Some(told(holds_of(alloc, test, own.request())?))),
     }
 }
 

@@ -7,19 +7,20 @@ ghost use Rattle.ent_functions.specs.declared.function.Function.TheVariants as f
 ghost use Rattle.ent_eval.specs.Expression.{result_of};
 ghost use Rattle.ent_eval.specs.Own.{own_values};
 ghost use Rattle.ent_eval.specs.Typed.{HasType};
-ghost use Rattle.ent_eval.specs.Uncopied.{ComesTo, HasItsType, IsFound, IsOne};
+ghost use Rattle.ent_eval.specs.Uncopied.{ComesTo, HasItsType, IsBoolean, IsMembership, IsOne, member};
 ghost use Rattle.ent_eval.specs.declared.evaluated.Evaluated.TheVariants.{Known};
 
+use crate::answer::Status;
 use crate::evaluated::Evaluated;
 use crate::own::Sought;
-use crate::own_bag::{is_own, only_own};
+use crate::own_bag::{is_among, only_own};
 use crate::request::Request;
 use ent_functions::{Arg, Function};
 use ent_policy::{Designator, Expression};
 use ent_values::Value;
 
 // What a function comes to, where that is told by its arguments as they stand.
-#[tactic(auto, using(crate::proofs::Literals::has_type, crate::proofs::Literals::has_type_of_equal))]
+#[tactic(auto, using(crate::proofs::Literals::has_type_of_equal))]
 pub(crate) fn without_copies(
     request: &Request,
     function: Function,
@@ -29,11 +30,27 @@ pub(crate) fn without_copies(
     ensures typed { IfSome result (HasItsType function arguments.now) }
 {
     let (first, second) = two(arguments)?;
+    match function {
+        Function::Equal(_) => Some(compared(seen(request, first)?, seen(request, second)?)),
+        _ => None,
+    }
+}
+
+// The value and the designator of whose values a function tells whether it is among them.
+#[tactic(auto, using(crate::proofs::Literals::has_type))]
+pub(crate) fn membership<'a>(
+    request: &'a Request,
+    function: Function,
+    arguments: &'a [Expression],
+) -> Option<(&'a Value, &'a Designator)>
+    ensures value { IfSome result (λ m. IsMembership request.now function arguments.now m.0.now m.1.now) }
+    ensures typed { IfSome result (λ m. IsBoolean function arguments.now) }
+{
+    let (first, second) = two(arguments)?;
     match (function, second) {
         (Function::IsIn(_), Expression::Designator(designator)) => {
-            found_in(request, seen(request, first)?, designator)
+            Some((seen(request, first)?, designator))
         }
-        (Function::Equal(_), _) => Some(compared(seen(request, first)?, seen(request, second)?)),
         _ => None,
     }
 }
@@ -101,12 +118,21 @@ fn compared(first: &Value, second: &Value) -> Evaluated
     Evaluated::Known(Arg::One(Value::Boolean(first == second)))
 }
 
-// Whether a value is among the request's own, if it has any.
-#[tactic(auto, using(crate::proofs::Literals::found))]
-fn found_in(request: &Request, value: &Value, designator: &Designator) -> Option<Evaluated>
-    ensures typed { IfSome result (λ v. HasType (Some boolean) v) }
-    ensures value { IfSome result (λ v. IsFound value.now designator.now (own_values designator.now request.now) v) }
+// Is-in of a value and of the values of a designator.
+pub(crate) fn member(value: &Value, designator: &Designator, values: &[Value]) -> Evaluated
+    ensures value { result ≡ member value.now designator.now values.now }
+    ensures typed { HasType (Some boolean) result }
 {
-    let found = is_own(request, designator, value)?;
-    Some(Evaluated::Known(Arg::One(Value::Boolean(found))))
+    if values.is_empty() && designator.must_be_present {
+        return Evaluated::Indeterminate(Status::MissingAttribute);
+    }
+    is_found(is_among(value, values))
+}
+
+// Whether a value is found.
+pub(crate) fn is_found(found: bool) -> Evaluated
+    ensures value { result ≡ Known (Arg.One (Value.Boolean found)) }
+    ensures typed { HasType (Some boolean) result }
+{
+    Evaluated::Known(Arg::One(Value::Boolean(found)))
 }

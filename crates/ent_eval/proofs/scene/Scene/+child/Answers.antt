@@ -28,10 +28,11 @@ children-returns-in-Stop-clause-reads g t c =
 
 pub children-loop-child-preserved : goal.children-loop-child-preserved
 children-loop-child-preserved g t c =
-    next_child c.args.algorithm (child_part (g.L.LookUps.looks c.args.self.now.held.now) c.args.self.now.request.now c.args.hops (keys_of c.args.path.now)) c.args.children.now c.loop-child.child-index c.child-item.result (or_nothing c.in_ok-answer.answer) c.in_ok-take.field-0
+    let next = next_child c.args.algorithm (child_part (g.L.LookUps.looks c.args.self.now.held.now) c.args.self.now.request.now c.args.hops (keys_of c.args.path.now)) c.args.children.now c.loop-child.child-index c.child-item.result (or_nothing c.in_ok-answer.answer) c.in_ok-take.field-0
     c.loop-child.gathering c.take.new.self c.args.reads.now c.loop-child.reads c.child.new.reads
     c.loop-child-test.true c.child-item.is c.loop-child.invariant.going c.loop-child.invariant.gathered c.in_ok-answer.ensures.value c.in_ok-answer.ensures.reads
-    c.in_ok-take.ensures.gathered c.in_ok-take.ensures.progress c.in_default.is
+    c.in_ok-take.ensures.gathered c.in_ok-take.ensures.progress c.in_default.is in
+    record { going = next.going; gathered = next.gathered; own = c.child.ensures.own ∙ c.loop-child.invariant.own }
 
 pub children-returns-clause-value : goal.children-returns-clause-value
 children-returns-clause-value g t c =
@@ -64,12 +65,12 @@ children_under-returns-in-OnlyOne-clause-reads g t c =
     c.as_slice-in-OnlyOne.result.now c.in-OnlyOne.is (keys_of_below _ _ _ _) c.as_slice-in-OnlyOne.ensures) c.only_one.ensures.reads
 
 pub set-set_after-requires : goal.set-set_after-requires
-set-set_after-requires g t c κs within = let fit = (set-fit c.args.set.now c.requires).1 in (omega arith, (within, (fit.1.0, (fit.0, fit.1.1))))
+set-set_after-requires g t c κs within = let fit = (set-fit c.args.set.now c.requires.fit).1 in (omega arith, (within, (fit.1.0, (fit.0, (fit.1.1, c.target_with.ensures.own ∙ c.requires.own)))))
 
 pub set-returns-clause-reads : goal.set-returns-clause-reads
 set-returns-clause-reads g t c =
     on_ok_weaker c.set_after.result (λ is. set-reads (g.L.LookUps.looks c.args.self.now.held.now) c.args.self.now.request.now c.args.hops (keys_of c.args.path.now) c.args.set.now c.in_ok-targeted.targeted
-    c.args.reads.now c.target.new.reads c.set_after.new.reads c.in_ok-targeted.ensures.value c.in_ok-targeted.ensures.reads is) c.set_after.ensures.reads
+    c.args.reads.now c.target_with.new.reads c.set_after.new.reads c.in_ok-targeted.ensures.value c.in_ok-targeted.ensures.reads is) c.set_after.ensures.reads
 
 pub reference-returns-clause-value : goal.reference-returns-clause-value
 reference-returns-clause-value g t c =
@@ -78,9 +79,9 @@ reference-returns-clause-value g t c =
 
 pub followed-tree-requires-in-Some : goal.followed-tree-requires-in-Some
 followed-tree-requires-in-Some g t c κs within =
-    (omega arith, (within, (sound_fit c.tree.result.now c.tree.ensures.sound c.tree.ensures.typed, shallow_tree c.tree.result.now c.tree.ensures.sound)))
+    (omega arith, (within, (sound_fit c.tree.result.now c.tree.ensures.sound c.tree.ensures.typed, (shallow_tree c.tree.result.now c.tree.ensures.sound, c.requires.own))))
 
 pub tree-set-requires : goal.tree-set-requires
 tree-set-requires g t c κs within =
     let small = shallow_set c.args.tree.now c.in-Set.set c.in-Set.is c.requires.shallow in
-    (omega (arith, small), (within, set_of_tree c.args.tree.now c.in-Set.set c.in-Set.is c.requires.fit))
+    (omega (arith, small), (within, (set_of_tree c.args.tree.now c.in-Set.set c.in-Set.is c.requires.fit, c.requires.own)))

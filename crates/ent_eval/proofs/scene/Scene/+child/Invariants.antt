@@ -1,4 +1,4 @@
-use Rattle.std.proofs.Common.{◌+◌, ◌*◌}
+use Rattle.std.proofs.Common.{◌≡◌, ◌+◌, ◌*◌}
 use Rattle.ent_eval.specs.Gathered.{HasGathered}
 use Rattle.ent_eval.specs.Judged.{stops}
 use Rattle.ent_eval.specs.Hops.{child_part}
@@ -41,4 +41,5 @@ abbrev pub invariant-children-loop-child : goal.invariant-children-loop-child
 invariant-children-loop-child g l = record {
   going : IsGoing (stops l.fn.algorithm) (child_part (g.L.LookUps.looks l.self.held.now) l.self.request.now l.fn.hops (keys_of l.path)) l.children l.child-index l.initial.reads l.reads;
   gathered : HasGathered l.fn.algorithm l.gathering (values_to (child_part (g.L.LookUps.looks l.self.held.now) l.self.request.now l.fn.hops (keys_of l.path)) l.children l.child-index);
+  own : l.own ≡ l.self.request.now;
 }

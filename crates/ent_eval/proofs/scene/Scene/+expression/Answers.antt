@@ -61,13 +61,25 @@ pub variable-returns-clause-typed : goal.variable-returns-clause-typed
 variable-returns-clause-typed g t c =
     IfOk-weaker c.expression.result _ _ (λ v has. subst (λ type. HasType type v) (sym (definition_type c.args.definitions.now c.args.references c.args.id.now c.in-Some.definition.now (sym c.in-Some.ensures) c.requires.typed)) has) c.expression.ensures.typed
 
+pub application-returns-in-Some-without_copies-clause-value : goal.application-returns-in-Some-without_copies-clause-value
+application-returns-in-Some-without_copies-clause-value g t c =
+    sym (ap (λ p. p.value) (c.in-Some-without_copies.ensures.value (g.L.LookUps.looks c.args.self.now.held.now) c.args.definitions.now c.args.references))
+
+pub application-returns-in-Some-without_copies-clause-reads : goal.application-returns-in-Some-without_copies-clause-reads
+application-returns-in-Some-without_copies-clause-reads g t c =
+    ap (λ p. noting c.args.reads.now p.reads) (sym (c.in-Some-without_copies.ensures.value (g.L.LookUps.looks c.args.self.now.held.now) c.args.definitions.now c.args.references))
+
+pub application-returns-in-Some-without_copies-clause-typed : goal.application-returns-in-Some-without_copies-clause-typed
+application-returns-in-Some-without_copies-clause-typed g t c = c.in-Some-without_copies.ensures.typed c.args.definitions.now c.args.references c.requires.typed
+
 pub application-returns-in-Some-clause-value : goal.application-returns-in-Some-clause-value
 application-returns-in-Some-clause-value g t c =
-    sym (ap (λ p. p.value) (c.in-Some.ensures.value (g.L.LookUps.looks c.args.self.now.held.now) c.args.definitions.now c.args.references))
+    IfOk-weaker c.is_in.result _ _ (λ v is. is ∙ ap (λ p. p.value) (sym (c.in-Some.ensures.value (g.L.LookUps.looks c.args.self.now.held.now) c.args.definitions.now c.args.references))) c.is_in.ensures.value
 
 pub application-returns-in-Some-clause-reads : goal.application-returns-in-Some-clause-reads
 application-returns-in-Some-clause-reads g t c =
-    ap (λ p. noting c.args.reads.now p.reads) (sym (c.in-Some.ensures.value (g.L.LookUps.looks c.args.self.now.held.now) c.args.definitions.now c.args.references))
+    on_ok_weaker c.is_in.result (λ is. is ∙ ap (λ p. noting c.args.reads.now p.reads) (sym (c.in-Some.ensures.value (g.L.LookUps.looks c.args.self.now.held.now) c.args.definitions.now c.args.references))) c.is_in.ensures.reads
 
 pub application-returns-in-Some-clause-typed : goal.application-returns-in-Some-clause-typed
-application-returns-in-Some-clause-typed g t c = c.in-Some.ensures.typed c.args.definitions.now c.args.references c.requires.typed
+application-returns-in-Some-clause-typed g t c =
+    IfOk-weaker c.is_in.result _ _ (λ v has. c.in-Some.ensures.typed v has c.args.definitions.now c.args.references c.requires.typed) c.is_in.ensures.typed

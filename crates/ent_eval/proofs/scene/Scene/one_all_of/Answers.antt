@@ -1,4 +1,4 @@
-use Rattle.std.proofs.Common.{map, refl}
+use Rattle.std.proofs.Common.{map, refl, ◌∙◌}
 use Rattle.ent_policy.specs.declared.document.AllOf.{AllOf}
 use Rattle.ent_eval.specs.Part.{whole}
 use Rattle.ent_eval.specs.Target.{all_match, is_match, is_no_match, match_part}
@@ -7,12 +7,15 @@ use Rattle.ent_eval.proofs.Targets.{isn't_match, next_inner, other_than_match}
 use Rattle.ent_eval.proofs.Typing.{matches_typed}
 use Rattle.ent_eval.proofs.scene.Scene.one_all_of.Goals as goal
 
-pub all_matches-requires : goal.all_matches-requires
-all_matches-requires g c = matches_typed c.args.alternatives.now c.loop-all_of.all_of-index c.all_of-item.result c.as_slice.result.now c.requires c.loop-all_of-test.true c.all_of-item.is c.as_slice.ensures
+pub all_matches-requires-clause-typed : goal.all_matches-requires-clause-typed
+all_matches-requires-clause-typed g c = matches_typed c.args.alternatives.now c.loop-all_of.all_of-index c.all_of-item.result c.as_slice.result.now c.requires.typed c.loop-all_of-test.true c.all_of-item.is c.as_slice.ensures
 
 pub loop-all_of-preserved : goal.loop-all_of-preserved
 loop-all_of-preserved g c =
-    next_inner is_match is.NoMatch (λ ms. whole is_no_match all_match (map (match_part (g.L.LookUps.looks c.args.self.now.held.now) c.args.self.now.request.now) ms)) (λ (a : AllOf). a.matches) c.args.alternatives.now other_than_match refl
-    c.loop-all_of.all_of-index c.all_of-item.result c.as_slice.result.now c.loop-all_of.so_far c.in_ok-targeted.targeted c.first_of-so_far.result c.args.reads.now c.loop-all_of.reads c.all_matches.new.reads
-    c.loop-all_of-test.true c.all_of-item.is c.loop-all_of.invariant c.as_slice.ensures c.in_ok-targeted.ensures.value c.in_ok-targeted.ensures.reads (isn't_match c.in_ok-targeted.targeted c.in_default.not-Match)
-    c.first_of-so_far.ensures
+    record {
+      so_far = next_inner is_match is.NoMatch (λ ms. whole is_no_match all_match (map (match_part (g.L.LookUps.looks c.args.self.now.held.now) c.args.self.now.request.now) ms)) (λ (a : AllOf). a.matches) c.args.alternatives.now other_than_match refl
+          c.loop-all_of.all_of-index c.all_of-item.result c.as_slice.result.now c.loop-all_of.so_far c.in_ok-targeted.targeted c.first_of-so_far.result c.args.reads.now c.loop-all_of.reads c.all_matches.new.reads
+          c.loop-all_of-test.true c.all_of-item.is c.loop-all_of.invariant.so_far c.as_slice.ensures c.in_ok-targeted.ensures.value c.in_ok-targeted.ensures.reads (isn't_match c.in_ok-targeted.targeted c.in_default.not-Match)
+          c.first_of-so_far.ensures;
+      own = c.all_matches.ensures.own ∙ c.loop-all_of.invariant.own;
+    }

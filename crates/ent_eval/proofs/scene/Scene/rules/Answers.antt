@@ -23,10 +23,11 @@ returns-in-Stop-clause-reads g c =
 
 pub loop-rule-preserved : goal.loop-rule-preserved
 loop-rule-preserved g c =
-    next_child c.args.algorithm (rule_part (g.L.LookUps.looks c.args.self.now.held.now) c.args.self.now.request.now c.args.definitions.now (keys_of c.args.path.now)) c.args.rules.now c.loop-rule.rule-index c.rule-item.result (or_nothing c.in_ok-answer.answer) c.in_ok-take.field-0
+    let next = next_child c.args.algorithm (rule_part (g.L.LookUps.looks c.args.self.now.held.now) c.args.self.now.request.now c.args.definitions.now (keys_of c.args.path.now)) c.args.rules.now c.loop-rule.rule-index c.rule-item.result (or_nothing c.in_ok-answer.answer) c.in_ok-take.field-0
     c.loop-rule.gathering c.take.new.self c.args.reads.now c.loop-rule.reads c.rule.new.reads
     c.loop-rule-test.true c.rule-item.is c.loop-rule.invariant.going c.loop-rule.invariant.gathered c.in_ok-answer.ensures.value c.in_ok-answer.ensures.reads
-    c.in_ok-take.ensures.gathered c.in_ok-take.ensures.progress c.in_default.is
+    c.in_ok-take.ensures.gathered c.in_ok-take.ensures.progress c.in_default.is in
+    record { going = next.going; gathered = next.gathered; own = c.rule.ensures.own ∙ c.loop-rule.invariant.own }
 
 pub returns-clause-value : goal.returns-clause-value
 returns-clause-value g c =

@@ -1,3 +1,4 @@
+use Rattle.std.specs.Prelude.{◌≡◌}
 use Rattle.ent_eval.specs.Gathered.{HasGathered}
 use Rattle.ent_eval.specs.Judged.{stops}
 use Rattle.ent_eval.specs.Path.{keys_of}
@@ -9,4 +10,5 @@ abbrev pub invariant-loop-rule : goal.invariant-loop-rule
 invariant-loop-rule g l = record {
   going : IsGoing (stops l.fn.algorithm) (rule_part (g.L.LookUps.looks l.self.held.now) l.self.request.now l.definitions (keys_of l.path)) l.rules l.rule-index l.initial.reads l.reads;
   gathered : HasGathered l.fn.algorithm l.gathering (values_to (rule_part (g.L.LookUps.looks l.self.held.now) l.self.request.now l.definitions (keys_of l.path)) l.rules l.rule-index);
+  own : l.own ≡ l.self.request.now;
 }

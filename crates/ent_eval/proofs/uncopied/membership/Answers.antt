@@ -1,0 +1,7 @@
+use Rattle.ent_eval.proofs.Literals.{is-in-part}
+use Rattle.ent_eval.proofs.uncopied.membership.Goals as goal
+
+pub returns-in_ok-seen-in-IsIn-Designator-clause-value : goal.returns-in_ok-seen-in-IsIn-Designator-clause-value
+returns-in_ok-seen-in-IsIn-Designator-clause-value c = λ looks definitions references.
+    is-in-part looks c.args.request.now definitions references c.args.function c.in-IsIn-Designator.field-0-0 c.args.arguments.now c.in_ok-first.first.now c.in_ok-first.second.now
+    c.in_ok-seen-in-IsIn-Designator.field-0.now c.in-IsIn-Designator.designator c.in-IsIn-Designator.is-0 c.in_ok-first.ensures (c.in_ok-seen-in-IsIn-Designator.ensures looks definitions references) c.in-IsIn-Designator.is-1
