@@ -1,4 +1,4 @@
--- What is told by expressions as they stand: nothing is looked up for it, whatever is held and whatever the definitions are.
+-- What functions come to that need no copy of their arguments, whatever is held and whatever the definitions are.
 use Rattle.std.specs.Prelude.{◌≡◌, ℕ, List, [], ◌∷◌, false, if◌then◌else◌, IsSome, Some}
 use Rattle.ent_values.specs.declared.value.Value.{Value}
 use Rattle.ent_values.specs.declared.value.Value.TheVariants.{Boolean}
@@ -24,7 +24,7 @@ abbrev pub IsOne : Request → Expression → Value → Type 0
 IsOne request e v = (looks : Looks) (definitions : List VariableDefinition) (references : ℕ)
     → meaning looks request definitions references e ≡ without_look (Known (One v))
 
--- a function of arguments comes to this
+-- a function of arguments comes to this, and nothing is looked up for it
 abbrev pub ComesTo : Request → Function → List Expression → Evaluated → Type 0
 ComesTo request function arguments v = (looks : Looks) (definitions : List VariableDefinition) (references : ℕ)
     → apply_part looks request definitions references function arguments ≡ without_look v
@@ -43,7 +43,7 @@ abbrev pub IsMembership : Request → Function → List Expression → Value →
 IsMembership request function arguments v d = (looks : Looks) (definitions : List VariableDefinition) (references : ℕ)
     → apply_part looks request definitions references function arguments ≡ member_part looks request v d
 
--- which has the type of the function, where it takes the arguments
+-- what it comes to has the type of the function, where it takes the arguments
 abbrev pub HasItsType : Function → List Expression → Evaluated → Type 0
 HasItsType function arguments v = (definitions : List VariableDefinition) (references : ℕ)
     → IsSome (apply_type definitions references function arguments) → HasType (apply_type definitions references function arguments) v
