@@ -13,12 +13,12 @@ use ent_values::Text;
 use serde_json::{Map, Value};
 use std::alloc::{AllocError, Global};
 
-/// Whether the key is one of these.
+/// Whether the key is one of these, most of which differ in their lengths already.
 fn among(key: &str, keys: &[&str]) -> bool
     ensures { result ≡ among key.now (map (λ k. k.now) keys.now) }
 {
     for k in keys {
-        if *k == key {
+        if k.len() == key.len() && *k == key {
             return true;
         }
     }

@@ -9,6 +9,9 @@ use json::Writer;
 use std::alloc::{AllocError, Global};
 use std::marker::Model;
 
+/// A text has room for so many bytes from the start.
+const USUAL_BYTES: usize = 512;
+
 /// The text of a JSON value that is written a token at a time, so that no value has to be built for it. Contracts see the tokens that
 /// were written; that they nest is left to who writes them.
 #[derive(Drop)]
@@ -30,12 +33,13 @@ impl Model for JsonText {
 }
 
 impl JsonText {
-    /// A text with nothing in it, for which nothing is allocated.
+    /// A text with nothing in it. It has room for that of most replies, where there is memory.
     pub fn new(alloc: Global) -> JsonText
         ensures { result ≡ [] }
     {
+        let room = Vec::with_capacity(alloc, USUAL_BYTES).unwrap_or(Vec::new(alloc));
         JsonText {
-            writer: Writer::new(Vec::new(alloc)),
+            writer: Writer::new(room),
         }
     }
 
