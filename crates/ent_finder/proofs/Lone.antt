@@ -1,7 +1,7 @@
 -- A row that a key names, between two others that it doesn't name, is the only one.
-use Rattle.std.proofs.Common.{◌≡◌, ℕ, zero, suc, ◌+◌, ◌<◌, ◌≤◌, Bool, true, false, cond, not, List, [], ◌∷◌, ◌++◌, Some, drop, length, take, slice_get, slice_index_or as get_or, refl, sym, ap, ◌∙◌, arith}
+use Rattle.std.proofs.Common.{◌≡◌, ℕ, zero, suc, ◌+◌, ◌<◌, ◌≤◌, Bool, true, false, cond, not, List, [], ◌∷◌, ◌++◌, Some, drop, length, take, slice_get, slice_index_or as get_or, refl, sym, ap, subst, ◌∙◌, arith}
 use Rattle.std.specs.List.{AllWithin, filter}
-use Rattle.std.specs.Ordering.{is_eq, is_gt, is_le, is_lt}
+use Rattle.std.specs.Ordering.{is_eq, is_gt, is_le, is_lt, ordering_index}
 use Rattle.std.specs.declared.cmp.Ordering.{Ordering}
 use Rattle.std.specs.declared.cmp.Ordering.TheVariants.{Less, Equal, Greater}
 use Rattle.std.proofs.lemmas.List.{drop_more, take-append-drop}
@@ -44,9 +44,30 @@ past Less h = cc
 past Equal h = cc
 past Greater h = refl
 
+before_tied : (a b : Ordering) → ordering_index a ≤ ordering_index b → is_eq b ≡ true → is_eq a ≡ false → is_lt a ≡ true
+before_tied Less b le tied unlike = refl
+before_tied Equal b le tied unlike = cc
+before_tied Greater Less le tied unlike = cc
+before_tied Greater Equal le tied unlike = absurd (omega arith)
+before_tied Greater Greater le tied unlike = cc
+
+behind_tied : (a b : Ordering) → ordering_index a ≤ ordering_index b → is_eq a ≡ true → is_eq b ≡ false → is_gt b ≡ true
+behind_tied a Greater le tied unlike = refl
+behind_tied a Equal le tied unlike = cc
+behind_tied Less Less le tied unlike = cc
+behind_tied Equal Less le tied unlike = absurd (omega arith)
+behind_tied Greater Less le tied unlike = cc
+
 module _ (k : AttrKey) where
   abbrev named : Row → Bool
   named r = names_row k r.key
+
+  -- of two rows the later doesn't stand before what the key names where the earlier doesn't
+  rises : (rs : List Row) (sorted : RowsAreSorted rs) (n m : ℕ) → n ≤ m → (p r : Row) → slice_get rs n ≡ Some p → slice_get rs m ≡ Some r → ordering_index (to_named k p) ≤ ordering_index (to_named k r)
+  rises rs sorted n m le p r before here =
+      subst (λ x. ordering_index (to_named k x) ≤ ordering_index (to_named k r)) (get_or_from_slice_get rs n p r before)
+      (subst (λ x. ordering_index (to_named k (get_or rs n r)) ≤ ordering_index (to_named k x)) (get_or_from_slice_get rs m r r here)
+      (rows_rise rs k sorted n m r le (slice_get_within rs m r here)))
 
   module _ (rs : List Row) (sorted : RowsAreSorted rs) (n m l : ℕ) (next : n + 1 ≡ m) (last : m + 1 ≡ l) (p r q : Row)
       (before : slice_get rs n ≡ Some p) (here : slice_get rs m ≡ Some r) (after : slice_get rs l ≡ Some q) (less : is_lt (to_named k p) ≡ true) (tied : is_eq (to_named k r) ≡ true) (greater : is_gt (to_named k q) ≡ true) where
@@ -88,7 +109,18 @@ module _ (k : AttrKey) where
         ap (λ rs. slice_get rs (so_far + i)) (around bs number b lt is) ∙ got_back (rows_in (take number bs)) (rows ++ behind) (so_far + i) i refl
         ∙ got_front rows behind i (slice_get_within rows i x h) ∙ h
 
-    pub only_in : (n m l : ℕ) (p r q : Row) → n + 1 ≡ m → m + 1 ≡ l → slice_get b.rows.items n ≡ Some p → slice_get b.rows.items m ≡ Some r → slice_get b.rows.items l ≡ Some q
+    only_in : (n m l : ℕ) (p r q : Row) → n + 1 ≡ m → m + 1 ≡ l → slice_get b.rows.items n ≡ Some p → slice_get b.rows.items m ≡ Some r → slice_get b.rows.items l ≡ Some q
         → is_lt (to_named k p) ≡ true → is_eq (to_named k r) ≡ true → is_gt (to_named k q) ≡ true → filter named (rows_in bs) ≡ r ∷ []
     only_in n m l p r q next last before here after less tied greater =
         only (rows_in bs) sorted (so_far + n) (so_far + m) (so_far + l) (omega (arith, next)) (omega (arith, last)) p r q (there n p before) (there m r here) (there l q after) less tied greater
+
+    -- the same where the key doesn't name the two beside it
+    pub only_named : (n m l : ℕ) (p r q : Row) → n + 1 ≡ m → m + 1 ≡ l → slice_get b.rows.items n ≡ Some p → slice_get b.rows.items m ≡ Some r → slice_get b.rows.items l ≡ Some q
+        → named p ≡ false → named r ≡ true → named q ≡ false → filter named (rows_in bs) ≡ r ∷ []
+    only_named n m l p r q next last before here after unlike tied other =
+        let eq : is_eq (to_named k r) ≡ true = row_tied k r.key ∙ tied in
+        let less : is_lt (to_named k p) ≡ true =
+        before_tied _ _ (rises (rows_in bs) sorted (so_far + n) (so_far + m) (omega (arith, next)) p r (there n p before) (there m r here)) eq (row_tied k p.key ∙ unlike) in
+        let greater : is_gt (to_named k q) ≡ true =
+        behind_tied _ _ (rises (rows_in bs) sorted (so_far + m) (so_far + l) (omega (arith, last)) r q (there m r here) (there l q after)) eq (row_tied k q.key ∙ other) in
+        only_in n m l p r q next last before here after less eq greater

@@ -217,7 +217,8 @@ fn bounds(blocks: &[Block], key: &AttrKey) -> (usize, usize)
     (passed.saturating_sub(1), passed + begun)
 }
 
-/// The only row that a key names, if it is the one at a place in the block of that number, and stands between two others there.
+/// The only row that a key names, if it is the one at a place in the block of that number, and stands between two there that the key
+/// doesn't name.
 fn only_row<'a>(blocks: &'a [Block], number: usize, place: usize, key: &AttrKey) -> Option<&'a Row>
     requires { RowsAreSorted (rows_in blocks.now) }
     ensures { IfSome result (λ r. filter (λ x. names_row key.now x.key) (rows_in blocks.now) ≡ r.now ∷ []) }
@@ -226,9 +227,9 @@ fn only_row<'a>(blocks: &'a [Block], number: usize, place: usize, key: &AttrKey)
     let before = rows.get(place.checked_sub(1)?)?;
     let row = rows.get(place)?;
     let after = rows.get(place.checked_add(1)?)?;
-    if rows::order(&before.key, key).is_lt()
-        && rows::order(&row.key, key).is_eq()
-        && rows::order(&after.key, key).is_gt()
+    if rows::is_named(&row.key, key)
+        && !rows::is_named(&before.key, key)
+        && !rows::is_named(&after.key, key)
     {
         Some(row)
     } else {

@@ -1,6 +1,6 @@
 //! A list of slots in the order of their keys.
 
-ghost use Rattle.std.specs.Prelude.{◌≡◌, ◌≤◌, IfErr, IfOk, None, IfSome, OnErr, OnOk, Some, false, if◌then◌else◌, length, slice_get, slice_range, true};
+ghost use Rattle.std.specs.Prelude.{◌≡◌, ◌≤◌, bytes_eq, IfErr, IfOk, None, IfSome, OnErr, OnOk, Some, false, if◌then◌else◌, length, not, slice_get, slice_range, true};
 ghost use Rattle.std.specs.Bool.{OnTrue};
 ghost use Rattle.std.specs.FinMap as finmap;
 ghost use Rattle.std.specs.List.{filter};
@@ -109,13 +109,30 @@ fn is_named(key: &DocKey, reference: &Reference) -> bool
     reference.kind == key.kind && reference.id.as_str() == key.id.as_str()
 }
 
+/// Whether two texts end in different bytes, as most do that differ.
+fn ends_otherwise(first: &str, second: &str) -> bool
+    ensures { OnTrue result (bytes_eq first.now second.now ≡ false) }
+{
+    match (first.as_bytes().last(), second.as_bytes().last()) {
+        (Some(first), Some(second)) => first != second,
+        _ => false,
+    }
+}
+
+/// Whether a key has another kind or id than a reference.
+fn is_other(key: &DocKey, reference: &Reference) -> bool
+    ensures { result ≡ not (is_of reference.now key.now) }
+{
+    ends_otherwise(key.id.as_str(), reference.id.as_str()) || !is_named(key, reference)
+}
+
 /// Whether the slot at a place, if there is one, has another kind or id than a reference.
 fn is_unlike(slots: &[DocSlot], place: usize, reference: &Reference) -> bool
     ensures { OnTrue result ((s : DocSlot) → slice_get slots.now place ≡ Some s → is_of reference.now s.key ≡ false) }
 {
     match slots.get(place) {
         None => true,
-        Some(slot) => !is_named(&slot.key, reference),
+        Some(slot) => is_other(&slot.key, reference),
     }
 }
 
