@@ -1,6 +1,6 @@
 //! JSON objects: which keys they have, and what stands at a key.
 
-ghost use Rattle.std.specs.Prelude.{◌≡◌, IfErr, IfOk, IsTrue, is_some, map, option_map};
+ghost use Rattle.std.specs.Prelude.{◌≡◌, bytes_eq, IfErr, IfOk, IsTrue, is_some, map, option_map};
 ghost use Rattle.serde_json.specs.Find.{get};
 ghost use Rattle.serde_json.specs.View.{items_view, members_view, view};
 ghost use Rattle.ent_policy.specs.Gives.{Gives};
@@ -13,12 +13,19 @@ use ent_values::Text;
 use serde_json::{Map, Value};
 use std::alloc::{AllocError, Global};
 
-/// Whether the key is one of these, most of which differ in their lengths already.
+/// Whether two keys are the same. Most that differ do so in their lengths already.
+fn is_same(first: &str, second: &str) -> bool
+    ensures { result ≡ bytes_eq first.now second.now }
+{
+    first.len() == second.len() && first == second
+}
+
+/// Whether the key is one of these.
 fn among(key: &str, keys: &[&str]) -> bool
     ensures { result ≡ among key.now (map (λ k. k.now) keys.now) }
 {
     for k in keys {
-        if k.len() == key.len() && *k == key {
+        if is_same(k, key) {
             return true;
         }
     }
