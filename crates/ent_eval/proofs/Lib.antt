@@ -11,6 +11,7 @@ pub mod Gathered
 pub mod Giving
 pub mod Hops
 pub mod Keys
+pub mod Left
 pub mod Literals
 pub mod Once
 pub mod Parts

@@ -20,10 +20,6 @@ use Rattle.ent_policy.specs.declared.fault.DocFault.TheVariants.{Depth}
 use Rattle.ent_eval.proofs.Booleans.{or_second}
 use Rattle.ent_eval.proofs.Fit.{none_there}
 
--- what one reference more is worth: more than the largest document is
-abbrev pub worth_of_hop : ℕ
-worth_of_hop = 8 * 31 + 9
-
 abbrev ChildIsSmall : Child → Type 0
 ChildIsSmall c = size-Child c ≤ 2 * depth c
 

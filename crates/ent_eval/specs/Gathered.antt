@@ -1,6 +1,7 @@
 -- What is kept of children that were seen.
-use Rattle.std.specs.Prelude.{◌≡◌, List, ◌++◌, true, Option, Some, None}
-use Rattle.ent_combine.specs.Combine.{combine, HasTaken, is_permit, is_deny}
+use Rattle.std.specs.Prelude.{◌≡◌, List, [], ◌∷◌, ◌++◌, true, Option, Some, None}
+use Rattle.ent_combine.specs.Combine.{combine, HasTaken, is_permit, is_deny, progress_at}
+use Rattle.ent_combine.specs.declared.combiner.Progress.{Progress}
 use Rattle.ent_combine.specs.declared.outcome.Outcome.{Outcome}
 use Rattle.ent_combine.specs.declared.outcome.Outcome.TheVariants.{Ind}
 use Rattle.ent_combine.specs.declared.outcome.RuleAlg.{RuleAlg}
@@ -32,3 +33,11 @@ pub record HasGathered (algorithm : RuleAlg) (g : Gathering) (answers : List Ans
   pub status : g.status ≡ first_status answers
   pub permitted : g.permitted ≡ told_by is_permit answers
   pub denied : g.denied ≡ told_by is_deny answers
+
+-- one child more was gathered
+abbrev pub Gathers : Gathering → Gathering → Answer → Type 0
+Gathers before after answer = (algorithm : RuleAlg) (answers : List Answer) → HasGathered algorithm before answers → HasGathered algorithm after (answers ++ answer ∷ [])
+
+-- whether that child fixes the decision
+abbrev pub Tells : Gathering → Answer → Progress → Type 0
+Tells before answer progress = (algorithm : RuleAlg) (answers : List Answer) → HasGathered algorithm before answers → progress ≡ progress_at algorithm answer.decision

@@ -15,6 +15,7 @@ pub mod LooksOf
 pub mod Node
 pub mod Noted
 pub mod Only
+pub mod Opened
 pub mod Own
 pub mod Part
 pub mod Path

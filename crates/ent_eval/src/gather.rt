@@ -1,10 +1,9 @@
 //! What is kept of children that were seen.
 
-ghost use Rattle.std.specs.Prelude.{◌≡◌, List, [], ◌∷◌, ◌++◌, IfOk, OnOk};
-ghost use Rattle.ent_combine.specs.Combine.{progress_at};
-ghost use Rattle.ent_eval.specs.Gathered.{HasGathered, judged_by, status_with};
+ghost use Rattle.std.specs.Prelude.{◌≡◌, List, [], IfOk, OnOk};
+ghost use Rattle.ent_eval.specs.Gathered.{Gathers, HasGathered, Tells, judged_by, status_with};
 ghost use Rattle.ent_eval.specs.Path.{keys_of};
-ghost use Rattle.ent_eval.specs.Judged.{or_nothing};
+ghost use Rattle.ent_eval.specs.Judged.{nothing, or_nothing};
 ghost use Rattle.ent_eval.specs.declared.answer.Answer.{Answer};
 
 use crate::answer::{Answer, Status};
@@ -38,19 +37,27 @@ pub(crate) fn gather(alloc: Global, algorithm: RuleAlg) -> Gathering
 impl Gathering {
     // One more child, and whether it fixes the decision.
     pub(crate) fn take(&mut self, answer: Option<Answer>) -> Result<Progress, AllocError>
-        ensures gathered { OnOk result ((algorithm : _) (answers : List Answer) → HasGathered algorithm self.old answers → HasGathered algorithm self.new (answers ++ or_nothing answer ∷ [])) }
-        ensures progress { IfOk result (λ p. (algorithm : _) (answers : List Answer) → HasGathered algorithm self.old answers → p ≡ progress_at algorithm (or_nothing answer).decision) }
+        ensures gathered { OnOk result (Gathers self.old self.new (or_nothing answer)) }
+        ensures progress { IfOk result (Tells self.old (or_nothing answer)) }
     {
         match answer {
-            None => Ok(self.combiner.take(Outcome::NotApplicable)),
+            None => Ok(self.pass()),
             Some(answer) => self.take_answer(answer),
         }
     }
 
+    // One more child, which isn't applicable.
+    pub(crate) fn pass(&mut self) -> Progress
+        ensures gathered { Gathers self.old self.new nothing }
+        ensures progress { Tells self.old nothing result }
+    {
+        self.combiner.take(Outcome::NotApplicable)
+    }
+
     // A child that has an answer.
     fn take_answer(&mut self, answer: Answer) -> Result<Progress, AllocError>
-        ensures gathered { OnOk result ((algorithm : _) (answers : List Answer) → HasGathered algorithm self.old answers → HasGathered algorithm self.new (answers ++ answer ∷ [])) }
-        ensures progress { IfOk result (λ p. (algorithm : _) (answers : List Answer) → HasGathered algorithm self.old answers → p ≡ progress_at algorithm answer.decision) }
+        ensures gathered { OnOk result (Gathers self.old self.new answer) }
+        ensures progress { IfOk result (Tells self.old answer) }
     {
         let Answer {
             decision,

@@ -16,6 +16,7 @@ mod look_ups;
 mod node;
 mod notes;
 mod only;
+mod opened;
 mod own;
 mod own_bag;
 mod own_given;

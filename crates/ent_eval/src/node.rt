@@ -2,9 +2,9 @@
 
 ghost use Rattle.std.specs.Prelude.{◌≡◌, IfOk, OnOk, true};
 ghost use Rattle.std.specs.List.{list_all};
-ghost use Rattle.ent_policy.specs.Typing.{given_is_typed, policy_is_typed, rule_is_typed};
+ghost use Rattle.ent_policy.specs.Typing.{given_is_typed, rule_is_typed};
 ghost use Rattle.ent_eval.specs.Judged.{or_nothing, under_target};
-ghost use Rattle.ent_eval.specs.Node.{policy_after, policy_part, policy_rules, rules_combined};
+ghost use Rattle.ent_eval.specs.Node.{policy_after, policy_rules, rules_combined};
 ghost use Rattle.ent_eval.specs.Noted.{noting};
 ghost use Rattle.ent_eval.specs.Path.{keys_of};
 
@@ -22,28 +22,9 @@ use ent_values::Items;
 use std::alloc::{AllocError, Global};
 
 impl<'a, L: LookUps> Scene<'a, L> {
-    // A policy, where the path leads from the root to what it stands in.
-    #[tactic(auto, using(crate::proofs::Walk::noting_both, crate::proofs::Typing::both_true), unfolding(ent_policy::specs::Typing::policy_is_typed))]
-    pub(crate) fn policy(
-        &self,
-        reads: &mut Notes,
-        own: &mut Latest<'a>,
-        path: &Path<'_>,
-        policy: &'a Policy,
-    ) -> Result<Option<Answer>, AllocError>
-        requires typed { policy_is_typed policy.now ≡ true }
-        requires own { own.old ≡ self.now.request.now }
-        ensures value { IfOk result (λ a. or_nothing a ≡ (policy_part (L.looks self.now.held.now) self.now.request.now (keys_of path.now) policy.now).value) }
-        ensures reads { OnOk result (reads.new ≡ noting reads.old (policy_part (L.looks self.now.held.now) self.now.request.now (keys_of path.now) policy.now).reads) }
-        ensures own { own.new ≡ own.old }
-    {
-        let targeted = self.target_with(reads, own, &policy.target)?;
-        self.policy_after(reads, own, path, policy, targeted)
-    }
-
     // The rules are evaluated unless the target doesn't match, and behind them what the policy gives itself, if it matches.
     #[tactic(auto, using(crate::proofs::Walk::noting_both))]
-    fn policy_after(
+    pub(crate) fn policy_after(
         &self,
         reads: &mut Notes,
         own: &mut Latest<'a>,
@@ -123,8 +104,8 @@ impl<'a, L: LookUps> Scene<'a, L> {
     {
         let mut gathering = gather(self.alloc, algorithm);
         for rule in rules {
-            let answer = self.rule(reads, own, definitions, path, rule)?;
-            if let Progress::Stop = gathering.take(answer)? {
+            let progress = self.next_rule(&mut gathering, reads, own, definitions, path, rule)?;
+            if let Progress::Stop = progress {
                 return gathering.finish(self.alloc, reads, path, algorithm);
             }
         }

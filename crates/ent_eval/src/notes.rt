@@ -80,7 +80,7 @@ impl Notes {
     {
         match &mut self.reads {
             None => Ok(()),
-            Some(reads) => reads.note(ReadKey::Ref(reference.copy(alloc)?)),
+            Some(reads) => reads.note_reference(alloc, reference),
         }
     }
 

@@ -2,8 +2,10 @@
 
 ghost use Rattle.std.specs.Prelude.{◌≡◌, [], length, OnErr, OnOk};
 ghost use Rattle.ent_eval.specs.Noted.{has_key, with_key};
+ghost use Rattle.ent_eval.specs.declared.key.ReadKey.TheVariants.{Ref};
 
 use crate::key::ReadKey;
+use ent_policy::Reference;
 use std::alloc::{AllocError, Global};
 use std::collections::BTreeSet;
 use std::marker::Model;
@@ -54,5 +56,17 @@ impl Reads {
     {
         self.keys.insert(key)?;
         Ok(())
+    }
+
+    // The same of the key of a reference, of which a copy is noted.
+    #[inline(never)]
+    pub(crate) fn note_reference(
+        &mut self,
+        alloc: Global,
+        reference: &Reference,
+    ) -> Result<(), AllocError>
+        ensures { OnOk result (self.new ≡ with_key self.old (Ref reference.now)) }
+    {
+        self.note(ReadKey::Ref(reference.copy(alloc)?))
     }
 }

@@ -1,92 +1,22 @@
-//! What references come to.
+//! The targets of references, and the documents that they name.
 
-ghost use Rattle.std.specs.Prelude.{◌≡◌, ◌≤◌, IfOk, OnOk, true};
+ghost use Rattle.std.specs.Prelude.{◌≡◌, IfOk, OnOk, true};
 ghost use Rattle.std.specs.Option.{option_copied};
 ghost use Rattle.ent_policy.specs.Children.{as_child};
-ghost use Rattle.ent_policy.specs.Depths.{depth};
-ghost use Rattle.ent_eval.specs.Hops.{child_part, child_target, followed_part, reference_part, reference_target};
-ghost use Rattle.ent_eval.specs.Judged.{or_nothing};
+ghost use Rattle.ent_eval.specs.Hops.{child_target, reference_target};
 ghost use Rattle.ent_eval.specs.Noted.{noting, with_note};
-ghost use Rattle.ent_eval.specs.Path.{keys_of};
 ghost use Rattle.ent_eval.specs.Typed.{is_fit};
 ghost use Rattle.ent_eval.specs.declared.key.ReadKey.TheVariants.{Ref};
 
-use crate::answer::{Answer, Status};
-use crate::latest::Latest;
+use crate::answer::Status;
 use crate::look_ups::LookUps;
 use crate::notes::Notes;
-use crate::path::Path;
 use crate::scene::Scene;
 use crate::target::Targeted;
 use ent_policy::{Document, Reference, Tree};
 use std::alloc::AllocError;
 
 impl<'a, L: LookUps> Scene<'a, L> {
-    // A reference, where so many may be followed on the way down from here.
-    #[cycle(child)]
-    pub(crate) fn reference(
-        &self,
-        reads: &mut Notes,
-        own: &mut Latest<'a>,
-        hops: usize,
-        path: &Path<'_>,
-        reference: &Reference,
-    ) -> Result<Option<Answer>, AllocError>
-        requires own { own.old ≡ self.now.request.now }
-        ensures value { IfOk result (λ a. or_nothing a ≡ (reference_part (L.looks self.now.held.now) self.now.request.now hops (keys_of path.now) reference.now).value) }
-        ensures reads { OnOk result (reads.new ≡ noting reads.old (reference_part (L.looks self.now.held.now) self.now.request.now hops (keys_of path.now) reference.now).reads) }
-        ensures own { own.new ≡ own.old }
-    {
-        if hops == 0 {
-            return Ok(Some(Answer::unresolved(self.alloc)));
-        }
-        self.followed(reads, own, hops - 1, path, reference)
-    }
-
-    // The document that a reference names, where so many may be followed on the way down from there.
-    #[cycle(child)]
-    pub(crate) fn followed(
-        &self,
-        reads: &mut Notes,
-        own: &mut Latest<'a>,
-        hops: usize,
-        path: &Path<'_>,
-        reference: &Reference,
-    ) -> Result<Option<Answer>, AllocError>
-        requires own { own.old ≡ self.now.request.now }
-        ensures value { IfOk result (λ a. or_nothing a ≡ (followed_part (L.looks self.now.held.now) self.now.request.now hops (keys_of path.now) reference.now).value) }
-        ensures reads { OnOk result (reads.new ≡ noting reads.old (followed_part (L.looks self.now.held.now) self.now.request.now hops (keys_of path.now) reference.now).reads) }
-        ensures own { own.new ≡ own.old }
-    {
-        match self.look_up(reads, reference)? {
-            None => Ok(Some(Answer::unresolved(self.alloc))),
-            Some(document) => self.tree(reads, own, hops, path, document.tree()),
-        }
-    }
-
-    // A document.
-    #[cycle(child)]
-    fn tree(
-        &self,
-        reads: &mut Notes,
-        own: &mut Latest<'a>,
-        hops: usize,
-        path: &Path<'_>,
-        tree: &'a Tree,
-    ) -> Result<Option<Answer>, AllocError>
-        requires fit { is_fit (as_child tree.now) ≡ true }
-        requires shallow { depth (as_child tree.now) ≤ 16 }
-        requires own { own.old ≡ self.now.request.now }
-        ensures value { IfOk result (λ a. or_nothing a ≡ (child_part (L.looks self.now.held.now) self.now.request.now hops (keys_of path.now) (as_child tree.now)).value) }
-        ensures reads { OnOk result (reads.new ≡ noting reads.old (child_part (L.looks self.now.held.now) self.now.request.now hops (keys_of path.now) (as_child tree.now)).reads) }
-        ensures own { own.new ≡ own.old }
-    {
-        match tree {
-            Tree::Policy(policy) => self.policy(reads, own, path, policy),
-            Tree::Set(set) => self.set(reads, own, hops, path, set),
-        }
-    }
-
     // The target of a reference: that of the document that it names.
     pub(crate) fn reference_target(
         &self,
@@ -125,7 +55,8 @@ impl<'a, L: LookUps> Scene<'a, L> {
     }
 
     // The document that a reference names. The look-up is noted.
-    fn look_up(
+    #[inline(always)]
+    pub(crate) fn look_up(
         &self,
         reads: &mut Notes,
         reference: &Reference,

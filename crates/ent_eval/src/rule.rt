@@ -3,6 +3,7 @@
 ghost use Rattle.std.specs.Prelude.{◌≡◌, IfOk, OnOk, Some, true};
 ghost use Rattle.ent_functions.specs.Types.{boolean};
 ghost use Rattle.ent_policy.specs.Typing.{condition_is_typed, given_is_typed, rule_is_typed};
+ghost use Rattle.ent_eval.specs.Gathered.{Gathers, Tells};
 ghost use Rattle.ent_eval.specs.Judged.{or_nothing};
 ghost use Rattle.ent_eval.specs.Noted.{noting};
 ghost use Rattle.ent_eval.specs.Path.{keys_of};
@@ -11,6 +12,7 @@ ghost use Rattle.ent_eval.specs.Typed.{HasType};
 
 use crate::answer::{Answer, Status, WhyEntry};
 use crate::evaluated::{Evaluated, Truth};
+use crate::gather::Gathering;
 use crate::latest::Latest;
 use crate::look_ups::LookUps;
 use crate::notes::Notes;
@@ -18,31 +20,38 @@ use crate::own_given::indeterminate_of;
 use crate::path::Path;
 use crate::scene::Scene;
 use crate::target::Targeted;
-use ent_combine::Outcome;
+use ent_combine::{Outcome, Progress};
 use ent_functions::Arg;
 use ent_policy::{Effect, Expression, Rule, VariableDefinition};
 use ent_values::{Items, Value};
 use std::alloc::{AllocError, Global};
 
 impl<'a, L: LookUps> Scene<'a, L> {
-    // A rule of the policy at the end of the path, among the policy's definitions.
+    // One rule more of the policy at the end of the path, among the policy's definitions, which is gathered, and whether it fixes the
+    // decision.
     #[tactic(auto, using(crate::proofs::Walk::noting_both, crate::proofs::Typing::both_true), unfolding(ent_policy::specs::Typing::rule_is_typed))]
-    pub(crate) fn rule(
+    pub(crate) fn next_rule(
         &self,
+        gathering: &mut Gathering,
         reads: &mut Notes,
         own: &mut Latest<'a>,
         definitions: &[VariableDefinition],
         path: &Path<'_>,
         rule: &'a Rule,
-    ) -> Result<Option<Answer>, AllocError>
+    ) -> Result<Progress, AllocError>
         requires typed { rule_is_typed definitions.now rule.now ≡ true }
         requires own { own.old ≡ self.now.request.now }
-        ensures value { IfOk result (λ a. or_nothing a ≡ (rule_part (L.looks self.now.held.now) self.now.request.now definitions.now (keys_of path.now) rule.now).value) }
+        ensures gathered { OnOk result (Gathers gathering.old gathering.new (rule_part (L.looks self.now.held.now) self.now.request.now definitions.now (keys_of path.now) rule.now).value) }
+        ensures progress { IfOk result (Tells gathering.old (rule_part (L.looks self.now.held.now) self.now.request.now definitions.now (keys_of path.now) rule.now).value) }
         ensures reads { OnOk result (reads.new ≡ noting reads.old (rule_part (L.looks self.now.held.now) self.now.request.now definitions.now (keys_of path.now) rule.now).reads) }
         ensures own { own.new ≡ own.old }
     {
         let targeted = self.target_with(reads, own, &rule.target)?;
-        self.rule_after(reads, definitions, path, rule, targeted)
+        if let Targeted::NoMatch = targeted {
+            return Ok(gathering.pass());
+        }
+        let answer = self.rule_after(reads, definitions, path, rule, targeted)?;
+        gathering.take(answer)
     }
 
     // The condition is evaluated where the target matches, and behind it what the rule gives itself.

@@ -36,7 +36,8 @@ impl<'a, L: LookUps> Scene<'a, L> {
             None => Ok(Answer::not_applicable(self.alloc)),
             Some(reference) => {
                 let mut own = Latest::of(self.request);
-                let answer = self.followed(reads, &mut own, MOST_HOPS, &Path::Root, reference)?;
+                let opened = self.open_followed(reads, &mut own, MOST_HOPS, reference)?;
+                let answer = self.judge(reads, &mut own, &Path::Root, opened)?;
                 Ok(answer.unwrap_or(Answer::not_applicable(self.alloc)))
             }
         }

@@ -2,21 +2,24 @@
 
 ghost use Rattle.std.specs.Prelude.{◌≡◌, ◌≤◌, [], IfOk, OnOk, length, map, true};
 ghost use Rattle.std.specs.List.{list_all};
-ghost use Rattle.ent_eval.specs.Typed.{is_fit, set_is_fit};
-ghost use Rattle.ent_eval.specs.Hops.{child_part, children_combined, only_child, set_after, set_children, set_part};
 ghost use Rattle.ent_policy.specs.Typing.{given_is_typed};
+ghost use Rattle.ent_eval.specs.Gathered.{Gathers, Tells};
+ghost use Rattle.ent_eval.specs.Hops.{child_part, children_combined, only_child, set_after, set_children};
 ghost use Rattle.ent_eval.specs.Judged.{or_nothing};
 ghost use Rattle.ent_eval.specs.Noted.{noting};
 ghost use Rattle.ent_eval.specs.Only.{chosen_part};
+ghost use Rattle.ent_eval.specs.Opened.{is_fit_left, left_part};
 ghost use Rattle.ent_eval.specs.Path.{keys_of};
+ghost use Rattle.ent_eval.specs.Typed.{is_fit};
 
 use crate::answer::Answer;
-use crate::gather::gather;
+use crate::gather::{Gathering, gather};
 use crate::latest::Latest;
 use crate::look_ups::LookUps;
 use crate::node::under;
 use crate::notes::Notes;
 use crate::only::Only;
+use crate::opened::Opened;
 use crate::path::Path;
 use crate::scene::Scene;
 use crate::target::Targeted;
@@ -41,38 +44,61 @@ impl<'a, L: LookUps> Scene<'a, L> {
         ensures reads { OnOk result (reads.new ≡ noting reads.old (child_part (L.looks self.now.held.now) self.now.request.now hops (keys_of path.now) child.now).reads) }
         ensures own { own.new ≡ own.old }
     {
-        match child {
-            Child::Policy(policy) => self.policy(reads, own, path, policy),
-            Child::Set(set) => self.set(reads, own, hops, path, set),
-            Child::Reference(reference) => self.reference(reads, own, hops, path, reference),
-        }
+        let opened = self.open(reads, own, hops, child)?;
+        self.judge(reads, own, path, opened)
     }
 
-    // A policy set.
+    // One child more, which is gathered, and whether it fixes the decision.
     #[cycle(child)]
-    #[tactic(auto, using(crate::proofs::Walk::noting_both, crate::proofs::Typing::both_true))]
-    pub(crate) fn set(
+    fn next_child(
         &self,
+        gathering: &mut Gathering,
         reads: &mut Notes,
         own: &mut Latest<'a>,
         hops: usize,
         path: &Path<'_>,
-        set: &'a PolicySet,
-    ) -> Result<Option<Answer>, AllocError>
-        requires fit { set_is_fit set.now ≡ true }
+        child: &'a Child,
+    ) -> Result<Progress, AllocError>
+        requires fit { is_fit child.now ≡ true }
         requires own { own.old ≡ self.now.request.now }
-        ensures value { IfOk result (λ a. or_nothing a ≡ (set_part (L.looks self.now.held.now) self.now.request.now hops (keys_of path.now) set.now).value) }
-        ensures reads { OnOk result (reads.new ≡ noting reads.old (set_part (L.looks self.now.held.now) self.now.request.now hops (keys_of path.now) set.now).reads) }
+        ensures gathered { OnOk result (Gathers gathering.old gathering.new (child_part (L.looks self.now.held.now) self.now.request.now hops (keys_of path.now) child.now).value) }
+        ensures progress { IfOk result (Tells gathering.old (child_part (L.looks self.now.held.now) self.now.request.now hops (keys_of path.now) child.now).value) }
+        ensures reads { OnOk result (reads.new ≡ noting reads.old (child_part (L.looks self.now.held.now) self.now.request.now hops (keys_of path.now) child.now).reads) }
         ensures own { own.new ≡ own.old }
     {
-        let targeted = self.target_with(reads, own, &set.target)?;
-        self.set_after(reads, own, hops, path, set, targeted)
+        let opened = self.open(reads, own, hops, child)?;
+        if let Opened::Passed = opened {
+            return Ok(gathering.pass());
+        }
+        self.next_left(gathering, reads, own, path, opened)
+    }
+
+    // The same of what is left of a child. It stands apart, since few children come so far.
+    #[inline(never)]
+    #[cycle(child)]
+    fn next_left(
+        &self,
+        gathering: &mut Gathering,
+        reads: &mut Notes,
+        own: &mut Latest<'a>,
+        path: &Path<'_>,
+        opened: Opened<'a>,
+    ) -> Result<Progress, AllocError>
+        requires fit { is_fit_left opened ≡ true }
+        requires own { own.old ≡ self.now.request.now }
+        ensures gathered { OnOk result (Gathers gathering.old gathering.new (left_part (L.looks self.now.held.now) self.now.request.now (keys_of path.now) opened.entry).value) }
+        ensures progress { IfOk result (Tells gathering.old (left_part (L.looks self.now.held.now) self.now.request.now (keys_of path.now) opened.entry).value) }
+        ensures reads { OnOk result (reads.new ≡ noting reads.old (left_part (L.looks self.now.held.now) self.now.request.now (keys_of path.now) opened.entry).reads) }
+        ensures own { own.new ≡ own.old }
+    {
+        let answer = self.judge(reads, own, path, opened)?;
+        gathering.take(answer)
     }
 
     // The children are evaluated unless the target doesn't match, and behind them what the set gives itself, if it matches.
     #[cycle(child)]
     #[tactic(auto, using(crate::proofs::Walk::noting_both))]
-    fn set_after(
+    pub(crate) fn set_after(
         &self,
         reads: &mut Notes,
         own: &mut Latest<'a>,
@@ -160,8 +186,8 @@ impl<'a, L: LookUps> Scene<'a, L> {
     {
         let mut gathering = gather(self.alloc, algorithm);
         for child in children {
-            let answer = self.child(reads, own, hops, path, child)?;
-            if let Progress::Stop = gathering.take(answer)? {
+            let progress = self.next_child(&mut gathering, reads, own, hops, path, child)?;
+            if let Progress::Stop = progress {
                 return gathering.finish(self.alloc, reads, path, algorithm);
             }
         }

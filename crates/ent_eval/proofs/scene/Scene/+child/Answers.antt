@@ -1,38 +1,39 @@
-use Rattle.std.proofs.Common.{◌∙◌, arith}
-use Rattle.std.proofs.lemmas.Result.{IfOk-weaker, on_ok_weaker}
+use Rattle.std.proofs.Common.{◌∙◌, ap, arith, refl, subst, sym}
+use Rattle.std.proofs.lemmas.Result.{IfOk-weaker}
 use Rattle.ent_eval.specs.Judged.{or_nothing}
 use Rattle.ent_eval.specs.Hops.{child_part}
+use Rattle.ent_eval.specs.Gathered.{Gathers, Tells}
+use Rattle.ent_eval.specs.Noted.{noting}
+use Rattle.ent_eval.specs.Opened.{is_fit_left, left_part, worth}
 use Rattle.ent_eval.specs.Path.{keys_of}
 use Rattle.ent_eval.proofs.Children.{all_children, all_reads, last_child, last_reads, next_child}
-use Rattle.ent_eval.proofs.Fit.{set_of_tree, sound_fit}
-use Rattle.ent_eval.proofs.Hops.{answer_followed}
+use Rattle.ent_eval.proofs.Left.{answer_equal, gathers_equal, notes_equal, tells_equal}
 use Rattle.ent_eval.proofs.Parts.{equal_reads, equal_value, on_ok}
 use Rattle.ent_eval.proofs.PathKeys.{keys_of_below}
-use Rattle.ent_eval.proofs.Sets.{only-part, set-fit, set-reads, shared-part}
-use Rattle.ent_eval.proofs.Shallow.{shallow_set, shallow_tree}
+use Rattle.ent_eval.proofs.Sets.{only-part, set-fit, shared-part}
 use Rattle.ent_eval.proofs.scene.Scene.+child.Goals as goal
 
 pub children-returns-in-Stop-clause-value : goal.children-returns-in-Stop-clause-value
 children-returns-in-Stop-clause-value g t c =
-    IfOk-weaker c.finish.result _ _ (λ a is. last_child (keys_of c.args.path.now) c.args.algorithm (child_part (g.L.LookUps.looks c.args.self.now.held.now) c.args.self.now.request.now c.args.hops (keys_of c.args.path.now)) c.args.children.now c.loop-child.child-index c.child-item.result (or_nothing c.in_ok-answer.answer) c.in_ok-take.field-0
-    c.loop-child.gathering c.take.new.self c.args.reads.now c.loop-child.reads c.child.new.reads
-    c.loop-child-test.true c.child-item.is c.loop-child.invariant.going c.loop-child.invariant.gathered c.in_ok-answer.ensures.value c.in_ok-answer.ensures.reads
-    c.in_ok-take.ensures.gathered c.in_ok-take.ensures.progress c.in-Stop.is (or_nothing a) is) c.finish.ensures.value
+    IfOk-weaker c.finish.result _ _ (λ a is. last_child (keys_of c.args.path.now) c.args.algorithm (child_part (g.L.LookUps.looks c.args.self.now.held.now) c.args.self.now.request.now c.args.hops (keys_of c.args.path.now)) c.args.children.now c.loop-child.child-index c.child-item.result _ c.in_ok-progress.progress
+    c.loop-child.gathering c.next_child.new.gathering c.args.reads.now c.loop-child.reads c.next_child.new.reads
+    c.loop-child-test.true c.child-item.is c.loop-child.invariant.going c.loop-child.invariant.gathered refl c.in_ok-progress.ensures.reads
+    c.in_ok-progress.ensures.gathered c.in_ok-progress.ensures.progress c.in-Stop.is (or_nothing a) is) c.finish.ensures.value
 
 pub children-returns-in-Stop-clause-reads : goal.children-returns-in-Stop-clause-reads
 children-returns-in-Stop-clause-reads g t c =
-    on_ok c.finish.result _ (c.finish.ensures.reads ∙ last_reads (keys_of c.args.path.now) c.args.algorithm (child_part (g.L.LookUps.looks c.args.self.now.held.now) c.args.self.now.request.now c.args.hops (keys_of c.args.path.now)) c.args.children.now c.loop-child.child-index c.child-item.result (or_nothing c.in_ok-answer.answer) c.in_ok-take.field-0
-    c.loop-child.gathering c.take.new.self c.args.reads.now c.loop-child.reads c.child.new.reads
-    c.loop-child-test.true c.child-item.is c.loop-child.invariant.going c.loop-child.invariant.gathered c.in_ok-answer.ensures.value c.in_ok-answer.ensures.reads
-    c.in_ok-take.ensures.gathered c.in_ok-take.ensures.progress c.in-Stop.is)
+    on_ok c.finish.result _ (c.finish.ensures.reads ∙ last_reads (keys_of c.args.path.now) c.args.algorithm (child_part (g.L.LookUps.looks c.args.self.now.held.now) c.args.self.now.request.now c.args.hops (keys_of c.args.path.now)) c.args.children.now c.loop-child.child-index c.child-item.result _ c.in_ok-progress.progress
+    c.loop-child.gathering c.next_child.new.gathering c.args.reads.now c.loop-child.reads c.next_child.new.reads
+    c.loop-child-test.true c.child-item.is c.loop-child.invariant.going c.loop-child.invariant.gathered refl c.in_ok-progress.ensures.reads
+    c.in_ok-progress.ensures.gathered c.in_ok-progress.ensures.progress c.in-Stop.is)
 
 pub children-loop-child-preserved : goal.children-loop-child-preserved
 children-loop-child-preserved g t c =
-    let next = next_child c.args.algorithm (child_part (g.L.LookUps.looks c.args.self.now.held.now) c.args.self.now.request.now c.args.hops (keys_of c.args.path.now)) c.args.children.now c.loop-child.child-index c.child-item.result (or_nothing c.in_ok-answer.answer) c.in_ok-take.field-0
-    c.loop-child.gathering c.take.new.self c.args.reads.now c.loop-child.reads c.child.new.reads
-    c.loop-child-test.true c.child-item.is c.loop-child.invariant.going c.loop-child.invariant.gathered c.in_ok-answer.ensures.value c.in_ok-answer.ensures.reads
-    c.in_ok-take.ensures.gathered c.in_ok-take.ensures.progress c.in_default.is in
-    record { going = next.going; gathered = next.gathered; own = c.child.ensures.own ∙ c.loop-child.invariant.own }
+    let next = next_child c.args.algorithm (child_part (g.L.LookUps.looks c.args.self.now.held.now) c.args.self.now.request.now c.args.hops (keys_of c.args.path.now)) c.args.children.now c.loop-child.child-index c.child-item.result _ c.in_ok-progress.progress
+    c.loop-child.gathering c.next_child.new.gathering c.args.reads.now c.loop-child.reads c.next_child.new.reads
+    c.loop-child-test.true c.child-item.is c.loop-child.invariant.going c.loop-child.invariant.gathered refl c.in_ok-progress.ensures.reads
+    c.in_ok-progress.ensures.gathered c.in_ok-progress.ensures.progress c.in_default.is in
+    record { going = next.going; gathered = next.gathered; own = c.next_child.ensures.own ∙ c.loop-child.invariant.own }
 
 pub children-returns-clause-value : goal.children-returns-clause-value
 children-returns-clause-value g t c =
@@ -64,24 +65,61 @@ children_under-returns-in-OnlyOne-clause-reads g t c =
     equal_reads c.only_one.result c.args.reads.now c.only_one.new.reads _ _ (only-part (g.L.LookUps.looks c.args.self.now.held.now) c.args.self.now.request.now c.args.hops (keys_of c.args.path.now) c.args.set.now _
     c.as_slice-in-OnlyOne.result.now c.in-OnlyOne.is (keys_of_below _ _ _ _) c.as_slice-in-OnlyOne.ensures) c.only_one.ensures.reads
 
-pub set-set_after-requires : goal.set-set_after-requires
-set-set_after-requires g t c κs within = let fit = (set-fit c.args.set.now c.requires.fit).1 in (omega arith, (within, (fit.1.0, (fit.0, (fit.1.1, c.target_with.ensures.own ∙ c.requires.own)))))
+pub judge-set_after-requires : goal.judge-set_after-requires
+judge-set_after-requires g t c κs within =
+    let fit = (set-fit c.in-Set.set.now (ap is_fit_left (sym c.in-Set.is) ∙ c.requires.fit)).1 in
+    let worth-is = ap worth c.in-Set.is in
+    (omega (arith, worth-is), (within, (fit.1.0, (fit.0, (fit.1.1, c.requires.own)))))
 
-pub set-returns-clause-reads : goal.set-returns-clause-reads
-set-returns-clause-reads g t c =
-    on_ok_weaker c.set_after.result (λ is. set-reads (g.L.LookUps.looks c.args.self.now.held.now) c.args.self.now.request.now c.args.hops (keys_of c.args.path.now) c.args.set.now c.in_ok-targeted.targeted
-    c.args.reads.now c.target_with.new.reads c.set_after.new.reads c.in_ok-targeted.ensures.value c.in_ok-targeted.ensures.reads is) c.set_after.ensures.reads
+pub child-judge-requires : goal.child-judge-requires
+child-judge-requires g t c κs within = (omega (arith, c.in_ok-opened.ensures.worth), (within, (c.in_ok-opened.ensures.fit, c.open.ensures.own ∙ c.requires.own)))
 
-pub reference-returns-clause-value : goal.reference-returns-clause-value
-reference-returns-clause-value g t c =
-    equal_value or_nothing c.followed.result _ _ (answer_followed (g.L.LookUps.looks c.args.self.now.held.now) c.args.self.now.request.now c.args.hops c.args.reference.now
-    (omega (arith, c.if-hops-eq0.false)) (keys_of c.args.path.now)) c.followed.ensures.value
+pub child-returns-clause-value : goal.child-returns-clause-value
+child-returns-clause-value g t c = answer_equal c.judge.result _ _ (c.in_ok-opened.ensures.left (keys_of c.args.path.now)).0 c.judge.ensures.value
 
-pub followed-tree-requires-in-Some : goal.followed-tree-requires-in-Some
-followed-tree-requires-in-Some g t c κs within =
-    (omega arith, (within, (sound_fit c.tree.result.now c.tree.ensures.sound c.tree.ensures.typed, (shallow_tree c.tree.result.now c.tree.ensures.sound, c.requires.own))))
+pub child-returns-clause-reads : goal.child-returns-clause-reads
+child-returns-clause-reads g t c = notes_equal c.judge.result c.judge.new.reads _ _ (c.in_ok-opened.ensures.left (keys_of c.args.path.now)).1 c.judge.ensures.reads
 
-pub tree-set-requires : goal.tree-set-requires
-tree-set-requires g t c κs within =
-    let small = shallow_set c.args.tree.now c.in-Set.set c.in-Set.is c.requires.shallow in
-    (omega (arith, small), (within, (set_of_tree c.args.tree.now c.in-Set.set c.in-Set.is c.requires.fit, c.requires.own)))
+pub next_child-returns-in-Passed-clause-gathered : goal.next_child-returns-in-Passed-clause-gathered
+next_child-returns-in-Passed-clause-gathered g t c =
+    let left = left_part (g.L.LookUps.looks c.args.self.now.held.now) c.args.self.now.request.now (keys_of c.args.path.now) in
+    subst (Gathers c.args.gathering.now c.pass.new.self) (ap (λ o. (left o).value) (sym c.in-Passed.is) ∙ (c.in_ok-opened.ensures.left (keys_of c.args.path.now)).0) c.pass.ensures.gathered
+
+pub next_child-returns-in-Passed-clause-progress : goal.next_child-returns-in-Passed-clause-progress
+next_child-returns-in-Passed-clause-progress g t c =
+    let left = left_part (g.L.LookUps.looks c.args.self.now.held.now) c.args.self.now.request.now (keys_of c.args.path.now) in
+    subst (λ j. Tells c.args.gathering.now j c.pass.result) (ap (λ o. (left o).value) (sym c.in-Passed.is) ∙ (c.in_ok-opened.ensures.left (keys_of c.args.path.now)).0) c.pass.ensures.progress
+
+pub next_child-returns-in-Passed-clause-reads : goal.next_child-returns-in-Passed-clause-reads
+next_child-returns-in-Passed-clause-reads g t c =
+    let left = left_part (g.L.LookUps.looks c.args.self.now.held.now) c.args.self.now.request.now (keys_of c.args.path.now) in
+    ap (λ o. noting c.open.new.reads (left o).reads) (sym c.in-Passed.is) ∙ (c.in_ok-opened.ensures.left (keys_of c.args.path.now)).1
+
+pub next_child-next_left-requires : goal.next_child-next_left-requires
+next_child-next_left-requires g t c κs within = (omega (arith, c.in_ok-opened.ensures.worth), (within, (c.in_ok-opened.ensures.fit, c.open.ensures.own ∙ c.requires.own)))
+
+pub next_child-returns-clause-gathered : goal.next_child-returns-clause-gathered
+next_child-returns-clause-gathered g t c = gathers_equal c.next_left.result c.args.gathering.now c.next_left.new.gathering _ _ (c.in_ok-opened.ensures.left (keys_of c.args.path.now)).0 c.next_left.ensures.gathered
+
+pub next_child-returns-clause-progress : goal.next_child-returns-clause-progress
+next_child-returns-clause-progress g t c = tells_equal c.next_left.result c.args.gathering.now _ _ (c.in_ok-opened.ensures.left (keys_of c.args.path.now)).0 c.next_left.ensures.progress
+
+pub next_child-returns-clause-reads : goal.next_child-returns-clause-reads
+next_child-returns-clause-reads g t c = notes_equal c.next_left.result c.next_left.new.reads _ _ (c.in_ok-opened.ensures.left (keys_of c.args.path.now)).1 c.next_left.ensures.reads
+
+pub next_left-returns-clause-gathered : goal.next_left-returns-clause-gathered
+next_left-returns-clause-gathered g t c = gathers_equal c.take.result c.args.gathering.now c.take.new.self _ _ c.in_ok-answer.ensures.value c.take.ensures.gathered
+
+pub next_left-returns-clause-progress : goal.next_left-returns-clause-progress
+next_left-returns-clause-progress g t c = tells_equal c.take.result c.args.gathering.now _ _ c.in_ok-answer.ensures.value c.take.ensures.progress
+
+pub next_left-returns-clause-reads : goal.next_left-returns-clause-reads
+next_left-returns-clause-reads g t c = on_ok c.take.result _ c.in_ok-answer.ensures.reads
+
+pub judge-returns-in-Set-clause-value : goal.judge-returns-in-Set-clause-value
+judge-returns-in-Set-clause-value g t c =
+    answer_equal c.set_after.result _ _ (ap (λ o. (left_part (g.L.LookUps.looks c.args.self.now.held.now) c.args.self.now.request.now (keys_of c.args.path.now) o).value) (sym c.in-Set.is)) c.set_after.ensures.value
+
+pub judge-returns-in-Set-clause-reads : goal.judge-returns-in-Set-clause-reads
+judge-returns-in-Set-clause-reads g t c =
+    notes_equal c.set_after.result c.set_after.new.reads _ _ (ap (λ o. noting c.args.reads.now (left_part (g.L.LookUps.looks c.args.self.now.held.now) c.args.self.now.request.now (keys_of c.args.path.now) o).reads) (sym c.in-Set.is)) c.set_after.ensures.reads

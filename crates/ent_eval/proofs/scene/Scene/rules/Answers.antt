@@ -1,4 +1,4 @@
-use Rattle.std.proofs.Common.{◌∙◌, arith}
+use Rattle.std.proofs.Common.{◌∙◌, arith, refl}
 use Rattle.std.proofs.lemmas.Result.{IfOk-weaker}
 use Rattle.ent_eval.specs.Path.{keys_of}
 use Rattle.ent_eval.specs.Judged.{or_nothing}
@@ -9,25 +9,25 @@ use Rattle.ent_eval.proofs.scene.Scene.rules.Goals as goal
 
 pub returns-in-Stop-clause-value : goal.returns-in-Stop-clause-value
 returns-in-Stop-clause-value g c =
-    IfOk-weaker c.finish.result _ _ (λ a is. last_child (keys_of c.args.path.now) c.args.algorithm (rule_part (g.L.LookUps.looks c.args.self.now.held.now) c.args.self.now.request.now c.args.definitions.now (keys_of c.args.path.now)) c.args.rules.now c.loop-rule.rule-index c.rule-item.result (or_nothing c.in_ok-answer.answer) c.in_ok-take.field-0
-    c.loop-rule.gathering c.take.new.self c.args.reads.now c.loop-rule.reads c.rule.new.reads
-    c.loop-rule-test.true c.rule-item.is c.loop-rule.invariant.going c.loop-rule.invariant.gathered c.in_ok-answer.ensures.value c.in_ok-answer.ensures.reads
-    c.in_ok-take.ensures.gathered c.in_ok-take.ensures.progress c.in-Stop.is (or_nothing a) is) c.finish.ensures.value
+    IfOk-weaker c.finish.result _ _ (λ a is. last_child (keys_of c.args.path.now) c.args.algorithm (rule_part (g.L.LookUps.looks c.args.self.now.held.now) c.args.self.now.request.now c.args.definitions.now (keys_of c.args.path.now)) c.args.rules.now c.loop-rule.rule-index c.rule-item.result _ c.in_ok-progress.progress
+    c.loop-rule.gathering c.next_rule.new.gathering c.args.reads.now c.loop-rule.reads c.next_rule.new.reads
+    c.loop-rule-test.true c.rule-item.is c.loop-rule.invariant.going c.loop-rule.invariant.gathered refl c.in_ok-progress.ensures.reads
+    c.in_ok-progress.ensures.gathered c.in_ok-progress.ensures.progress c.in-Stop.is (or_nothing a) is) c.finish.ensures.value
 
 pub returns-in-Stop-clause-reads : goal.returns-in-Stop-clause-reads
 returns-in-Stop-clause-reads g c =
-    on_ok c.finish.result _ (c.finish.ensures.reads ∙ last_reads (keys_of c.args.path.now) c.args.algorithm (rule_part (g.L.LookUps.looks c.args.self.now.held.now) c.args.self.now.request.now c.args.definitions.now (keys_of c.args.path.now)) c.args.rules.now c.loop-rule.rule-index c.rule-item.result (or_nothing c.in_ok-answer.answer) c.in_ok-take.field-0
-    c.loop-rule.gathering c.take.new.self c.args.reads.now c.loop-rule.reads c.rule.new.reads
-    c.loop-rule-test.true c.rule-item.is c.loop-rule.invariant.going c.loop-rule.invariant.gathered c.in_ok-answer.ensures.value c.in_ok-answer.ensures.reads
-    c.in_ok-take.ensures.gathered c.in_ok-take.ensures.progress c.in-Stop.is)
+    on_ok c.finish.result _ (c.finish.ensures.reads ∙ last_reads (keys_of c.args.path.now) c.args.algorithm (rule_part (g.L.LookUps.looks c.args.self.now.held.now) c.args.self.now.request.now c.args.definitions.now (keys_of c.args.path.now)) c.args.rules.now c.loop-rule.rule-index c.rule-item.result _ c.in_ok-progress.progress
+    c.loop-rule.gathering c.next_rule.new.gathering c.args.reads.now c.loop-rule.reads c.next_rule.new.reads
+    c.loop-rule-test.true c.rule-item.is c.loop-rule.invariant.going c.loop-rule.invariant.gathered refl c.in_ok-progress.ensures.reads
+    c.in_ok-progress.ensures.gathered c.in_ok-progress.ensures.progress c.in-Stop.is)
 
 pub loop-rule-preserved : goal.loop-rule-preserved
 loop-rule-preserved g c =
-    let next = next_child c.args.algorithm (rule_part (g.L.LookUps.looks c.args.self.now.held.now) c.args.self.now.request.now c.args.definitions.now (keys_of c.args.path.now)) c.args.rules.now c.loop-rule.rule-index c.rule-item.result (or_nothing c.in_ok-answer.answer) c.in_ok-take.field-0
-    c.loop-rule.gathering c.take.new.self c.args.reads.now c.loop-rule.reads c.rule.new.reads
-    c.loop-rule-test.true c.rule-item.is c.loop-rule.invariant.going c.loop-rule.invariant.gathered c.in_ok-answer.ensures.value c.in_ok-answer.ensures.reads
-    c.in_ok-take.ensures.gathered c.in_ok-take.ensures.progress c.in_default.is in
-    record { going = next.going; gathered = next.gathered; own = c.rule.ensures.own ∙ c.loop-rule.invariant.own }
+    let next = next_child c.args.algorithm (rule_part (g.L.LookUps.looks c.args.self.now.held.now) c.args.self.now.request.now c.args.definitions.now (keys_of c.args.path.now)) c.args.rules.now c.loop-rule.rule-index c.rule-item.result _ c.in_ok-progress.progress
+    c.loop-rule.gathering c.next_rule.new.gathering c.args.reads.now c.loop-rule.reads c.next_rule.new.reads
+    c.loop-rule-test.true c.rule-item.is c.loop-rule.invariant.going c.loop-rule.invariant.gathered refl c.in_ok-progress.ensures.reads
+    c.in_ok-progress.ensures.gathered c.in_ok-progress.ensures.progress c.in_default.is in
+    record { going = next.going; gathered = next.gathered; own = c.next_rule.ensures.own ∙ c.loop-rule.invariant.own }
 
 pub returns-clause-value : goal.returns-clause-value
 returns-clause-value g c =
