@@ -14,6 +14,7 @@ use Rattle.ent_functions.specs.declared.function.Element.{Element}
 use Rattle.ent_functions.specs.declared.function.Function.{Function}
 use Rattle.ent_functions.specs.declared.function.Function.TheVariants as functions
 use Rattle.ent_functions.specs.declared.types.ArgType.{ArgType}
+use Rattle.ent_policy.specs.Typing.{type_step, variable_type}
 use Rattle.ent_policy.specs.declared.document.Designator.{Designator}
 use Rattle.ent_policy.specs.declared.expression.Expression.{Expression}
 use Rattle.ent_policy.specs.declared.expression.Expression.TheVariants as expressions
@@ -29,7 +30,7 @@ use Rattle.ent_eval.specs.Looks.{Looks}
 use Rattle.ent_eval.specs.Own.{is_empty, own_values}
 use Rattle.ent_eval.specs.Part.{Part, without_look, mapped, reads_of, seen_parts, whole}
 use Rattle.ent_eval.specs.Sources.{source_part, values_part}
-use Rattle.ent_eval.specs.Typed.{HasType}
+use Rattle.ent_eval.specs.Typed.{HasType, apply_type, type_of}
 use Rattle.ent_eval.specs.Uncopied.{member, member_part}
 
 -- a value is no result of a function that no boolean decides
@@ -143,6 +144,13 @@ module _ (looks : Looks) (request : Request) (definitions : List VariableDefinit
       of_two f given x y (Known (One v)) (Known (One w)) is first second ∙ ap (λ g. without_look (result_of g (Known (One v) ∷ Known (One w) ∷ []))) f-is
 
 -- ---- types
+
+-- the type of a function of arguments
+pub application-type : (definitions : List VariableDefinition) (n : ℕ) (x : Expression) (f : Function) (given seen : List Expression) → x ≡ expressions.Apply f given → seen ≡ given
+    → type_of definitions n x ≡ apply_type definitions n f seen
+unfolding Rattle.ent_policy.specs.declared.expression.Expression.TheViews.roll-Expression denote.Hole.Carrier.roll
+application-type definitions n x f given seen is given-is =
+    ap (type_of definitions n) is ∙ fold-roll-Expression (Option ArgType) (type_step (variable_type definitions n)) (Expression-F.Apply f given) ∙ ap (apply_type definitions n f) (sym given-is)
 
 some_if : (b : Bool) (t : ArgType) → IsSome (if b then Some t else None) → (if b then Some t else None) ≡ Some t
 some_if true t some = refl

@@ -10,6 +10,7 @@ pub mod Judged
 pub mod Law
 pub mod Latest
 pub mod Listed
+pub mod Looked
 pub mod Looks
 pub mod LooksOf
 pub mod Node

@@ -70,7 +70,7 @@ impl<'a> Latest<'a> {
 }
 
 // Whether two designators ask for the same values.
-fn seeks_same(first: &Designator, second: &Designator) -> bool
+pub(crate) fn seeks_same(first: &Designator, second: &Designator) -> bool
     ensures { IsTrue result → record first.now { must_be_present = false } ≡ record second.now { must_be_present = false } }
 {
     same_text(first.attribute.as_str(), second.attribute.as_str())

@@ -13,6 +13,7 @@ mod key;
 mod latest;
 mod law;
 mod look_ups;
+mod looked;
 mod node;
 mod notes;
 mod only;

@@ -103,8 +103,17 @@ impl<'a, L: LookUps> Scene<'a, L> {
         ensures own { own.new ≡ own.old }
     {
         let mut gathering = gather(self.alloc, algorithm);
+        let mut looked = None;
         for rule in rules {
-            let progress = self.next_rule(&mut gathering, reads, own, definitions, path, rule)?;
+            let progress = self.next_rule(
+                &mut gathering,
+                reads,
+                own,
+                &mut looked,
+                definitions,
+                path,
+                rule,
+            )?;
             if let Progress::Stop = progress {
                 return gathering.finish(self.alloc, reads, path, algorithm);
             }

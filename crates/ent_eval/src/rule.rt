@@ -5,6 +5,7 @@ ghost use Rattle.ent_functions.specs.Types.{boolean};
 ghost use Rattle.ent_policy.specs.Typing.{condition_is_typed, given_is_typed, rule_is_typed};
 ghost use Rattle.ent_eval.specs.Gathered.{Gathers, Tells};
 ghost use Rattle.ent_eval.specs.Judged.{or_nothing};
+ghost use Rattle.ent_eval.specs.Looked.{AreLooked};
 ghost use Rattle.ent_eval.specs.Noted.{noting};
 ghost use Rattle.ent_eval.specs.Path.{keys_of};
 ghost use Rattle.ent_eval.specs.Rule.{condition_part, decided, decision_of, rule_part, rule_under, truth_of};
@@ -15,6 +16,7 @@ use crate::evaluated::{Evaluated, Truth};
 use crate::gather::Gathering;
 use crate::latest::Latest;
 use crate::look_ups::LookUps;
+use crate::looked::Looked;
 use crate::notes::Notes;
 use crate::own_given::indeterminate_of;
 use crate::path::Path;
@@ -35,22 +37,25 @@ impl<'a, L: LookUps> Scene<'a, L> {
         gathering: &mut Gathering,
         reads: &mut Notes,
         own: &mut Latest<'a>,
+        looked: &mut Option<Looked<'a>>,
         definitions: &[VariableDefinition],
         path: &Path<'_>,
         rule: &'a Rule,
     ) -> Result<Progress, AllocError>
         requires typed { rule_is_typed definitions.now rule.now ≡ true }
         requires own { own.old ≡ self.now.request.now }
+        requires looked { AreLooked (L.looks self.now.held.now) self.now.request.now looked.old }
         ensures gathered { OnOk result (Gathers gathering.old gathering.new (rule_part (L.looks self.now.held.now) self.now.request.now definitions.now (keys_of path.now) rule.now).value) }
         ensures progress { IfOk result (Tells gathering.old (rule_part (L.looks self.now.held.now) self.now.request.now definitions.now (keys_of path.now) rule.now).value) }
         ensures reads { OnOk result (reads.new ≡ noting reads.old (rule_part (L.looks self.now.held.now) self.now.request.now definitions.now (keys_of path.now) rule.now).reads) }
         ensures own { own.new ≡ own.old }
+        ensures looked { AreLooked (L.looks self.now.held.now) self.now.request.now looked.new }
     {
         let targeted = self.target_with(reads, own, &rule.target)?;
         if let Targeted::NoMatch = targeted {
             return Ok(gathering.pass());
         }
-        let answer = self.rule_after(reads, definitions, path, rule, targeted)?;
+        let answer = self.rule_after(reads, looked, definitions, path, rule, targeted)?;
         gathering.take(answer)
     }
 
@@ -59,15 +64,18 @@ impl<'a, L: LookUps> Scene<'a, L> {
     fn rule_after(
         &self,
         reads: &mut Notes,
+        looked: &mut Option<Looked<'a>>,
         definitions: &[VariableDefinition],
         path: &Path<'_>,
-        rule: &Rule,
+        rule: &'a Rule,
         targeted: Targeted,
     ) -> Result<Option<Answer>, AllocError>
         requires condition { condition_is_typed definitions.now rule.now.condition ≡ true }
         requires given { given_is_typed definitions.now rule.now.given ≡ true }
+        requires looked { AreLooked (L.looks self.now.held.now) self.now.request.now looked.old }
         ensures value { IfOk result (λ a. or_nothing a ≡ (rule_under (L.looks self.now.held.now) self.now.request.now definitions.now (keys_of path.now) rule.now targeted).value) }
         ensures reads { OnOk result (reads.new ≡ noting reads.old (rule_under (L.looks self.now.held.now) self.now.request.now definitions.now (keys_of path.now) rule.now targeted).reads) }
+        ensures looked { AreLooked (L.looks self.now.held.now) self.now.request.now looked.new }
     {
         match targeted {
             Targeted::NoMatch => Ok(None),
@@ -75,7 +83,7 @@ impl<'a, L: LookUps> Scene<'a, L> {
                 decide(self.alloc, reads, path, rule, Truth::Indeterminate(status))
             }
             Targeted::Match => {
-                let truth = self.condition(reads, definitions, &rule.condition)?;
+                let truth = self.condition(reads, looked, definitions, &rule.condition)?;
                 let answer = decide(self.alloc, reads, path, rule, truth)?;
                 self.finished(reads, definitions, &rule.given, answer)
             }
@@ -87,17 +95,26 @@ impl<'a, L: LookUps> Scene<'a, L> {
     fn condition(
         &self,
         reads: &mut Notes,
+        looked: &mut Option<Looked<'a>>,
         definitions: &[VariableDefinition],
-        condition: &Option<Expression>,
+        condition: &'a Option<Expression>,
     ) -> Result<Truth, AllocError>
-        requires { condition_is_typed definitions.now condition.now ≡ true }
+        requires typed { condition_is_typed definitions.now condition.now ≡ true }
+        requires looked { AreLooked (L.looks self.now.held.now) self.now.request.now looked.old }
         ensures value { IfOk result (λ t. t ≡ (condition_part (L.looks self.now.held.now) self.now.request.now definitions.now condition.now).value) }
         ensures reads { OnOk result (reads.new ≡ noting reads.old (condition_part (L.looks self.now.held.now) self.now.request.now definitions.now condition.now).reads) }
+        ensures looked { AreLooked (L.looks self.now.held.now) self.now.request.now looked.new }
     {
         match condition {
             None => Ok(Truth::True),
             Some(expression) => {
-                let evaluated = self.expression(reads, definitions, definitions.len(), expression)?;
+                let evaluated = self.tested(
+                    reads,
+                    looked,
+                    definitions,
+                    definitions.len(),
+                    expression,
+                )?;
                 Ok(truth_of(evaluated))
             }
         }

@@ -1,0 +1,10 @@
+use Rattle.std.proofs.Common.{◌≡◌, ap, false, rules, ◌∙◌}
+use Rattle.ent_eval.specs.Uncopied.{member}
+use Rattle.ent_eval.proofs.Again.{looked_again}
+use Rattle.ent_eval.proofs.scene.Scene.is_among_looked.Goals as goal
+
+pub returns-then-seeks_same-clause-value : goal.returns-then-seeks_same-clause-value
+returns-then-seeks_same-clause-value g c =
+    let same : record c.in-Some.latest.designator.now { must_be_present = false } ≡ record c.args.designator.now { must_be_present = false } = search rules in
+    c.member.ensures.value ∙ ap (member c.args.value.now c.args.designator.now)
+    (c.values.ensures.value ∙ looked_again (g.L.LookUps.looks c.args.self.now.held.now) c.args.self.now.request.now c.args.looked.now c.in-Some.latest c.args.designator.now c.in-Some.is c.requires same)
