@@ -30,70 +30,141 @@ pub(crate) fn document(alloc: Global, text: &str) -> Result<Document, Fail> {
 const WRITTEN: &[(&str, &str)] = &[
     // Keys in another order, a description and an empty target.
     (
-        r#"{"Policy":{"Version":"1","PolicyId":"p3","Description":"","RuleCombiningAlgId":"urn:oasis:names:tc:xacml:3.0:rule-combining-algorithm:deny-overrides","Target":{},"Rule":[{"RuleId":"ok","Effect":"Permit"}]}}"#,
-        r#"{"Policy":{"PolicyId":"p3","Rule":[{"Effect":"Permit","RuleId":"ok"}],"RuleCombiningAlgId":"urn:oasis:names:tc:xacml:3.0:rule-combining-algorithm:deny-overrides","Version":"1"}}"#,
+        r#"{"Policy":{"Version":"1","PolicyId":"p3","Description":"",
+           "RuleCombiningAlgId":"urn:oasis:names:tc:xacml:3.0:rule-combining-algorithm:deny-overrides","Target":{},"Rule":[{
+           "RuleId":"ok","Effect":"Permit"}]}}"#,
+        r#"{"Policy":{"PolicyId":"p3","Rule":[{"Effect":"Permit","RuleId":"ok"}],
+           "RuleCombiningAlgId":"urn:oasis:names:tc:xacml:3.0:rule-combining-algorithm:deny-overrides","Version":"1"}}"#,
     ),
     // A description in a rule.
     (
-        r#"{"Policy":{"PolicyId":"p3","Rule":[{"Description":"x","Effect":"Permit","RuleId":"ok"}],"RuleCombiningAlgId":"urn:oasis:names:tc:xacml:3.0:rule-combining-algorithm:deny-overrides","Version":"1"}}"#,
-        r#"{"Policy":{"PolicyId":"p3","Rule":[{"Effect":"Permit","RuleId":"ok"}],"RuleCombiningAlgId":"urn:oasis:names:tc:xacml:3.0:rule-combining-algorithm:deny-overrides","Version":"1"}}"#,
+        r#"{"Policy":{"PolicyId":"p3","Rule":[{"Description":"x","Effect":"Permit","RuleId":"ok"}],
+           "RuleCombiningAlgId":"urn:oasis:names:tc:xacml:3.0:rule-combining-algorithm:deny-overrides","Version":"1"}}"#,
+        r#"{"Policy":{"PolicyId":"p3","Rule":[{"Effect":"Permit","RuleId":"ok"}],
+           "RuleCombiningAlgId":"urn:oasis:names:tc:xacml:3.0:rule-combining-algorithm:deny-overrides","Version":"1"}}"#,
     ),
     // Every part that a policy can have.
     (
-        r#"{"Policy":{"PolicyId":"p1","Version":"1.0","RuleCombiningAlgId":"urn:oasis:names:tc:xacml:3.0:rule-combining-algorithm:deny-overrides","Description":"who may read","Target":{"AnyOf":[{"AllOf":[{"Match":[{"MatchId":"urn:oasis:names:tc:xacml:1.0:function:string-equal","AttributeValue":{"DataType":"string","Value":"read"},"AttributeDesignator":{"Category":"urn:oasis:names:tc:xacml:3.0:attribute-category:action","AttributeId":"urn:oasis:names:tc:xacml:1.0:action:action-id","DataType":"string","Issuer":"desk","MustBePresent":true}}]}]}]},"VariableDefinition":[{"VariableId":"cleared","Expression":{"Apply":{"FunctionId":"urn:oasis:names:tc:xacml:1.0:function:boolean-one-and-only","Arguments":[{"AttributeDesignator":{"Category":"urn:oasis:names:tc:xacml:1.0:subject-category:access-subject","AttributeId":"cleared","DataType":"boolean"}}]}}}],"Rule":[{"RuleId":"r1","Effect":"Permit","Target":{},"Condition":{"Apply":{"FunctionId":"urn:oasis:names:tc:xacml:3.0:function:any-of","Arguments":[{"Function":{"FunctionId":"urn:oasis:names:tc:xacml:1.0:function:boolean-equal"}},{"VariableReference":{"VariableId":"cleared"}},{"Apply":{"FunctionId":"urn:oasis:names:tc:xacml:1.0:function:boolean-bag","Arguments":[{"AttributeValue":{"Value":true}}]}}]}}},{"RuleId":"r2","Effect":"Deny","Description":"","Condition":{"Apply":{"FunctionId":"urn:oasis:names:tc:xacml:1.0:function:integer-equal","Arguments":[{"AttributeValue":{"DataType":"integer","Value":-9223372036854775808}},{"AttributeValue":{"DataType":"integer","Value":"9223372036854775807"}}]}}}]}}"#,
-        r#"{"Policy":{"PolicyId":"p1","Rule":[{"Condition":{"Apply":{"Arguments":[{"Function":{"FunctionId":"urn:oasis:names:tc:xacml:1.0:function:boolean-equal"}},{"VariableReference":{"VariableId":"cleared"}},{"Apply":{"Arguments":[{"AttributeValue":{"DataType":"http://www.w3.org/2001/XMLSchema#boolean","Value":true}}],"FunctionId":"urn:oasis:names:tc:xacml:1.0:function:boolean-bag"}}],"FunctionId":"urn:oasis:names:tc:xacml:3.0:function:any-of"}},"Effect":"Permit","RuleId":"r1"},{"Condition":{"Apply":{"Arguments":[{"AttributeValue":{"DataType":"http://www.w3.org/2001/XMLSchema#integer","Value":-9223372036854775808}},{"AttributeValue":{"DataType":"http://www.w3.org/2001/XMLSchema#integer","Value":9223372036854775807}}],"FunctionId":"urn:oasis:names:tc:xacml:1.0:function:integer-equal"}},"Effect":"Deny","RuleId":"r2"}],"RuleCombiningAlgId":"urn:oasis:names:tc:xacml:3.0:rule-combining-algorithm:deny-overrides","Target":{"AnyOf":[{"AllOf":[{"Match":[{"AttributeDesignator":{"AttributeId":"urn:oasis:names:tc:xacml:1.0:action:action-id","Category":"urn:oasis:names:tc:xacml:3.0:attribute-category:action","DataType":"http://www.w3.org/2001/XMLSchema#string","Issuer":"desk","MustBePresent":true},"AttributeValue":{"DataType":"http://www.w3.org/2001/XMLSchema#string","Value":"read"},"MatchId":"urn:oasis:names:tc:xacml:1.0:function:string-equal"}]}]}]},"VariableDefinition":[{"Expression":{"Apply":{"Arguments":[{"AttributeDesignator":{"AttributeId":"cleared","Category":"urn:oasis:names:tc:xacml:1.0:subject-category:access-subject","DataType":"http://www.w3.org/2001/XMLSchema#boolean","MustBePresent":false}}],"FunctionId":"urn:oasis:names:tc:xacml:1.0:function:boolean-one-and-only"}},"VariableId":"cleared"}],"Version":"1.0"}}"#,
+        r#"{"Policy":{"PolicyId":"p1","Version":"1.0",
+           "RuleCombiningAlgId":"urn:oasis:names:tc:xacml:3.0:rule-combining-algorithm:deny-overrides",
+           "Description":"who may read","Target":{"AnyOf":[{"AllOf":[{"Match":[{
+           "MatchId":"urn:oasis:names:tc:xacml:1.0:function:string-equal","AttributeValue":{"DataType":"string","Value":"read"},
+           "AttributeDesignator":{"Category":"urn:oasis:names:tc:xacml:3.0:attribute-category:action",
+           "AttributeId":"urn:oasis:names:tc:xacml:1.0:action:action-id","DataType":"string","Issuer":"desk",
+           "MustBePresent":true}}]}]}]},"VariableDefinition":[{"VariableId":"cleared","Expression":{"Apply":{
+           "FunctionId":"urn:oasis:names:tc:xacml:1.0:function:boolean-one-and-only","Arguments":[{"AttributeDesignator":{
+           "Category":"urn:oasis:names:tc:xacml:1.0:subject-category:access-subject","AttributeId":"cleared",
+           "DataType":"boolean"}}]}}}],"Rule":[{"RuleId":"r1","Effect":"Permit","Target":{},"Condition":{"Apply":{
+           "FunctionId":"urn:oasis:names:tc:xacml:3.0:function:any-of","Arguments":[{"Function":{
+           "FunctionId":"urn:oasis:names:tc:xacml:1.0:function:boolean-equal"}},{"VariableReference":{"VariableId":"cleared"}},{
+           "Apply":{"FunctionId":"urn:oasis:names:tc:xacml:1.0:function:boolean-bag","Arguments":[{"AttributeValue":{
+           "Value":true}}]}}]}}},{"RuleId":"r2","Effect":"Deny","Description":"","Condition":{"Apply":{
+           "FunctionId":"urn:oasis:names:tc:xacml:1.0:function:integer-equal","Arguments":[{"AttributeValue":{
+           "DataType":"integer","Value":-9223372036854775808}},{"AttributeValue":{"DataType":"integer",
+           "Value":"9223372036854775807"}}]}}}]}}"#,
+        r#"{"Policy":{"PolicyId":"p1","Rule":[{"Condition":{"Apply":{"Arguments":[{"Function":{
+           "FunctionId":"urn:oasis:names:tc:xacml:1.0:function:boolean-equal"}},{"VariableReference":{"VariableId":"cleared"}},{
+           "Apply":{"Arguments":[{"AttributeValue":{"DataType":"http://www.w3.org/2001/XMLSchema#boolean","Value":true}}],
+           "FunctionId":"urn:oasis:names:tc:xacml:1.0:function:boolean-bag"}}],
+           "FunctionId":"urn:oasis:names:tc:xacml:3.0:function:any-of"}},"Effect":"Permit","RuleId":"r1"},{"Condition":{"Apply":{
+           "Arguments":[{"AttributeValue":{"DataType":"http://www.w3.org/2001/XMLSchema#integer","Value":-9223372036854775808}},{
+           "AttributeValue":{"DataType":"http://www.w3.org/2001/XMLSchema#integer","Value":9223372036854775807}}],
+           "FunctionId":"urn:oasis:names:tc:xacml:1.0:function:integer-equal"}},"Effect":"Deny","RuleId":"r2"}],
+           "RuleCombiningAlgId":"urn:oasis:names:tc:xacml:3.0:rule-combining-algorithm:deny-overrides","Target":{"AnyOf":[{
+           "AllOf":[{"Match":[{"AttributeDesignator":{"AttributeId":"urn:oasis:names:tc:xacml:1.0:action:action-id",
+           "Category":"urn:oasis:names:tc:xacml:3.0:attribute-category:action",
+           "DataType":"http://www.w3.org/2001/XMLSchema#string","Issuer":"desk","MustBePresent":true},"AttributeValue":{
+           "DataType":"http://www.w3.org/2001/XMLSchema#string","Value":"read"},
+           "MatchId":"urn:oasis:names:tc:xacml:1.0:function:string-equal"}]}]}]},"VariableDefinition":[{"Expression":{"Apply":{
+           "Arguments":[{"AttributeDesignator":{"AttributeId":"cleared",
+           "Category":"urn:oasis:names:tc:xacml:1.0:subject-category:access-subject",
+           "DataType":"http://www.w3.org/2001/XMLSchema#boolean","MustBePresent":false}}],
+           "FunctionId":"urn:oasis:names:tc:xacml:1.0:function:boolean-one-and-only"}},"VariableId":"cleared"}],"Version":"1.0"}}"#,
     ),
     // A policy and a set in a set.
     (
-        r#"{"PolicySet":{"PolicySetId":"s1","Version":"2","PolicyCombiningAlgId":"urn:oasis:names:tc:xacml:3.0:policy-combining-algorithm:permit-overrides","Description":"both","Target":{"AnyOf":[]},"Children":[{"Policy":{"Version":"1","PolicyId":"p3","Description":"","RuleCombiningAlgId":"urn:oasis:names:tc:xacml:3.0:rule-combining-algorithm:deny-overrides","Target":{},"Rule":[{"RuleId":"ok","Effect":"Permit"}]}},{"PolicySet":{"PolicySetId":"s2","Version":"03","PolicyCombiningAlgId":"urn:oasis:names:tc:xacml:3.0:policy-combining-algorithm:deny-unless-permit","Children":[]}}]}}"#,
-        r#"{"PolicySet":{"Children":[{"Policy":{"PolicyId":"p3","Rule":[{"Effect":"Permit","RuleId":"ok"}],"RuleCombiningAlgId":"urn:oasis:names:tc:xacml:3.0:rule-combining-algorithm:deny-overrides","Version":"1"}},{"PolicySet":{"PolicyCombiningAlgId":"urn:oasis:names:tc:xacml:3.0:policy-combining-algorithm:deny-unless-permit","PolicySetId":"s2","Version":"3"}}],"PolicyCombiningAlgId":"urn:oasis:names:tc:xacml:3.0:policy-combining-algorithm:permit-overrides","PolicySetId":"s1","Version":"2"}}"#,
+        r#"{"PolicySet":{"PolicySetId":"s1","Version":"2",
+           "PolicyCombiningAlgId":"urn:oasis:names:tc:xacml:3.0:policy-combining-algorithm:permit-overrides",
+           "Description":"both","Target":{"AnyOf":[]},"Children":[{"Policy":{"Version":"1","PolicyId":"p3","Description":"",
+           "RuleCombiningAlgId":"urn:oasis:names:tc:xacml:3.0:rule-combining-algorithm:deny-overrides","Target":{},"Rule":[{
+           "RuleId":"ok","Effect":"Permit"}]}},{"PolicySet":{"PolicySetId":"s2","Version":"03",
+           "PolicyCombiningAlgId":"urn:oasis:names:tc:xacml:3.0:policy-combining-algorithm:deny-unless-permit","Children":[]}}]}}"#,
+        r#"{"PolicySet":{"Children":[{"Policy":{"PolicyId":"p3","Rule":[{"Effect":"Permit","RuleId":"ok"}],
+           "RuleCombiningAlgId":"urn:oasis:names:tc:xacml:3.0:rule-combining-algorithm:deny-overrides","Version":"1"}},{
+           "PolicySet":{"PolicyCombiningAlgId":"urn:oasis:names:tc:xacml:3.0:policy-combining-algorithm:deny-unless-permit",
+           "PolicySetId":"s2","Version":"3"}}],
+           "PolicyCombiningAlgId":"urn:oasis:names:tc:xacml:3.0:policy-combining-algorithm:permit-overrides","PolicySetId":"s1",
+           "Version":"2"}}"#,
     ),
 ];
 
 /// Documents as they are written.
 const IN_WRITTEN_FORM: &[&str] = &[
     // A policy with one rule.
-    r#"{"Policy":{"PolicyId":"p3","Rule":[{"Effect":"Permit","RuleId":"ok"}],"RuleCombiningAlgId":"urn:oasis:names:tc:xacml:3.0:rule-combining-algorithm:deny-overrides","Version":"1"}}"#,
+    r#"{"Policy":{"PolicyId":"p3","Rule":[{"Effect":"Permit","RuleId":"ok"}],
+       "RuleCombiningAlgId":"urn:oasis:names:tc:xacml:3.0:rule-combining-algorithm:deny-overrides","Version":"1"}}"#,
     // A target, a variable and a condition.
-    r#"{"Policy":{"PolicyId":"p","Rule":[{"Condition":{"Apply":{"Arguments":[{"Function":{"FunctionId":"urn:oasis:names:tc:xacml:1.0:function:integer-equal"}},{"AttributeValue":{"DataType":"http://www.w3.org/2001/XMLSchema#integer","Value":-7}},{"VariableReference":{"VariableId":"levels"}}],"FunctionId":"urn:oasis:names:tc:xacml:3.0:function:any-of"}},"Effect":"Deny","RuleId":"r"}],"RuleCombiningAlgId":"urn:oasis:names:tc:xacml:1.0:rule-combining-algorithm:first-applicable","Target":{"AnyOf":[{"AllOf":[{"Match":[{"AttributeDesignator":{"AttributeId":"cleared","Category":"subject","DataType":"http://www.w3.org/2001/XMLSchema#boolean","Issuer":"desk","MustBePresent":true},"AttributeValue":{"DataType":"http://www.w3.org/2001/XMLSchema#boolean","Value":true},"MatchId":"urn:oasis:names:tc:xacml:1.0:function:boolean-equal"}]}]}]},"VariableDefinition":[{"Expression":{"AttributeDesignator":{"AttributeId":"level","Category":"subject","DataType":"http://www.w3.org/2001/XMLSchema#integer","MustBePresent":false}},"VariableId":"levels"}],"Version":"1.10"}}"#,
+    r#"{"Policy":{"PolicyId":"p","Rule":[{"Condition":{"Apply":{"Arguments":[{"Function":{
+       "FunctionId":"urn:oasis:names:tc:xacml:1.0:function:integer-equal"}},{"AttributeValue":{
+       "DataType":"http://www.w3.org/2001/XMLSchema#integer","Value":-7}},{"VariableReference":{"VariableId":"levels"}}],
+       "FunctionId":"urn:oasis:names:tc:xacml:3.0:function:any-of"}},"Effect":"Deny","RuleId":"r"}],
+       "RuleCombiningAlgId":"urn:oasis:names:tc:xacml:1.0:rule-combining-algorithm:first-applicable","Target":{"AnyOf":[{
+       "AllOf":[{"Match":[{"AttributeDesignator":{"AttributeId":"cleared","Category":"subject",
+       "DataType":"http://www.w3.org/2001/XMLSchema#boolean","Issuer":"desk","MustBePresent":true},"AttributeValue":{
+       "DataType":"http://www.w3.org/2001/XMLSchema#boolean","Value":true},
+       "MatchId":"urn:oasis:names:tc:xacml:1.0:function:boolean-equal"}]}]}]},"VariableDefinition":[{"Expression":{
+       "AttributeDesignator":{"AttributeId":"level","Category":"subject","DataType":"http://www.w3.org/2001/XMLSchema#integer",
+       "MustBePresent":false}},"VariableId":"levels"}],"Version":"1.10"}}"#,
     // References with and without constraints.
-    r#"{"PolicySet":{"Children":[{"PolicyIdReference":{"EarliestVersion":"1.*","Id":"p","LatestVersion":"2.+","Version":"1.2.*"}},{"PolicySetIdReference":{"Id":"s"}}],"PolicyCombiningAlgId":"urn:oasis:names:tc:xacml:3.0:policy-combining-algorithm:deny-overrides","PolicySetId":"s","Version":"1"}}"#,
+    r#"{"PolicySet":{"Children":[{"PolicyIdReference":{"EarliestVersion":"1.*","Id":"p","LatestVersion":"2.+",
+       "Version":"1.2.*"}},{"PolicySetIdReference":{"Id":"s"}}],
+       "PolicyCombiningAlgId":"urn:oasis:names:tc:xacml:3.0:policy-combining-algorithm:deny-overrides","PolicySetId":"s",
+       "Version":"1"}}"#,
     // A set in a set.
-    r#"{"PolicySet":{"Children":[{"PolicySet":{"PolicyCombiningAlgId":"urn:oasis:names:tc:xacml:1.0:policy-combining-algorithm:only-one-applicable","PolicySetId":"inner","Version":"2"}}],"PolicyCombiningAlgId":"urn:oasis:names:tc:xacml:3.0:policy-combining-algorithm:deny-overrides","PolicySetId":"outer","Version":"3"}}"#,
+    r#"{"PolicySet":{"Children":[{"PolicySet":{
+       "PolicyCombiningAlgId":"urn:oasis:names:tc:xacml:1.0:policy-combining-algorithm:only-one-applicable",
+       "PolicySetId":"inner","Version":"2"}}],
+       "PolicyCombiningAlgId":"urn:oasis:names:tc:xacml:3.0:policy-combining-algorithm:deny-overrides","PolicySetId":"outer",
+       "Version":"3"}}"#,
 ];
 
 /// The document of `docs/POLICIES.md` that isn't in written form, and what the page says that it is written as.
 const EXAMPLE: (&str, &str) = (
-    r#"{"Policy":{"Version":"01.2","PolicyId":"written","Description":"a note","RuleCombiningAlgId":"urn:oasis:names:tc:xacml:3.0:rule-combining-algorithm:deny-overrides","Target":{"AnyOf":[]},"VariableDefinition":[{"VariableId":"number","Expression":{"AttributeValue":{"DataType":"integer","Value":"+007"}}},{"VariableId":"flag","Expression":{"AttributeValue":{"DataType":"boolean","Value":"1"}}},{"VariableId":"day","Expression":{"AttributeValue":{"DataType":"date","Value":"2025-02-28Z"}}},{"VariableId":"term","Expression":{"AttributeValue":{"DataType":"yearMonthDuration","Value":"P14M"}}},{"VariableId":"names","Expression":{"AttributeDesignator":{"Category":"c","AttributeId":"a","DataType":"string"}}}],"Rule":[{"RuleId":"ok","Effect":"Permit","Target":{},"Condition":{"Apply":{"FunctionId":"urn:oasis:names:tc:xacml:1.0:function:and","Arguments":[]}}}]}}"#,
-    r#"{"Policy":{"PolicyId":"written","Rule":[{"Condition":{"Apply":{"FunctionId":"urn:oasis:names:tc:xacml:1.0:function:and"}},"Effect":"Permit","RuleId":"ok"}],"RuleCombiningAlgId":"urn:oasis:names:tc:xacml:3.0:rule-combining-algorithm:deny-overrides","VariableDefinition":[{"Expression":{"AttributeValue":{"DataType":"http://www.w3.org/2001/XMLSchema#integer","Value":7}},"VariableId":"number"},{"Expression":{"AttributeValue":{"DataType":"http://www.w3.org/2001/XMLSchema#boolean","Value":true}},"VariableId":"flag"},{"Expression":{"AttributeValue":{"DataType":"http://www.w3.org/2001/XMLSchema#date","Value":"2025-02-28"}},"VariableId":"day"},{"Expression":{"AttributeValue":{"DataType":"http://www.w3.org/2001/XMLSchema#yearMonthDuration","Value":"P1Y2M"}},"VariableId":"term"},{"Expression":{"AttributeDesignator":{"AttributeId":"a","Category":"c","DataType":"http://www.w3.org/2001/XMLSchema#string","MustBePresent":false}},"VariableId":"names"}],"Version":"1.2"}}"#,
+    r#"{"Policy":{"Version":"01.2","PolicyId":"written","Description":"a note",
+       "RuleCombiningAlgId":"urn:oasis:names:tc:xacml:3.0:rule-combining-algorithm:deny-overrides","Target":{"AnyOf":[]},
+       "VariableDefinition":[{"VariableId":"number","Expression":{"AttributeValue":{"DataType":"integer","Value":"+007"}}},{
+       "VariableId":"flag","Expression":{"AttributeValue":{"DataType":"boolean","Value":"1"}}},{"VariableId":"day","Expression":{
+       "AttributeValue":{"DataType":"date","Value":"2025-02-28Z"}}},{"VariableId":"term","Expression":{"AttributeValue":{
+       "DataType":"yearMonthDuration","Value":"P14M"}}},{"VariableId":"names","Expression":{"AttributeDesignator":{
+       "Category":"c","AttributeId":"a","DataType":"string"}}}],"Rule":[{"RuleId":"ok","Effect":"Permit","Target":{},
+       "Condition":{"Apply":{"FunctionId":"urn:oasis:names:tc:xacml:1.0:function:and","Arguments":[]}}}]}}"#,
+    r#"{"Policy":{"PolicyId":"written","Rule":[{"Condition":{"Apply":{"FunctionId":"urn:oasis:names:tc:xacml:1.0:function:and"}},
+       "Effect":"Permit","RuleId":"ok"}],
+       "RuleCombiningAlgId":"urn:oasis:names:tc:xacml:3.0:rule-combining-algorithm:deny-overrides","VariableDefinition":[{
+       "Expression":{"AttributeValue":{"DataType":"http://www.w3.org/2001/XMLSchema#integer","Value":7}},"VariableId":"number"},{
+       "Expression":{"AttributeValue":{"DataType":"http://www.w3.org/2001/XMLSchema#boolean","Value":true}},"VariableId":"flag"},
+       {"Expression":{"AttributeValue":{"DataType":"http://www.w3.org/2001/XMLSchema#date","Value":"2025-02-28"}},
+       "VariableId":"day"},{"Expression":{"AttributeValue":{"DataType":"http://www.w3.org/2001/XMLSchema#yearMonthDuration",
+       "Value":"P1Y2M"}},"VariableId":"term"},{"Expression":{"AttributeDesignator":{"AttributeId":"a","Category":"c",
+       "DataType":"http://www.w3.org/2001/XMLSchema#string","MustBePresent":false}},"VariableId":"names"}],"Version":"1.2"}}"#,
 );
 
-/// The compact text of what the document that the text spells is written as.
-fn written_again(alloc: Global, text: &str) -> Result<String, Fail> {
+/// Whether the document that the text spells is written as this JSON.
+fn is_written_as(alloc: Global, text: &str, written: &str) -> Result<bool, Fail> {
     let document = document(alloc, text)?;
-    Ok(json_text(alloc, &write_document(alloc, &document)?)?)
+    let again = json_text(alloc, &write_document(alloc, &document)?)?;
+    Ok(again == json_text(alloc, &json_of(alloc, written)?)?)
 }
 
 #[test]
 fn documents_are_written(rt: HostRuntime) -> Result<(), Fail> {
     for &(text, written) in WRITTEN {
-        assert_eq!(rt; written_again(rt.alloc(), text)?.as_str(), written);
+        assert!(rt; is_written_as(rt.alloc(), text, written)?, "{text}");
     }
-    Ok(())
-}
-
-#[test]
-fn written_documents_are_written_alike(rt: HostRuntime) -> Result<(), Fail> {
     for &text in IN_WRITTEN_FORM {
-        assert_eq!(rt; written_again(rt.alloc(), text)?.as_str(), text);
+        assert!(rt; is_written_as(rt.alloc(), text, text)?, "{text}");
     }
-    Ok(())
-}
-
-#[test]
-fn the_example_is_written(rt: HostRuntime) -> Result<(), Fail> {
-    let (text, written) = EXAMPLE;
-    assert_eq!(rt; written_again(rt.alloc(), text)?.as_str(), written);
+    assert!(rt; is_written_as(rt.alloc(), EXAMPLE.0, EXAMPLE.1)?);
     Ok(())
 }
 
@@ -149,16 +220,11 @@ const VALUES: &[(DataType, &str, Option<&str>)] = &[
     (DataType::YearMonth, "{}", None),
 ];
 
-/// The text of what a value is written as.
-fn value_text(alloc: Global, value: &Value) -> Result<String, AllocError> {
-    json_text(alloc, &write_value(alloc, value)?)
-}
-
 /// What the value that the text spells is written as, if it spells one.
 fn value_again(alloc: Global, datatype: DataType, text: &str) -> Result<Option<String>, Fail> {
     let json = json_of(alloc, text)?;
     match read_value(alloc, datatype, &json) {
-        Ok(value) => Ok(Some(value_text(alloc, &value)?)),
+        Ok(value) => Ok(Some(json_text(alloc, &write_value(alloc, &value)?)?)),
         Err(ValueFault::BadValue) => Ok(None),
         Err(ValueFault::Memory) => Err(Fail::new("out of memory")),
     }
@@ -243,54 +309,29 @@ const LISTS: &[(&str, Option<usize>, Option<usize>)] = &[
     ("text", None, None),
 ];
 
-/// The object whose members the tests look at.
-fn object(alloc: Global) -> Result<Json, Fail> {
-    json_of(alloc, r#"{"list":[1],"none":[],"text":"t","true":true}"#)
-}
-
-#[test]
-fn keys_of_objects(rt: HostRuntime) -> Result<(), Fail> {
-    let json = object(rt.alloc())?;
-    for &(keys, is_all) in KEYS {
-        assert!(rt; has_only(&json, keys) == is_all);
-    }
-    Ok(())
-}
-
-#[test]
-fn texts_of_objects(rt: HostRuntime) -> Result<(), Fail> {
-    let json = object(rt.alloc())?;
-    for &(key, text, is_text) in TEXTS {
-        assert!(rt;
-            text_at(&json, key) == text && text_or_absent(&json, key) == is_text,
-            "{key}"
-        );
-    }
-    Ok(())
-}
-
-#[test]
-fn flags_of_objects(rt: HostRuntime) -> Result<(), Fail> {
-    let json = object(rt.alloc())?;
-    for &(key, flag) in FLAGS {
-        assert!(rt; flag_at(&json, key) == flag, "{key}");
-    }
-    Ok(())
-}
+/// The object whose members the test looks at.
+const OBJECT: &str = r#"{"list":[1],"none":[],"text":"t","true":true}"#;
 
 fn length(list: Option<&[Json]>) -> Option<usize> {
     list.map(|items| items.len())
 }
 
 #[test]
-fn lists_of_objects(rt: HostRuntime) -> Result<(), Fail> {
-    let json = object(rt.alloc())?;
+fn members_of_objects(rt: HostRuntime) -> Result<(), Fail> {
+    let json = json_of(rt.alloc(), OBJECT)?;
+    for &(keys, is_all) in KEYS {
+        assert!(rt; has_only(&json, keys) == is_all);
+    }
+    for &(key, text, is_text) in TEXTS {
+        assert!(rt; text_at(&json, key) == text, "{key}");
+        assert!(rt; text_or_absent(&json, key) == is_text, "{key}");
+    }
+    for &(key, flag) in FLAGS {
+        assert!(rt; flag_at(&json, key) == flag, "{key}");
+    }
     for &(key, any, filled) in LISTS {
-        let is_that = length(list_at(&json, key)) == any;
-        assert!(rt;
-            is_that && length(filled_list_at(&json, key)) == filled,
-            "{key}"
-        );
+        assert!(rt; length(list_at(&json, key)) == any, "{key}");
+        assert!(rt; length(filled_list_at(&json, key)) == filled, "{key}");
     }
     Ok(())
 }

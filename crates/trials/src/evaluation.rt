@@ -13,16 +13,21 @@ use std::alloc::{AllocError, Global};
 use std::test::Fail;
 
 /// A policy `p1` that permits reading, in its version 1.0.
-const PERMITTING: &str =
-    r#"{"Policy":{"PolicyId":"p1","Version":"1.0","RuleCombiningAlgId":"urn:oasis:names:tc:xacml:3.0:rule-combining-algorithm:deny-overrides","Rule":[{"RuleId":"r1","Effect":"Permit","Target":{"AnyOf":[{"AllOf":[{"Match":[{"MatchId":"urn:oasis:names:tc:xacml:1.0:function:string-equal","AttributeValue":{"Value":"read"},"AttributeDesignator":{"Category":"urn:oasis:names:tc:xacml:3.0:attribute-category:action","AttributeId":"urn:oasis:names:tc:xacml:1.0:action:action-id","DataType":"string"}}]}]}]}}]}}"#;
+const PERMITTING: &str = r#"{"Policy":{"PolicyId":"p1","Version":"1.0",
+       "RuleCombiningAlgId":"urn:oasis:names:tc:xacml:3.0:rule-combining-algorithm:deny-overrides","Rule":[{"RuleId":"r1",
+       "Effect":"Permit","Target":{"AnyOf":[{"AllOf":[{"Match":[{"MatchId":"urn:oasis:names:tc:xacml:1.0:function:string-equal",
+       "AttributeValue":{"Value":"read"},"AttributeDesignator":{
+       "Category":"urn:oasis:names:tc:xacml:3.0:attribute-category:action",
+       "AttributeId":"urn:oasis:names:tc:xacml:1.0:action:action-id","DataType":"string"}}]}]}]}}]}}"#;
 
 /// A later version of it, which denies everything.
-const DENYING: &str =
-    r#"{"Policy":{"PolicyId":"p1","Version":"1.10","RuleCombiningAlgId":"urn:oasis:names:tc:xacml:3.0:rule-combining-algorithm:permit-unless-deny","Rule":[{"RuleId":"r1","Effect":"Deny"}]}}"#;
+const DENYING: &str = r#"{"Policy":{"PolicyId":"p1","Version":"1.10",
+       "RuleCombiningAlgId":"urn:oasis:names:tc:xacml:3.0:rule-combining-algorithm:permit-unless-deny","Rule":[{"RuleId":"r1",
+       "Effect":"Deny"}]}}"#;
 
 /// A version between the two.
-const BETWEEN: &str =
-    r#"{"Policy":{"PolicyId":"p1","Version":"1.9","RuleCombiningAlgId":"urn:oasis:names:tc:xacml:3.0:rule-combining-algorithm:deny-unless-permit"}}"#;
+const BETWEEN: &str = r#"{"Policy":{"PolicyId":"p1","Version":"1.9",
+       "RuleCombiningAlgId":"urn:oasis:names:tc:xacml:3.0:rule-combining-algorithm:deny-unless-permit"}}"#;
 
 /// A reference to a policy of that id, in any version.
 pub(crate) fn reference(alloc: Global, id: &str) -> Result<Reference, Fail> {
