@@ -28,3 +28,7 @@ blocks_of which.Resources names = record { count = length names.people * length 
 -- the names of three lists that are lent
 abbrev pub names_in : Requests → Names
 names_in r = record { people = texts r.people.now; actions = texts r.actions.now; resources = texts r.resources.now }
+
+-- no three lists have more cells in list order: 256 names each
+abbrev pub most_places : ℕ
+most_places = 256 * 256 * 256

@@ -5,7 +5,7 @@ ghost use Rattle.std.specs.Cmp.Lexicographic.{pointwise};
 ghost use Rattle.std.specs.List.{IsDistinct};
 ghost use Rattle.ent_policy.specs.Names.{is_bad_name};
 ghost use Rattle.ent_table.specs.Names.{CountsWith, IsPlace, TakesLast, cell_count, has_name, list_of, no_names, texts, triple_of, with_list, with_name};
-ghost use Rattle.ent_table.specs.Place.{IsTaken, blocks_of, names_in};
+ghost use Rattle.ent_table.specs.Place.{IsTaken, blocks_of, most_places, names_in};
 ghost use Rattle.ent_table.specs.Touched.{IsAt};
 
 use crate::blocks::Blocks;
@@ -165,7 +165,7 @@ impl Lists {
         ensures blocks { result ≡ blocks_of list self.now }
         ensures few { result.each ≤ 65536 }
         ensures fit { result.count * result.each ≤ 65536 }
-        ensures wide { result.count * result.width ≤ 16777216 }
+        ensures wide { result.count * result.width ≤ most_places }
         ensures distinct { IsDistinct (pointwise nat_eq) (list_of list self.now) }
     {
         let people = self.people.as_slice().len();

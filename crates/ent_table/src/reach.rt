@@ -3,6 +3,7 @@
 ghost use Rattle.std.specs.Prelude.{◌≡◌, ◌<◌, ◌≤◌, ◌+◌, ◌*◌, ◌++◌, IfOk, IfSome, OnOk};
 ghost use Rattle.std.specs.List.{AllByRecursion};
 ghost use Rattle.ent_table.specs.Names.{cell_count, list_of, texts};
+ghost use Rattle.ent_table.specs.Place.{most_places};
 ghost use Rattle.ent_table.specs.Touched.{IsAt, IsReach, list_in, run, runs};
 
 use crate::blocks::Blocks;
@@ -29,7 +30,7 @@ fn list_in(category: &str) -> Option<List>
 
 /// Puts so many places from one on at the end.
 fn add_run(places: &mut Vec<usize>, start: usize, count: usize) -> Result<(), AllocError>
-    requires { start + count ≤ 100000000 }
+    requires { start + count ≤ usize.MAX }
     ensures { OnOk result (places.new.items ≡ places.old.items ++ run start count) }
 {
     for offset in 0..count {
@@ -40,8 +41,8 @@ fn add_run(places: &mut Vec<usize>, start: usize, count: usize) -> Result<(), Al
 
 /// The places of the cells of one name, of which the first stands at `from`.
 fn places_of(alloc: Global, blocks: Blocks, from: usize) -> Result<Vec<usize>, AllocError>
-    requires from { from ≤ 20000000 }
-    requires wide { blocks.count * blocks.width ≤ 20000000 }
+    requires from { from ≤ most_places }
+    requires wide { blocks.count * blocks.width ≤ most_places }
     requires room { blocks.count * blocks.each ≤ 65536 }
     requires each { blocks.each ≤ 65536 }
     ensures { IfOk result (λ ps. ps.items ≡ runs blocks.count blocks.width blocks.each from) }
