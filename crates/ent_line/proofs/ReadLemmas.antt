@@ -1,12 +1,8 @@
 -- What is read, and what isn't.
-use Rattle.std.proofs.Common.{◌≡◌, ℕ, List, ◌++◌, length, Bool, true, false, true≢false, cond, Option, Some, None, option_map, IfSome, IfNone, refl, sym}
-use Rattle.std.specs.Str.{IsUtf8, is_utf8}
-use Rattle.std.proofs.lemmas.Str.{IsUtf8-from_is_utf8}
+use Rattle.std.proofs.Common.{◌≡◌, ℕ, suc, List, [], ◌∷◌, ◌++◌, map, length, true, true≢false, Option, Some, None, option_map, IfSome, IfNone, refl, sym, ap}
 use Rattle.serde_json.specs.Events.{items_len}
-use Rattle.serde_json.specs.Read.{read}
-use Rattle.serde_json.specs.View.{items_view}
-use Rattle.serde_json.specs.declared.value.Value.{Value as Json}
-use Rattle.serde_json.proofs.Views.{items_len-items_view}
+use Rattle.serde_json.specs.Data.{Data}
+use Rattle.serde_json.specs.View.{items_of}
 use Rattle.ent_values.specs.Calendar.{Day}
 use Rattle.ent_values.specs.Reading.{date_of, value_of}
 use Rattle.ent_values.specs.Types.{datatype_of, is_textual}
@@ -15,17 +11,6 @@ use Rattle.ent_values.specs.declared.fault.ValueFault.{ValueFault}
 use Rattle.ent_values.specs.declared.fault.ValueFault.TheVariants.{BadValue, Memory}
 use Rattle.ent_values.specs.declared.value.Value.{Value}
 use Rattle.ent_values.specs.declared.value.Value.TheVariants as values
-use Rattle.ent_line.specs.Step.{data_of}
-
--- ---- lines
-
-no_data_at : (line : List ℕ) (b : Bool) → is_utf8 line ≡ b → (IsUtf8 line → read line ≡ None) → None ≡ cond b (read line) None
-no_data_at line true e h = sym (h (IsUtf8-from_is_utf8 line e))
-no_data_at line false e h = refl
-
--- what isn't read has no data
-pub no_data : (line : List ℕ) → (IsUtf8 line → read line ≡ None) → None ≡ data_of line
-no_data line h = no_data_at line (is_utf8 line) refl h
 
 -- ---- days
 
@@ -58,5 +43,6 @@ abbrev pub with_front : List Value → Option (List Value) → Option (List Valu
 with_front front read = option_map (λ vs. front ++ vs) read
 
 -- as many values stand in a line as the code sees
-pub values_counted : (js : List Json) → items_len (items_view js) ≡ length js
-values_counted js = items_len-items_view js
+pub values_counted : {J : Type 0} (content : J → Data) (js : List J) → items_len (items_of (map content js)) ≡ length js
+values_counted content [] = refl
+values_counted content (j ∷ js) = ap suc (values_counted content js)

@@ -1,10 +1,9 @@
 -- One step of the service: what a line is answered, and the world after it.
 use Rattle.std.specs.Prelude.{◌≡◌, ◌⊎◌, ℕ, ◌≤◌, ◌||◌, List, [], ◌∷◌, length, nat_lt, if◌then◌else◌, Option, Some, None, option_and_then, option_map, Result, Ok, Err}
-use Rattle.std.specs.Str.{is_utf8}
 use Rattle.serde_json.specs.Data as json
 use Rattle.serde_json.specs.Data.{Data, Items}
 use Rattle.serde_json.specs.Events.{items_len}
-use Rattle.serde_json.specs.Read.{read}
+pub use Rattle.ent_json.specs.Line.{data_of}
 use Rattle.ent_values.specs.Calendar.{Day}
 use Rattle.ent_values.specs.Reading.{date_of}
 use Rattle.ent_values.specs.Types.{type_of}
@@ -227,10 +226,6 @@ run w session asked.mark = table_marked w session
 run w session asked.notices = (changes_told w session, w)
 
 -- ---- lines
-
--- what `serde_json` reads of a line
-abbrev pub data_of : List ℕ → Option Data
-data_of line = if is_utf8 line then read line else None
 
 -- a command of a session, or the refusal of what isn't one
 abbrev pub requested : World → Result (ℕ × Command) ℕ → Answer × World

@@ -1,27 +1,27 @@
 //! What a line asks for that sets values of attributes or the day.
 
-ghost use Rattle.std.specs.Prelude.{◌≡◌, codes, option_and_then, option_map};
+ghost use Rattle.std.specs.Prelude.{◌≡◌, codes, option_and_then, option_map, map};
 ghost use Rattle.std.specs.Option.{option_copied};
 ghost use Rattle.serde_json.specs.Find.{as_array, get};
-ghost use Rattle.serde_json.specs.View.{items_view, view};
+ghost use Rattle.serde_json.specs.View.{items_of};
 ghost use Rattle.ent_line.specs.Asked.{attribute_command, category_named, day_command, row_of, text_or_null};
 ghost use Rattle.ent_line.specs.CommandView.{asked_row_view, asked_view};
 
 use crate::command::{Command, module_number};
 use crate::refusal::SHAPE;
 use ent_eval::{ACCESS_SUBJECT, ACTION, RESOURCE};
-use ent_polform::{has_only, text_at, text_or_absent};
-use serde_json::Value;
+use ent_json::JsonTree;
+use ent_polform::{text_at, text_or_absent};
 
 /// A row as a line has it, with its category's URI. Its texts and values stay where they are in the line's JSON.
-#[derive(Clone, Copy)]
-pub(crate) struct AskedRow<'a> {
+#[derive(Drop)]
+pub(crate) struct AskedRow<'a, J> {
     pub(crate) category: &'a str,
     pub(crate) entity: &'a str,
     pub(crate) attribute: &'a str,
     pub(crate) datatype: &'a str,
     pub(crate) issuer: Option<&'a str>,
-    pub(crate) values: &'a [Value],
+    pub(crate) values: &'a [J],
 }
 
 /// The URI of the category that a word or the URI itself names.
@@ -40,17 +40,16 @@ fn category_named(word: &str) -> Option<&str>
 }
 
 /// The array at the key `values`.
-fn values_at(object: &Value) -> Option<&[Value]>
-    ensures { option_map (λ s. items_view s.now) result ≡ option_and_then as_array (get (codes "values") (view object.now)) }
+fn values_at<J: JsonTree>(object: &J) -> Option<&[J]>
+    ensures { option_map (λ s. items_of (map J.content s.now)) result ≡ option_and_then as_array (get (codes "values") (J.content object.now)) }
 {
-    let values = object.get("values")?.as_array()?;
-    Some(values.as_slice())
+    object.get("values")?.as_array()
 }
 
 /// The row in a line. Its issuer may be absent.
 #[tactic(auto, unfolding(crate::specs::Asked::row_of))]
-fn row_of(object: &Value) -> Result<AskedRow<'_>, u8>
-    ensures { asked_row_view result ≡ row_of (view object.now) }
+fn row_of<J: JsonTree>(object: &J) -> Result<AskedRow<'_, J>, u8>
+    ensures { asked_row_view J.content result ≡ row_of (J.content object.now) }
 {
     let word = text_at(object, "category").ok_or(SHAPE)?;
     let category = category_named(word).ok_or(SHAPE)?;
@@ -73,8 +72,8 @@ fn row_of(object: &Value) -> Result<AskedRow<'_>, u8>
 
 /// `attr.set`.
 #[tactic(auto, unfolding(crate::specs::Asked::attribute_command))]
-pub(crate) fn attribute_command(object: &Value) -> Result<Command<'_>, u8>
-    ensures { asked_view result ≡ attribute_command (view object.now) }
+pub(crate) fn attribute_command<J: JsonTree>(object: &J) -> Result<Command<'_, J>, u8>
+    ensures { asked_view J.content result ≡ attribute_command (J.content object.now) }
 {
     let keys = [
         "attribute",
@@ -87,7 +86,7 @@ pub(crate) fn attribute_command(object: &Value) -> Result<Command<'_>, u8>
         "type",
         "values",
     ];
-    if !has_only(object, &keys) {
+    if !object.has_only(&keys) {
         return Err(SHAPE);
     }
     let number = module_number(object).ok_or(SHAPE)?;
@@ -96,21 +95,21 @@ pub(crate) fn attribute_command(object: &Value) -> Result<Command<'_>, u8>
 }
 
 /// A text, or null for none.
-pub(crate) fn text_or_null(value: &Value) -> Option<Option<&str>>
-    ensures { option_map (λ t. option_copied t) result ≡ text_or_null (view value.now) }
+pub(crate) fn text_or_null<J: JsonTree>(value: &J) -> Option<Option<&str>>
+    ensures { option_map (λ t. option_copied t) result ≡ text_or_null (J.content value.now) }
 {
-    match value {
-        Value::Null => Some(None),
-        _ => Some(Some(value.as_str()?)),
+    if value.is_null() {
+        return Some(None);
     }
+    Some(Some(value.as_str()?))
 }
 
 /// `day.set`.
 #[tactic(auto, unfolding(crate::specs::Asked::day_command))]
-pub(crate) fn day_command(object: &Value) -> Result<Command<'_>, u8>
-    ensures { asked_view result ≡ day_command (view object.now) }
+pub(crate) fn day_command<J: JsonTree>(object: &J) -> Result<Command<'_, J>, u8>
+    ensures { asked_view J.content result ≡ day_command (J.content object.now) }
 {
-    if !has_only(object, &["day", "do", "session"]) {
+    if !object.has_only(&["day", "do", "session"]) {
         return Err(SHAPE);
     }
     let day = object.get("day").and_then(text_or_null).ok_or(SHAPE)?;

@@ -2,7 +2,6 @@
 
 ghost use Rattle.std.specs.Prelude.{◌≡◌, ◌<◌, IfOk, codes, option_map};
 ghost use Rattle.serde_json.specs.Find.{get};
-ghost use Rattle.serde_json.specs.View.{view};
 ghost use Rattle.ent_line.specs.Asked.{add_command, add_name_command, adding_named, ask_command, cell_command, command_of, desk_named, document_for};
 ghost use Rattle.ent_line.specs.Asked.{drop_name_command, dropping_named, edit_named, kind_named, module_of, name_for, policy_named, replace_command};
 ghost use Rattle.ent_line.specs.Asked.{report_named, request_of, root_command, session_of, setting_named, table_command, withdraw_command};
@@ -11,29 +10,29 @@ ghost use Rattle.ent_line.specs.CommandView.{asked_view, document_view, name_vie
 use crate::attribute_command::{AskedRow, attribute_command, day_command};
 use crate::refusal::{SHAPE, UNKNOWN_COMMAND, UNKNOWN_SESSION};
 use crate::report_command::{decided_named, marking_named};
-use ent_polform::{has_only, text_at};
+use ent_json::JsonTree;
+use ent_polform::text_at;
 use ent_policy::Kind;
 use ent_report::SESSIONS;
 use ent_table::List;
-use serde_json::Value;
 
 /// What a line asks for. Its texts and values stay where they are in the line's JSON.
-#[derive(Clone, Copy)]
-pub(crate) enum Command<'a> {
+#[derive(Drop)]
+pub(crate) enum Command<'a, J> {
     /// Puts a name last in a list.
     AddName(List, &'a str),
     /// Takes a name out of a list.
     DropName(List, &'a str),
     /// Stores a document in the module of that number.
-    AddPolicy(usize, &'a Value),
+    AddPolicy(usize, &'a J),
     /// Puts a document in the place of the one with its kind, id and version, in the module of that number.
-    ReplacePolicy(usize, &'a Value),
+    ReplacePolicy(usize, &'a J),
     /// Takes the document of a kind, an id and a version out of the module of that number.
     WithdrawPolicy(usize, Kind, &'a str, &'a str),
     /// Gives a row its values, in the module of that number.
-    SetAttribute(usize, AskedRow<'a>),
+    SetAttribute(usize, AskedRow<'a, J>),
     /// Sets the root to what a reference names.
-    SetRoot(&'a Value),
+    SetRoot(&'a J),
     /// Sets the day to what a text writes, or to none.
     SetDay(Option<&'a str>),
     /// Asks for all cells.
@@ -41,7 +40,7 @@ pub(crate) enum Command<'a> {
     /// Asks for the cell of a person, an action and a resource.
     Cell(&'a str, &'a str, &'a str),
     /// Asks for the answer to a request.
-    Ask(&'a Value),
+    Ask(&'a J),
     /// Asks how many cells have each decision.
     Counts,
     /// Asks what a person can do.
@@ -58,8 +57,8 @@ pub(crate) enum Command<'a> {
 
 /// The number of the session, 0 if the key is absent. `None` if it is no whole number. A negative number is none of the
 /// sixteen, and neither is 16, which stands for it.
-fn session_number(object: &Value) -> Option<u64>
-    ensures { result ≡ session_of (get (codes "session") (view object.now)) }
+fn session_number<J: JsonTree>(object: &J) -> Option<u64>
+    ensures { result ≡ session_of (get (codes "session") (J.content object.now)) }
 {
     match object.get("session") {
         None => Some(0),
@@ -67,15 +66,19 @@ fn session_number(object: &Value) -> Option<u64>
             if let Some(number) = value.as_u64() {
                 return Some(number);
             }
-            if value.is_i64() { Some(16) } else { None }
+            if value.as_i64().is_some() {
+                Some(16)
+            } else {
+                None
+            }
         }
     }
 }
 
 /// The number of the module, 0 if the key is absent. `None` if it is no whole number. A negative number is no module's, and
 /// neither is the greatest number, which stands for it.
-pub(crate) fn module_number(object: &Value) -> Option<usize>
-    ensures { result ≡ module_of (get (codes "module") (view object.now)) }
+pub(crate) fn module_number<J: JsonTree>(object: &J) -> Option<usize>
+    ensures { result ≡ module_of (get (codes "module") (J.content object.now)) }
 {
     match object.get("module") {
         None => Some(0),
@@ -83,7 +86,7 @@ pub(crate) fn module_number(object: &Value) -> Option<usize>
             if let Some(number) = value.as_u64() {
                 return Some(number as usize);
             }
-            if value.is_i64() {
+            if value.as_i64().is_some() {
                 Some(usize::MAX)
             } else {
                 None
@@ -94,10 +97,10 @@ pub(crate) fn module_number(object: &Value) -> Option<usize>
 
 /// The name in a line.
 #[tactic(auto, unfolding(crate::specs::Asked::name_for))]
-fn name_for(object: &Value) -> Result<&str, u8>
-    ensures { name_view result ≡ name_for (view object.now) }
+fn name_for<J: JsonTree>(object: &J) -> Result<&str, u8>
+    ensures { name_view result ≡ name_for (J.content object.now) }
 {
-    if !has_only(object, &["do", "name", "session"]) {
+    if !object.has_only(&["do", "name", "session"]) {
         return Err(SHAPE);
     }
     text_at(object, "name").ok_or(SHAPE)
@@ -105,8 +108,8 @@ fn name_for(object: &Value) -> Result<&str, u8>
 
 /// `person.add`, `action.add` and `resource.add`.
 #[tactic(auto, unfolding(crate::specs::Asked::add_name_command))]
-fn add_name_command(list: List, object: &Value) -> Result<Command<'_>, u8>
-    ensures { asked_view result ≡ add_name_command list (view object.now) }
+fn add_name_command<J: JsonTree>(list: List, object: &J) -> Result<Command<'_, J>, u8>
+    ensures { asked_view J.content result ≡ add_name_command list (J.content object.now) }
 {
     let name = name_for(object)?;
     Ok(Command::AddName(list, name))
@@ -114,8 +117,8 @@ fn add_name_command(list: List, object: &Value) -> Result<Command<'_>, u8>
 
 /// `person.drop`, `action.drop` and `resource.drop`.
 #[tactic(auto, unfolding(crate::specs::Asked::drop_name_command))]
-fn drop_name_command(list: List, object: &Value) -> Result<Command<'_>, u8>
-    ensures { asked_view result ≡ drop_name_command list (view object.now) }
+fn drop_name_command<J: JsonTree>(list: List, object: &J) -> Result<Command<'_, J>, u8>
+    ensures { asked_view J.content result ≡ drop_name_command list (J.content object.now) }
 {
     let name = name_for(object)?;
     Ok(Command::DropName(list, name))
@@ -136,10 +139,10 @@ fn kind_named(word: &str) -> Option<Kind>
 
 /// The document in a line, and the number of the module that it is for.
 #[tactic(auto, unfolding(crate::specs::Asked::document_for))]
-fn document_for(object: &Value) -> Result<(usize, &Value), u8>
-    ensures { document_view result ≡ document_for (view object.now) }
+fn document_for<J: JsonTree>(object: &J) -> Result<(usize, &J), u8>
+    ensures { document_view J.content result ≡ document_for (J.content object.now) }
 {
-    if !has_only(object, &["do", "document", "module", "session"]) {
+    if !object.has_only(&["do", "document", "module", "session"]) {
         return Err(SHAPE);
     }
     let number = module_number(object).ok_or(SHAPE)?;
@@ -149,8 +152,8 @@ fn document_for(object: &Value) -> Result<(usize, &Value), u8>
 
 /// `policy.add`.
 #[tactic(auto, unfolding(crate::specs::Asked::add_command))]
-fn add_command(object: &Value) -> Result<Command<'_>, u8>
-    ensures { asked_view result ≡ add_command (view object.now) }
+fn add_command<J: JsonTree>(object: &J) -> Result<Command<'_, J>, u8>
+    ensures { asked_view J.content result ≡ add_command (J.content object.now) }
 {
     let (number, document) = document_for(object)?;
     Ok(Command::AddPolicy(number, document))
@@ -158,8 +161,8 @@ fn add_command(object: &Value) -> Result<Command<'_>, u8>
 
 /// `policy.replace`.
 #[tactic(auto, unfolding(crate::specs::Asked::replace_command))]
-fn replace_command(object: &Value) -> Result<Command<'_>, u8>
-    ensures { asked_view result ≡ replace_command (view object.now) }
+fn replace_command<J: JsonTree>(object: &J) -> Result<Command<'_, J>, u8>
+    ensures { asked_view J.content result ≡ replace_command (J.content object.now) }
 {
     let (number, document) = document_for(object)?;
     Ok(Command::ReplacePolicy(number, document))
@@ -167,13 +170,10 @@ fn replace_command(object: &Value) -> Result<Command<'_>, u8>
 
 /// `policy.withdraw`.
 #[tactic(auto, unfolding(crate::specs::Asked::withdraw_command))]
-fn withdraw_command(object: &Value) -> Result<Command<'_>, u8>
-    ensures { asked_view result ≡ withdraw_command (view object.now) }
+fn withdraw_command<J: JsonTree>(object: &J) -> Result<Command<'_, J>, u8>
+    ensures { asked_view J.content result ≡ withdraw_command (J.content object.now) }
 {
-    if !has_only(
-        object,
-        &["do", "id", "kind", "module", "session", "version"],
-    ) {
+    if !object.has_only(&["do", "id", "kind", "module", "session", "version"]) {
         return Err(SHAPE);
     }
     let number = module_number(object).ok_or(SHAPE)?;
@@ -186,10 +186,10 @@ fn withdraw_command(object: &Value) -> Result<Command<'_>, u8>
 
 /// `root.set`.
 #[tactic(auto, unfolding(crate::specs::Asked::root_command))]
-fn root_command(object: &Value) -> Result<Command<'_>, u8>
-    ensures { asked_view result ≡ root_command (view object.now) }
+fn root_command<J: JsonTree>(object: &J) -> Result<Command<'_, J>, u8>
+    ensures { asked_view J.content result ≡ root_command (J.content object.now) }
 {
-    if !has_only(object, &["do", "reference", "session"]) {
+    if !object.has_only(&["do", "reference", "session"]) {
         return Err(SHAPE);
     }
     let reference = object.get("reference").ok_or(SHAPE)?;
@@ -198,10 +198,10 @@ fn root_command(object: &Value) -> Result<Command<'_>, u8>
 
 /// `table`.
 #[tactic(auto, unfolding(crate::specs::Asked::table_command))]
-fn table_command(object: &Value) -> Result<Command<'_>, u8>
-    ensures { asked_view result ≡ table_command (view object.now) }
+fn table_command<J: JsonTree>(object: &J) -> Result<Command<'_, J>, u8>
+    ensures { asked_view J.content result ≡ table_command (J.content object.now) }
 {
-    if !has_only(object, &["do", "session"]) {
+    if !object.has_only(&["do", "session"]) {
         return Err(SHAPE);
     }
     Ok(Command::Table)
@@ -209,10 +209,10 @@ fn table_command(object: &Value) -> Result<Command<'_>, u8>
 
 /// `cell`.
 #[tactic(auto, unfolding(crate::specs::Asked::cell_command))]
-fn cell_command(object: &Value) -> Result<Command<'_>, u8>
-    ensures { asked_view result ≡ cell_command (view object.now) }
+fn cell_command<J: JsonTree>(object: &J) -> Result<Command<'_, J>, u8>
+    ensures { asked_view J.content result ≡ cell_command (J.content object.now) }
 {
-    if !has_only(object, &["action", "do", "person", "resource", "session"]) {
+    if !object.has_only(&["action", "do", "person", "resource", "session"]) {
         return Err(SHAPE);
     }
     let person = text_at(object, "person").ok_or(SHAPE)?;
@@ -223,10 +223,10 @@ fn cell_command(object: &Value) -> Result<Command<'_>, u8>
 
 /// `ask`.
 #[tactic(auto, unfolding(crate::specs::Asked::ask_command))]
-fn ask_command(object: &Value) -> Result<Command<'_>, u8>
-    ensures { asked_view result ≡ ask_command (view object.now) }
+fn ask_command<J: JsonTree>(object: &J) -> Result<Command<'_, J>, u8>
+    ensures { asked_view J.content result ≡ ask_command (J.content object.now) }
 {
-    if !has_only(object, &["do", "request", "session"]) {
+    if !object.has_only(&["do", "request", "session"]) {
         return Err(SHAPE);
     }
     let request = object.get("request").ok_or(SHAPE)?;
@@ -235,8 +235,8 @@ fn ask_command(object: &Value) -> Result<Command<'_>, u8>
 
 /// The edit of that name that adds a name.
 #[tactic(auto, unfolding(crate::specs::Asked::adding_named))]
-fn adding_named<'a>(name: &str, object: &'a Value) -> Option<Result<Command<'a>, u8>>
-    ensures { option_map asked_view result ≡ adding_named name.now (view object.now) }
+fn adding_named<'a, J: JsonTree>(name: &str, object: &'a J) -> Option<Result<Command<'a, J>, u8>>
+    ensures { option_map (asked_view J.content) result ≡ adding_named name.now (J.content object.now) }
 {
     if name == "person.add" {
         return Some(add_name_command(List::People, object));
@@ -252,8 +252,8 @@ fn adding_named<'a>(name: &str, object: &'a Value) -> Option<Result<Command<'a>,
 
 /// The edit of that name that drops a name.
 #[tactic(auto, unfolding(crate::specs::Asked::dropping_named))]
-fn dropping_named<'a>(name: &str, object: &'a Value) -> Option<Result<Command<'a>, u8>>
-    ensures { option_map asked_view result ≡ dropping_named name.now (view object.now) }
+fn dropping_named<'a, J: JsonTree>(name: &str, object: &'a J) -> Option<Result<Command<'a, J>, u8>>
+    ensures { option_map (asked_view J.content) result ≡ dropping_named name.now (J.content object.now) }
 {
     if name == "person.drop" {
         return Some(drop_name_command(List::People, object));
@@ -269,8 +269,8 @@ fn dropping_named<'a>(name: &str, object: &'a Value) -> Option<Result<Command<'a
 
 /// The edit of that name that sets something.
 #[tactic(auto, unfolding(crate::specs::Asked::setting_named))]
-fn setting_named<'a>(name: &str, object: &'a Value) -> Option<Result<Command<'a>, u8>>
-    ensures { option_map asked_view result ≡ setting_named name.now (view object.now) }
+fn setting_named<'a, J: JsonTree>(name: &str, object: &'a J) -> Option<Result<Command<'a, J>, u8>>
+    ensures { option_map (asked_view J.content) result ≡ setting_named name.now (J.content object.now) }
 {
     if name == "root.set" {
         return Some(root_command(object));
@@ -286,8 +286,8 @@ fn setting_named<'a>(name: &str, object: &'a Value) -> Option<Result<Command<'a>
 
 /// The edit of names, or of what is set, of that name.
 #[tactic(auto, unfolding(crate::specs::Asked::edit_named))]
-fn edit_named<'a>(name: &str, object: &'a Value) -> Option<Result<Command<'a>, u8>>
-    ensures { option_map asked_view result ≡ edit_named name.now (view object.now) }
+fn edit_named<'a, J: JsonTree>(name: &str, object: &'a J) -> Option<Result<Command<'a, J>, u8>>
+    ensures { option_map (asked_view J.content) result ≡ edit_named name.now (J.content object.now) }
 {
     if let Some(edit) = adding_named(name, object) {
         return Some(edit);
@@ -300,8 +300,8 @@ fn edit_named<'a>(name: &str, object: &'a Value) -> Option<Result<Command<'a>, u
 
 /// The edit of documents of that name.
 #[tactic(auto, unfolding(crate::specs::Asked::policy_named))]
-fn policy_named<'a>(name: &str, object: &'a Value) -> Option<Result<Command<'a>, u8>>
-    ensures { option_map asked_view result ≡ policy_named name.now (view object.now) }
+fn policy_named<'a, J: JsonTree>(name: &str, object: &'a J) -> Option<Result<Command<'a, J>, u8>>
+    ensures { option_map (asked_view J.content) result ≡ policy_named name.now (J.content object.now) }
 {
     if name == "policy.add" {
         return Some(add_command(object));
@@ -317,8 +317,8 @@ fn policy_named<'a>(name: &str, object: &'a Value) -> Option<Result<Command<'a>,
 
 /// The report of cells, or the ask, of that name.
 #[tactic(auto, unfolding(crate::specs::Asked::report_named))]
-fn report_named<'a>(name: &str, object: &'a Value) -> Option<Result<Command<'a>, u8>>
-    ensures { option_map asked_view result ≡ report_named name.now (view object.now) }
+fn report_named<'a, J: JsonTree>(name: &str, object: &'a J) -> Option<Result<Command<'a, J>, u8>>
+    ensures { option_map (asked_view J.content) result ≡ report_named name.now (J.content object.now) }
 {
     if name == "table" {
         return Some(table_command(object));
@@ -334,8 +334,8 @@ fn report_named<'a>(name: &str, object: &'a Value) -> Option<Result<Command<'a>,
 
 /// The command of that name that changes nothing but a mark.
 #[tactic(auto, unfolding(crate::specs::Asked::desk_named))]
-fn desk_named<'a>(name: &str, object: &'a Value) -> Option<Result<Command<'a>, u8>>
-    ensures { option_map asked_view result ≡ desk_named name.now (view object.now) }
+fn desk_named<'a, J: JsonTree>(name: &str, object: &'a J) -> Option<Result<Command<'a, J>, u8>>
+    ensures { option_map (asked_view J.content) result ≡ desk_named name.now (J.content object.now) }
 {
     if let Some(report) = report_named(name, object) {
         return Some(report);
@@ -348,8 +348,8 @@ fn desk_named<'a>(name: &str, object: &'a Value) -> Option<Result<Command<'a>, u
 
 /// The command of that name.
 #[tactic(auto, unfolding(crate::specs::Asked::command_of))]
-fn command_named<'a>(name: &str, object: &'a Value) -> Result<Command<'a>, u8>
-    ensures { asked_view result ≡ command_of name.now (view object.now) }
+fn command_named<'a, J: JsonTree>(name: &str, object: &'a J) -> Result<Command<'a, J>, u8>
+    ensures { asked_view J.content result ≡ command_of name.now (J.content object.now) }
 {
     if let Some(edit) = edit_named(name, object) {
         return edit;
@@ -366,8 +366,8 @@ fn command_named<'a>(name: &str, object: &'a Value) -> Result<Command<'a>, u8>
 /// The session of a line and what it asks for, or the number of its refusal: its shape is wrong, no command has the name, or the session isn't one
 /// of the sixteen, the first of them that stands.
 #[tactic(auto, unfolding(crate::specs::Asked::request_of))]
-pub(crate) fn request(object: &Value) -> Result<(u8, Command<'_>), u8>
-    ensures asked { session_view result ≡ request_of (view object.now) }
+pub(crate) fn request<J: JsonTree>(object: &J) -> Result<(u8, Command<'_, J>), u8>
+    ensures asked { session_view J.content result ≡ request_of (J.content object.now) }
     ensures session { IfOk result (λ x. x.0 < 16) }
 {
     let name = text_at(object, "do").ok_or(SHAPE)?;

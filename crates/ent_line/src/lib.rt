@@ -23,7 +23,6 @@ pub use fault::ServeFault;
 pub use input::{LINE_LIMIT, one_split};
 pub use law::{replies_are_fresh, sessions_are_separate};
 pub use output::send_all;
-pub use reading::read_json;
 pub use reply::Reply;
 pub use service::Service;
 pub use serving::{serve, serve_review};

@@ -1,43 +1,30 @@
 //! Reading JSON and the parts of commands.
 
-ghost use Rattle.std.specs.Prelude.{◌≡◌, IfOk, IfSome, option_map};
+ghost use Rattle.std.specs.Prelude.{◌≡◌, IfOk, IfSome, option_map, map};
 ghost use Rattle.std.specs.Option.{IfNone};
-ghost use Rattle.serde_json.specs.View.{items_view, view};
+ghost use Rattle.serde_json.specs.View.{items_of};
 ghost use Rattle.ent_values.specs.Reading.{date_of};
 ghost use Rattle.ent_values.specs.Types.{datatype_of};
 ghost use Rattle.ent_values.specs.declared.datatype.DataType.TheVariants as types;
 ghost use Rattle.ent_values.specs.declared.value.Value.TheVariants as values;
 ghost use Rattle.ent_policy.specs.Gives.{Gives};
 ghost use Rattle.ent_line.specs.CommandView.{row_view};
-ghost use Rattle.ent_line.specs.Step.{data_of, key_of_row, root_of, row_read, values_in};
+ghost use Rattle.ent_line.specs.Step.{key_of_row, root_of, row_read, values_in};
 
 use crate::attribute_command::AskedRow;
 use ent_finder::RowKey;
+use ent_json::JsonTree;
 use ent_polform::{read_reference, read_value};
 use ent_policy::{CheckFault, Reference};
 use ent_values::{DataType, Date, Items, Text, Value as AttributeValue, ValueFault};
-use serde_json::Value;
 use std::alloc::{AllocError, Global};
 
-/// What `serde_json` reads of a JSON text in UTF-8, if it reads it.
-pub fn read_json(alloc: Global, text: &[u8]) -> Result<Option<Value>, AllocError>
-    ensures { IfOk result (λ o. option_map view o ≡ data_of text.now) }
-{
-    match Value::from_slice(alloc, text) {
-        Ok(value) => Ok(Some(value)),
-        Err(error) => {
-            if error.is_memory() {
-                Err(AllocError)
-            } else {
-                Ok(None)
-            }
-        }
-    }
-}
-
 /// The root that a JSON value names: none for null.
-pub(crate) fn read_root(alloc: Global, value: &Value) -> Result<Option<Reference>, CheckFault>
-    ensures { Gives result (root_of (view value.now)) }
+pub(crate) fn read_root<J: JsonTree>(
+    alloc: Global,
+    value: &J,
+) -> Result<Option<Reference>, CheckFault>
+    ensures { Gives result (root_of (J.content value.now)) }
 {
     if value.is_null() {
         return Ok(None);
@@ -67,12 +54,12 @@ pub(crate) fn read_day(alloc: Global, text: &str) -> Option<Date>
 }
 
 /// The values of that type that JSON values spell. `None` if one spells none.
-fn read_values(
+fn read_values<J: JsonTree>(
     alloc: Global,
     datatype: DataType,
-    values: &[Value],
+    values: &[J],
 ) -> Result<Option<Items<AttributeValue>>, AllocError>
-    ensures { IfOk result (λ o. o ≡ values_in datatype (items_view values.now)) }
+    ensures { IfOk result (λ o. o ≡ values_in datatype (items_of (map J.content values.now))) }
 {
     let mut items = Items::with_capacity(alloc, values.len())?;
     for value in values {
@@ -86,8 +73,12 @@ fn read_values(
 }
 
 /// The key of a row whose type was read.
-fn key_of_row(alloc: Global, row: AskedRow<'_>, datatype: DataType) -> Result<RowKey, AllocError>
-    ensures { IfOk result (λ k. k ≡ key_of_row (row_view row.entry) datatype) }
+fn key_of_row<J: JsonTree>(
+    alloc: Global,
+    row: &AskedRow<'_, J>,
+    datatype: DataType,
+) -> Result<RowKey, AllocError>
+    ensures { IfOk result (λ k. k ≡ key_of_row (row_view J.content row.now) datatype) }
 {
     let issuer = match row.issuer {
         None => None,
@@ -104,11 +95,11 @@ fn key_of_row(alloc: Global, row: AskedRow<'_>, datatype: DataType) -> Result<Ro
 
 /// The key and the values of a row. `None` if its type or a value can't be read.
 #[tactic(auto, unfolding(crate::specs::Step::row_read))]
-pub(crate) fn read_row(
+pub(crate) fn read_row<J: JsonTree>(
     alloc: Global,
-    row: AskedRow<'_>,
+    row: &AskedRow<'_, J>,
 ) -> Result<Option<(RowKey, Items<AttributeValue>)>, AllocError>
-    ensures { IfOk result (λ o. o ≡ row_read (row_view row.entry)) }
+    ensures { IfOk result (λ o. o ≡ row_read (row_view J.content row.now)) }
 {
     let Some(datatype) = DataType::from_name(row.datatype) else {
         return Ok(None);

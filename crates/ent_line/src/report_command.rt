@@ -1,22 +1,21 @@
 //! What a line asks for that is a report of decisions, a mark or notices.
 
 ghost use Rattle.std.specs.Prelude.{◌≡◌, option_map};
-ghost use Rattle.serde_json.specs.View.{view};
 ghost use Rattle.ent_line.specs.Asked.{by_rule_command, can_command, counts_command, decided_named, mark_command, marking_named, notices_command, who_command};
 ghost use Rattle.ent_line.specs.CommandView.{asked_view};
 
 use crate::attribute_command::text_or_null;
 use crate::command::Command;
 use crate::refusal::SHAPE;
-use ent_polform::{has_only, text_at};
-use serde_json::Value;
+use ent_json::JsonTree;
+use ent_polform::text_at;
 
 /// `counts`.
 #[tactic(auto, unfolding(crate::specs::Asked::counts_command))]
-fn counts_command(object: &Value) -> Result<Command<'_>, u8>
-    ensures { asked_view result ≡ counts_command (view object.now) }
+fn counts_command<J: JsonTree>(object: &J) -> Result<Command<'_, J>, u8>
+    ensures { asked_view J.content result ≡ counts_command (J.content object.now) }
 {
-    if !has_only(object, &["do", "session"]) {
+    if !object.has_only(&["do", "session"]) {
         return Err(SHAPE);
     }
     Ok(Command::Counts)
@@ -24,10 +23,10 @@ fn counts_command(object: &Value) -> Result<Command<'_>, u8>
 
 /// `can`.
 #[tactic(auto, unfolding(crate::specs::Asked::can_command))]
-fn can_command(object: &Value) -> Result<Command<'_>, u8>
-    ensures { asked_view result ≡ can_command (view object.now) }
+fn can_command<J: JsonTree>(object: &J) -> Result<Command<'_, J>, u8>
+    ensures { asked_view J.content result ≡ can_command (J.content object.now) }
 {
-    if !has_only(object, &["do", "person", "session"]) {
+    if !object.has_only(&["do", "person", "session"]) {
         return Err(SHAPE);
     }
     let person = text_at(object, "person").ok_or(SHAPE)?;
@@ -36,10 +35,10 @@ fn can_command(object: &Value) -> Result<Command<'_>, u8>
 
 /// `who`.
 #[tactic(auto, unfolding(crate::specs::Asked::who_command))]
-fn who_command(object: &Value) -> Result<Command<'_>, u8>
-    ensures { asked_view result ≡ who_command (view object.now) }
+fn who_command<J: JsonTree>(object: &J) -> Result<Command<'_, J>, u8>
+    ensures { asked_view J.content result ≡ who_command (J.content object.now) }
 {
-    if !has_only(object, &["action", "do", "resource", "session"]) {
+    if !object.has_only(&["action", "do", "resource", "session"]) {
         return Err(SHAPE);
     }
     let action = text_at(object, "action").ok_or(SHAPE)?;
@@ -49,10 +48,10 @@ fn who_command(object: &Value) -> Result<Command<'_>, u8>
 
 /// `by_rule`.
 #[tactic(auto, unfolding(crate::specs::Asked::by_rule_command))]
-fn by_rule_command(object: &Value) -> Result<Command<'_>, u8>
-    ensures { asked_view result ≡ by_rule_command (view object.now) }
+fn by_rule_command<J: JsonTree>(object: &J) -> Result<Command<'_, J>, u8>
+    ensures { asked_view J.content result ≡ by_rule_command (J.content object.now) }
 {
-    if !has_only(object, &["do", "policy", "rule", "session"]) {
+    if !object.has_only(&["do", "policy", "rule", "session"]) {
         return Err(SHAPE);
     }
     let policy = text_at(object, "policy").ok_or(SHAPE)?;
@@ -62,10 +61,10 @@ fn by_rule_command(object: &Value) -> Result<Command<'_>, u8>
 
 /// `mark`.
 #[tactic(auto, unfolding(crate::specs::Asked::mark_command))]
-fn mark_command(object: &Value) -> Result<Command<'_>, u8>
-    ensures { asked_view result ≡ mark_command (view object.now) }
+fn mark_command<J: JsonTree>(object: &J) -> Result<Command<'_, J>, u8>
+    ensures { asked_view J.content result ≡ mark_command (J.content object.now) }
 {
-    if !has_only(object, &["do", "session"]) {
+    if !object.has_only(&["do", "session"]) {
         return Err(SHAPE);
     }
     Ok(Command::Mark)
@@ -73,10 +72,10 @@ fn mark_command(object: &Value) -> Result<Command<'_>, u8>
 
 /// `notices`.
 #[tactic(auto, unfolding(crate::specs::Asked::notices_command))]
-fn notices_command(object: &Value) -> Result<Command<'_>, u8>
-    ensures { asked_view result ≡ notices_command (view object.now) }
+fn notices_command<J: JsonTree>(object: &J) -> Result<Command<'_, J>, u8>
+    ensures { asked_view J.content result ≡ notices_command (J.content object.now) }
 {
-    if !has_only(object, &["do", "session"]) {
+    if !object.has_only(&["do", "session"]) {
         return Err(SHAPE);
     }
     Ok(Command::Notices)
@@ -84,8 +83,11 @@ fn notices_command(object: &Value) -> Result<Command<'_>, u8>
 
 /// The report of decisions of that name.
 #[tactic(auto, unfolding(crate::specs::Asked::decided_named))]
-pub(crate) fn decided_named<'a>(name: &str, object: &'a Value) -> Option<Result<Command<'a>, u8>>
-    ensures { option_map asked_view result ≡ decided_named name.now (view object.now) }
+pub(crate) fn decided_named<'a, J: JsonTree>(
+    name: &str,
+    object: &'a J,
+) -> Option<Result<Command<'a, J>, u8>>
+    ensures { option_map (asked_view J.content) result ≡ decided_named name.now (J.content object.now) }
 {
     if name == "counts" {
         return Some(counts_command(object));
@@ -104,8 +106,11 @@ pub(crate) fn decided_named<'a>(name: &str, object: &'a Value) -> Option<Result<
 
 /// The command of that name that is about a session's mark.
 #[tactic(auto, unfolding(crate::specs::Asked::marking_named))]
-pub(crate) fn marking_named<'a>(name: &str, object: &'a Value) -> Option<Result<Command<'a>, u8>>
-    ensures { option_map asked_view result ≡ marking_named name.now (view object.now) }
+pub(crate) fn marking_named<'a, J: JsonTree>(
+    name: &str,
+    object: &'a J,
+) -> Option<Result<Command<'a, J>, u8>>
+    ensures { option_map (asked_view J.content) result ≡ marking_named name.now (J.content object.now) }
 {
     if name == "mark" {
         return Some(mark_command(object));

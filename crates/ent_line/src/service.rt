@@ -2,7 +2,6 @@
 
 ghost use Rattle.std.specs.Prelude.{◌≡◌, ◌<◌, IfOk, OnErr, option_map};
 ghost use Rattle.std.specs.Option.{option_copied};
-ghost use Rattle.serde_json.specs.View.{view};
 ghost use Rattle.ent_table.specs.Names.{triple_of};
 ghost use Rattle.ent_report.specs.World as held;
 ghost use Rattle.ent_line.specs.Asked.{request_of};
@@ -17,20 +16,21 @@ use crate::attribute_command::AskedRow;
 use crate::cell::{one_cell_text, response_text, table_text};
 use crate::command::{Command, request};
 use crate::input::LINE_LIMIT;
-use crate::reading::{read_day, read_json, read_root, read_row};
+use crate::reading::{read_day, read_root, read_row};
 use crate::refusal::{
     BAD_VALUE, LIMIT, NO_MEMORY, NOT_JSON, NOT_THERE, REQUEST, RESERVED, TOO_LONG,
     refused_document, refused_edit,
 };
 use crate::reply::Reply;
 use ent_finder::{AttributeFinder, Attributes, Policies, PolicyFinder};
+use ent_json::{JsonTree, read_json};
 use ent_polform::read_document;
 use ent_policy::{DocKey, Kind, Version};
 use ent_profile::{RequestFault, read_request};
 use ent_report::Desk;
 use ent_table::{Edit, LAST_SERIAL, List, MOST_VALUES, is_reserved};
 use ent_values::Text;
-use serde_json::Value;
+use json::Scratch;
 use std::alloc::{AllocError, Global};
 
 /// A desk whose edits, reports and marks are asked for by lines of JSON.
@@ -98,10 +98,10 @@ impl<A: Attributes, P: Policies> Service<A, P> {
 
     /// `policy.add`.
     #[tactic(auto, unfolding(crate::specs::Step::policy_added))]
-    fn add_policy(&mut self, number: usize, document: &Value) -> Result<Reply, AllocError>
+    fn add_policy<J: JsonTree>(&mut self, number: usize, document: &J) -> Result<Reply, AllocError>
         requires { IsReady A.sources P.slots self.old }
         ensures ready { IsReady A.sources P.slots self.new }
-        ensures ok { IfOk result (λ r. (reply_view r, world_of A.sources P.slots self.new) ≡ policy_added (world_of A.sources P.slots self.old) number (view document.now)) }
+        ensures ok { IfOk result (λ r. (reply_view r, world_of A.sources P.slots self.new) ≡ policy_added (world_of A.sources P.slots self.old) number (J.content document.now)) }
         ensures err { OnErr result (world_of A.sources P.slots self.new ≡ world_of A.sources P.slots self.old) }
     {
         match read_document(self.alloc, document) {
@@ -112,10 +112,14 @@ impl<A: Attributes, P: Policies> Service<A, P> {
 
     /// `policy.replace`.
     #[tactic(auto, unfolding(crate::specs::Step::policy_replaced))]
-    fn replace_policy(&mut self, number: usize, document: &Value) -> Result<Reply, AllocError>
+    fn replace_policy<J: JsonTree>(
+        &mut self,
+        number: usize,
+        document: &J,
+    ) -> Result<Reply, AllocError>
         requires { IsReady A.sources P.slots self.old }
         ensures ready { IsReady A.sources P.slots self.new }
-        ensures ok { IfOk result (λ r. (reply_view r, world_of A.sources P.slots self.new) ≡ policy_replaced (world_of A.sources P.slots self.old) number (view document.now)) }
+        ensures ok { IfOk result (λ r. (reply_view r, world_of A.sources P.slots self.new) ≡ policy_replaced (world_of A.sources P.slots self.old) number (J.content document.now)) }
         ensures err { OnErr result (world_of A.sources P.slots self.new ≡ world_of A.sources P.slots self.old) }
     {
         match read_document(self.alloc, document) {
@@ -158,8 +162,8 @@ impl<A: Attributes, P: Policies> Service<A, P> {
 
     /// The refusal of a row whose type or a value can't be read.
     #[tactic(auto, using(crate::proofs::ReadLemmas::values_counted))]
-    fn unread_row(&self, row: AskedRow<'_>) -> u8
-        ensures { result ≡ unread_row (world_of A.sources P.slots self.now).state (row_view row.entry) }
+    fn unread_row<J: JsonTree>(&self, row: &AskedRow<'_, J>) -> u8
+        ensures { result ≡ unread_row (world_of A.sources P.slots self.now).state (row_view J.content row.now) }
     {
         if self.desk.review().serial() >= LAST_SERIAL || row.values.len() > MOST_VALUES {
             LIMIT
@@ -172,15 +176,19 @@ impl<A: Attributes, P: Policies> Service<A, P> {
 
     /// `attr.set`.
     #[tactic(auto, unfolding(crate::specs::Step::attribute_set))]
-    fn set_attribute(&mut self, number: usize, row: AskedRow<'_>) -> Result<Reply, AllocError>
+    fn set_attribute<J: JsonTree>(
+        &mut self,
+        number: usize,
+        row: AskedRow<'_, J>,
+    ) -> Result<Reply, AllocError>
         requires { IsReady A.sources P.slots self.old }
         ensures ready { IsReady A.sources P.slots self.new }
-        ensures ok { IfOk result (λ r. (reply_view r, world_of A.sources P.slots self.new) ≡ attribute_set (world_of A.sources P.slots self.old) number (row_view row.entry)) }
+        ensures ok { IfOk result (λ r. (reply_view r, world_of A.sources P.slots self.new) ≡ attribute_set (world_of A.sources P.slots self.old) number (row_view J.content row.entry)) }
         ensures err { OnErr result (world_of A.sources P.slots self.new ≡ world_of A.sources P.slots self.old) }
     {
-        match read_row(self.alloc, row)? {
+        match read_row(self.alloc, &row)? {
             Some((key, values)) => self.edit(Edit::SetAttribute(number, key, values)),
-            None => Ok(Reply::Refused(self.unread_row(row), None)),
+            None => Ok(Reply::Refused(self.unread_row(&row), None)),
         }
     }
 
@@ -203,10 +211,10 @@ impl<A: Attributes, P: Policies> Service<A, P> {
 
     /// `root.set`.
     #[tactic(auto, unfolding(crate::specs::Step::root_set))]
-    fn set_root(&mut self, reference: &Value) -> Result<Reply, AllocError>
+    fn set_root<J: JsonTree>(&mut self, reference: &J) -> Result<Reply, AllocError>
         requires { IsReady A.sources P.slots self.old }
         ensures ready { IsReady A.sources P.slots self.new }
-        ensures ok { IfOk result (λ r. (reply_view r, world_of A.sources P.slots self.new) ≡ root_set (world_of A.sources P.slots self.old) (view reference.now)) }
+        ensures ok { IfOk result (λ r. (reply_view r, world_of A.sources P.slots self.new) ≡ root_set (world_of A.sources P.slots self.old) (J.content reference.now)) }
         ensures err { OnErr result (world_of A.sources P.slots self.new ≡ world_of A.sources P.slots self.old) }
     {
         match read_root(self.alloc, reference) {
@@ -242,10 +250,10 @@ impl<A: Attributes, P: Policies> Service<A, P> {
 
     /// `ask`.
     #[tactic(auto, unfolding(crate::specs::Step::request_answered))]
-    fn ask(&mut self, json: &Value) -> Result<Reply, AllocError>
+    fn ask<J: JsonTree>(&mut self, json: &J) -> Result<Reply, AllocError>
         requires { IsReady A.sources P.slots self.old }
         ensures ready { IsReady A.sources P.slots self.new }
-        ensures ok { IfOk result (λ r. reply_view r ≡ request_answered (world_of A.sources P.slots self.old).state (view json.now)) }
+        ensures ok { IfOk result (λ r. reply_view r ≡ request_answered (world_of A.sources P.slots self.old).state (J.content json.now)) }
         ensures world { world_of A.sources P.slots self.new ≡ world_of A.sources P.slots self.old }
     {
         match read_request(self.alloc, json) {
@@ -261,11 +269,15 @@ impl<A: Attributes, P: Policies> Service<A, P> {
 
     /// Does what a command of a session asks for.
     #[tactic(auto, unfolding(crate::specs::Step::run))]
-    fn run(&mut self, session: u8, command: Command<'_>) -> Result<Reply, AllocError>
+    fn run<J: JsonTree>(
+        &mut self,
+        session: u8,
+        command: Command<'_, J>,
+    ) -> Result<Reply, AllocError>
         requires ready { IsReady A.sources P.slots self.old }
         requires session { session < 16 }
         ensures ready { IsReady A.sources P.slots self.new }
-        ensures ok { IfOk result (λ r. (reply_view r, world_of A.sources P.slots self.new) ≡ run (world_of A.sources P.slots self.old) session (command_view command.entry)) }
+        ensures ok { IfOk result (λ r. (reply_view r, world_of A.sources P.slots self.new) ≡ run (world_of A.sources P.slots self.old) session (command_view J.content command.entry)) }
         ensures err { OnErr result (world_of A.sources P.slots self.new ≡ world_of A.sources P.slots self.old) }
     {
         match command {
@@ -292,10 +304,10 @@ impl<A: Attributes, P: Policies> Service<A, P> {
     }
 
     /// Does what a JSON value asks for.
-    fn answer(&mut self, value: &Value) -> Result<Reply, AllocError>
+    fn answer<J: JsonTree>(&mut self, value: &J) -> Result<Reply, AllocError>
         requires { IsReady A.sources P.slots self.old }
         ensures ready { IsReady A.sources P.slots self.new }
-        ensures ok { IfOk result (λ r. (reply_view r, world_of A.sources P.slots self.new) ≡ requested (world_of A.sources P.slots self.old) (request_of (view value.now))) }
+        ensures ok { IfOk result (λ r. (reply_view r, world_of A.sources P.slots self.new) ≡ requested (world_of A.sources P.slots self.old) (request_of (J.content value.now))) }
         ensures err { OnErr result (world_of A.sources P.slots self.new ≡ world_of A.sources P.slots self.old) }
     {
         match request(value) {
@@ -311,7 +323,8 @@ impl<A: Attributes, P: Policies> Service<A, P> {
         ensures ok { IfOk result (λ r. (reply_view r, world_of A.sources P.slots self.new) ≡ told (world_of A.sources P.slots self.old) (data_of line.now)) }
         ensures err { OnErr result (world_of A.sources P.slots self.new ≡ world_of A.sources P.slots self.old) }
     {
-        match read_json(self.alloc, line)? {
+        let mut scratch = Scratch::new(self.alloc);
+        match read_json(self.alloc, line, &mut scratch)? {
             Some(value) => self.answer(&value),
             None => Ok(Reply::Refused(NOT_JSON, None)),
         }

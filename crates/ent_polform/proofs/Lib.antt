@@ -1,5 +1,6 @@
 pub mod FormLemmas
 pub mod NestedLemmas
+pub mod ScalarLemmas
 pub mod MemberLemmas
 pub mod WrittenLemmas
 pub mod BackValues

@@ -5,8 +5,6 @@ use Rattle.std.specs.Ordering.{match_ordering}
 use Rattle.serde_json.specs.Data as json
 use Rattle.serde_json.specs.Data.{Data, Items, Members, depth, items_depth, members_depth}
 use Rattle.serde_json.specs.Find.{get, get_member, as_array}
-use Rattle.serde_json.specs.View.{view, items_view}
-use Rattle.serde_json.specs.declared.value.Value.{Value}
 use Rattle.ent_policy.specs.declared.fault.DocFault.{DocFault}
 use Rattle.ent_policy.specs.declared.fault.DocFault.TheVariants as fault
 use Rattle.ent_policy.specs.declared.key.Kind.{Kind}
@@ -17,6 +15,7 @@ use Rattle.ent_polform.specs.Reading.{part, within, nested}
 use Rattle.ent_polform.specs.Expressions.{apply_by, expression_named, expression_by, expression_of}
 use Rattle.ent_polform.specs.Form.{set_by, raw_named, child_named, child_by, child_of}
 use Rattle.ent_polform.specs.Reference.{kind_of}
+use Rattle.ent_polform.proofs.FormLemmas.{items_in}
 
 -- ---- what is found lies less deep
 
@@ -67,10 +66,10 @@ depth-list (Some e) n ds h is = omega (arith, h e refl, depth-as_array e ds is)
 pub depth-list_at : (k : List ℕ) (d : Data) (ds : Items) → list_at k d ≡ Some ds → items_depth ds ≤ depth d
 depth-list_at k d ds h = depth-list (get k d) (depth d) ds (λ e is. depth-get k d e is) h
 
-pub depth-item : (vs : List Value) (i : ℕ) (v : Value) → i < length vs → v ≡ get_or vs i v → depth (view v) ≤ items_depth (items_view vs)
-depth-item [] i v h e = absurd (omega arith)
-depth-item (w ∷ vs) zero v h e = rw e (omega arith)
-depth-item (w ∷ vs) (suc i) v h e = omega (arith, depth-item vs i v (omega arith) e)
+pub depth-item : {B : Type 0} (content : B → Data) (vs : List B) (i : ℕ) (v : B) → i < length vs → v ≡ get_or vs i v → depth (content v) ≤ items_depth (items_in content vs)
+depth-item content [] i v h e = absurd (omega arith)
+depth-item content (w ∷ vs) zero v h e = rw e (omega arith)
+depth-item content (w ∷ vs) (suc i) v h e = omega (arith, depth-item content vs i v (omega arith) e)
 
 -- ---- a reader that reads one level by what reads the levels inside
 

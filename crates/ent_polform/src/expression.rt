@@ -1,40 +1,43 @@
 //! Expressions, as the form has them.
 
-ghost use Rattle.std.specs.Prelude.{◌≡◌, codes};
+ghost use Rattle.std.specs.Prelude.{◌≡◌, codes, map};
 ghost use Rattle.serde_json.specs.Find.{get};
-ghost use Rattle.serde_json.specs.View.{items_view, view};
+ghost use Rattle.serde_json.specs.View.{items_of};
 ghost use Rattle.ent_policy.specs.Gives.{Gives};
 ghost use Rattle.ent_polform.specs.Expressions.{apply_by, designator_of, expression_by, expression_named, expression_of, literal_of, name_of, value_of};
 ghost use Rattle.ent_polform.specs.Objects.{each_by};
 ghost use Rattle.ent_polform.specs.Reading.{maybe};
 
-use crate::objects::{flag_at, has_only, list_at, one_member, optional, required};
+use crate::objects::{flag_at, list_at, optional, required};
+use ent_json::JsonTree;
 use ent_policy::{CheckFault, DocFault, RawDesignator, RawExpression, RawLiteral, RawValue};
 use ent_values::{Items, Text};
-use serde_json::Value;
 use std::alloc::Global;
 
 /// A literal.
-fn literal(alloc: Global, value: &Value) -> Result<RawLiteral, CheckFault>
-    ensures { Gives result (literal_of (view value.now)) }
+#[tactic(auto, using(crate::proofs::ScalarLemmas::literal_is))]
+fn literal<J: JsonTree>(alloc: Global, value: &J) -> Result<RawLiteral, CheckFault>
+    ensures { Gives result (literal_of (J.content value.now)) }
 {
-    match value {
-        Value::String(text) => Ok(RawLiteral::Text(Text::from_str(alloc, text.as_str())?)),
-        Value::Bool(flag) => Ok(RawLiteral::Boolean(*flag)),
-        Value::Number(number) => match number.as_i64() {
-            Some(integer) => Ok(RawLiteral::Integer(integer)),
-            None => Err(CheckFault::Doc(DocFault::Form)),
-        },
-        _ => Err(CheckFault::Doc(DocFault::Form)),
+    if let Some(text) = value.as_str() {
+        return Ok(RawLiteral::Text(Text::from_str(alloc, text)?));
     }
+    if let Some(flag) = value.as_bool() {
+        return Ok(RawLiteral::Boolean(flag));
+    }
+    let integer = value.as_i64().ok_or(DocFault::Form)?;
+    Ok(RawLiteral::Integer(integer))
 }
 
 /// An AttributeValue.
 #[tactic(auto, unfolding(crate::specs::Expressions::value_of))]
-pub(crate) fn attribute_value(alloc: Global, object: &Value) -> Result<RawValue, CheckFault>
-    ensures { Gives result (value_of (view object.now)) }
+pub(crate) fn attribute_value<J: JsonTree>(
+    alloc: Global,
+    object: &J,
+) -> Result<RawValue, CheckFault>
+    ensures { Gives result (value_of (J.content object.now)) }
 {
-    if !has_only(object, &["DataType", "Value"]) {
+    if !object.has_only(&["DataType", "Value"]) {
         return Err(CheckFault::Doc(DocFault::Form));
     }
     let datatype = optional(alloc, object, "DataType")?;
@@ -45,8 +48,11 @@ pub(crate) fn attribute_value(alloc: Global, object: &Value) -> Result<RawValue,
 
 /// An AttributeDesignator.
 #[tactic(auto, unfolding(crate::specs::Expressions::designator_of))]
-pub(crate) fn designator(alloc: Global, object: &Value) -> Result<RawDesignator, CheckFault>
-    ensures { Gives result (designator_of (view object.now)) }
+pub(crate) fn designator<J: JsonTree>(
+    alloc: Global,
+    object: &J,
+) -> Result<RawDesignator, CheckFault>
+    ensures { Gives result (designator_of (J.content object.now)) }
 {
     let keys = [
         "AttributeId",
@@ -55,7 +61,7 @@ pub(crate) fn designator(alloc: Global, object: &Value) -> Result<RawDesignator,
         "Issuer",
         "MustBePresent",
     ];
-    if !has_only(object, &keys) {
+    if !object.has_only(&keys) {
         return Err(CheckFault::Doc(DocFault::Form));
     }
     let category = required(alloc, object, "Category")?;
@@ -74,10 +80,10 @@ pub(crate) fn designator(alloc: Global, object: &Value) -> Result<RawDesignator,
 
 /// The text at the only key of an object.
 #[tactic(auto, unfolding(crate::specs::Expressions::name_of))]
-fn name(alloc: Global, object: &Value, key: &str) -> Result<Text, CheckFault>
-    ensures { Gives result (name_of key.now (view object.now)) }
+fn name<J: JsonTree>(alloc: Global, object: &J, key: &str) -> Result<Text, CheckFault>
+    ensures { Gives result (name_of key.now (J.content object.now)) }
 {
-    if !has_only(object, &[key]) {
+    if !object.has_only(&[key]) {
         return Err(CheckFault::Doc(DocFault::Form));
     }
     required(alloc, object, key)
@@ -85,10 +91,10 @@ fn name(alloc: Global, object: &Value, key: &str) -> Result<Text, CheckFault>
 
 /// One level of an expression.
 #[cycle(expression)]
-fn nested_expression(alloc: Global, json: &Value) -> Result<RawExpression, CheckFault>
-    ensures { Gives result (expression_by expression_of (view json.now)) }
+fn nested_expression<J: JsonTree>(alloc: Global, json: &J) -> Result<RawExpression, CheckFault>
+    ensures { Gives result (expression_by expression_of (J.content json.now)) }
 {
-    let Some((key, body)) = one_member(json) else {
+    let Some((key, body)) = json.one_member() else {
         return Err(CheckFault::Doc(DocFault::Form));
     };
     named(alloc, key, body)
@@ -97,8 +103,8 @@ fn nested_expression(alloc: Global, json: &Value) -> Result<RawExpression, Check
 /// The expression of that key.
 #[cycle(expression)]
 #[tactic(auto, unfolding(crate::specs::Expressions::expression_named))]
-fn named(alloc: Global, key: &str, body: &Value) -> Result<RawExpression, CheckFault>
-    ensures { Gives result (expression_named expression_of key.now (view body.now)) }
+fn named<J: JsonTree>(alloc: Global, key: &str, body: &J) -> Result<RawExpression, CheckFault>
+    ensures { Gives result (expression_named expression_of key.now (J.content body.now)) }
 {
     if key == "AttributeValue" {
         return Ok(RawExpression::Value(attribute_value(alloc, body)?));
@@ -121,10 +127,10 @@ fn named(alloc: Global, key: &str, body: &Value) -> Result<RawExpression, CheckF
 /// An Apply.
 #[cycle(expression)]
 #[tactic(auto, unfolding(crate::specs::Expressions::apply_by))]
-fn apply(alloc: Global, object: &Value) -> Result<RawExpression, CheckFault>
-    ensures { Gives result (apply_by expression_of (view object.now)) }
+fn apply<J: JsonTree>(alloc: Global, object: &J) -> Result<RawExpression, CheckFault>
+    ensures { Gives result (apply_by expression_of (J.content object.now)) }
 {
-    if !has_only(object, &["Arguments", "FunctionId"]) {
+    if !object.has_only(&["Arguments", "FunctionId"]) {
         return Err(CheckFault::Doc(DocFault::Form));
     }
     let function = required(alloc, object, "FunctionId")?;
@@ -137,8 +143,8 @@ fn apply(alloc: Global, object: &Value) -> Result<RawExpression, CheckFault>
 
 /// Expressions, one for each value.
 #[cycle(expression)]
-fn expressions(alloc: Global, values: &[Value]) -> Result<Items<RawExpression>, CheckFault>
-    ensures { Gives result (each_by expression_of (items_view values.now)) }
+fn expressions<J: JsonTree>(alloc: Global, values: &[J]) -> Result<Items<RawExpression>, CheckFault>
+    ensures { Gives result (each_by expression_of (items_of (map J.content values.now))) }
 {
     let mut all = Items::with_capacity(alloc, values.len())?;
     for value in values {
@@ -148,18 +154,18 @@ fn expressions(alloc: Global, values: &[Value]) -> Result<Items<RawExpression>, 
 }
 
 /// An expression.
-pub(crate) fn expression(alloc: Global, json: &Value) -> Result<RawExpression, CheckFault>
-    ensures { Gives result (expression_of (view json.now)) }
+pub(crate) fn expression<J: JsonTree>(alloc: Global, json: &J) -> Result<RawExpression, CheckFault>
+    ensures { Gives result (expression_of (J.content json.now)) }
 {
     nested_expression(alloc, json)
 }
 
 /// The Condition of a rule, where there is one.
-pub(crate) fn condition_at(
+pub(crate) fn condition_at<J: JsonTree>(
     alloc: Global,
-    object: &Value,
+    object: &J,
 ) -> Result<Option<RawExpression>, CheckFault>
-    ensures { Gives result (maybe expression_of (get (codes "Condition") (view object.now))) }
+    ensures { Gives result (maybe expression_of (get (codes "Condition") (J.content object.now))) }
 {
     match object.get("Condition") {
         None => Ok(None),

@@ -1,29 +1,30 @@
 //! Documents and their rules, as the form has them.
 
-ghost use Rattle.serde_json.specs.View.{items_view, view};
+ghost use Rattle.std.specs.Prelude.{map};
+ghost use Rattle.serde_json.specs.View.{items_of};
 ghost use Rattle.ent_policy.specs.Gives.{Gives};
 ghost use Rattle.ent_polform.specs.Form.{child_by, child_of, definition_of, document_of, policy_of, raw_named, raw_of, rule_of, set_by};
 ghost use Rattle.ent_polform.specs.Objects.{each_by};
 
 use crate::expression::{condition_at, expression};
 use crate::given::{effect, given_at};
-use crate::objects::{has_only, list_at, one_member, required, text_at, text_or_absent};
+use crate::objects::{list_at, required, text_at, text_or_absent};
 use crate::reference::{kind, reference};
 use crate::target::target_at;
+use ent_json::JsonTree;
 use ent_policy::{
     CheckFault, DocFault, Document, RawChild, RawDocument, RawPolicy, RawPolicySet, RawRule,
     RawVariableDefinition, check,
 };
 use ent_values::Items;
-use serde_json::Value;
 use std::alloc::Global;
 
 /// A VariableDefinition.
 #[tactic(auto, unfolding(crate::specs::Form::definition_of))]
-fn definition(alloc: Global, object: &Value) -> Result<RawVariableDefinition, CheckFault>
-    ensures { Gives result (definition_of (view object.now)) }
+fn definition<J: JsonTree>(alloc: Global, object: &J) -> Result<RawVariableDefinition, CheckFault>
+    ensures { Gives result (definition_of (J.content object.now)) }
 {
-    if !has_only(object, &["Expression", "VariableId"]) {
+    if !object.has_only(&["Expression", "VariableId"]) {
         return Err(CheckFault::Doc(DocFault::Form));
     }
     let id = required(alloc, object, "VariableId")?;
@@ -33,8 +34,11 @@ fn definition(alloc: Global, object: &Value) -> Result<RawVariableDefinition, Ch
 }
 
 /// VariableDefinitions, one for each value.
-fn definitions(alloc: Global, values: &[Value]) -> Result<Items<RawVariableDefinition>, CheckFault>
-    ensures { Gives result (each_by definition_of (items_view values.now)) }
+fn definitions<J: JsonTree>(
+    alloc: Global,
+    values: &[J],
+) -> Result<Items<RawVariableDefinition>, CheckFault>
+    ensures { Gives result (each_by definition_of (items_of (map J.content values.now))) }
 {
     let mut all = Items::with_capacity(alloc, values.len())?;
     for value in values {
@@ -45,8 +49,8 @@ fn definitions(alloc: Global, values: &[Value]) -> Result<Items<RawVariableDefin
 
 /// A Rule.
 #[tactic(auto, unfolding(crate::specs::Form::rule_of))]
-fn rule(alloc: Global, object: &Value) -> Result<RawRule, CheckFault>
-    ensures { Gives result (rule_of (view object.now)) }
+fn rule<J: JsonTree>(alloc: Global, object: &J) -> Result<RawRule, CheckFault>
+    ensures { Gives result (rule_of (J.content object.now)) }
 {
     let keys = [
         "AdviceExpressions",
@@ -57,7 +61,7 @@ fn rule(alloc: Global, object: &Value) -> Result<RawRule, CheckFault>
         "RuleId",
         "Target",
     ];
-    if !has_only(object, &keys) || !text_or_absent(object, "Description") {
+    if !object.has_only(&keys) || !text_or_absent(object, "Description") {
         return Err(CheckFault::Doc(DocFault::Form));
     }
     let id = required(alloc, object, "RuleId")?;
@@ -77,8 +81,8 @@ fn rule(alloc: Global, object: &Value) -> Result<RawRule, CheckFault>
 }
 
 /// Rules, one for each value.
-fn rules(alloc: Global, values: &[Value]) -> Result<Items<RawRule>, CheckFault>
-    ensures { Gives result (each_by rule_of (items_view values.now)) }
+fn rules<J: JsonTree>(alloc: Global, values: &[J]) -> Result<Items<RawRule>, CheckFault>
+    ensures { Gives result (each_by rule_of (items_of (map J.content values.now))) }
 {
     let mut all = Items::with_capacity(alloc, values.len())?;
     for value in values {
@@ -89,8 +93,8 @@ fn rules(alloc: Global, values: &[Value]) -> Result<Items<RawRule>, CheckFault>
 
 /// A Policy.
 #[tactic(auto, unfolding(crate::specs::Form::policy_of))]
-fn policy(alloc: Global, object: &Value) -> Result<RawPolicy, CheckFault>
-    ensures { Gives result (policy_of (view object.now)) }
+fn policy<J: JsonTree>(alloc: Global, object: &J) -> Result<RawPolicy, CheckFault>
+    ensures { Gives result (policy_of (J.content object.now)) }
 {
     let keys = [
         "AdviceExpressions",
@@ -103,7 +107,7 @@ fn policy(alloc: Global, object: &Value) -> Result<RawPolicy, CheckFault>
         "VariableDefinition",
         "Version",
     ];
-    if !has_only(object, &keys) || !text_or_absent(object, "Description") {
+    if !object.has_only(&keys) || !text_or_absent(object, "Description") {
         return Err(CheckFault::Doc(DocFault::Form));
     }
     let id = required(alloc, object, "PolicyId")?;
@@ -128,8 +132,8 @@ fn policy(alloc: Global, object: &Value) -> Result<RawPolicy, CheckFault>
 /// A PolicySet.
 #[cycle(child)]
 #[tactic(auto, unfolding(crate::specs::Form::set_by))]
-fn set(alloc: Global, object: &Value) -> Result<RawPolicySet, CheckFault>
-    ensures { Gives result (set_by child_of (view object.now)) }
+fn set<J: JsonTree>(alloc: Global, object: &J) -> Result<RawPolicySet, CheckFault>
+    ensures { Gives result (set_by child_of (J.content object.now)) }
 {
     let keys = [
         "AdviceExpressions",
@@ -141,7 +145,7 @@ fn set(alloc: Global, object: &Value) -> Result<RawPolicySet, CheckFault>
         "Target",
         "Version",
     ];
-    if !has_only(object, &keys) || !text_or_absent(object, "Description") {
+    if !object.has_only(&keys) || !text_or_absent(object, "Description") {
         return Err(CheckFault::Doc(DocFault::Form));
     }
     let id = required(alloc, object, "PolicySetId")?;
@@ -165,8 +169,8 @@ fn set(alloc: Global, object: &Value) -> Result<RawPolicySet, CheckFault>
 
 /// Children, one for each value.
 #[cycle(child)]
-fn children(alloc: Global, values: &[Value]) -> Result<Items<RawChild>, CheckFault>
-    ensures { Gives result (each_by child_of (items_view values.now)) }
+fn children<J: JsonTree>(alloc: Global, values: &[J]) -> Result<Items<RawChild>, CheckFault>
+    ensures { Gives result (each_by child_of (items_of (map J.content values.now))) }
 {
     let mut all = Items::with_capacity(alloc, values.len())?;
     for value in values {
@@ -177,10 +181,10 @@ fn children(alloc: Global, values: &[Value]) -> Result<Items<RawChild>, CheckFau
 
 /// One level of a child: a reference or a document.
 #[cycle(child)]
-fn child(alloc: Global, json: &Value) -> Result<RawChild, CheckFault>
-    ensures { Gives result (child_by child_of (view json.now)) }
+fn child<J: JsonTree>(alloc: Global, json: &J) -> Result<RawChild, CheckFault>
+    ensures { Gives result (child_by child_of (J.content json.now)) }
 {
-    let Some((key, body)) = one_member(json) else {
+    let Some((key, body)) = json.one_member() else {
         return Err(CheckFault::Doc(DocFault::Form));
     };
     if let Some(kind) = kind(key) {
@@ -195,8 +199,8 @@ fn child(alloc: Global, json: &Value) -> Result<RawChild, CheckFault>
 /// The document of that key.
 #[cycle(child)]
 #[tactic(auto, unfolding(crate::specs::Form::raw_named))]
-fn document(alloc: Global, key: &str, body: &Value) -> Result<RawDocument, CheckFault>
-    ensures { Gives result (raw_named child_of key.now (view body.now)) }
+fn document<J: JsonTree>(alloc: Global, key: &str, body: &J) -> Result<RawDocument, CheckFault>
+    ensures { Gives result (raw_named child_of key.now (J.content body.now)) }
 {
     if key == "Policy" {
         return Ok(RawDocument::Policy(policy(alloc, body)?));
@@ -209,10 +213,10 @@ fn document(alloc: Global, key: &str, body: &Value) -> Result<RawDocument, Check
 
 /// The document that a JSON value spells, as read. The only fault that is found here is that of its form.
 #[tactic(auto, unfolding(crate::specs::Form::raw_of))]
-fn raw_document(alloc: Global, json: &Value) -> Result<RawDocument, CheckFault>
-    ensures { Gives result (raw_of (view json.now)) }
+fn raw_document<J: JsonTree>(alloc: Global, json: &J) -> Result<RawDocument, CheckFault>
+    ensures { Gives result (raw_of (J.content json.now)) }
 {
-    let (key, body) = one_member(json).ok_or(DocFault::Form)?;
+    let (key, body) = json.one_member().ok_or(DocFault::Form)?;
     document(alloc, key, body)
 }
 
@@ -239,8 +243,8 @@ fn raw_document(alloc: Global, json: &Value) -> Result<RawDocument, CheckFault>
 /// [`DocFault::Form`] for every other key or kind of value, wherever it stands, before any other fault of the document. Then the
 /// first fault that [`ent_policy::check`] finds. [`CheckFault::Memory`] if memory runs out.
 #[tactic(auto, unfolding(crate::specs::Form::document_of))]
-pub fn read_document(alloc: Global, json: &Value) -> Result<Document, CheckFault>
-    ensures { Gives result (document_of (view json.now)) }
+pub fn read_document<J: JsonTree>(alloc: Global, json: &J) -> Result<Document, CheckFault>
+    ensures { Gives result (document_of (J.content json.now)) }
 {
     check(alloc, raw_document(alloc, json)?)
 }

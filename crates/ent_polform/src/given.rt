@@ -1,18 +1,18 @@
 //! Obligation expressions and advice expressions, as the form has them.
 
-ghost use Rattle.std.specs.Prelude.{◌≡◌};
-ghost use Rattle.serde_json.specs.View.{items_view, view};
+ghost use Rattle.std.specs.Prelude.{◌≡◌, map};
+ghost use Rattle.serde_json.specs.View.{items_of};
 ghost use Rattle.ent_policy.specs.Gives.{Gives};
 ghost use Rattle.ent_polform.specs.Given.{assignment_of, effect_of, given_by, given_of};
 ghost use Rattle.ent_polform.specs.Objects.{each_by};
 
 use crate::expression::expression;
-use crate::objects::{has_only, list_at, optional, required, text_at};
+use crate::objects::{list_at, optional, required, text_at};
+use ent_json::JsonTree;
 use ent_policy::{
     CheckFault, DocFault, Effect, RawAssignment, RawGivenExpression, RawGivenExpressions,
 };
 use ent_values::Items;
-use serde_json::Value;
 use std::alloc::Global;
 
 /// The effect of that name.
@@ -30,11 +30,11 @@ pub(crate) fn effect(word: &str) -> Option<Effect>
 
 /// An AttributeAssignmentExpression.
 #[tactic(auto, unfolding(crate::specs::Given::assignment_of))]
-fn assignment(alloc: Global, object: &Value) -> Result<RawAssignment, CheckFault>
-    ensures { Gives result (assignment_of (view object.now)) }
+fn assignment<J: JsonTree>(alloc: Global, object: &J) -> Result<RawAssignment, CheckFault>
+    ensures { Gives result (assignment_of (J.content object.now)) }
 {
     let keys = ["AttributeId", "Category", "Expression", "Issuer"];
-    if !has_only(object, &keys) {
+    if !object.has_only(&keys) {
         return Err(CheckFault::Doc(DocFault::Form));
     }
     let attribute = required(alloc, object, "AttributeId")?;
@@ -51,8 +51,8 @@ fn assignment(alloc: Global, object: &Value) -> Result<RawAssignment, CheckFault
 }
 
 /// AttributeAssignmentExpressions, one for each value.
-fn assignments(alloc: Global, values: &[Value]) -> Result<Items<RawAssignment>, CheckFault>
-    ensures { Gives result (each_by assignment_of (items_view values.now)) }
+fn assignments<J: JsonTree>(alloc: Global, values: &[J]) -> Result<Items<RawAssignment>, CheckFault>
+    ensures { Gives result (each_by assignment_of (items_of (map J.content values.now))) }
 {
     let mut all = Items::with_capacity(alloc, values.len())?;
     for value in values {
@@ -63,16 +63,16 @@ fn assignments(alloc: Global, values: &[Value]) -> Result<Items<RawAssignment>, 
 
 /// An ObligationExpression or an AdviceExpression, by the keys of its id and of its effect.
 #[tactic(auto, unfolding(crate::specs::Given::given_by))]
-fn given_expression(
+fn given_expression<J: JsonTree>(
     alloc: Global,
-    object: &Value,
+    object: &J,
     id_key: &str,
     effect_key: &str,
 ) -> Result<RawGivenExpression, CheckFault>
-    ensures { Gives result (given_by id_key.now effect_key.now (view object.now)) }
+    ensures { Gives result (given_by id_key.now effect_key.now (J.content object.now)) }
 {
     let keys = ["AttributeAssignmentExpression", effect_key, id_key];
-    if !has_only(object, &keys) {
+    if !object.has_only(&keys) {
         return Err(CheckFault::Doc(DocFault::Form));
     }
     let id = required(alloc, object, id_key)?;
@@ -89,13 +89,13 @@ fn given_expression(
 }
 
 /// ObligationExpressions or AdviceExpressions, one for each value.
-fn given_expressions(
+fn given_expressions<J: JsonTree>(
     alloc: Global,
-    values: &[Value],
+    values: &[J],
     id_key: &str,
     effect_key: &str,
 ) -> Result<Items<RawGivenExpression>, CheckFault>
-    ensures { Gives result (each_by (given_by id_key.now effect_key.now) (items_view values.now)) }
+    ensures { Gives result (each_by (given_by id_key.now effect_key.now) (items_of (map J.content values.now))) }
 {
     let mut all = Items::with_capacity(alloc, values.len())?;
     for value in values {
@@ -106,8 +106,11 @@ fn given_expressions(
 
 /// The ObligationExpressions and the AdviceExpressions of a rule, a policy or a set.
 #[tactic(auto, unfolding(crate::specs::Given::given_of))]
-pub(crate) fn given_at(alloc: Global, object: &Value) -> Result<RawGivenExpressions, CheckFault>
-    ensures { Gives result (given_of (view object.now)) }
+pub(crate) fn given_at<J: JsonTree>(
+    alloc: Global,
+    object: &J,
+) -> Result<RawGivenExpressions, CheckFault>
+    ensures { Gives result (given_of (J.content object.now)) }
 {
     let listed = list_at(object, "ObligationExpressions").ok_or(DocFault::Form)?;
     let obligations = given_expressions(alloc, listed, "ObligationId", "FulfillOn")?;

@@ -21,9 +21,7 @@ mod written_values;
 pub use form::read_document;
 pub use law::{documents_read_back, values_read_back};
 pub use members::{filled, only_member, put_optional, put_text};
-pub use objects::{
-    filled_list_at, flag_at, has_only, list_at, one_member, text_at, text_or_absent,
-};
+pub use objects::{filled_list_at, flag_at, list_at, text_at, text_or_absent};
 pub use reference::read_reference;
 pub use text::JsonText;
 pub use value::read_value;

@@ -1,15 +1,14 @@
 //! References to documents, as the form has them.
 
 ghost use Rattle.std.specs.Prelude.{◌≡◌, IfErr, IsTrue};
-ghost use Rattle.serde_json.specs.View.{view};
 ghost use Rattle.ent_policy.specs.Gives.{Gives};
 ghost use Rattle.ent_policy.specs.declared.fault.CheckFault.TheVariants.{Memory};
 ghost use Rattle.ent_polform.specs.Reading.{has_form};
 ghost use Rattle.ent_polform.specs.Reference.{has_reference_form, kind_of, reference_by, reference_key, reference_of};
 
-use crate::objects::{copy_at, has_only, one_member, required, text_or_absent};
+use crate::objects::{copy_at, required, text_or_absent};
+use ent_json::JsonTree;
 use ent_policy::{CheckFault, DocFault, Kind, RawReference, Reference, check_reference};
-use serde_json::Value;
 use std::alloc::Global;
 
 /// The key of a reference to a document of that kind.
@@ -36,10 +35,10 @@ pub(crate) fn kind(key: &str) -> Option<Kind>
 }
 
 /// Whether the value has the keys of a reference, and texts at those that may be absent.
-fn has_reference_form(body: &Value) -> bool
-    ensures { result ≡ has_reference_form (view body.now) }
+fn has_reference_form<J: JsonTree>(body: &J) -> bool
+    ensures { result ≡ has_reference_form (J.content body.now) }
 {
-    has_only(body, &["EarliestVersion", "Id", "LatestVersion", "Version"])
+    body.has_only(&["EarliestVersion", "Id", "LatestVersion", "Version"])
         && text_or_absent(body, "EarliestVersion")
         && text_or_absent(body, "LatestVersion")
         && text_or_absent(body, "Version")
@@ -47,9 +46,13 @@ fn has_reference_form(body: &Value) -> bool
 
 /// A reference to a document of that kind, as read.
 #[tactic(auto, unfolding(crate::specs::Reference::reference_by))]
-pub(crate) fn reference(alloc: Global, kind: Kind, body: &Value) -> Result<RawReference, CheckFault>
-    ensures reference { Gives result (reference_by kind (view body.now)) }
-    ensures memory { IfErr result (λ e. e ≡ Memory → IsTrue (has_form (reference_by kind (view body.now)))) }
+pub(crate) fn reference<J: JsonTree>(
+    alloc: Global,
+    kind: Kind,
+    body: &J,
+) -> Result<RawReference, CheckFault>
+    ensures reference { Gives result (reference_by kind (J.content body.now)) }
+    ensures memory { IfErr result (λ e. e ≡ Memory → IsTrue (has_form (reference_by kind (J.content body.now)))) }
 {
     if !has_reference_form(body) {
         return Err(CheckFault::Doc(DocFault::Form));
@@ -72,11 +75,11 @@ pub(crate) fn reference(alloc: Global, kind: Kind, body: &Value) -> Result<RawRe
 /// [`DocFault::Form`] for any other value. Then the first fault that [`ent_policy::check_reference`] finds.
 /// [`CheckFault::Memory`] if memory runs out, never where the form is wrong.
 #[tactic(auto, unfolding(crate::specs::Reference::reference_of), using(crate::proofs::ReferenceLemmas::keeps_form))]
-pub fn read_reference(alloc: Global, json: &Value) -> Result<Reference, CheckFault>
-    ensures reference { Gives result (reference_of (view json.now)) }
-    ensures memory { IfErr result (λ e. e ≡ Memory → IsTrue (has_form (reference_of (view json.now)))) }
+pub fn read_reference<J: JsonTree>(alloc: Global, json: &J) -> Result<Reference, CheckFault>
+    ensures reference { Gives result (reference_of (J.content json.now)) }
+    ensures memory { IfErr result (λ e. e ≡ Memory → IsTrue (has_form (reference_of (J.content json.now)))) }
 {
-    let (key, body) = one_member(json).ok_or(DocFault::Form)?;
+    let (key, body) = json.one_member().ok_or(DocFault::Form)?;
     let kind = kind(key).ok_or(DocFault::Form)?;
     check_reference(alloc, reference(alloc, kind, body)?)
 }

@@ -1,28 +1,25 @@
 //! Targets and their matches, as the form has them.
 
-ghost use Rattle.std.specs.Prelude.{◌≡◌, codes};
+ghost use Rattle.std.specs.Prelude.{◌≡◌, codes, map};
 ghost use Rattle.serde_json.specs.Find.{get};
-ghost use Rattle.serde_json.specs.View.{items_view, view};
+ghost use Rattle.serde_json.specs.View.{items_of};
 ghost use Rattle.ent_policy.specs.Gives.{Gives};
 ghost use Rattle.ent_polform.specs.Objects.{each_by};
 ghost use Rattle.ent_polform.specs.Targets.{match_of, one_all_of, one_any_of, target_of, target_or_empty};
 
 use crate::expression::{attribute_value, designator};
-use crate::objects::{filled_list_at, has_only, list_at, required};
+use crate::objects::{filled_list_at, list_at, required};
+use ent_json::JsonTree;
 use ent_policy::{CheckFault, DocFault, RawAllOf, RawAnyOf, RawMatch, RawTarget};
 use ent_values::Items;
-use serde_json::Value;
 use std::alloc::Global;
 
 /// A Match.
 #[tactic(auto, unfolding(crate::specs::Targets::match_of))]
-fn one_match(alloc: Global, object: &Value) -> Result<RawMatch, CheckFault>
-    ensures { Gives result (match_of (view object.now)) }
+fn one_match<J: JsonTree>(alloc: Global, object: &J) -> Result<RawMatch, CheckFault>
+    ensures { Gives result (match_of (J.content object.now)) }
 {
-    if !has_only(
-        object,
-        &["AttributeDesignator", "AttributeValue", "MatchId"],
-    ) {
+    if !object.has_only(&["AttributeDesignator", "AttributeValue", "MatchId"]) {
         return Err(CheckFault::Doc(DocFault::Form));
     }
     let function = required(alloc, object, "MatchId")?;
@@ -38,8 +35,8 @@ fn one_match(alloc: Global, object: &Value) -> Result<RawMatch, CheckFault>
 }
 
 /// Matches, one for each value.
-fn matches(alloc: Global, values: &[Value]) -> Result<Items<RawMatch>, CheckFault>
-    ensures { Gives result (each_by match_of (items_view values.now)) }
+fn matches<J: JsonTree>(alloc: Global, values: &[J]) -> Result<Items<RawMatch>, CheckFault>
+    ensures { Gives result (each_by match_of (items_of (map J.content values.now))) }
 {
     let mut all = Items::with_capacity(alloc, values.len())?;
     for value in values {
@@ -50,10 +47,10 @@ fn matches(alloc: Global, values: &[Value]) -> Result<Items<RawMatch>, CheckFaul
 
 /// A member of AllOf.
 #[tactic(auto, unfolding(crate::specs::Targets::one_all_of))]
-fn all_of(alloc: Global, object: &Value) -> Result<RawAllOf, CheckFault>
-    ensures { Gives result (one_all_of (view object.now)) }
+fn all_of<J: JsonTree>(alloc: Global, object: &J) -> Result<RawAllOf, CheckFault>
+    ensures { Gives result (one_all_of (J.content object.now)) }
 {
-    if !has_only(object, &["Match"]) {
+    if !object.has_only(&["Match"]) {
         return Err(CheckFault::Doc(DocFault::Form));
     }
     let values = filled_list_at(object, "Match").ok_or(DocFault::Form)?;
@@ -62,8 +59,8 @@ fn all_of(alloc: Global, object: &Value) -> Result<RawAllOf, CheckFault>
 }
 
 /// Members of AllOf, one for each value.
-fn all_of_list(alloc: Global, values: &[Value]) -> Result<Items<RawAllOf>, CheckFault>
-    ensures { Gives result (each_by one_all_of (items_view values.now)) }
+fn all_of_list<J: JsonTree>(alloc: Global, values: &[J]) -> Result<Items<RawAllOf>, CheckFault>
+    ensures { Gives result (each_by one_all_of (items_of (map J.content values.now))) }
 {
     let mut all = Items::with_capacity(alloc, values.len())?;
     for value in values {
@@ -74,10 +71,10 @@ fn all_of_list(alloc: Global, values: &[Value]) -> Result<Items<RawAllOf>, Check
 
 /// A member of AnyOf.
 #[tactic(auto, unfolding(crate::specs::Targets::one_any_of))]
-fn any_of(alloc: Global, object: &Value) -> Result<RawAnyOf, CheckFault>
-    ensures { Gives result (one_any_of (view object.now)) }
+fn any_of<J: JsonTree>(alloc: Global, object: &J) -> Result<RawAnyOf, CheckFault>
+    ensures { Gives result (one_any_of (J.content object.now)) }
 {
-    if !has_only(object, &["AllOf"]) {
+    if !object.has_only(&["AllOf"]) {
         return Err(CheckFault::Doc(DocFault::Form));
     }
     let values = filled_list_at(object, "AllOf").ok_or(DocFault::Form)?;
@@ -86,8 +83,8 @@ fn any_of(alloc: Global, object: &Value) -> Result<RawAnyOf, CheckFault>
 }
 
 /// Members of AnyOf, one for each value.
-fn any_of_list(alloc: Global, values: &[Value]) -> Result<Items<RawAnyOf>, CheckFault>
-    ensures { Gives result (each_by one_any_of (items_view values.now)) }
+fn any_of_list<J: JsonTree>(alloc: Global, values: &[J]) -> Result<Items<RawAnyOf>, CheckFault>
+    ensures { Gives result (each_by one_any_of (items_of (map J.content values.now))) }
 {
     let mut all = Items::with_capacity(alloc, values.len())?;
     for value in values {
@@ -98,10 +95,10 @@ fn any_of_list(alloc: Global, values: &[Value]) -> Result<Items<RawAnyOf>, Check
 
 /// A Target.
 #[tactic(auto, unfolding(crate::specs::Targets::target_of))]
-fn target(alloc: Global, object: &Value) -> Result<RawTarget, CheckFault>
-    ensures { Gives result (target_of (view object.now)) }
+fn target<J: JsonTree>(alloc: Global, object: &J) -> Result<RawTarget, CheckFault>
+    ensures { Gives result (target_of (J.content object.now)) }
 {
-    if !has_only(object, &["AnyOf"]) {
+    if !object.has_only(&["AnyOf"]) {
         return Err(CheckFault::Doc(DocFault::Form));
     }
     let values = list_at(object, "AnyOf").ok_or(DocFault::Form)?;
@@ -110,8 +107,8 @@ fn target(alloc: Global, object: &Value) -> Result<RawTarget, CheckFault>
 }
 
 /// The Target of a rule or a policy, empty where there is none.
-pub(crate) fn target_at(alloc: Global, object: &Value) -> Result<RawTarget, CheckFault>
-    ensures { Gives result (target_or_empty (get (codes "Target") (view object.now))) }
+pub(crate) fn target_at<J: JsonTree>(alloc: Global, object: &J) -> Result<RawTarget, CheckFault>
+    ensures { Gives result (target_or_empty (get (codes "Target") (J.content object.now))) }
 {
     match object.get("Target") {
         None => Ok(RawTarget {

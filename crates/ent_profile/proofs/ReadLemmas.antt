@@ -4,8 +4,7 @@ use Rattle.std.specs.List.{list_all, list_any}
 use Rattle.serde_json.specs.Data as json
 use Rattle.serde_json.specs.Data.{Data}
 use Rattle.serde_json.specs.Find.{as_array}
-use Rattle.serde_json.specs.View.{items_of, view}
-use Rattle.serde_json.specs.declared.value.Value.{Value}
+use Rattle.serde_json.specs.View.{items_of}
 use Rattle.ent_profile.specs.declared.fault.RequestFault.{RequestFault}
 use Rattle.ent_profile.specs.declared.fault.RequestFault.TheVariants as faults
 use Rattle.ent_profile.specs.Reading.{◌>>=◌, Lacks, each, gathered, members, one_or_many}
@@ -42,18 +41,21 @@ regroup front x (Some xs) = ap (λ ys. Some ys) (sym (append_assoc front (x ∷ 
 regroup front x None = refl
 
 -- a member is read, and goes to the end of what was read
-pub goes_on : {A : Type 0} (f : Data → Option A) (front : List A) (vs : List Value) (i : ℕ) (v : Value) (x : A) (total : Option (List A)) → i < length vs → v ≡ get_or vs i v → f (view v) ≡ Some x
-    → with_front front (each f (map view (drop i vs))) ≡ total → with_front (front ++ x ∷ []) (each f (map view (drop (i + 1) vs))) ≡ total
-goes_on f front vs i v x total lt here h so_far =
-    let one : with_front front (each f (map view (drop i vs))) ≡ with_front (front ++ x ∷ []) (each f (map view (drop (i + 1) vs))) = rw (add-one, drop-cons vs i v, ← here, h) (regroup front x _) in
+pub goes_on : {A J : Type 0} (content : J → Data) (f : Data → Option A) (front : List A) (vs : List J) (i : ℕ) (v : J) (x : A) (total : Option (List A))
+    → i < length vs → v ≡ get_or vs i v → f (content v) ≡ Some x
+    → with_front front (each f (map content (drop i vs))) ≡ total → with_front (front ++ x ∷ []) (each f (map content (drop (i + 1) vs))) ≡ total
+goes_on content f front vs i v x total lt here h so_far =
+    let one : with_front front (each f (map content (drop i vs))) ≡ with_front (front ++ x ∷ []) (each f (map content (drop (i + 1) vs)))
+    = rw (add-one, drop-cons vs i v, ← here, h) (regroup front x _) in
     sym one ∙ so_far
 
 -- a member that can't be read, so that the list can't be
-pub ends : {A : Type 0} (f : Data → Option A) (e : RequestFault) (front : List A) (vs : List Value) (i : ℕ) (v : Value) (total : Option (List A)) → i < length vs → v ≡ get_or vs i v → Lacks e (f (view v))
-    → with_front front (each f (map view (drop i vs))) ≡ total → Lacks e total
-ends f faults.Memory front vs i v total lt here h so_far = tt
-ends f faults.Bad front vs i v total lt here h so_far =
-    let one : with_front front (each f (map view (drop i vs))) ≡ None = rw (drop-cons vs i v, ← here, h) refl in
+pub ends : {A J : Type 0} (content : J → Data) (f : Data → Option A) (e : RequestFault) (front : List A) (vs : List J) (i : ℕ) (v : J) (total : Option (List A))
+    → i < length vs → v ≡ get_or vs i v → Lacks e (f (content v))
+    → with_front front (each f (map content (drop i vs))) ≡ total → Lacks e total
+ends content f faults.Memory front vs i v total lt here h so_far = tt
+ends content f faults.Bad front vs i v total lt here h so_far =
+    let one : with_front front (each f (map content (drop i vs))) ≡ None = rw (drop-cons vs i v, ← here, h) refl in
     sym so_far ∙ one
 
 -- ---- lists of what is read

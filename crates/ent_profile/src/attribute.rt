@@ -3,7 +3,6 @@
 ghost use Rattle.std.specs.Prelude.{◌≡◌, codes, map};
 ghost use Rattle.std.specs.List.{list_all};
 ghost use Rattle.serde_json.specs.Find.{get};
-ghost use Rattle.serde_json.specs.View.{view};
 ghost use Rattle.ent_polform.specs.Values.{value_in};
 ghost use Rattle.ent_profile.specs.Asks.{attribute_of, attributes_of, bag_of, is_boolean, is_number, is_text, type_at, type_by_values, values_of};
 ghost use Rattle.ent_profile.specs.Reading.{Reads, each};
@@ -11,36 +10,36 @@ ghost use Rattle.ent_profile.specs.Reading.{Reads, each};
 use crate::fault::RequestFault;
 use crate::form::{MOST_MEMBERS, at_most, maybe_name_at, name_in, none_or_many, one_or_many};
 use ent_eval::Attribute;
-use ent_polform::{flag_at, has_only, read_value, text_or_absent};
+use ent_json::JsonTree;
+use ent_polform::{flag_at, read_value, text_or_absent};
 use ent_values::{Bag, DataType, Items, Text, Value as AttributeValue};
-use serde_json::Value;
 use std::alloc::Global;
 
 /// Whether all are texts.
-fn are_texts(values: &[Value]) -> bool
-    ensures { result ≡ list_all (λ v. is_text (view v)) values.now }
+fn are_texts<J: JsonTree>(values: &[J]) -> bool
+    ensures { result ≡ list_all (λ v. is_text (J.content v)) values.now }
 {
-    values.iter().all(|value| value.is_string())
+    values.iter().all(|value| value.as_str().is_some())
 }
 
 /// Whether all are booleans.
-fn are_booleans(values: &[Value]) -> bool
-    ensures { result ≡ list_all (λ v. is_boolean (view v)) values.now }
+fn are_booleans<J: JsonTree>(values: &[J]) -> bool
+    ensures { result ≡ list_all (λ v. is_boolean (J.content v)) values.now }
 {
-    values.iter().all(|value| value.is_boolean())
+    values.iter().all(|value| value.as_bool().is_some())
 }
 
 /// Whether all are numbers.
-fn are_numbers(values: &[Value]) -> bool
-    ensures { result ≡ list_all (λ v. is_number (view v)) values.now }
+fn are_numbers<J: JsonTree>(values: &[J]) -> bool
+    ensures { result ≡ list_all (λ v. is_number (J.content v)) values.now }
 {
     values.iter().all(|value| value.is_number())
 }
 
 /// The type of values that name none.
 #[tactic(auto, unfolding(crate::specs::Asks::type_by_values), using(crate::proofs::ReadLemmas::all_seen))]
-fn type_by_values(values: &[Value]) -> Option<DataType>
-    ensures { result ≡ type_by_values (map view values.now) }
+fn type_by_values<J: JsonTree>(values: &[J]) -> Option<DataType>
+    ensures { result ≡ type_by_values (map J.content values.now) }
 {
     if are_texts(values) {
         return Some(DataType::Text);
@@ -55,8 +54,8 @@ fn type_by_values(values: &[Value]) -> Option<DataType>
 }
 
 /// The type of an attribute's values.
-fn type_at(object: &Value, values: &[Value]) -> Option<DataType>
-    ensures { result ≡ type_at (get (codes "DataType") (view object.now)) (map view values.now) }
+fn type_at<J: JsonTree>(object: &J, values: &[J]) -> Option<DataType>
+    ensures { result ≡ type_at (get (codes "DataType") (J.content object.now)) (map J.content values.now) }
 {
     match object.get("DataType") {
         None => type_by_values(values),
@@ -65,23 +64,23 @@ fn type_at(object: &Value, values: &[Value]) -> Option<DataType>
 }
 
 /// The value of that type that a JSON value spells.
-fn one_value(
+fn one_value<J: JsonTree>(
     alloc: Global,
     datatype: DataType,
-    json: &Value,
+    json: &J,
 ) -> Result<AttributeValue, RequestFault>
-    ensures { Reads result (value_in datatype (view json.now)) }
+    ensures { Reads result (value_in datatype (J.content json.now)) }
 {
     Ok(read_value(alloc, datatype, json)?)
 }
 
 /// The values of that type that JSON values spell.
-fn each_value(
+fn each_value<J: JsonTree>(
     alloc: Global,
     datatype: DataType,
-    values: &[Value],
+    values: &[J],
 ) -> Result<Items<AttributeValue>, RequestFault>
-    ensures { Reads result (each (value_in datatype) (map view values.now)) }
+    ensures { Reads result (each (value_in datatype) (map J.content values.now)) }
 {
     let mut all = Items::with_capacity(alloc, values.len())?;
     for value in values {
@@ -92,16 +91,16 @@ fn each_value(
 
 /// The bag of the values of that type that JSON values spell.
 #[tactic(auto, using(crate::proofs::TypeLemmas::all_typed))]
-fn bag(alloc: Global, datatype: DataType, values: &[Value]) -> Result<Bag, RequestFault>
-    ensures { Reads result (values_of datatype (map view values.now)) }
+fn bag<J: JsonTree>(alloc: Global, datatype: DataType, values: &[J]) -> Result<Bag, RequestFault>
+    ensures { Reads result (values_of datatype (map J.content values.now)) }
 {
     Ok(Bag::of(datatype, each_value(alloc, datatype, values)?))
 }
 
 /// The values of an attribute.
 #[tactic(auto, unfolding(crate::specs::Asks::bag_of))]
-fn bag_of(alloc: Global, object: &Value) -> Result<Bag, RequestFault>
-    ensures { Reads result (bag_of (view object.now)) }
+fn bag_of<J: JsonTree>(alloc: Global, object: &J) -> Result<Bag, RequestFault>
+    ensures { Reads result (bag_of (J.content object.now)) }
 {
     let value = object.get("Value").ok_or(RequestFault::Bad)?;
     let values = at_most(MOST_MEMBERS, one_or_many(value)).ok_or(RequestFault::Bad)?;
@@ -111,8 +110,8 @@ fn bag_of(alloc: Global, object: &Value) -> Result<Bag, RequestFault>
 
 /// An attribute.
 #[tactic(auto, unfolding(crate::specs::Asks::attribute_of))]
-fn attribute(alloc: Global, object: &Value) -> Result<Attribute, RequestFault>
-    ensures { Reads result (attribute_of (view object.now)) }
+fn attribute<J: JsonTree>(alloc: Global, object: &J) -> Result<Attribute, RequestFault>
+    ensures { Reads result (attribute_of (J.content object.now)) }
 {
     let keys = [
         "AttributeId",
@@ -121,7 +120,7 @@ fn attribute(alloc: Global, object: &Value) -> Result<Attribute, RequestFault>
         "Issuer",
         "Value",
     ];
-    if !has_only(object, &keys) {
+    if !object.has_only(&keys) {
         return Err(RequestFault::Bad);
     }
     let id = object.get("AttributeId").ok_or(RequestFault::Bad)?;
@@ -138,8 +137,11 @@ fn attribute(alloc: Global, object: &Value) -> Result<Attribute, RequestFault>
 }
 
 /// Attributes, one for each value.
-fn each_attribute(alloc: Global, values: &[Value]) -> Result<Items<Attribute>, RequestFault>
-    ensures { Reads result (each attribute_of (map view values.now)) }
+fn each_attribute<J: JsonTree>(
+    alloc: Global,
+    values: &[J],
+) -> Result<Items<Attribute>, RequestFault>
+    ensures { Reads result (each attribute_of (map J.content values.now)) }
 {
     let mut all = Items::with_capacity(alloc, values.len())?;
     for value in values {
@@ -150,8 +152,11 @@ fn each_attribute(alloc: Global, values: &[Value]) -> Result<Items<Attribute>, R
 
 /// The attributes of a category.
 #[tactic(auto, unfolding(crate::specs::Asks::attributes_of))]
-pub(crate) fn attributes(alloc: Global, object: &Value) -> Result<Items<Attribute>, RequestFault>
-    ensures { Reads result (attributes_of (view object.now)) }
+pub(crate) fn attributes<J: JsonTree>(
+    alloc: Global,
+    object: &J,
+) -> Result<Items<Attribute>, RequestFault>
+    ensures { Reads result (attributes_of (J.content object.now)) }
 {
     if !text_or_absent(object, "Id") {
         return Err(RequestFault::Bad);

@@ -1,7 +1,6 @@
 //! The categories of a request.
 
 ghost use Rattle.std.specs.Prelude.{◌≡◌, map};
-ghost use Rattle.serde_json.specs.View.{view};
 ghost use Rattle.ent_profile.specs.Asks.{categories_of, category_at, category_by, category_of};
 ghost use Rattle.ent_profile.specs.Reading.{Reads, each, gathered};
 
@@ -10,17 +9,16 @@ use crate::categories::{NamedCategory, expanded};
 use crate::fault::RequestFault;
 use crate::form::{MOST_MEMBERS, at_most, name_in, none_or_many};
 use ent_eval::Category;
-use ent_polform::has_only;
+use ent_json::JsonTree;
 use ent_values::{Items, Text};
-use serde_json::Value;
 use std::alloc::Global;
 
 /// A category that stands at a short name.
 #[tactic(auto, unfolding(crate::specs::Asks::category_by))]
-fn category_by(alloc: Global, uri: &str, object: &Value) -> Result<Category, RequestFault>
-    ensures { Reads result (category_by uri.now (view object.now)) }
+fn category_by<J: JsonTree>(alloc: Global, uri: &str, object: &J) -> Result<Category, RequestFault>
+    ensures { Reads result (category_by uri.now (J.content object.now)) }
 {
-    if !has_only(object, &["Attribute", "Id"]) {
+    if !object.has_only(&["Attribute", "Id"]) {
         return Err(RequestFault::Bad);
     }
     let attributes = attributes(alloc, object)?;
@@ -29,8 +27,12 @@ fn category_by(alloc: Global, uri: &str, object: &Value) -> Result<Category, Req
 }
 
 /// Categories that stand at a short name, one for each value.
-fn each_by(alloc: Global, uri: &str, values: &[Value]) -> Result<Items<Category>, RequestFault>
-    ensures { Reads result (each (category_by uri.now) (map view values.now)) }
+fn each_by<J: JsonTree>(
+    alloc: Global,
+    uri: &str,
+    values: &[J],
+) -> Result<Items<Category>, RequestFault>
+    ensures { Reads result (each (category_by uri.now) (map J.content values.now)) }
 {
     let mut all = Items::with_capacity(alloc, values.len())?;
     for value in values {
@@ -41,12 +43,12 @@ fn each_by(alloc: Global, uri: &str, values: &[Value]) -> Result<Items<Category>
 
 /// The category that stands at a short name, if it is there.
 #[tactic(auto, unfolding(crate::specs::Asks::category_at))]
-fn category_at(
+fn category_at<J: JsonTree>(
     alloc: Global,
-    object: &Value,
+    object: &J,
     category: NamedCategory,
 ) -> Result<Items<Category>, RequestFault>
-    ensures { Reads result (category_at (view object.now) category) }
+    ensures { Reads result (category_at (J.content object.now) category) }
 {
     let values = none_or_many(object, category.short_name());
     let values = at_most(1, values).ok_or(RequestFault::Bad)?;
@@ -54,12 +56,12 @@ fn category_at(
 }
 
 /// The categories that stand at short names.
-fn at_names(
+fn at_names<J: JsonTree>(
     alloc: Global,
-    object: &Value,
+    object: &J,
     names: &[NamedCategory],
 ) -> Result<Items<Category>, RequestFault>
-    ensures { Reads result (gathered (category_at (view object.now)) names.now) }
+    ensures { Reads result (gathered (category_at (J.content object.now)) names.now) }
 {
     let mut all = Items::new(alloc);
     for name in names {
@@ -70,10 +72,10 @@ fn at_names(
 
 /// A category that names itself.
 #[tactic(auto, unfolding(crate::specs::Asks::category_of))]
-fn category_of(alloc: Global, object: &Value) -> Result<Category, RequestFault>
-    ensures { Reads result (category_of (view object.now)) }
+fn category_of<J: JsonTree>(alloc: Global, object: &J) -> Result<Category, RequestFault>
+    ensures { Reads result (category_of (J.content object.now)) }
 {
-    if !has_only(object, &["Attribute", "CategoryId", "Id"]) {
+    if !object.has_only(&["Attribute", "CategoryId", "Id"]) {
         return Err(RequestFault::Bad);
     }
     let id = object.get("CategoryId").ok_or(RequestFault::Bad)?;
@@ -84,8 +86,8 @@ fn category_of(alloc: Global, object: &Value) -> Result<Category, RequestFault>
 }
 
 /// Categories that name themselves, one for each value.
-fn each_other(alloc: Global, values: &[Value]) -> Result<Items<Category>, RequestFault>
-    ensures { Reads result (each category_of (map view values.now)) }
+fn each_other<J: JsonTree>(alloc: Global, values: &[J]) -> Result<Items<Category>, RequestFault>
+    ensures { Reads result (each category_of (map J.content values.now)) }
 {
     let mut all = Items::with_capacity(alloc, values.len())?;
     for value in values {
@@ -96,8 +98,11 @@ fn each_other(alloc: Global, values: &[Value]) -> Result<Items<Category>, Reques
 
 /// The categories of a request, in their order.
 #[tactic(auto, unfolding(crate::specs::Asks::categories_of))]
-pub(crate) fn categories(alloc: Global, object: &Value) -> Result<Items<Category>, RequestFault>
-    ensures { Reads result (categories_of (view object.now)) }
+pub(crate) fn categories<J: JsonTree>(
+    alloc: Global,
+    object: &J,
+) -> Result<Items<Category>, RequestFault>
+    ensures { Reads result (categories_of (J.content object.now)) }
 {
     let mut all = at_names(alloc, object, &NamedCategory::all())?;
     let values = none_or_many(object, "Category");

@@ -2,16 +2,14 @@
 
 ghost use Rattle.std.specs.Prelude.{◌≡◌, map, option_map};
 ghost use Rattle.serde_json.specs.Find.{get};
-ghost use Rattle.serde_json.specs.View.{view};
 ghost use Rattle.ent_profile.specs.Asks.{is_unset, name_in};
 ghost use Rattle.ent_profile.specs.Reading.{Reads, at_most, maybe, none_or_many, one_or_many};
 
 use crate::fault::RequestFault;
+use ent_json::JsonTree;
 use ent_polform::flag_at;
 use ent_values::Text;
-use serde_json::Value;
 use std::alloc::Global;
-use std::slice;
 
 /// How many members a list of a request may have.
 pub(crate) const MOST_MEMBERS: usize = 256;
@@ -21,18 +19,18 @@ const MOST_BYTES: usize = 256;
 
 /// The members of an array; every other value stands for itself.
 #[tactic(auto, using(crate::proofs::ReadLemmas::many_members, crate::proofs::ReadLemmas::one_member))]
-pub(crate) fn one_or_many(value: &Value) -> &[Value]
-    ensures { map view result.now ≡ one_or_many (view value.now) }
+pub(crate) fn one_or_many<J: JsonTree>(value: &J) -> &[J]
+    ensures { map J.content result.now ≡ one_or_many (J.content value.now) }
 {
     match value.as_array() {
-        Some(values) => values.as_slice(),
-        None => slice::from_ref(value),
+        Some(values) => values,
+        None => value.as_one(),
     }
 }
 
 /// What stands at a key, as a list, which is empty where the key is absent.
-pub(crate) fn none_or_many<'a>(object: &'a Value, key: &str) -> &'a [Value]
-    ensures { map view result.now ≡ none_or_many (get key.now (view object.now)) }
+pub(crate) fn none_or_many<'a, J: JsonTree>(object: &'a J, key: &str) -> &'a [J]
+    ensures { map J.content result.now ≡ none_or_many (get key.now (J.content object.now)) }
 {
     match object.get(key) {
         None => &[],
@@ -41,8 +39,8 @@ pub(crate) fn none_or_many<'a>(object: &'a Value, key: &str) -> &'a [Value]
 }
 
 /// The list, unless it has more members than that.
-pub(crate) fn at_most(most: usize, values: &[Value]) -> Option<&[Value]>
-    ensures { option_map (λ s. map view s.now) result ≡ at_most most (map view values.now) }
+pub(crate) fn at_most<J: JsonTree>(most: usize, values: &[J]) -> Option<&[J]>
+    ensures { option_map (λ s. map J.content s.now) result ≡ at_most most (map J.content values.now) }
 {
     if values.len() > most {
         return None;
@@ -51,8 +49,8 @@ pub(crate) fn at_most(most: usize, values: &[Value]) -> Option<&[Value]>
 }
 
 /// A text of 1 to 256 bytes.
-pub(crate) fn name_in(value: &Value) -> Option<&str>
-    ensures { option_map (λ s. s.now) result ≡ name_in (view value.now) }
+pub(crate) fn name_in<J: JsonTree>(value: &J) -> Option<&str>
+    ensures { option_map (λ s. s.now) result ≡ name_in (J.content value.now) }
 {
     let text = value.as_str()?;
     if text.is_empty() || text.len() > MOST_BYTES {
@@ -62,12 +60,12 @@ pub(crate) fn name_in(value: &Value) -> Option<&str>
 }
 
 /// A copy of the text of 1 to 256 bytes at a key, if it is there.
-pub(crate) fn maybe_name_at(
+pub(crate) fn maybe_name_at<J: JsonTree>(
     alloc: Global,
-    object: &Value,
+    object: &J,
     key: &str,
 ) -> Result<Option<Text>, RequestFault>
-    ensures { Reads result (maybe name_in (get key.now (view object.now))) }
+    ensures { Reads result (maybe name_in (get key.now (J.content object.now))) }
 {
     match object.get(key) {
         None => Ok(None),
@@ -79,8 +77,8 @@ pub(crate) fn maybe_name_at(
 }
 
 /// Whether a flag is absent or false.
-pub(crate) fn is_unset(object: &Value, key: &str) -> bool
-    ensures { result ≡ is_unset key.now (view object.now) }
+pub(crate) fn is_unset<J: JsonTree>(object: &J, key: &str) -> bool
+    ensures { result ≡ is_unset key.now (J.content object.now) }
 {
     flag_at(object, key) == Some(false)
 }

@@ -2,7 +2,6 @@
 
 ghost use Rattle.std.specs.Prelude.{◌≡◌, bytes_eq, map};
 ghost use Rattle.std.specs.List.{list_any};
-ghost use Rattle.serde_json.specs.View.{view};
 ghost use Rattle.ent_policy.specs.Limits.{has_double};
 ghost use Rattle.ent_profile.specs.Asks.{asks, has_request_form, request_of};
 ghost use Rattle.ent_profile.specs.Reading.{Reads};
@@ -11,14 +10,14 @@ use crate::category::categories;
 use crate::fault::RequestFault;
 use crate::form::is_unset;
 use ent_eval::{Category, Request};
-use ent_polform::{has_only, text_or_absent};
-use serde_json::Value;
+use ent_json::JsonTree;
+use ent_polform::text_or_absent;
 use std::alloc::Global;
 
 /// Whether the value has the keys of a request, and no wish that isn't met.
 #[tactic(auto, unfolding(crate::specs::Asks::has_request_form, crate::specs::Categories::short_name))]
-fn has_request_form(object: &Value) -> bool
-    ensures { result ≡ has_request_form (view object.now) }
+fn has_request_form<J: JsonTree>(object: &J) -> bool
+    ensures { result ≡ has_request_form (J.content object.now) }
 {
     let keys = [
         "AccessSubject",
@@ -34,7 +33,7 @@ fn has_request_form(object: &Value) -> bool
         "ReturnPolicyIdList",
         "XPathVersion",
     ];
-    has_only(object, &keys)
+    object.has_only(&keys)
         && is_unset(object, "CombinedDecision")
         && is_unset(object, "ReturnPolicyIdList")
         && text_or_absent(object, "XPathVersion")
@@ -63,8 +62,8 @@ fn has_double(categories: &[Category]) -> bool
 
 /// A request.
 #[tactic(auto, unfolding(crate::specs::Asks::request_of))]
-fn request(alloc: Global, object: &Value) -> Result<Request, RequestFault>
-    ensures { Reads result (request_of (view object.now)) }
+fn request<J: JsonTree>(alloc: Global, object: &J) -> Result<Request, RequestFault>
+    ensures { Reads result (request_of (J.content object.now)) }
 {
     if !has_request_form(object) {
         return Err(RequestFault::Bad);
@@ -89,10 +88,10 @@ fn request(alloc: Global, object: &Value) -> Result<Request, RequestFault>
 /// [`RequestFault::Bad`] if the value asks for no request: also where it has any other key, or asks for a combined decision or for a
 /// list of policies. [`RequestFault::Memory`] if memory runs out.
 #[tactic(auto, unfolding(crate::specs::Asks::asks))]
-pub fn read_request(alloc: Global, json: &Value) -> Result<Request, RequestFault>
-    ensures { Reads result (asks (view json.now)) }
+pub fn read_request<J: JsonTree>(alloc: Global, json: &J) -> Result<Request, RequestFault>
+    ensures { Reads result (asks (J.content json.now)) }
 {
-    if !has_only(json, &["Request"]) {
+    if !json.has_only(&["Request"]) {
         return Err(RequestFault::Bad);
     }
     let body = json.get("Request").ok_or(RequestFault::Bad)?;

@@ -7,12 +7,14 @@ ghost use Rattle.ent_line.specs.declared.fault.ServeFault.TheVariants.{Write};
 ghost use Rattle.ent_program.specs.Checking.{Checks, Judges, is_passed, line_of, passed_of, refusal_line, verdict_of};
 ghost use Rattle.ent_program.specs.declared.checking.Verdict.TheVariants.{Passed};
 
+use ent_json::read_json;
 use ent_line::refusal::{DOCUMENT, NOT_JSON, TOO_LONG};
-use ent_line::{LINE_LIMIT, ServeFault, read_json, send_all};
+use ent_line::{LINE_LIMIT, ServeFault, send_all};
 use ent_polform::read_document;
 use ent_policy::{CheckFault, DocFault, Document, Kind};
 use ent_values::Text;
 use itoa::Buffer;
+use json::Scratch;
 use std::alloc::{AllocError, Global};
 use std::io::{ErrorKind, Read, Write};
 use thiserror::Error;
@@ -71,7 +73,8 @@ fn verdict_on(alloc: Global, bytes: &[u8]) -> Result<Verdict, AllocError>
     if bytes.len() > FILE_LIMIT {
         return Ok(Verdict::Refused(FileFault::TooLong));
     }
-    let Some(json) = read_json(alloc, bytes)? else {
+    let mut scratch = Scratch::new(alloc);
+    let Some(json) = read_json(alloc, bytes, &mut scratch)? else {
         return Ok(Verdict::Refused(FileFault::NotJson));
     };
     match read_document(alloc, &json) {

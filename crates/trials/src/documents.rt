@@ -1,8 +1,9 @@
 //! The JSON of documents, references and values: what is read of it, and what is written.
 
+use ent_json::JsonTree;
 use ent_polform::{
-    filled_list_at, flag_at, has_only, list_at, one_member, read_document, read_reference,
-    read_value, text_at, text_or_absent, write_document, write_value,
+    filled_list_at, flag_at, list_at, read_document, read_reference, read_value, text_at,
+    text_or_absent, write_document, write_value,
 };
 use ent_policy::{CheckFault, DocFault, Document, Expression, Kind, Tree};
 use ent_values::{DataType, Date, Value, ValueFault, YearMonth};
@@ -320,7 +321,7 @@ fn length(list: Option<&[Json]>) -> Option<usize> {
 fn members_of_objects(rt: HostRuntime) -> Result<(), Fail> {
     let json = json_of(rt.alloc(), OBJECT)?;
     for &(keys, is_all) in KEYS {
-        assert!(rt; has_only(&json, keys) == is_all);
+        assert!(rt; json.has_only(keys) == is_all);
     }
     for &(key, text, is_text) in TEXTS {
         assert!(rt; text_at(&json, key) == text, "{key}");
@@ -339,7 +340,7 @@ fn members_of_objects(rt: HostRuntime) -> Result<(), Fail> {
 /// Whether that is the only key of the object that the text spells, or it has not just one.
 fn has_one_key(alloc: Global, text: &str, want: Option<&str>) -> Result<bool, Fail> {
     let json = json_of(alloc, text)?;
-    Ok(one_member(&json).map(|member| member.0) == want)
+    Ok(json.one_member().map(|member| member.0) == want)
 }
 
 #[test]

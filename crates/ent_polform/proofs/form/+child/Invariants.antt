@@ -1,22 +1,20 @@
-use Rattle.std.proofs.Common.{◌≡◌, ◌+◌, ◌*◌, drop}
+use Rattle.std.proofs.Common.{◌+◌, ◌*◌}
 use Rattle.serde_json.specs.Data.{depth, items_depth}
-use Rattle.serde_json.specs.View.{view, items_view}
 use Rattle.ent_polform.specs.Form.{child_of}
-use Rattle.ent_polform.specs.Objects.{each_by}
-use Rattle.ent_polform.proofs.FormLemmas.{with_front}
+use Rattle.ent_polform.proofs.FormLemmas.{HasRead, items_in}
 use Rattle.ent_polform.proofs.form.+child.Given as goal
 
 abbrev pub decreases-child : goal.decreases-child
-decreases-child l = 4 * depth (view l.json.now)
+decreases-child g l = 4 * depth (g.J.JsonTree.content l.json.now)
 
 abbrev pub decreases-document : goal.decreases-document
-decreases-document l = 4 * depth (view l.body.now) + 3
+decreases-document g l = 4 * depth (g.J.JsonTree.content l.body.now) + 3
 
 abbrev pub decreases-set : goal.decreases-set
-decreases-set l = 4 * depth (view l.object.now) + 2
+decreases-set g l = 4 * depth (g.J.JsonTree.content l.object.now) + 2
 
 abbrev pub decreases-children : goal.decreases-children
-decreases-children l = 4 * items_depth (items_view l.values.now) + 1
+decreases-children g l = 4 * items_depth (items_in g.J.JsonTree.content l.values.now) + 1
 
 abbrev pub invariant-children-loop-value : goal.invariant-children-loop-value
-invariant-children-loop-value l = with_front l.all (each_by child_of (items_view (drop l.value-index l.values))) ≡ each_by child_of (items_view l.values)
+invariant-children-loop-value g l = HasRead g.J.JsonTree.content child_of l.values l.value-index l.all

@@ -1,9 +1,6 @@
-use Rattle.std.proofs.Common.{◌≡◌, drop}
-use Rattle.serde_json.specs.View.{items_view}
 use Rattle.ent_polform.specs.Form.{definition_of}
-use Rattle.ent_polform.specs.Objects.{each_by}
-use Rattle.ent_polform.proofs.FormLemmas.{with_front}
+use Rattle.ent_polform.proofs.FormLemmas.{HasRead}
 use Rattle.ent_polform.proofs.form.definitions.Given as goal
 
 abbrev pub invariant-loop-value : goal.invariant-loop-value
-invariant-loop-value l = with_front l.all (each_by definition_of (items_view (drop l.value-index l.values))) ≡ each_by definition_of (items_view l.values)
+invariant-loop-value g l = HasRead g.J.JsonTree.content definition_of l.values l.value-index l.all

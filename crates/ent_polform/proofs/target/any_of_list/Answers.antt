@@ -1,18 +1,15 @@
 use Rattle.std.proofs.lemmas.Result.{err_from_is_err_and}
-use Rattle.serde_json.specs.View.{items_view}
 use Rattle.ent_polform.specs.Targets.{one_any_of}
-use Rattle.ent_polform.specs.Objects.{each_by}
-use Rattle.ent_polform.proofs.FormLemmas.{goes_on, ends}
+use Rattle.ent_polform.proofs.FormLemmas.{ends, goes_on}
 use Rattle.ent_polform.proofs.target.any_of_list.Goals as goal
 
 pub returns-in_err-any_of : goal.returns-in_err-any_of
-returns-in_err-any_of c =
+returns-in_err-any_of g c =
     let p = err_from_is_err_and c.from_residual-in_err-any_of.result c.from_residual-in_err-any_of.ensures.1 in
-    let vs = c.args.values.now in
-    rw (p.1, p.2) (ends one_any_of c.in_err-any_of.field-0.0 c.loop-value.all vs c.loop-value.value-index c.value-item.result (each_by one_any_of (items_view vs)) c.loop-value-test.true c.value-item.is c.in_err-any_of.ensures c.loop-value.invariant)
+    rw (p.1, p.2) (ends g.J.JsonTree.content one_any_of c.args.values.now c.loop-value.value-index c.value-item.result c.loop-value.all c.in_err-any_of.field-0.0
+    c.loop-value-test.true c.value-item.is c.in_err-any_of.ensures c.loop-value.invariant)
 
 pub loop-value-preserved : goal.loop-value-preserved
-loop-value-preserved c =
-    let x = c.in_ok-any_of.field-0 in
-    let vs = c.args.values.now in
-    rw c.in_ok-push.ensures.ok (goes_on one_any_of c.loop-value.all vs c.loop-value.value-index c.value-item.result x (each_by one_any_of (items_view vs)) c.loop-value-test.true c.value-item.is c.in_ok-any_of.ensures c.loop-value.invariant)
+loop-value-preserved g c =
+    rw c.in_ok-push.ensures.ok (goes_on g.J.JsonTree.content one_any_of c.args.values.now c.loop-value.value-index c.value-item.result c.loop-value.all c.in_ok-any_of.field-0
+    c.loop-value-test.true c.value-item.is c.in_ok-any_of.ensures c.loop-value.invariant)

@@ -1,9 +1,8 @@
 use Rattle.std.proofs.Common.{◌≡◌, drop}
-use Rattle.serde_json.specs.View.{view}
 use Rattle.ent_profile.specs.Asks.{category_at}
 use Rattle.ent_profile.specs.Reading.{gathered}
 use Rattle.ent_profile.proofs.ReadLemmas.{with_front}
 use Rattle.ent_profile.proofs.category.at_names.Given as goal
 
 abbrev pub invariant-loop-name : goal.invariant-loop-name
-invariant-loop-name l = with_front l.all (gathered (category_at (view l.object)) (drop l.name-index l.names)) ≡ gathered (category_at (view l.object)) l.names
+invariant-loop-name g l = with_front l.all (gathered (category_at (g.J.JsonTree.content l.object)) (drop l.name-index l.names)) ≡ gathered (category_at (g.J.JsonTree.content l.object)) l.names

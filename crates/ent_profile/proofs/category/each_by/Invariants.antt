@@ -1,9 +1,8 @@
 use Rattle.std.proofs.Common.{◌≡◌, drop, map}
-use Rattle.serde_json.specs.View.{view}
 use Rattle.ent_profile.specs.Asks.{category_by}
 use Rattle.ent_profile.specs.Reading.{each}
 use Rattle.ent_profile.proofs.ReadLemmas.{with_front}
 use Rattle.ent_profile.proofs.category.each_by.Given as goal
 
 abbrev pub invariant-loop-value : goal.invariant-loop-value
-invariant-loop-value l = with_front l.all (each (category_by l.uri) (map view (drop l.value-index l.values))) ≡ each (category_by l.uri) (map view l.values)
+invariant-loop-value g l = with_front l.all (each (category_by l.uri) (map g.J.JsonTree.content (drop l.value-index l.values))) ≡ each (category_by l.uri) (map g.J.JsonTree.content l.values)

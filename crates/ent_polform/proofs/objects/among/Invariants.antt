@@ -1,6 +1,0 @@
-use Rattle.std.proofs.Common.{◌≡◌, drop, map}
-use Rattle.ent_polform.specs.Objects.{among}
-use Rattle.ent_polform.proofs.objects.among.Given as goal
-
-abbrev pub invariant-loop-k : goal.invariant-loop-k
-invariant-loop-k l = among l.key (map (λ k. k.now) (drop l.k-index l.keys)) ≡ among l.key (map (λ k. k.now) l.keys)
