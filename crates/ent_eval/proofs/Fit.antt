@@ -16,7 +16,6 @@ use Rattle.ent_policy.specs.declared.document.Child.TheFolds.{fold-PolicySet, fo
 use Rattle.ent_policy.specs.declared.document.Child.TheViews.{roll-Child, roll-PolicySet}
 use Rattle.ent_policy.specs.declared.document.PolicySet.{PolicySet}
 use Rattle.ent_policy.specs.declared.document.Tree.{Tree}
-use Rattle.ent_policy.specs.declared.document.Tree.TheVariants as trees
 use Rattle.ent_policy.specs.declared.fault.DocFault.{DocFault}
 use Rattle.ent_policy.specs.declared.fault.DocFault.TheVariants.{Size}
 use Rattle.ent_eval.specs.Typed.{fit_step, is_fit, set_is_fit}
@@ -88,11 +87,6 @@ set_layer y limit typed =
 
 child_fits : (c : Child) → ChildFits c
 child_fits = ind-Child ChildFits SetFits (λ x y is. subst (λ z. ChildFits (roll-Child z)) is (child_layer y)) (λ x y is. subst (λ z. SetFits (roll-PolicySet z)) is (set_layer y))
-
--- a set that is a document
-pub set_of_tree : (t : Tree) (s : PolicySet) → t ≡ trees.Set s → is_fit (as_child t) ≡ true → set_is_fit s ≡ true
-unfolding Rattle.ent_policy.specs.declared.document.Child.TheViews.roll-Child denote.Hole.Carrier.roll
-set_of_tree t s is fit = sym (fit_roll (Child-F.Set s)) ∙ ap (λ u. is_fit (as_child u)) (sym is) ∙ fit
 
 -- each expression has its type, and no set has more than 256 children
 pub sound_fit : (t : Tree) → tree_fault t ≡ None → is_typed (as_child t) ≡ true → is_fit (as_child t) ≡ true

@@ -13,17 +13,14 @@ use Rattle.ent_policy.specs.declared.document.PolicySet.{PolicySet}
 use Rattle.ent_policy.specs.declared.key.DocKey.{DocKey}
 use Rattle.ent_policy.specs.declared.key.Kind.TheVariants as kind
 use Rattle.ent_eval.specs.declared.request.Request.{Request}
-use Rattle.ent_eval.specs.declared.target.Targeted.{Targeted}
 use Rattle.ent_eval.specs.Looks.{Looks}
 use Rattle.ent_eval.specs.Hops.{children_combined, child_target, node_of, only_child, set_children, set_part}
 use Rattle.ent_eval.specs.Given.{finished}
-use Rattle.ent_eval.specs.Node.{Node, child_step, children_after, children_part, combined, element, refer, set_step}
-use Rattle.ent_eval.specs.Noted.{Notes, noting}
+use Rattle.ent_eval.specs.Node.{Node, child_step, children_part, combined, element, refer, set_step}
 use Rattle.ent_eval.specs.Only.{only_one}
 use Rattle.ent_eval.specs.Target.{target_part}
 use Rattle.ent_eval.specs.Typed.{fit_step, is_fit, set_is_fit}
 use Rattle.ent_eval.proofs.Typing.{both_true}
-use Rattle.ent_eval.proofs.Walk.{noting_both}
 
 pub map-map : {X Y Z : Type 0} (f : X → Y) (g : Y → Z) (xs : List X) → map g (map f xs) ≡ map (λ x. g (f x)) xs
 map-map f g [] = refl
@@ -59,14 +56,6 @@ set-fit set fit =
     let both = both_true (list_all (λ b. b) (map is_fit set.children)) (given_is_typed [] set.given) inside.1 in
     let short : length (map is_fit set.children) ≤ 256 = few (length (map is_fit set.children)) inside.0 in
     (parts.0, (subst (λ n. n ≤ 256) (length-map set.children is_fit) short, (sym (all_map is_fit set.children) ∙ both.0, both.1)))
-
--- the set's reads, after its target and its children
-pub set-reads : (looks : Looks) (request : Request) (hops : ℕ) (path : List DocKey) (set : PolicySet) (t : Targeted) (keys first next : Notes) → t ≡ (target_part looks request set.target).value
-    → first ≡ noting keys (target_part looks request set.target).reads → next ≡ noting first (children_after (finished looks request [] set.given) (set_children looks request hops path set) t).reads → next ≡ noting keys (set_part looks request hops path set).reads
-set-reads looks request hops path set t keys first next t-is first-is is =
-    is ∙ ap (λ s. noting first (children_after (finished looks request [] set.given) (set_children looks request hops path set) s).reads) t-is
-    ∙ ap (λ ks. noting ks (children_after (finished looks request [] set.given) (set_children looks request hops path set) (target_part looks request set.target).value).reads) first-is
-    ∙ noting_both keys (target_part looks request set.target).reads _ ∙ ap (λ p. noting keys p.reads) (sym (set_out looks request hops path set))
 
 -- the children of a set, by its algorithm
 pub shared-part : (looks : Looks) (request : Request) (hops : ℕ) (path : List DocKey) (set : PolicySet) (algorithm : RuleAlg) (here : List DocKey) (children : List Child) → set.algorithm ≡ Shared algorithm

@@ -26,6 +26,10 @@ left_part looks request path (Set set hops targeted) = set_after looks request h
 abbrev pub IsLeft : Part Answer → Part Answer → Notes → Notes → Type 0
 IsLeft whole left before after = (left.value ≡ whole.value) × (noting after left.reads ≡ noting before whole.reads)
 
+-- an opened child is what is left of a whole, wherever that stands
+abbrev pub Leaves : Looks → Request → (Looks → Request → List DocKey → Part Answer) → Notes → Notes → Opened → Type 0
+Leaves looks request whole before after opened = (path : List DocKey) → IsLeft (whole looks request path) (left_part looks request path opened) before after
+
 -- what is left can be evaluated
 abbrev pub is_fit_left : Opened → Bool
 is_fit_left (Policy policy targeted) = policy_is_typed policy.now

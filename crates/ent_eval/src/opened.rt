@@ -1,17 +1,16 @@
 //! Children of which the target was looked at, and what is left of them.
 
-ghost use Rattle.std.specs.Prelude.{◌≡◌, ◌≤◌, ◌+◌, ◌*◌, List, IfOk, OnOk, true};
+ghost use Rattle.std.specs.Prelude.{◌≡◌, ◌≤◌, ◌+◌, ◌*◌, IfOk, OnOk, true};
 ghost use Rattle.ent_policy.specs.Children.{as_child};
 ghost use Rattle.ent_policy.specs.Depths.{depth};
 ghost use Rattle.ent_policy.specs.Typing.{policy_is_typed};
 ghost use Rattle.ent_policy.specs.declared.document.Child.{size-Child};
 ghost use Rattle.ent_policy.specs.declared.document.PolicySet.{size-PolicySet};
-ghost use Rattle.ent_policy.specs.declared.key.DocKey.{DocKey};
 ghost use Rattle.ent_eval.specs.Hops.{child_part, followed_part, reference_part, set_part};
 ghost use Rattle.ent_eval.specs.Judged.{or_nothing};
 ghost use Rattle.ent_eval.specs.Node.{policy_part};
 ghost use Rattle.ent_eval.specs.Noted.{noting};
-ghost use Rattle.ent_eval.specs.Opened.{IsLeft, is_fit_left, left_part, worth, worth_of_hop};
+ghost use Rattle.ent_eval.specs.Opened.{Leaves, is_fit_left, left_part, worth, worth_of_hop};
 ghost use Rattle.ent_eval.specs.Path.{keys_of};
 ghost use Rattle.ent_eval.specs.Typed.{is_fit, set_is_fit};
 
@@ -49,7 +48,7 @@ impl<'a, L: LookUps> Scene<'a, L> {
     ) -> Result<Opened<'a>, AllocError>
         requires fit { is_fit child.now ≡ true }
         requires own { own.old ≡ self.now.request.now }
-        ensures left { IfOk result (λ o. (path : List DocKey) → IsLeft (child_part (L.looks self.now.held.now) self.now.request.now hops path child.now) (left_part (L.looks self.now.held.now) self.now.request.now path o) reads.old reads.new) }
+        ensures left { IfOk result (Leaves (L.looks self.now.held.now) self.now.request.now (λ looks request path. child_part looks request hops path child.now) reads.old reads.new) }
         ensures fit { IfOk result (λ o. is_fit_left o ≡ true) }
         ensures worth { IfOk result (λ o. worth o ≤ hops * worth_of_hop + 8 * size-Child child.now) }
         ensures own { own.new ≡ own.old }
@@ -71,7 +70,7 @@ impl<'a, L: LookUps> Scene<'a, L> {
         reference: &Reference,
     ) -> Result<Opened<'a>, AllocError>
         requires own { own.old ≡ self.now.request.now }
-        ensures left { IfOk result (λ o. (path : List DocKey) → IsLeft (reference_part (L.looks self.now.held.now) self.now.request.now hops path reference.now) (left_part (L.looks self.now.held.now) self.now.request.now path o) reads.old reads.new) }
+        ensures left { IfOk result (Leaves (L.looks self.now.held.now) self.now.request.now (λ looks request path. reference_part looks request hops path reference.now) reads.old reads.new) }
         ensures fit { IfOk result (λ o. is_fit_left o ≡ true) }
         ensures worth { IfOk result (λ o. worth o ≤ hops * worth_of_hop) }
         ensures own { own.new ≡ own.old }
@@ -92,7 +91,7 @@ impl<'a, L: LookUps> Scene<'a, L> {
         reference: &Reference,
     ) -> Result<Opened<'a>, AllocError>
         requires own { own.old ≡ self.now.request.now }
-        ensures left { IfOk result (λ o. (path : List DocKey) → IsLeft (followed_part (L.looks self.now.held.now) self.now.request.now hops path reference.now) (left_part (L.looks self.now.held.now) self.now.request.now path o) reads.old reads.new) }
+        ensures left { IfOk result (Leaves (L.looks self.now.held.now) self.now.request.now (λ looks request path. followed_part looks request hops path reference.now) reads.old reads.new) }
         ensures fit { IfOk result (λ o. is_fit_left o ≡ true) }
         ensures worth { IfOk result (λ o. worth o ≤ hops * worth_of_hop + 8 * 31) }
         ensures own { own.new ≡ own.old }
@@ -115,7 +114,7 @@ impl<'a, L: LookUps> Scene<'a, L> {
         requires fit { is_fit (as_child tree.now) ≡ true }
         requires shallow { depth (as_child tree.now) ≤ 16 }
         requires own { own.old ≡ self.now.request.now }
-        ensures left { IfOk result (λ o. (path : List DocKey) → IsLeft (child_part (L.looks self.now.held.now) self.now.request.now hops path (as_child tree.now)) (left_part (L.looks self.now.held.now) self.now.request.now path o) reads.old reads.new) }
+        ensures left { IfOk result (Leaves (L.looks self.now.held.now) self.now.request.now (λ looks request path. child_part looks request hops path (as_child tree.now)) reads.old reads.new) }
         ensures fit { IfOk result (λ o. is_fit_left o ≡ true) }
         ensures worth { IfOk result (λ o. worth o ≤ hops * worth_of_hop + 8 * 31) }
         ensures own { own.new ≡ own.old }
@@ -137,7 +136,7 @@ impl<'a, L: LookUps> Scene<'a, L> {
     ) -> Result<Opened<'a>, AllocError>
         requires typed { policy_is_typed policy.now ≡ true }
         requires own { own.old ≡ self.now.request.now }
-        ensures left { IfOk result (λ o. (path : List DocKey) → IsLeft (policy_part (L.looks self.now.held.now) self.now.request.now path policy.now) (left_part (L.looks self.now.held.now) self.now.request.now path o) reads.old reads.new) }
+        ensures left { IfOk result (Leaves (L.looks self.now.held.now) self.now.request.now (λ looks request path. policy_part looks request path policy.now) reads.old reads.new) }
         ensures fit { IfOk result (λ o. is_fit_left o ≡ true) }
         ensures worth { IfOk result (λ o. worth o ≡ 0) }
         ensures own { own.new ≡ own.old }
@@ -159,7 +158,7 @@ impl<'a, L: LookUps> Scene<'a, L> {
     ) -> Result<Opened<'a>, AllocError>
         requires fit { set_is_fit set.now ≡ true }
         requires own { own.old ≡ self.now.request.now }
-        ensures left { IfOk result (λ o. (path : List DocKey) → IsLeft (set_part (L.looks self.now.held.now) self.now.request.now hops path set.now) (left_part (L.looks self.now.held.now) self.now.request.now path o) reads.old reads.new) }
+        ensures left { IfOk result (Leaves (L.looks self.now.held.now) self.now.request.now (λ looks request path. set_part looks request hops path set.now) reads.old reads.new) }
         ensures fit { IfOk result (λ o. is_fit_left o ≡ true) }
         ensures worth { IfOk result (λ o. worth o ≤ hops * worth_of_hop + 8 * size-PolicySet set.now) }
         ensures own { own.new ≡ own.old }
