@@ -1,7 +1,8 @@
 //! The checker, which makes documents.
 
 ghost use Rattle.std.specs.Prelude.{◌≡◌, IfOk};
-ghost use Rattle.ent_policy.specs.Check.{checked, reference_checked, tree_fault, whole_fault};
+ghost use Rattle.ent_policy.specs.Check.{checked, reference_checked, tree_fault, unless_fault, whole_fault, WasRead};
+ghost use Rattle.ent_policy.specs.First.{earlier};
 ghost use Rattle.ent_policy.specs.Children.{as_child};
 ghost use Rattle.ent_policy.specs.Gives.{Gives};
 
@@ -28,10 +29,21 @@ use std::alloc::{AllocError, Global};
 pub fn check(alloc: Global, raw: RawDocument) -> Result<Document, CheckFault>
     ensures { Gives result (checked raw) }
 {
-    let Read { value: tree, fault } = document(alloc, raw)?;
-    match earlier(fault, tree_fault(alloc, &tree)?) {
-        Some(fault) => Err(CheckFault::Doc(fault)),
-        None => Ok(Document::new(tree)),
+    passed(alloc, document(alloc, raw)?)
+}
+
+/// What was read, unless its reading or its tree has a fault.
+#[tactic(auto, unfolding(crate::specs::Check::checked, crate::specs::Check::fault_of))]
+fn passed(alloc: Global, read: Read<Tree>) -> Result<Document, CheckFault>
+    requires { WasRead read }
+    ensures { Gives result (unless_fault (earlier read.fault (tree_fault read.value)) read.value) }
+{
+    match tree_fault(alloc, &read.value) {
+        Err(AllocError) => Err(CheckFault::Memory),
+        Ok(found) => match earlier(read.fault, found) {
+            Some(fault) => Err(CheckFault::Doc(fault)),
+            None => Ok(Document::new(read.value)),
+        },
     }
 }
 

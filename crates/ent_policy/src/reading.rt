@@ -2,7 +2,7 @@
 
 ghost use Rattle.std.specs.Prelude.{◌≡◌, IfOk};
 ghost use Rattle.ent_policy.specs.Reading.{apply_read, designator_read, child_read, document_read, each_read, expression_read, function_read};
-ghost use Rattle.ent_policy.specs.Reading.{maybe_read, policy_algorithm_read, policy_read, rule_algorithm_read, set_read, target_read, version_read};
+ghost use Rattle.ent_policy.specs.Reading.{definition_read, given_read, maybe_read, policy_algorithm_read, policy_read, rule_algorithm_read, rule_read, set_read, target_read, version_read};
 
 use crate::document::{
     AllOf, AnyOf, Child, Designator, Match, Policy, PolicySet, Rule, Target, Tree,
@@ -10,10 +10,11 @@ use crate::document::{
 use crate::expression::{Expression, VariableDefinition};
 use crate::fault::DocFault;
 use crate::first::{earlier, first_of};
+use crate::given::GivenExpressions;
 use crate::literals::value;
 use crate::raw::{
-    RawAllOf, RawAnyOf, RawChild, RawDesignator, RawDocument, RawExpression, RawMatch, RawPolicy,
-    RawPolicySet, RawRule, RawTarget, RawVariableDefinition,
+    RawAllOf, RawAnyOf, RawChild, RawDesignator, RawDocument, RawExpression, RawGivenExpressions,
+    RawMatch, RawPolicy, RawPolicySet, RawRule, RawTarget, RawVariableDefinition,
 };
 use crate::read::{Read, Readable, done, each, known, made};
 use crate::reading_given::given;
@@ -185,6 +186,18 @@ fn target(alloc: Global, raw: RawTarget) -> Result<Read<Target>, AllocError>
     Ok(made(each(alloc, raw.any_of)?, |any_of| Target { any_of }))
 }
 
+/// The target, and the obligations and advice, of a rule, a policy or a set.
+fn target_and_given(
+    alloc: Global,
+    meant: RawTarget,
+    meant_given: RawGivenExpressions,
+) -> Result<(Read<Target>, Read<GivenExpressions>), AllocError>
+    ensures { IfOk result (λ r. (r.0 ≡ target_read meant) × (r.1 ≡ given_read meant_given)) }
+{
+    let target = target(alloc, meant)?;
+    Ok((target, given(alloc, meant_given)?))
+}
+
 impl Readable<VariableDefinition> for RawVariableDefinition {
     ghost use Rattle.ent_policy.specs.Reading.{definition_read};
 
@@ -228,9 +241,8 @@ impl Readable<Rule> for RawRule {
             condition: tested,
             given: meant_given,
         } = self;
-        let target = target(alloc, meant)?;
+        let (target, given) = target_and_given(alloc, meant, meant_given)?;
         let condition = condition(alloc, tested)?;
-        let given = given(alloc, meant_given)?;
         Ok(Read {
             fault: first_of(&[target.fault, condition.fault, given.fault]),
             value: Rule {
@@ -244,16 +256,26 @@ impl Readable<Rule> for RawRule {
     }
 }
 
+/// The variables and the rules of a policy.
+fn variables_and_rules(
+    alloc: Global,
+    meant: Items<RawVariableDefinition>,
+    tested: Items<RawRule>,
+) -> Result<(Read<Items<VariableDefinition>>, Read<Items<Rule>>), AllocError>
+    ensures { IfOk result (λ r. (r.0 ≡ each_read definition_read meant) × (r.1 ≡ each_read rule_read tested)) }
+{
+    let variables = each(alloc, meant)?;
+    Ok((variables, each(alloc, tested)?))
+}
+
 #[tactic(auto, unfolding(crate::specs::Reading::policy_read))]
 fn policy(alloc: Global, raw: RawPolicy) -> Result<Read<Policy>, AllocError>
     ensures { IfOk result (λ r. r ≡ policy_read raw) }
 {
     let version = version(raw.version.as_str());
     let algorithm = rule_algorithm(raw.algorithm.as_str());
-    let target = target(alloc, raw.target)?;
-    let variables = each(alloc, raw.variables)?;
-    let rules = each(alloc, raw.rules)?;
-    let given = given(alloc, raw.given)?;
+    let (target, given) = target_and_given(alloc, raw.target, raw.given)?;
+    let (variables, rules) = variables_and_rules(alloc, raw.variables, raw.rules)?;
     Ok(Read {
         fault: first_of(&[
             version.fault,
@@ -311,9 +333,8 @@ fn set(alloc: Global, raw: RawPolicySet) -> Result<Read<PolicySet>, AllocError>
 {
     let version = version(raw.version.as_str());
     let algorithm = policy_algorithm(raw.algorithm.as_str());
-    let target = target(alloc, raw.target)?;
+    let (target, given) = target_and_given(alloc, raw.target, raw.given)?;
     let children = children(alloc, raw.children)?;
-    let given = given(alloc, raw.given)?;
     Ok(Read {
         fault: first_of(&[
             version.fault,

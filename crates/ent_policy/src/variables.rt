@@ -187,6 +187,20 @@ fn add_all_uses<'a>(
     Ok(())
 }
 
+/// Enters a definition, unless it was entered before: the walk leaves it once it has entered those that it uses.
+fn enter<'a>(
+    definition: &'a VariableDefinition,
+    by_id: &BTreeMap<&str, &'a VariableDefinition>,
+    entered: &mut BTreeSet<&'a str>,
+    steps: &mut Vec<Step<'a>>,
+) -> Result<(), AllocError> {
+    if entered.insert(definition.id.as_str())? {
+        steps.push(Step::Leave(definition))?;
+        add_uses(&definition.expression, by_id, steps)?;
+    }
+    Ok(())
+}
+
 /// Numbers by the ids of definitions, from `count` down as the walk leaves them.
 fn walk<'a>(
     alloc: Global,
@@ -201,10 +215,7 @@ fn walk<'a>(
         match steps.pop() {
             None => return Ok(ranks),
             Some(Step::Enter(definition)) => {
-                if entered.insert(definition.id.as_str())? {
-                    steps.push(Step::Leave(definition))?;
-                    add_uses(&definition.expression, by_id, &mut steps)?;
-                }
+                enter(definition, by_id, &mut entered, &mut steps)?;
             }
             Some(Step::Leave(definition)) => {
                 ranks.insert(definition.id.as_str(), rank)?;
