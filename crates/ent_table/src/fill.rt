@@ -1,6 +1,6 @@
 //! The fresh table, evaluated aside.
 
-ghost use Rattle.std.specs.Prelude.{◌≡◌, ℕ, List, ◌++◌, map, IfOk, IfSome, OnOk};
+ghost use Rattle.std.specs.Prelude.{◌≡◌, ℕ, List, ◌++◌, ◌∷◌, [], map, IfOk, IfSome, OnOk};
 ghost use Rattle.ent_eval.specs.Answer.{answer};
 ghost use Rattle.ent_eval.specs.Listed.{about, asked_about};
 ghost use Rattle.ent_eval.specs.LooksOf.{looks_of};
@@ -48,6 +48,23 @@ fn equal<'c>(cell: Option<&'c Shared<Answer>>, answer: &Answer) -> Option<&'c Sh
     }
 }
 
+/// A cell nearby whose answer is equal, if there is one.
+fn equal_nearby<'c>(
+    nearby: &'c Nearby<'_>,
+    cells: &'c [Shared<Answer>],
+    answer: &Answer,
+) -> Option<&'c Shared<Answer>>
+    ensures { IfSome result (λ c. c.now ≡ answer.now) }
+{
+    if let Some(cell) = equal(cells.last(), answer) {
+        return Some(cell);
+    }
+    if let Some(cell) = equal(nearby.in_table(cells), answer) {
+        return Some(cell);
+    }
+    equal(nearby.of_person_before(cells), answer)
+}
+
 /// An answer, which the next cell shares with one nearby where that is equal.
 fn shared(
     alloc: Global,
@@ -57,16 +74,10 @@ fn shared(
 ) -> Result<Shared<Answer>, AllocError>
     ensures { IfOk result (λ s. s ≡ answer) }
 {
-    if let Some(cell) = equal(cells.last(), &answer) {
-        return cell.copy();
+    match equal_nearby(nearby, cells, &answer) {
+        Some(cell) => cell.copy(),
+        None => Shared::new(alloc, answer),
     }
-    if let Some(cell) = equal(nearby.in_table(cells), &answer) {
-        return cell.copy();
-    }
-    if let Some(cell) = equal(nearby.of_person_before(cells), &answer) {
-        return cell.copy();
-    }
-    Shared::new(alloc, answer)
 }
 
 /// The categories of the resources, in their order.
@@ -99,6 +110,26 @@ fn evaluate_about<A: Attributes, P: Policies>(
     answer
 }
 
+/// Appends the answer to what a request asks, about another resource.
+fn append_answer<A: Attributes, P: Policies>(
+    alloc: Global,
+    pdp: &mut Pdp<A, P>,
+    request: &mut Request,
+    resource: &mut Category,
+    nearby: &Nearby<'_>,
+    cells: &mut Vec<Shared<Answer>>,
+) -> Result<(), AllocError>
+    ensures cells { OnOk result (cells.new.items ≡ cells.old.items ++ answer (looks_of A.sources P.slots pdp.old) (asked_about resource.old request.old) ∷ []) }
+    ensures request { request.new ≡ request.old }
+    ensures resource { resource.new ≡ resource.old }
+    ensures rest { pdp.new ≡ record pdp.old { evaluations = pdp.new.evaluations } }
+{
+    let answer = evaluate_about(alloc, pdp, request, resource)?;
+    let cell = shared(alloc, nearby, cells.as_slice(), answer)?;
+    cells.push(cell)?;
+    Ok(())
+}
+
 /// Appends the answers for a person and an action with each of the resources, of which these are the categories. One request serves
 /// for all of them.
 fn evaluate_resources<A: Attributes, P: Policies>(
@@ -117,9 +148,7 @@ fn evaluate_resources<A: Attributes, P: Policies>(
 {
     let mut request = Request::listed(alloc, person, action, "")?;
     for category in categories.iter_mut() {
-        let answer = evaluate_about(alloc, pdp, &mut request, category)?;
-        let cell = shared(alloc, nearby, cells.as_slice(), answer)?;
-        cells.push(cell)?;
+        append_answer(alloc, pdp, &mut request, category, nearby, cells)?;
     }
     Ok(())
 }

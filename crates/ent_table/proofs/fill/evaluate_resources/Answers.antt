@@ -12,14 +12,14 @@ loop-category-preserved g c =
     let looks = looks_of g.A.Attributes.sources g.P.Policies.slots c.args.pdp.now in
     let category = c.category-item.result in
     let there = c.category-item.is in
-    let is : c.in_ok-answer.answer ≡ asked looks c.args.person.now c.args.action.now category =
-    c.in_ok-answer.ensures.answer
-    ∙ (λ t. answer (looks_of g.A.Attributes.sources g.P.Policies.slots (c.loop-category.invariant.rest t)) (asked_about (sym there t) (c.loop-category.invariant.request t))) in
+    let is : answer (looks_of g.A.Attributes.sources g.P.Policies.slots c.loop-category.pdp) (asked_about (get_or c.loop-category.categories c.loop-category.category-index category) c.loop-category.request)
+    ≡ asked looks c.args.person.now c.args.action.now category =
+    λ t. answer (looks_of g.A.Attributes.sources g.P.Policies.slots (c.loop-category.invariant.rest t)) (asked_about (sym there t) (c.loop-category.invariant.request t)) in
     record {
-      cells = c.in_ok-push.ensures.items ∙ one_more_asked (asked looks c.args.person.now c.args.action.now) c.args.cells.now.items c.loop-category.cells.items c.args.categories.now c.loop-category.category-index category c.in_ok-cell.cell
-          c.loop-category-test.true (there ∙ ap (λ cs. get_or cs c.loop-category.category-index category) c.loop-category.invariant.categories) (c.in_ok-cell.ensures ∙ is) c.loop-category.invariant.cells;
+      cells = c.in_ok-append_answer.ensures.cells ∙ one_more_asked (asked looks c.args.person.now c.args.action.now) c.args.cells.now.items c.loop-category.cells.items c.args.categories.now c.loop-category.category-index category _
+          c.loop-category-test.true (there ∙ ap (λ cs. get_or cs c.loop-category.category-index category) c.loop-category.invariant.categories) is c.loop-category.invariant.cells;
       request = search rules;
-      categories = ap (λ r. slice_set c.loop-category.categories c.loop-category.category-index r) c.in_ok-answer.ensures.resource ∙ set-get_or c.loop-category.categories c.loop-category.category-index category ∙ c.loop-category.invariant.categories;
+      categories = ap (λ r. slice_set c.loop-category.categories c.loop-category.category-index r) c.append_answer.ensures.resource ∙ set-get_or c.loop-category.categories c.loop-category.category-index category ∙ c.loop-category.invariant.categories;
       rest = search rules;
     }
 
