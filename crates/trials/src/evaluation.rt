@@ -1,5 +1,9 @@
 //! Evaluations: look-ups, answers and their copies, the count; and documents exchanged in a module.
 
+ghost use Rattle.std.specs.Option.{ForSome};
+ghost use Rattle.std.specs.Prelude.{◌≡◌};
+ghost use Rattle.ent_policy.specs.Key.{key_of};
+
 use crate::documents::document;
 use ent_combine::{IndKind, Outcome};
 use ent_eval::{Answer, Category, Evaluation, Pdp, ReadKey, Reads, Request, Status, WhyEntry};
@@ -7,7 +11,9 @@ use ent_finder::{
     AttributeFinder, AttributeFinderModule, MapDocs, MapRows, Policies, PolicyFinder,
     PolicyFinderModule,
 };
-use ent_policy::{DocKey, Kind, Name, Reference, Version, VersionConstraints, VersionMatch};
+use ent_policy::{
+    DocKey, Document, Kind, Name, Reference, Version, VersionConstraints, VersionMatch,
+};
 use ent_values::{Items, Text};
 use std::alloc::{AllocError, Global};
 use std::test::Fail;
@@ -39,7 +45,7 @@ pub(crate) fn reference(alloc: Global, id: &str) -> Result<Reference, Fail> {
 }
 
 /// The key of a version of a policy.
-fn key_of(alloc: Global, id: &str, version: &str) -> Result<DocKey, Fail> {
+fn key_with(alloc: Global, id: &str, version: &str) -> Result<DocKey, Fail> {
     let version = Version::parse(version).ok_or("no version")?;
     Ok(DocKey {
         kind: Kind::Policy,
@@ -50,20 +56,38 @@ fn key_of(alloc: Global, id: &str, version: &str) -> Result<DocKey, Fail> {
 
 /// The key of a version of `p1`.
 fn key(alloc: Global, version: &str) -> Result<DocKey, Fail> {
-    key_of(alloc, "p1", version)
+    key_with(alloc, "p1", version)
 }
 
-/// Stores the document that the text spells in the first module.
-pub(crate) fn put(alloc: Global, pdp: &mut Pdp, text: &str) -> Result<(), Fail> {
-    let document = document(alloc, text)?;
+/// Exchanges a document in the first module, if there is one.
+fn swap_in_first<P: Policies>(
+    policies: &mut P,
+    key: &DocKey,
+    slot: &mut Option<Document>,
+) -> Result<(), AllocError>
+    requires { ForSome slot.old (λ d. key_of d ≡ key.now) }
+{
+    if policies.len() == 0 {
+        return Ok(());
+    }
+    policies.swap_document(0, key, slot)
+}
+
+/// Stores a document in the first module, if there is one.
+fn put_in_first<P: Policies>(
+    alloc: Global,
+    policies: &mut P,
+    document: Document,
+) -> Result<(), AllocError> {
     let key = document.key(alloc)?;
     let mut slot = Some(document);
-    let policies = pdp.policies_mut();
-    if policies.len() == 0 {
-        return Err(Fail::new("no module"));
-    }
-    policies.swap_document(0, &key, &mut slot)?;
-    Ok(())
+    swap_in_first(policies, &key, &mut slot)
+}
+
+/// Stores the document that the text spells in the first module, if there is one.
+pub(crate) fn put(alloc: Global, pdp: &mut Pdp, text: &str) -> Result<(), Fail> {
+    let document = document(alloc, text)?;
+    Ok(put_in_first(alloc, pdp.policies_mut(), document)?)
 }
 
 /// Makes `p1`, which permits reading, the root.
@@ -279,12 +303,35 @@ fn roots_decide(rt: HostRuntime) -> Result<(), Fail> {
     Ok(())
 }
 
+/// Exchanges a document in a module.
+fn swap<M: PolicyFinderModule>(
+    module: &mut M,
+    key: &DocKey,
+    slot: &mut Option<Document>,
+) -> Result<(), AllocError>
+    requires { ForSome slot.old (λ d. key_of d ≡ key.now) }
+    ensures { ForSome slot.new (λ d. key_of d ≡ key.now) }
+{
+    module.swap_document(key, slot)
+}
+
+/// Stores a document in a module.
+fn keep<M: PolicyFinderModule>(
+    module: &mut M,
+    key: &DocKey,
+    document: Document,
+) -> Result<(), AllocError>
+    requires { key_of document ≡ key.now }
+{
+    let mut slot = Some(document);
+    swap(module, key, &mut slot)
+}
+
 /// Stores a version of `p1` in a module, and gives its key.
 fn store(alloc: Global, module: &mut MapDocs, text: &str) -> Result<DocKey, Fail> {
     let document = document(alloc, text)?;
     let key = document.key(alloc)?;
-    let mut slot = Some(document);
-    module.swap_document(&key, &mut slot)?;
+    keep(module, &key, document)?;
     Ok(key)
 }
 
@@ -298,22 +345,37 @@ fn found(alloc: Global, module: &MapDocs) -> Result<Option<u32>, Fail> {
     Ok(document.key(alloc)?.version.numbers().get(1).copied())
 }
 
-/// What is found in a module with two versions of `p1`: at first, while the later one is taken out, and when it is put back.
-fn found_in_turn(alloc: Global) -> Result<[Option<u32>; 3], Fail> {
-    let mut module = MapDocs::new(alloc);
-    let _between = store(alloc, &mut module, BETWEEN)?;
-    let later = store(alloc, &mut module, DENYING)?;
-    let first = found(alloc, &module)?;
+/// What is found in a module while the document of a key is taken out, and when it is put back.
+fn found_around(
+    alloc: Global,
+    module: &mut MapDocs,
+    key: &DocKey,
+    out: &mut Option<Document>,
+) -> Result<(Option<u32>, Option<u32>), Fail>
+    requires { ForSome out.old (λ d. key_of d ≡ key.now) }
+{
+    swap(module, key, out)?;
+    let without = found(alloc, module)?;
+    swap(module, key, out)?;
+    Ok((without, found(alloc, module)?))
+}
+
+/// What is found in a module once there is a version between, and a later one that is then taken out and put back.
+fn found_in_turn(
+    alloc: Global,
+    module: &mut MapDocs,
+) -> Result<(Option<u32>, (Option<u32>, Option<u32>)), Fail> {
+    let later = store(alloc, module, DENYING)?;
+    let first = found(alloc, module)?;
     let mut out = None;
-    module.swap_document(&later, &mut out)?;
-    let without = found(alloc, &module)?;
-    module.swap_document(&later, &mut out)?;
-    Ok([first, without, found(alloc, &module)?])
+    Ok((first, found_around(alloc, module, &later, &mut out)?))
 }
 
 #[test]
 fn a_second_swap_undoes_the_first(rt: HostRuntime) -> Result<(), Fail> {
-    let found = found_in_turn(rt.alloc())?;
-    assert!(rt; found == [Some(10), Some(9), Some(10)]);
+    let mut module = MapDocs::new(rt.alloc());
+    let _between = store(rt.alloc(), &mut module, BETWEEN)?;
+    let found = found_in_turn(rt.alloc(), &mut module)?;
+    assert!(rt; found == (Some(10), (Some(9), Some(10))));
     Ok(())
 }

@@ -83,12 +83,18 @@ Usage: review <COMMAND>
 For more information, try '--help'.
 ";
 
+/// Puts a word behind the others.
+fn push_word(alloc: Global, all: &mut Vec<String>, word: &str) -> Result<(), AllocError> {
+    let word = String::from_str(alloc, word)?;
+    Ok(all.push(word)?)
+}
+
 /// The words of a command line, with the program's name in front.
 fn line_of(alloc: Global, words: &[&str]) -> Result<Vec<String>, AllocError> {
     let mut all = Vec::new(alloc);
-    all.push(String::from_str(alloc, "review")?)?;
+    push_word(alloc, &mut all, "review")?;
     for word in words {
-        all.push(String::from_str(alloc, word)?)?;
+        push_word(alloc, &mut all, word)?;
     }
     Ok(all)
 }
