@@ -59,35 +59,39 @@ fn key(alloc: Global, version: &str) -> Result<DocKey, Fail> {
     key_with(alloc, "p1", version)
 }
 
-/// Exchanges a document in the first module, if there is one.
+/// Exchanges a document in the first module, and says whether there is one.
 fn swap_in_first<P: Policies>(
     policies: &mut P,
     key: &DocKey,
     slot: &mut Option<Document>,
-) -> Result<(), AllocError>
+) -> Result<bool, AllocError>
     requires { ForSome slot.old (λ d. key_of d ≡ key.now) }
 {
     if policies.len() == 0 {
-        return Ok(());
+        return Ok(false);
     }
-    policies.swap_document(0, key, slot)
+    policies.swap_document(0, key, slot)?;
+    Ok(true)
 }
 
-/// Stores a document in the first module, if there is one.
+/// Stores a document in the first module, and says whether there is one.
 fn put_in_first<P: Policies>(
     alloc: Global,
     policies: &mut P,
     document: Document,
-) -> Result<(), AllocError> {
+) -> Result<bool, AllocError> {
     let key = document.key(alloc)?;
     let mut slot = Some(document);
     swap_in_first(policies, &key, &mut slot)
 }
 
-/// Stores the document that the text spells in the first module, if there is one.
+/// Stores the document that the text spells in the first module.
 pub(crate) fn put(alloc: Global, pdp: &mut Pdp, text: &str) -> Result<(), Fail> {
     let document = document(alloc, text)?;
-    Ok(put_in_first(alloc, pdp.policies_mut(), document)?)
+    if !put_in_first(alloc, pdp.policies_mut(), document)? {
+        return Err(Fail::new("no module"));
+    }
+    Ok(())
 }
 
 /// Makes `p1`, which permits reading, the root.
