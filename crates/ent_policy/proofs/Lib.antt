@@ -17,3 +17,4 @@ pub mod References
 pub mod Telling
 pub mod Documents
 pub mod Used
+pub mod Within

@@ -15,5 +15,6 @@ pub mod Reading
 pub mod Same
 pub mod Sizes
 pub mod Typing
+pub mod Values
 pub mod Variables
 pub mod Versions

@@ -1,11 +1,11 @@
 -- What is read of a document: its tree, and the first fault of a name or a value in it that can't be read. Where there is one, a
 -- stand-in is in its place, so that the other faults are looked for in the tree.
-use Rattle.std.specs.Prelude.{ℕ, ℤ, List, [], ◌∷◌, Bool, false, Option, Some, None, map, codes, option_and_then}
+use Rattle.std.specs.Prelude.{ℕ, ℤ, List, [], ◌∷◌, Bool, false, Option, Some, None, map, codes, if◌then◌else◌, option_and_then}
 use Rattle.ent_values.specs.declared.datatype.DataType.{DataType}
 use Rattle.ent_values.specs.declared.datatype.DataType.TheVariants as types
 use Rattle.ent_values.specs.declared.value.Value.{Value}
 use Rattle.ent_values.specs.declared.value.Value.TheVariants as values
-use Rattle.ent_values.specs.Reading.{value_of}
+use Rattle.ent_values.specs.Reading.{is_within_64_bits, value_of}
 use Rattle.ent_values.specs.Types.{type_of}
 use Rattle.ent_combine.specs.Identifiers.{rule_algorithm_of, policy_algorithm_of}
 use Rattle.ent_combine.specs.declared.outcome.RuleAlg.{RuleAlg}
@@ -140,11 +140,11 @@ abbrev pub integer_as : ℤ → DataType → Option Value
 integer_as integer types.Integer = Some (values.Integer integer)
 integer_as integer datatype = None
 
--- the value of a type that a literal is: a text by the type's lexical form
+-- the value of a type that a literal is: a text by the type's lexical form, a number within signed 64 bits, as in a text
 unfoldable pub literal_as : RawLiteral → DataType → Option Value
 literal_as (literals.Text text) datatype = value_of datatype text
 literal_as (literals.Boolean boolean) datatype = boolean_as boolean datatype
-literal_as (literals.Integer integer) datatype = integer_as integer datatype
+literal_as (literals.Integer integer) datatype = if is_within_64_bits integer then integer_as integer datatype else None
 
 -- the type of a value, by its name where it has one
 abbrev pub type_of_value : RawLiteral → Option (List ℕ) → Option DataType

@@ -109,8 +109,8 @@ pub enum Tree {
     Set(PolicySet),
 }
 
-/// A document that can be stored and evaluated. Only the checker makes one. `==` says whether two documents are equal: it takes no
-/// memory, and looks at no more than the smaller of the two.
+/// A document that can be stored and evaluated. Only the checker makes one. `==` says whether two documents are equal:
+/// it takes no memory, and looks at no more than the smaller of the two.
 #[derive(Drop)]
 pub struct Document {
     tree: Tree,
@@ -155,6 +155,7 @@ impl Document {
     ghost use Rattle.ent_policy.specs.Check.{IsChecked, tree_fault};
     ghost use Rattle.ent_policy.specs.Children.{as_child};
     ghost use Rattle.ent_policy.specs.Typing.{is_typed};
+    ghost use Rattle.ent_policy.specs.Values.{HoldsWithin};
 
     pub(crate) fn new(tree: Tree) -> Document
         requires checked { IsChecked tree }
@@ -163,13 +164,15 @@ impl Document {
         Document { tree }
     }
 
-    /// The policy or the policy set that the document holds: what the checker passed, within the limits of names, lists, nodes and
-    /// depth, each variable defined, and each expression of its type.
+    /// The policy or the policy set that the document holds: what the checker passed, within the limits of names, lists,
+    /// nodes and depth, each variable defined, and each expression of its type. Each integer in it is within signed 64
+    /// bits, and each date is a day of the calendar.
     pub fn tree(&self) -> &Tree
         ensures same { result.now ≡ self.now }
         ensures checked { IsChecked result.now }
         ensures sound { tree_fault result.now ≡ None }
         ensures typed { is_typed (as_child result.now) ≡ true }
+        ensures within { HoldsWithin result.now }
     {
         &self.tree
     }

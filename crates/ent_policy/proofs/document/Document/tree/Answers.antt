@@ -1,4 +1,5 @@
 use Rattle.ent_policy.proofs.Wholes.{passed, passed_typed}
+use Rattle.ent_policy.proofs.Within.{passed_within}
 use Rattle.ent_policy.proofs.document.Document.tree.Goals as goal
 
 pub returns-clause-same : goal.returns-clause-same
@@ -12,3 +13,6 @@ returns-clause-sound c = passed c.self.inside.tree c.self.invariant
 
 pub returns-clause-typed : goal.returns-clause-typed
 returns-clause-typed c = passed_typed c.self.inside.tree c.self.invariant
+
+pub returns-clause-within : goal.returns-clause-within
+returns-clause-within c = passed_within c.self.inside.tree c.self.invariant
