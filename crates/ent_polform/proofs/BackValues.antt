@@ -69,7 +69,7 @@ literal_holds : (value : Value) → IsReadable value → literal_as (raw_literal
 unfolding literal_as
 literal_holds (values.Text text) h = read_back (values.Text text) h
 literal_holds (values.Boolean boolean) h = refl
-literal_holds (values.Integer integer) h = refl
+literal_holds (values.Integer integer) h = rw h refl
 literal_holds (values.Date date) h = read_back (values.Date date) h
 literal_holds (values.AnyUri uri) h = read_back (values.AnyUri uri) h
 literal_holds (values.YearMonth months) h = read_back (values.YearMonth months) h
