@@ -1,10 +1,11 @@
 //! Identifiers.
 
-ghost use Rattle.std.specs.Prelude.{◌≡◌, IfOk, Some, codes, nat_eq, refl};
+ghost use Rattle.std.specs.Prelude.{◌≡◌, false, IfOk, Some, codes, nat_eq, refl};
 ghost use Rattle.std.specs.Cmp as Cmp;
-ghost use Rattle.std.specs.Cmp.Lexicographic.{nat_list_cmp_total, nat_list_eq_equiv, pointwise, slice_cmp, texts_po, texts_ties};
+ghost use Rattle.std.specs.Cmp.Lexicographic.{nat_list_cmp_total, nat_list_eq_equiv, pointwise, slice_cmp};
+ghost use Rattle.std.specs.Cmp.Lexicographic.{texts_po, texts_ties};
 ghost use Rattle.std.specs.Ordering.{nat_cmp};
-ghost use Rattle.ent_policy.specs.Names.{name_of};
+ghost use Rattle.ent_policy.specs.Names.{is_bad_name, name_of};
 
 use crate::limits::is_bad_name;
 use ent_values::Text;
@@ -49,9 +50,10 @@ impl Name {
         })
     }
 
-    /// The name as a `&str`.
+    /// The name as a `&str`, which has 1 to 256 bytes.
     pub fn as_str(&self) -> &str
-        ensures { result.now ≡ self.now }
+        ensures value { result.now ≡ self.now }
+        ensures within { is_bad_name self.now ≡ false }
     {
         self.text.as_str()
     }

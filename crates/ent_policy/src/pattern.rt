@@ -1,11 +1,12 @@
 //! Version patterns, and the versions that a reference accepts.
 
-ghost use Rattle.std.specs.Prelude.{◌≡◌, ◌∷◌, [], IfOk, Some, not, refl};
+ghost use Rattle.std.specs.Prelude.{◌≡◌, ◌∷◌, [], IfOk, IsTrue, Some, not, refl};
 ghost use Rattle.std.specs.Cmp as Cmp;
 ghost use Rattle.std.specs.Cmp.Lexicographic.{lists_equiv, lists_per, lists_ties, lists_total, pointwise, slice_cmp};
 ghost use Rattle.std.specs.List.{list_all};
-ghost use Rattle.ent_policy.specs.Patterns.{beside, is_more, matches, more_is_last, part_of, part_text};
-ghost use Rattle.ent_policy.specs.Patterns.{pattern_of, pattern_text, AnyAcceptsOneNumber, MoreAcceptsWhatGoesOn, NumbersAcceptThemselves, PatternsReadBack};
+ghost use Rattle.ent_policy.specs.Patterns.{beside, is_more, is_pattern, matches, more_is_last, part_of, part_text};
+ghost use Rattle.ent_policy.specs.Patterns.{pattern_of, pattern_text, AnyAcceptsOneNumber, MoreAcceptsWhatGoesOn};
+ghost use Rattle.ent_policy.specs.Patterns.{NumbersAcceptThemselves, PatternsReadBack};
 
 use crate::version::{Piece, Version, dotted, joined, number};
 use ent_values::Text;
@@ -43,7 +44,8 @@ impl Model for VersionMatch {
     ghost invariant = { λ p. (p.count ≤ 8) × IsTrue (is_pattern (take p.count p.parts)) };
 }
 
-/// Which versions of a document a reference accepts (sections 5.10 and 5.11): those that meet each constraint that is there.
+/// Which versions of a document a reference accepts (sections 5.10 and 5.11): those that meet each constraint that is
+/// there.
 #[derive(PartialEq, Eq, PartialOrd, Ord, Drop)]
 pub struct VersionConstraints {
     /// What the version matches.
@@ -141,9 +143,10 @@ impl VersionMatch {
         joined(alloc, self.parts())
     }
 
-    /// The parts of the pattern, in their order.
+    /// The parts of the pattern, in their order: 1 to 8, each number of at most 9 digits, and `+` last.
     pub fn parts(&self) -> &[PatternPart]
-        ensures { result.now ≡ self.now }
+        ensures value { result.now ≡ self.now }
+        ensures within { IsTrue (is_pattern self.now) }
     {
         &self.parts[..self.count]
     }

@@ -1,13 +1,16 @@
 //! Versions of policies.
 
-ghost use Rattle.std.specs.Prelude.{◌≡◌, ◌∷◌, [], ◌++◌, IfOk, MatchOption, None, OnOk, Some, map, nat_eq, refl, string_bytes};
+ghost use Rattle.std.specs.Prelude.{◌≡◌, ◌∷◌, [], ◌++◌, map, nat_eq, refl, string_bytes};
+ghost use Rattle.std.specs.Prelude.{IfOk, IsTrue, MatchOption, None, OnOk, Some};
 ghost use Rattle.std.specs.Cmp as Cmp;
-ghost use Rattle.std.specs.Cmp.Lexicographic.{nat_list_cmp_total, nat_list_eq_equiv, pointwise, slice_cmp, texts_po, texts_ties};
+ghost use Rattle.std.specs.Cmp.Lexicographic.{nat_list_cmp_total, nat_list_eq_equiv, pointwise, slice_cmp};
+ghost use Rattle.std.specs.Cmp.Lexicographic.{texts_po, texts_ties};
 ghost use Rattle.std.specs.Ordering.{nat_cmp};
 ghost use Rattle.std.specs.Char.{is_ascii_digit};
 ghost use Rattle.std.specs.Fmt.{decimal};
 ghost use Rattle.std.specs.List.{join_with_byte, list_all};
-ghost use Rattle.ent_policy.specs.Versions.{behind_dot, dotted_of, is_number, number_of, version_of, version_text, IsSpelledBy, TextReadsBack};
+ghost use Rattle.ent_policy.specs.Versions.{behind_dot, dotted_of, is_number, is_version, number_of, version_of};
+ghost use Rattle.ent_policy.specs.Versions.{version_text, IsSpelledBy, TextReadsBack};
 
 use ent_values::Text;
 use std::alloc::{AllocError, Global};
@@ -89,7 +92,8 @@ impl Piece for u32 {
     }
 }
 
-/// What a text spells that has at most 8 pieces with dots between them, and how many there are. `blank` stands behind them.
+/// What a text spells that has at most 8 pieces with dots between them, and how many there are. `blank` stands behind
+/// them.
 pub(crate) fn dotted<P: Piece>(text: &str, blank: P) -> Option<([P; 8], usize)>
     ensures { MatchOption result (dotted_of P.spelled text.now ≡ None) (IsSpelledBy P.spelled text.now) }
 {
@@ -159,9 +163,10 @@ impl Version {
         joined(alloc, self.numbers())
     }
 
-    /// The numbers of the version, the first of them the most significant.
+    /// The numbers of the version, the first of them the most significant: 1 to 8, each of at most 9 digits.
     pub fn numbers(&self) -> &[u32]
-        ensures { result.now ≡ self.now }
+        ensures value { result.now ≡ self.now }
+        ensures within { IsTrue (is_version self.now) }
     {
         &self.numbers[..self.count]
     }

@@ -12,4 +12,4 @@ returns c =
     let short : length c.loop-part.yielded ≡ min (length c.numbers-numbers.result.now) (length c.parts-parts.result.now) =
     omega (arith, ended) in
     c.cmp-2.ensures ∙ sym (beside_at_end c.numbers-numbers.result.now c.parts-parts.result.now (length c.loop-part.yielded) short) ∙ c.loop-part.invariant
-    ∙ (λ i. beside (c.numbers-numbers.ensures i) (c.parts-parts.ensures i))
+    ∙ (λ i. beside (c.numbers-numbers.ensures.value i) (c.parts-parts.ensures.value i))

@@ -10,4 +10,4 @@ returns c =
     c.into_iter-part-iterator.result c.loop-part.part-iterator c.next.new.self _ (cc) (cc)
     c.loop-part.yielded_by c.in-None.is c.next.ensures.steps in
     sym (matches_at_end c.parts-parts.result.now c.numbers-numbers.result.now (length c.loop-part.yielded) ended) ∙ c.loop-part.invariant
-    ∙ (λ i. matches (c.parts-parts.ensures i) (c.numbers-numbers.ensures i))
+    ∙ (λ i. matches (c.parts-parts.ensures.value i) (c.numbers-numbers.ensures.value i))
