@@ -17,4 +17,6 @@ pub mod References
 pub mod Telling
 pub mod Documents
 pub mod Used
+pub mod Ending
+pub mod Orders
 pub mod Within

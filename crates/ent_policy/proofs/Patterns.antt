@@ -10,10 +10,10 @@ use Rattle.ent_policy.proofs.Numbers.{number_small}
 use Rattle.ent_policy.proofs.Telling.{decided, decides, last, maybe, more, struct}
 use Rattle.ent_policy.specs.Patterns.{beside, ending_right, is_more, is_part, is_pattern, matches, more_is_last, part_of, pattern_of}
 use Rattle.ent_policy.specs.Versions.{dotted_of, number_of}
+use Rattle.ent_policy.specs.Same.{same_constraints}
 use Rattle.ent_policy.specs.contracts.pattern.PatternPartPartialEq.TheImpl as parts
 use Rattle.ent_policy.specs.contracts.pattern.VersionConstraints as constraint
 use Rattle.ent_policy.specs.contracts.pattern.VersionConstraintsEq.TheImpl.Laws as equivalence
-use Rattle.ent_policy.specs.contracts.pattern.VersionConstraintsPartialEq.TheImpl as constraints
 use Rattle.ent_policy.specs.contracts.pattern.VersionMatchPartialEq.TheImpl as patterns
 use Rattle.ent_policy.specs.declared.pattern.VersionConstraints.{VersionConstraints}
 use Rattle.ent_policy.specs.declared.pattern.PatternPart.{PatternPart}
@@ -122,10 +122,6 @@ same_part = (parts.ghosts).eq
 -- the same of patterns
 abbrev pub same_pattern : List PatternPart → List PatternPart → Bool
 same_pattern = (patterns.ghosts).eq
-
--- the same of constraints
-abbrev pub same_constraints : VersionConstraints → VersionConstraints → Bool
-same_constraints = (constraints.ghosts).eq
 
 pub same_part-Decides : (a b : PatternPart) → Decides (same_part a b) (a ≡ b)
 same_part-Decides a b = search rules

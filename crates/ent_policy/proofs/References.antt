@@ -87,7 +87,7 @@ all_found (d ∷ ds) once (suc k) x lt =
     rw apart (all_found ds o.1 k x within)
 
 -- what holds of each definition holds of the one that is found
-found_has : (P : VariableDefinition → Type 0) (ds : List VariableDefinition) (q : List ℕ) (d : VariableDefinition) → All P ds → definition_of ds q ≡ Some d → P d × (d.id ≡ q)
+pub found_has : (P : VariableDefinition → Type 0) (ds : List VariableDefinition) (q : List ℕ) (d : VariableDefinition) → All P ds → definition_of ds q ≡ Some d → P d × (d.id ≡ q)
 found_has P [] q d all e = absurd cc
 found_has P (x ∷ ds) q d all e =
     elim (cases_Bool (bytes_eq x.id q)) [

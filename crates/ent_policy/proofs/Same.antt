@@ -4,7 +4,7 @@ use Rattle.std.specs.Bool.{Decides}
 use Rattle.std.proofs.lemmas.Slice.Eq.{bytes_eq-Decides}
 use Rattle.ent_policy.proofs.Patterns.{same_constraints-Decides}
 use Rattle.ent_policy.proofs.Telling.{Tells, decided, decides, last, more, struct}
-use Rattle.ent_policy.specs.Same.{same_kind, same_key, same_reference, same_version}
+use Rattle.ent_policy.specs.Same.{same_kind, same_key, same_name, same_reference, same_version}
 use Rattle.ent_policy.specs.contracts.key.DocKey as key
 use Rattle.ent_policy.specs.contracts.key.DocKeyEq.TheImpl.Laws as keys
 use Rattle.ent_policy.specs.contracts.key.Reference as reference
@@ -15,6 +15,9 @@ use Rattle.ent_policy.specs.declared.key.Reference.{Reference}
 
 pub same_kind-Decides : (a b : Kind) → Decides (same_kind a b) (a ≡ b)
 same_kind-Decides a b = search rules
+
+pub same_name-Decides : (a b : List ℕ) → Decides (same_name a b) (a ≡ b)
+same_name-Decides a b = bytes_eq-Decides a b
 
 pub same_version-Decides : (a b : List ℕ) → Decides (same_version a b) (a ≡ b)
 same_version-Decides a b = bytes_eq-Decides a b

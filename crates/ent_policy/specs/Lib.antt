@@ -10,8 +10,10 @@ pub mod Limits
 pub mod Measure
 pub mod Names
 pub mod Order
+pub mod Orders
 pub mod Patterns
 pub mod Reading
+pub mod References
 pub mod Same
 pub mod Sizes
 pub mod Typing

@@ -1,10 +1,13 @@
--- Whether two kinds, versions, version patterns, keys, references or documents are the same, and that this test decides it.
+-- Whether two kinds, names, versions, version patterns, constraints, keys, references or documents are the same, and that
+-- this test decides it.
 use Rattle.std.specs.Prelude.{◌≡◌, ℕ, List, Bool}
 use Rattle.std.specs.Bool.{Decides}
 use Rattle.ent_policy.specs.contracts.document.DocumentPartialEq.TheImpl as documents
 use Rattle.ent_policy.specs.contracts.key.DocKeyPartialEq.TheImpl as keys
 use Rattle.ent_policy.specs.contracts.key.KindPartialEq.TheImpl as kinds
 use Rattle.ent_policy.specs.contracts.key.ReferencePartialEq.TheImpl as references
+use Rattle.ent_policy.specs.contracts.name.NamePartialEq.TheImpl as names
+use Rattle.ent_policy.specs.contracts.pattern.VersionConstraintsPartialEq.TheImpl as constraints
 use Rattle.ent_policy.specs.contracts.pattern.VersionMatchPartialEq.TheImpl as patterns
 use Rattle.ent_policy.specs.contracts.version.VersionPartialEq.TheImpl as versions
 use Rattle.ent_policy.specs.declared.document.Tree.{Tree}
@@ -12,10 +15,15 @@ use Rattle.ent_policy.specs.declared.key.DocKey.{DocKey}
 use Rattle.ent_policy.specs.declared.key.Kind.{Kind}
 use Rattle.ent_policy.specs.declared.key.Reference.{Reference}
 use Rattle.ent_policy.specs.declared.pattern.PatternPart.{PatternPart}
+use Rattle.ent_policy.specs.declared.pattern.VersionConstraints.{VersionConstraints}
 
 -- what `==` of two kinds answers
 abbrev pub same_kind : Kind → Kind → Bool
 same_kind = (kinds.ghosts).eq
+
+-- what `==` of two names answers
+abbrev pub same_name : List ℕ → List ℕ → Bool
+same_name = (names.ghosts).eq
 
 -- what `==` of two versions answers
 abbrev pub same_version : List ℕ → List ℕ → Bool
@@ -24,6 +32,10 @@ same_version = (versions.ghosts).eq
 -- what `==` of two version patterns answers
 abbrev pub same_pattern : List PatternPart → List PatternPart → Bool
 same_pattern = (patterns.ghosts).eq
+
+-- what `==` of two constraints answers
+abbrev pub same_constraints : VersionConstraints → VersionConstraints → Bool
+same_constraints = (constraints.ghosts).eq
 
 -- what `==` of two keys answers
 abbrev pub same_key : DocKey → DocKey → Bool
@@ -41,6 +53,10 @@ same_document = (documents.ghosts).eq
 abbrev pub SameKindsAreEqual : Type 0
 SameKindsAreEqual = (a b : Kind) → Decides (same_kind a b) (a ≡ b)
 
+-- the same of names
+abbrev pub SameNamesAreEqual : Type 0
+SameNamesAreEqual = (a b : List ℕ) → Decides (same_name a b) (a ≡ b)
+
 -- the same of versions
 abbrev pub SameVersionsAreEqual : Type 0
 SameVersionsAreEqual = (a b : List ℕ) → Decides (same_version a b) (a ≡ b)
@@ -48,6 +64,10 @@ SameVersionsAreEqual = (a b : List ℕ) → Decides (same_version a b) (a ≡ b)
 -- the same of version patterns
 abbrev pub SamePatternsAreEqual : Type 0
 SamePatternsAreEqual = (a b : List PatternPart) → Decides (same_pattern a b) (a ≡ b)
+
+-- the same of constraints
+abbrev pub SameConstraintsAreEqual : Type 0
+SameConstraintsAreEqual = (a b : VersionConstraints) → Decides (same_constraints a b) (a ≡ b)
 
 -- the same of keys
 abbrev pub SameKeysAreEqual : Type 0

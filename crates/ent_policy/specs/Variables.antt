@@ -93,6 +93,11 @@ abbrev pub MoreReferencesChangeNothing : Type 0 → Type 0
 MoreReferencesChangeNothing A = (f : (List ℕ → A) → Expression → A) (none : A) → IsLocal f → (definitions : List VariableDefinition) (n : ℕ) (id : List ℕ)
     → followed uses_only false definitions n id ≡ true → followed f none definitions n id ≡ followed f none definitions (suc n) id
 
+-- a variable that leads to an end through any number of references leads there through as many as there are definitions
+abbrev pub EndsByDefinitions : Type 0
+EndsByDefinitions = (definitions : List VariableDefinition) (n : ℕ) (id : List ℕ)
+    → followed uses_only false definitions n id ≡ true → is_resolved definitions id ≡ true
+
 -- ---- faults
 
 -- a variable is defined twice, or one that is defined or used leads to itself or to one that isn't defined

@@ -1,6 +1,7 @@
 //! Names of documents, and references to them.
 
 ghost use Rattle.std.specs.Prelude.{◌≡◌, IfOk};
+ghost use Rattle.ent_policy.specs.References.{is_of};
 
 use crate::name::Name;
 use crate::pattern::VersionConstraints;
@@ -8,7 +9,7 @@ use crate::version::Version;
 use ent_values::Text;
 use std::alloc::{AllocError, Global};
 
-/// What a document is: a policy or a policy set.
+/// What a document is: a policy or a policy set. Policies come first.
 #[derive(Clone, Copy, Debug, PartialEq, Eq, PartialOrd, Ord)]
 pub enum Kind {
     Policy,
@@ -29,7 +30,7 @@ impl Kind {
     }
 }
 
-/// The name under which a document is stored. Keys order by kind, id and version.
+/// The name under which a document is stored. Keys order by kind, by the bytes of the id and by version.
 #[derive(PartialEq, Eq, PartialOrd, Ord, Drop)]
 pub struct DocKey {
     pub kind: Kind,
@@ -37,7 +38,8 @@ pub struct DocKey {
     pub version: Version,
 }
 
-/// Names a stored document: of that kind and id the most recent version that meets the constraints (sections 5.10 and 5.11).
+/// Names a stored document: of that kind and id the most recent version that meets the constraints (sections 5.10 and
+/// 5.11). References order by kind, by the bytes of the id and by their constraints.
 #[derive(PartialEq, Eq, PartialOrd, Ord, Drop)]
 pub struct Reference {
     pub kind: Kind,
@@ -59,6 +61,13 @@ impl DocKey {
 }
 
 impl Reference {
+    /// Whether a key has the kind and the id of the reference. Its version may be any.
+    pub fn is_of(&self, key: &DocKey) -> bool
+        ensures { result ≡ is_of self.now key.now }
+    {
+        self.kind == key.kind && self.id.as_str() == key.id.as_str()
+    }
+
     /// An equal reference.
     pub fn copy(&self, alloc: Global) -> Result<Reference, AllocError>
         ensures { IfOk result (λ r. r ≡ self.now) }

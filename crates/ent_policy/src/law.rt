@@ -2,22 +2,40 @@
 
 ghost use Rattle.std.specs.Prelude.{ℕ, Option};
 ghost use Rattle.ent_functions.specs.declared.types.ArgType.{ArgType};
-ghost use Rattle.ent_policy.specs.Same.{SameDocumentsAreEqual, SameKeysAreEqual, SameKindsAreEqual, SamePatternsAreEqual, SameReferencesAreEqual, SameVersionsAreEqual};
-ghost use Rattle.ent_policy.specs.Variables.{MoreReferencesChangeNothing};
+ghost use Rattle.ent_policy.specs.Orders.{KeysOrderByName, PatternsOrderByPart, PoliciesComeFirst};
+ghost use Rattle.ent_policy.specs.Orders.{ReferencesOrderByName};
+ghost use Rattle.ent_policy.specs.Same.{SameConstraintsAreEqual, SameDocumentsAreEqual, SameKeysAreEqual};
+ghost use Rattle.ent_policy.specs.Same.{SameKindsAreEqual, SameNamesAreEqual, SamePatternsAreEqual};
+ghost use Rattle.ent_policy.specs.Same.{SameReferencesAreEqual, SameVersionsAreEqual};
+ghost use Rattle.ent_policy.specs.Variables.{EndsByDefinitions, MoreReferencesChangeNothing};
 
-/// A law, with nothing to run: `==` of two kinds, of two versions, of two version patterns, of two keys, of two references and of
-/// two documents says whether they are equal.
+/// A law, with nothing to run: `==` of two kinds, of two names, of two versions, of two version patterns, of two
+/// constraints, of two keys, of two references and of two documents says whether they are equal.
 pub fn same_is_equal()
     ensures kinds { SameKindsAreEqual }
+    ensures names { SameNamesAreEqual }
     ensures versions { SameVersionsAreEqual }
     ensures patterns { SamePatternsAreEqual }
+    ensures constraints { SameConstraintsAreEqual }
     ensures keys { SameKeysAreEqual }
     ensures references { SameReferencesAreEqual }
     ensures documents { SameDocumentsAreEqual }
 {}
 
-/// A law, with nothing to run: what is counted of a variable that leads to an end, and its type, are the same through more references.
+/// A law, with nothing to run: policies come before policy sets; version patterns order part by part; keys order by
+/// kind, then by the bytes of the id, then by version; references by kind, then by the bytes of the id, then by their
+/// constraints.
+pub fn order_is_by_kind_id_and_version()
+    ensures kinds { PoliciesComeFirst }
+    ensures patterns { PatternsOrderByPart }
+    ensures keys { KeysOrderByName }
+    ensures references { ReferencesOrderByName }
+{}
+
+/// A law, with nothing to run: what is counted of a variable that leads to an end, and its type, are the same through
+/// more references; and what leads to an end leads there through as many references as there are definitions.
 pub fn more_references_change_nothing()
     ensures counts { MoreReferencesChangeNothing ℕ }
     ensures types { MoreReferencesChangeNothing (Option ArgType) }
+    ensures ends { EndsByDefinitions }
 {}

@@ -4,7 +4,8 @@ ghost use Rattle.std.specs.Prelude.{◌≡◌, IfOk, length, map};
 ghost use Rattle.ent_policy.specs.Children.{as_child};
 ghost use Rattle.ent_policy.specs.First.{first_of};
 ghost use Rattle.ent_policy.specs.Names.{is_bad_name};
-ghost use Rattle.ent_policy.specs.Limits.{designator_fault, expression_fault, filled_fault, given_fault, has_double, length_fault, limit_fault, maybe_fault, name_fault, policy_fault, target_fault};
+ghost use Rattle.ent_policy.specs.Limits.{designator_fault, expression_fault, given_fault, policy_fault, target_fault};
+ghost use Rattle.ent_policy.specs.Limits.{filled_fault, has_double, length_fault, limit_fault, maybe_fault, name_fault};
 ghost use Rattle.ent_policy.specs.declared.document.Child.TheVariants.{Set};
 
 use crate::document::{
@@ -45,7 +46,7 @@ fn fault_in<L: Limited>(parts: &[L]) -> Option<DocFault>
 }
 
 /// Whether an identifier has no byte or more than 256.
-pub(crate) fn is_bad_name(name: &str) -> bool
+pub fn is_bad_name(name: &str) -> bool
     ensures { result ≡ is_bad_name name.now }
 {
     name.len() == 0 || name.len() > 256

@@ -26,6 +26,7 @@ pub enum PatternPart {
 }
 
 /// A version pattern (section 5.13): 1 to 8 parts, each a number of at most 9 digits, `*`, or, in the last place, `+`.
+/// Patterns order part by part: numbers, the smaller first, then `*`, then `+`.
 #[derive(Drop)]
 pub struct VersionMatch {
     parts: [PatternPart; 8],
@@ -45,7 +46,7 @@ impl Model for VersionMatch {
 }
 
 /// Which versions of a document a reference accepts (sections 5.10 and 5.11): those that meet each constraint that is
-/// there.
+/// there. Constraints order as their fields stand, none before any.
 #[derive(PartialEq, Eq, PartialOrd, Ord, Drop)]
 pub struct VersionConstraints {
     /// What the version matches.
