@@ -21,10 +21,11 @@ use std::alloc::{AllocError, Global};
 
 /// The document that was read, or the one of its faults that stands first in the order of `DocFault`.
 ///
-/// Identifiers have 1 to 256 bytes, lists at most 256 members, a document at most 65,536 expressions and 32 references, and
-/// expressions and policy sets nest at most 16 deep. Each expression has a type, also in definitions that aren't used: a match gives a boolean
-/// (section 7.6), and so does a condition (section 5.26); an assignment of an obligation or an advice gives a value or a bag (section 5.41), and
-/// in those of a set no variable is defined. The texts are moved, not copied.
+/// Identifiers have 1 to 256 bytes, lists at most 256 members, a document at most 65,536 expressions and 32 references,
+/// and expressions and policy sets nest at most 16 deep. Each expression has a type, also in definitions that aren't
+/// used: a match gives a boolean (section 7.6), and so does a condition (section 5.26); an assignment of an obligation
+/// or an advice gives a value or a bag (section 5.41), and in those of a set no variable is defined. The texts are
+/// moved, not copied.
 #[tactic(auto, unfolding(crate::specs::Check::checked, crate::specs::Check::fault_of))]
 pub fn check(alloc: Global, raw: RawDocument) -> Result<Document, CheckFault>
     ensures { Gives result (checked raw) }
@@ -47,7 +48,8 @@ fn passed(alloc: Global, read: Read<Tree>) -> Result<Document, CheckFault>
     }
 }
 
-/// The reference that was read, or its first fault: an id that has no byte or more than 256, or a version pattern that can't be read.
+/// The reference that was read, or its first fault: an id that has no byte or more than 256, or a version pattern that
+/// can't be read.
 #[tactic(auto, unfolding(crate::specs::Check::reference_checked))]
 pub fn check_reference(alloc: Global, raw: RawReference) -> Result<Reference, CheckFault>
     ensures { Gives result (reference_checked raw) }

@@ -164,9 +164,9 @@ impl Document {
         Document { tree }
     }
 
-    /// The policy or the policy set that the document holds: what the checker passed, within the limits of names, lists,
-    /// nodes and depth, each variable defined, and each expression of its type. Each integer in it is within signed 64
-    /// bits, and each date is a day of the calendar.
+    /// The policy or the policy set that the document holds: what the checker passed, within the limits of names,
+    /// lists, nodes and depth, each variable defined, and each expression of its type. Each integer in it is within
+    /// signed 64 bits, and each date is a day of the calendar.
     pub fn tree(&self) -> &Tree
         ensures same { result.now ≡ self.now }
         ensures checked { IsChecked result.now }

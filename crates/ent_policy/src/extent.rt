@@ -1,10 +1,12 @@
-//! What stands in policies and sets: how many nodes and references, whether an expression is too deep, and whether each has its type.
+//! What stands in policies and sets: how many nodes and references, whether an expression is too deep, and whether each
+//! has its type.
 
 ghost use Rattle.std.specs.Prelude.{◌≡◌, IfOk, map, min};
 ghost use Rattle.ent_policy.specs.Children.{as_child};
 ghost use Rattle.ent_policy.specs.declared.document.Child.TheVariants.{Set};
 ghost use Rattle.ent_policy.specs.Depths.{depth, greatest};
-ghost use Rattle.ent_policy.specs.Measure.{IsExtentOf, IsExtentOfAll, IsExtentOfPolicy, condition_extent, found, given_extent, held_extent, target_extent, together, whole};
+ghost use Rattle.ent_policy.specs.Measure.{IsExtentOf, IsExtentOfAll, IsExtentOfPolicy, found, together, whole};
+ghost use Rattle.ent_policy.specs.Measure.{condition_extent, given_extent, held_extent, target_extent};
 
 use crate::document::{AllOf, AnyOf, Child, Match, Policy, PolicySet, Rule, Target, Tree};
 use crate::expression::{Expression, VariableDefinition};
@@ -15,8 +17,8 @@ use ent_functions::ArgType;
 use std::alloc::{AllocError, Global};
 use std::collections::BTreeMap;
 
-/// What stands in a part of a document: its nodes up to `TOO_MANY`, its references up to `TOO_LINKED`, whether an expression is too
-/// deep, and whether each expression has its type.
+/// What stands in a part of a document: its nodes up to `TOO_MANY`, its references up to `TOO_LINKED`, whether an
+/// expression is too deep, and whether each expression has its type.
 #[derive(Clone, Copy, Drop)]
 pub(crate) struct Extent {
     pub(crate) nodes: usize,

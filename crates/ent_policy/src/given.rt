@@ -7,7 +7,8 @@ use crate::expression::Expression;
 use ent_values::{Items, Text};
 use std::alloc::Global;
 
-/// Names an attribute and computes its values (section 5.41): a value gives one assignment, a bag one for each value in it.
+/// Names an attribute and computes its values (section 5.41): a value gives one assignment, a bag one for each value in
+/// it.
 #[derive(PartialEq, Eq, Drop)]
 pub struct AssignmentExpression {
     pub attribute: Text,
@@ -25,7 +26,8 @@ pub struct GivenExpression {
     pub assignments: Items<AssignmentExpression>,
 }
 
-/// The obligations and the advice that stand in a rule, a policy or a policy set, each in document order (sections 5.37 and 5.38).
+/// The obligations and the advice that stand in a rule, a policy or a policy set, each in document order (sections 5.37
+/// and 5.38).
 #[derive(PartialEq, Eq, Drop)]
 pub struct GivenExpressions {
     pub obligations: Items<GivenExpression>,

@@ -18,7 +18,8 @@ pub(crate) const TOO_DEEP: usize = 17;
 /// Counts go up to this number, which is one more than a document may have nodes.
 pub(crate) const TOO_MANY: usize = 65_537;
 
-/// What is measured of an expression: its nodes up to `TOO_MANY`, its depth up to `TOO_DEEP`, and its type, where it has one.
+/// What is measured of an expression: its nodes up to `TOO_MANY`, its depth up to `TOO_DEEP`, and its type, where it
+/// has one.
 #[derive(Clone, Copy, Drop)]
 pub(crate) struct Measured {
     pub(crate) nodes: usize,
@@ -132,7 +133,8 @@ fn all_measured(
     table: &BTreeMap<&str, Measured>,
     arguments: &[Expression],
 ) -> Result<Arguments, AllocError>
-    ensures { IfOk result (λ a. AreMeasured (found table.now) arguments.now a.nodes a.depth (option_map (λ v. v.items) a.types)) }
+    ensures { IfOk result (λ a. AreMeasured (found table.now) arguments.now a.nodes a.depth
+        (option_map (λ v. v.items) a.types)) }
 {
     let mut nodes = 0;
     let mut depth = 0;

@@ -8,8 +8,8 @@ use crate::first::earlier;
 use ent_values::Items;
 use std::alloc::{AllocError, Global};
 
-/// What is read of a part, and the first fault of a name or a value in it that can't be read. Where there is one, a stand-in is in
-/// its place.
+/// What is read of a part, and the first fault of a name or a value in it that can't be read. Where there is one, a
+/// stand-in is in its place.
 #[derive(Drop)]
 pub(crate) struct Read<T> {
     pub(crate) value: T,

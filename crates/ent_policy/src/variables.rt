@@ -5,7 +5,8 @@ ghost use Rattle.std.specs.List.{flat_map, list_all};
 ghost use Rattle.std.specs.List.Sorted.{IsPermutation};
 ghost use Rattle.ent_policy.specs.Limits.{has_double};
 ghost use Rattle.ent_policy.specs.Order.{AreDistinctIds, IsFoundOrder, IsOrdered, has_id};
-ghost use Rattle.ent_policy.specs.Variables.{condition_variables, given_variables, ids_of, is_resolved, used, uses_only, variables};
+ghost use Rattle.ent_policy.specs.Variables.{condition_variables, given_variables, used, variables};
+ghost use Rattle.ent_policy.specs.Variables.{ids_of, is_resolved, uses_only};
 
 use crate::document::{Policy, Rule};
 use crate::expression::{Expression, VariableDefinition};
@@ -283,8 +284,8 @@ fn in_order(
     }
 }
 
-/// The definitions of a policy, each after those that it uses; or `None`, if a variable of the policy is defined twice, not at all, or
-/// through itself.
+/// The definitions of a policy, each after those that it uses; or `None`, if a variable of the policy is defined twice,
+/// not at all, or through itself.
 #[tactic(auto, using(crate::proofs::References::bad_condition), unfolding(crate::specs::Variables::has_bad_variable))]
 pub(crate) fn ordered(
     alloc: Global,
