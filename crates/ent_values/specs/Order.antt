@@ -1,30 +1,39 @@
--- How values order: by type, then by value.
-use Rattle.std.specs.Prelude.{◌≡◌, ℕ}
+-- How types order, and values: by type, then by value.
+use Rattle.std.specs.Prelude.{◌≡◌, ℕ, not}
 use Rattle.std.specs.Cmp.Lexicographic.{slice_cmp}
+use Rattle.std.specs.List.{prefix_len}
 use Rattle.std.specs.Ordering.{bool_cmp, int_cmp, nat_cmp}
 use Rattle.std.specs.declared.cmp.Ordering.{Ordering}
 use Rattle.ent_values.specs.Calendar.{day_order}
-use Rattle.ent_values.specs.Types.{datatype_of}
+use Rattle.ent_values.specs.Same.{same_type}
+use Rattle.ent_values.specs.Types.{all_types, datatype_of}
+use Rattle.ent_values.specs.contracts.datatype.DataTypeOrd.TheImpl as type_comparison
 use Rattle.ent_values.specs.contracts.value.ValueOrd.TheImpl as comparison
 use Rattle.ent_values.specs.declared.datatype.DataType.{DataType}
-use Rattle.ent_values.specs.declared.datatype.DataType.TheVariants as types
 use Rattle.ent_values.specs.declared.value.Value.{Value}
 use Rattle.ent_values.specs.declared.value.Value.TheVariants as values
+
+-- what `cmp` of two types answers
+abbrev pub type_cmp : DataType → DataType → Ordering
+type_cmp = (type_comparison.ghosts).cmp
+
+-- how many types come before it: string, boolean, integer, date, anyURI, yearMonthDuration
+abbrev pub place_of : DataType → ℕ
+place_of datatype = prefix_len (λ other. not (same_type other datatype)) all_types
+
+-- of two types the one that comes before the other in the list of all types
+abbrev pub type_order : DataType → DataType → Ordering
+type_order a b = nat_cmp (place_of a) (place_of b)
+
+-- `cmp` of types answers by this order
+abbrev pub TypesOrderAsListed : Type 0
+TypesOrderAsListed = (a b : DataType) → type_cmp a b ≡ type_order a b
 
 -- what `cmp` of two values answers
 abbrev pub value_cmp : Value → Value → Ordering
 value_cmp = (comparison.ghosts).cmp
 
--- the place of a type among the types
-abbrev pub place_of : DataType → ℕ
-place_of types.Text = 0
-place_of types.Boolean = 1
-place_of types.Integer = 2
-place_of types.Date = 3
-place_of types.AnyUri = 4
-place_of types.YearMonth = 5
-
--- texts by their bytes, false before true, numbers, days and durations the smaller first; of two types the earlier one first
+-- texts by their bytes, false before true, numbers, days and durations the smaller first; of two types the one listed first
 abbrev pub value_order : Value → Value → Ordering
 value_order (values.Text a) (values.Text b) = slice_cmp nat_cmp a b
 value_order (values.Boolean a) (values.Boolean b) = bool_cmp a b
@@ -32,7 +41,7 @@ value_order (values.Integer a) (values.Integer b) = int_cmp a b
 value_order (values.Date a) (values.Date b) = day_order a b
 value_order (values.AnyUri a) (values.AnyUri b) = slice_cmp nat_cmp a b
 value_order (values.YearMonth a) (values.YearMonth b) = int_cmp a b
-value_order a b = nat_cmp (place_of (datatype_of a)) (place_of (datatype_of b))
+value_order a b = type_order (datatype_of a) (datatype_of b)
 
 -- `cmp` answers by this order
 abbrev pub OrderIsByTypeAndValue : Type 0

@@ -1,9 +1,10 @@
 //! Data types of values.
 
 ghost use Rattle.std.specs.Prelude.{◌≡◌};
+ghost use Rattle.ent_values.specs.Order.{TypesOrderAsListed};
 ghost use Rattle.ent_values.specs.Types.{TypeNamesReadBack, short_name_of, type_of, uri_of};
 
-/// The data type of a value (appendix A.2, its URI by appendix B.3).
+/// The data type of a value (appendix A.2, its URI by appendix B.3). Types order as they stand here.
 #[derive(Clone, Copy, Debug, PartialEq, Eq, PartialOrd, Ord)]
 pub enum DataType {
     /// `http://www.w3.org/2001/XMLSchema#string`
@@ -21,22 +22,24 @@ pub enum DataType {
 }
 
 impl DataType {
-    /// The type of that name: a full URI, or the short name of this profile, its last word. None if there is no such type.
+    /// Every type, in order.
+    pub const ALL: &'static [DataType] = &[
+        DataType::Text,
+        DataType::Boolean,
+        DataType::Integer,
+        DataType::Date,
+        DataType::AnyUri,
+        DataType::YearMonth,
+    ];
+
+    /// The type of that name: a full URI, or the short name of this profile, its last word. None if there is no such
+    /// type.
     #[tactic(auto, unfolding(crate::specs::Types::type_of))]
     pub fn from_name(name: &str) -> Option<DataType>
         ensures { result ≡ type_of name.now }
     {
-        [
-            DataType::Text,
-            DataType::Boolean,
-            DataType::Integer,
-            DataType::Date,
-            DataType::AnyUri,
-            DataType::YearMonth,
-        ]
-        .iter()
-        .copied()
-        .find(|datatype| name == datatype.uri() || name == datatype.short_name())
+        let mut types = DataType::ALL.iter().copied();
+        types.find(|datatype| name == datatype.uri() || name == datatype.short_name())
     }
 
     /// The full URI of the type.
@@ -73,4 +76,10 @@ impl DataType {
 /// A law, with nothing to run: the full URI of a type stands for that type, and so does its short name.
 pub fn type_names_read_back()
     ensures { TypeNamesReadBack }
+{}
+
+/// A law, with nothing to run: types order as the list of all types has them: string, boolean, integer, date, anyURI,
+/// yearMonthDuration.
+pub fn types_order_as_listed()
+    ensures { TypesOrderAsListed }
 {}

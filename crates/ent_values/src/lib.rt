@@ -14,7 +14,7 @@ mod value;
 mod writing;
 
 pub use bag::Bag;
-pub use datatype::{DataType, type_names_read_back};
+pub use datatype::{DataType, type_names_read_back, types_order_as_listed};
 pub use date::Date;
 pub use duration::YearMonth;
 pub use fault::ValueFault;
