@@ -7,7 +7,7 @@ use Rattle.std.proofs.lemmas.Str.{digit_value_digit}
 use Rattle.std.specs.Char.{digit_value, is_ascii_digit}
 use Rattle.std.specs.Fmt.{signed_decimal}
 use Rattle.std.specs.Int.{w64}
-use Rattle.std.specs.Prelude.{FitsSigned, Result, Ok, Err, ⊤}
+use Rattle.std.specs.Prelude.{FitsSigned, IfOk, Result, Ok, Err, ⊤}
 use Rattle.std.specs.Result.{result_ok}
 use Rattle.std.specs.Str.Parse.{IsNumeral, ParsesSigned, signed_digits_value, without_leading_sign}
 use Rattle.ent_values.proofs.Dates.{counted_is}
@@ -15,9 +15,10 @@ use Rattle.ent_values.proofs.Numerals.{both, digits_model, fits, fits_back, is_i
 use Rattle.ent_values.proofs.Periods.{duration_back}
 use Rattle.ent_values.proofs.Texts.{date_small}
 use Rattle.ent_values.specs.Calendar.{Day, is_date}
-use Rattle.ent_values.specs.ReadBack.{TextsReadBack}
+use Rattle.ent_values.specs.ReadBack.{HasFewYears, IsReadBack, IsReadable, IsReal, TextsReadBack}
 use Rattle.ent_values.specs.Reading.{boolean_of, count_of, date_of, integer_of, is_within_64_bits, value_of}
 use Rattle.ent_values.specs.Writing.{date_text, text_of, two_digits}
+use Rattle.ent_values.specs.declared.value.Value.{Value}
 use Rattle.ent_values.specs.declared.value.Value.TheVariants as values
 
 -- integers
@@ -90,3 +91,17 @@ read_back (values.Integer n) h = rw (integer_back n h) refl
 read_back (values.Date date) h = rw (date_back date h) refl
 read_back (values.AnyUri uri) h = refl
 read_back (values.YearMonth months) h = rw (duration_back months h) refl
+
+-- such a value is readable, if a duration has few years
+pub readable : (value : Value) → IsReal value → HasFewYears value → IsReadable value
+readable (values.Text text) real few = tt
+readable (values.Boolean boolean) real few = tt
+readable (values.Integer integer) real few = real
+readable (values.Date date) real few = real
+readable (values.AnyUri uri) real few = tt
+readable (values.YearMonth months) real few = few
+
+-- its text reads back
+pub reads_as : {E : Type 0} (value : Value) (r : Result (List ℕ) E) → IsReal value → IfOk r (λ t. t ≡ text_of value) → IfOk r (λ t. IsReadBack value t)
+reads_as value (Ok t) real is = λ few. rw is (read_back value (readable value real few))
+reads_as value (Err e) real is = is

@@ -1,11 +1,26 @@
 -- That what is written reads back.
-use Rattle.std.specs.Prelude.{◌≡◌, ◌<◌, ◌/◌, true, ⊤, Some, unsigned_abs}
+use Rattle.std.specs.Prelude.{◌≡◌, ◌<◌, ◌/◌, ℕ, List, true, ⊤, Some, unsigned_abs}
 use Rattle.ent_values.specs.Calendar.{is_date}
 use Rattle.ent_values.specs.Reading.{is_within_64_bits, value_of}
 use Rattle.ent_values.specs.Types.{datatype_of}
 use Rattle.ent_values.specs.Writing.{text_of}
 use Rattle.ent_values.specs.declared.value.Value.{Value}
 use Rattle.ent_values.specs.declared.value.Value.TheVariants as values
+
+-- what the type says of a value: an integer is within 64 bits, a date is a day of the calendar
+abbrev pub IsReal : Value → Type 0
+IsReal (values.Integer integer) = is_within_64_bits integer ≡ true
+IsReal (values.Date date) = is_date date.year date.month date.day ≡ true
+IsReal _ = ⊤
+
+-- a duration has at most 999,999,999 whole years, which 9 digits write
+abbrev pub HasFewYears : Value → Type 0
+HasFewYears (values.YearMonth months) = unsigned_abs months / 12 < 1000000000
+HasFewYears _ = ⊤
+
+-- that text reads as that value, if a duration has few years
+abbrev pub IsReadBack : Value → List ℕ → Type 0
+IsReadBack value text = HasFewYears value → value_of (datatype_of value) text ≡ Some value
 
 -- a value of the program whose years can be written in 9 digits
 abbrev pub IsReadable : Value → Type 0

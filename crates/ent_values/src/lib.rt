@@ -21,4 +21,4 @@ pub use fault::ValueFault;
 pub use items::Items;
 pub use shared::Shared;
 pub use text::Text;
-pub use value::{Value, order_is_by_type_and_value, same_is_equal, texts_read_back};
+pub use value::{Value, order_is_by_type_and_value, same_is_equal, texts_read_back, value_is_real};

@@ -1,8 +1,10 @@
 //! Values of attributes.
 
 ghost use Rattle.std.specs.Prelude.{◌≡◌, true, IfOk, OnErr};
+ghost use Rattle.ent_values.specs.Calendar.{is_date};
 ghost use Rattle.ent_values.specs.Order.{OrderIsByTypeAndValue};
-ghost use Rattle.ent_values.specs.ReadBack.{TextsReadBack};
+ghost use Rattle.ent_values.specs.ReadBack.{IsReal, TextsReadBack};
+ghost use Rattle.ent_values.specs.Reading.{is_within_64_bits};
 ghost use Rattle.ent_values.specs.Same.{SameBagsAreEqual, SameIsEqual, SameListsAreEqual, SameTypesAreEqual};
 ghost use Rattle.ent_values.specs.Types.{datatype_of, is_textual};
 
@@ -12,8 +14,8 @@ use crate::duration::YearMonth;
 use crate::text::Text;
 use std::alloc::{AllocError, Global};
 
-/// One value of a data type (appendix A.2). Values are equal if type and value are. They order by type, then by value: texts by their
-/// UTF-8 bytes, false before true, dates and durations by time.
+/// One value of a data type (appendix A.2). Values are equal if type and value are. They order by type, then by value:
+/// texts by their UTF-8 bytes, false before true, dates and durations by time.
 #[derive(Debug, PartialEq, Eq, PartialOrd, Ord, Drop)]
 pub enum Value {
     /// A string.
@@ -61,7 +63,30 @@ impl Value {
     }
 }
 
-/// A law, with nothing to run: `==` of two types, of two values, of two lists of values and of two bags says whether they are equal.
+/// What the type says of each value: an integer is within signed 64 bits, a date is a day of the calendar. It changes
+/// nothing and is called for what it ensures.
+pub fn value_is_real(value: &Value)
+    ensures { IsReal value.now }
+{
+    match value {
+        Value::Integer(integer) => integer_is_real(*integer),
+        Value::Date(date) => date_is_real(*date),
+        _ => {}
+    }
+}
+
+fn integer_is_real(integer: i64)
+    ensures { is_within_64_bits integer ≡ true }
+{}
+
+fn date_is_real(date: Date)
+    ensures { is_date date.year date.month date.day ≡ true }
+{
+    date.year();
+}
+
+/// A law, with nothing to run: `==` of two types, of two values, of two lists of values and of two bags says whether
+/// they are equal.
 pub fn same_is_equal()
     ensures types { SameTypesAreEqual }
     ensures values { SameIsEqual }
@@ -69,8 +94,8 @@ pub fn same_is_equal()
     ensures bags { SameBagsAreEqual }
 {}
 
-/// A law, with nothing to run: the written text of a value reads as that value again, where a duration has at most 999,999,999
-/// whole years.
+/// A law, with nothing to run: the written text of a value reads as that value again, where a duration has at most
+/// 999,999,999 whole years.
 pub fn texts_read_back()
     ensures { TextsReadBack }
 {}

@@ -1,20 +1,30 @@
 //! Written texts of values.
 
 ghost use Rattle.std.specs.Prelude.{◌≡◌, IfOk, string_bytes};
+ghost use Rattle.ent_values.specs.ReadBack.{IsReadBack};
 ghost use Rattle.ent_values.specs.Writing.{date_text, duration_text, sign_text, text_of};
 
 use crate::date::Date;
 use crate::duration::YearMonth;
 use crate::text::Text;
-use crate::value::Value;
+use crate::value::{Value, value_is_real};
 use std::alloc::{AllocError, Global};
 
 impl Value {
-    /// The written text of the value: an integer without `+` and leading zeros, a boolean as `true` or `false`, a date as
-    /// `YYYY-MM-DD` without `Z`, a duration as `P` with its years and the months left over, where a part of zero is left out and
-    /// no months at all are `P0M`, with `-` in front of a negative one. A string and a URI are written as they are.
-    #[tactic(auto, unfolding(crate::specs::Writing::text_of))]
+    /// The written text of the value: an integer without `+` and leading zeros, a boolean as `true` or `false`, a date
+    /// as `YYYY-MM-DD` without `Z`, a duration as `P` with its years and the months left over, where a part of zero is
+    /// left out and no months at all are `P0M`, with `-` in front of a negative one. A string and a URI are written as
+    /// they are. The text reads as the value again, unless it is a duration of more than 999,999,999 whole years.
     pub fn text(&self, alloc: Global) -> Result<Text, AllocError>
+        ensures value { IfOk result (λ t. t ≡ text_of self.now) }
+        ensures reads_back { IfOk result (λ t. IsReadBack self.now t) }
+    {
+        value_is_real(self);
+        self.written(alloc)
+    }
+
+    #[tactic(auto, unfolding(crate::specs::Writing::text_of))]
+    fn written(&self, alloc: Global) -> Result<Text, AllocError>
         ensures { IfOk result (λ t. t ≡ text_of self.now) }
     {
         match self {
