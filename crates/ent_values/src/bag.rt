@@ -102,7 +102,7 @@ impl Bag {
     /// Puts a value of the bag's type last. After a refusal the bag is as before.
     pub fn push(&mut self, value: Value) -> Result<(), AllocError>
         requires { datatype_of value ≡ self.old.datatype }
-        ensures ok { OnOk result (self.new ≡ record { datatype = self.old.datatype; values = self.old.values ++ value ∷ [] }) }
+        ensures ok { OnOk result (self.new ≡ record self.old { values = self.old.values ++ value ∷ [] }) }
         ensures err { OnErr result (self.new ≡ self.old) }
     {
         self.values.push(value)

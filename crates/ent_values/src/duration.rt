@@ -7,7 +7,8 @@ use std::marker::Model;
 
 const MOST_MONTHS: u64 = 12_999_999_987;
 
-/// A duration of years and months, as a number of months: at most 999,999,999 years and 999,999,999 months, forwards or back.
+/// A duration of years and months, as a number of months: at most 999,999,999 years and 999,999,999 months, forwards or
+/// back.
 #[derive(Clone, Copy, Debug, PartialEq, Eq, PartialOrd, Ord)]
 pub struct YearMonth {
     months: i64,

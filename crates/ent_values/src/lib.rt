@@ -19,6 +19,7 @@ pub use date::Date;
 pub use duration::YearMonth;
 pub use fault::ValueFault;
 pub use items::Items;
+pub use reading::number_of_digits;
 pub use shared::Shared;
 pub use text::Text;
 pub use value::{Value, order_is_by_type_and_value, same_is_equal, texts_read_back, value_is_real};

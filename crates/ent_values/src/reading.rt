@@ -1,7 +1,9 @@
 //! Values out of their lexical forms.
 
-ghost use Rattle.std.specs.Prelude.{◌≡◌, ◌^◌, ◌≤◌, ◌<◌, ◌||◌, [], bytes_eq, codes, length, true, Some, None, IfOk, IfErr, IfSome};
-ghost use Rattle.ent_values.specs.Reading.{boolean_of, count_of, date_of, duration_of, integer_of, months_part_of, period_of, value_of, years_part_of};
+ghost use Rattle.std.specs.Prelude.{◌≡◌, ◌^◌, ◌≤◌, ◌<◌, ◌||◌, [], bytes_eq, codes, length, true};
+ghost use Rattle.std.specs.Prelude.{Some, None, IfOk, IfErr, IfSome};
+ghost use Rattle.ent_values.specs.Reading.{boolean_of, count_of, date_of, duration_of, integer_of, months_part_of};
+ghost use Rattle.ent_values.specs.Reading.{period_of, value_of, years_part_of};
 ghost use Rattle.ent_values.specs.declared.fault.ValueFault.TheVariants.{BadValue, Memory};
 ghost use Rattle.ent_values.specs.Types.{is_textual};
 
@@ -17,12 +19,13 @@ use std::alloc::Global;
 const MOST_DIGITS: usize = 9;
 
 impl Value {
-    /// The value of a type that a text stands for (appendix A.2). A string and a URI are any text, a boolean is `true`, `false`,
-    /// `1` or `0`, an integer has digits with a sign or none in front and is within signed 64 bits, a date is a day of the
-    /// calendar as `YYYY-MM-DD` in the years 1 to 9999 with a `Z` behind it or none, a duration is `P` with `nY`, `nM` or `nYnM`,
-    /// each n of 1 to 9 digits, with a `-` in front or none.
+    /// The value of a type that a text stands for (appendix A.2). A string and a URI are any text, a boolean is `true`,
+    /// `false`, `1` or `0`, an integer has digits with a sign or none in front and is within signed 64 bits, a date
+    /// is a day of the calendar as `YYYY-MM-DD` in the years 1 to 9999 with a `Z` behind it or none, a duration is `P`
+    /// with `nY`, `nM` or `nYnM`, each n of 1 to 9 digits, with a `-` in front or none.
     ///
-    /// Any other text is a `BadValue`. Memory is asked for the text of a string or a URI alone, so no other type is refused.
+    /// Any other text is a `BadValue`. Memory is asked for the text of a string or a URI alone, so no other type is
+    /// refused.
     #[tactic(auto, unfolding(crate::specs::Reading::value_of))]
     pub fn parse(alloc: Global, datatype: DataType, text: &str) -> Result<Value, ValueFault>
         ensures read { IfOk result (λ v. value_of datatype text.now ≡ Some v) }
@@ -59,9 +62,9 @@ fn integer(text: &str) -> Option<i64>
     text.parse().ok()
 }
 
-// The number that 1 to 9 digits write.
+/// The number that 1 to 9 digits write, and none of any other text.
 #[tactic(auto, unfolding(crate::specs::Reading::count_of))]
-fn count(text: &[u8]) -> Option<u32>
+pub fn number_of_digits(text: &[u8]) -> Option<u32>
     ensures value { result ≡ count_of text.now }
     ensures small { IfSome result (λ n. n < 10 ^ length text.now) }
     ensures short { IfSome result (λ _. length text.now ≤ 9) }
@@ -85,9 +88,9 @@ fn date(text: &[u8]) -> Option<Date>
     if text.len() < 10 || text[4] != b'-' || text[7] != b'-' || !is_zone(&text[10..]) {
         return None;
     }
-    let year = count(&text[..4])?;
-    let month = count(&text[5..7])?;
-    let day = count(&text[8..10])?;
+    let year = number_of_digits(&text[..4])?;
+    let month = number_of_digits(&text[5..7])?;
+    let day = number_of_digits(&text[8..10])?;
     Date::new(year as u16, month as u8, day as u8)
 }
 
@@ -127,7 +130,7 @@ fn years_part(years: &[u8], rest: &[u8]) -> Option<u64>
     ensures value { result ≡ years_part_of years.now rest.now }
     ensures small { IfSome result (λ n. n ≤ 12999999987) }
 {
-    let years = count(years)?;
+    let years = number_of_digits(years)?;
     let months = if rest.is_empty() {
         0
     } else {
@@ -142,5 +145,5 @@ fn months_part(text: &[u8]) -> Option<u64>
     ensures value { result ≡ months_part_of text.now }
     ensures small { IfSome result (λ n. n ≤ 999999999) }
 {
-    count(text.strip_suffix(b"M")?).map(u64::from)
+    number_of_digits(text.strip_suffix(b"M")?).map(u64::from)
 }

@@ -6,7 +6,7 @@ use Rattle.std.proofs.lemmas.Int.Digits.{digits_value_more}
 use Rattle.std.proofs.lemmas.List.Folds.{list_all_more}
 use Rattle.std.specs.Char.{digit_value, is_ascii_digit}
 use Rattle.std.specs.Str.Parse.{digits_value}
-use Rattle.ent_values.proofs.reading.count.Goals as goal
+use Rattle.ent_values.proofs.reading.number_of_digits.Goals as goal
 
 -- a digit more
 next_value : (text : List ℕ) (i number : ℕ) → i < length text → is_ascii_digit (get_or text i 0) ≡ true → number ≡ digits_value 10 (take i text) → digits_value 10 (take (i + 1) text) ≡ number * 10 + (get_or text i 0 - 48)

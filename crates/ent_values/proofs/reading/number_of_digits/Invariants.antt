@@ -2,7 +2,7 @@ use Rattle.std.proofs.Common.{◌≡◌, ◌^◌, ◌<◌, true, take}
 use Rattle.std.specs.Char.{is_ascii_digit}
 use Rattle.std.specs.List.{list_all}
 use Rattle.std.specs.Str.Parse.{digits_value}
-use Rattle.ent_values.proofs.reading.count.Given as goal
+use Rattle.ent_values.proofs.reading.number_of_digits.Given as goal
 
 -- the bytes so far are digits, and the number is the one that they write
 abbrev pub invariant-loop-byte : goal.invariant-loop-byte
