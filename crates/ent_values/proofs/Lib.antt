@@ -4,6 +4,7 @@ pub mod Numerals
 pub mod Orders
 pub mod Periods
 pub mod ReadBack
+pub mod Telling
 pub mod Texts
 pub mod TypeNames
 pub mod Values
