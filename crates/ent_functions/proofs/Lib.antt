@@ -11,6 +11,7 @@ pub mod Naming
 pub mod NoFault
 pub mod Numbers
 pub mod Parts
+pub mod Same
 pub mod Taken
 pub mod Taking
 pub mod TypedResults

@@ -6,6 +6,7 @@ pub mod Identifiers
 pub mod Integers
 pub mod Orders
 pub mod Reading
+pub mod Same
 pub mod Sets
 pub mod Texts
 pub mod Types

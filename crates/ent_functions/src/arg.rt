@@ -2,6 +2,7 @@
 
 ghost use Rattle.std.specs.Prelude.{◌≡◌};
 ghost use Rattle.ent_functions.specs.Arguments.{type_of_arg};
+ghost use Rattle.ent_functions.specs.Same.{SameArgumentsAreEqual, SameFunctionsAreEqual, SameTypesAreEqual};
 
 use crate::function::Function;
 use crate::types::ArgType;
@@ -63,3 +64,11 @@ impl From<AllocError> for Fault {
         Fault::Memory
     }
 }
+
+/// A law, with nothing to run: `==` of two functions, of two types of arguments and of two arguments says whether they
+/// are equal.
+pub fn same_is_equal()
+    ensures functions { SameFunctionsAreEqual }
+    ensures types { SameTypesAreEqual }
+    ensures arguments { SameArgumentsAreEqual }
+{}

@@ -16,7 +16,7 @@ mod texts;
 mod types;
 mod typing;
 
-pub use arg::{Arg, Fault};
+pub use arg::{Arg, Fault, same_is_equal};
 pub use dispatch::{apply, boolean_functions_have_no_fault, well_typed_calls_have_answers};
 pub use function::{Comparison, Element, Function, Ordered};
 pub use identifiers::ids_read_back;

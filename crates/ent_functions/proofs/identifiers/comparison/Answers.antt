@@ -1,5 +1,5 @@
-use Rattle.std.proofs.Common.{◌≡◌, ◌++◌}
-use Rattle.std.specs.Prelude.{bytes_eq, find}
+use Rattle.std.proofs.Common.{◌++◌}
+use Rattle.std.specs.Prelude.{bytes_eq}
 use Rattle.ent_functions.specs.Identifiers.{comparisons_at, id_of}
 use Rattle.ent_functions.specs.declared.function.Function.{Function}
 use Rattle.ent_functions.specs.declared.function.Ordered.TheVariants as ordered

@@ -1,5 +1,5 @@
-use Rattle.std.proofs.Common.{◌≡◌, ◌++◌}
-use Rattle.std.specs.Prelude.{bytes_eq, find}
+use Rattle.std.proofs.Common.{◌++◌}
+use Rattle.std.specs.Prelude.{bytes_eq}
 use Rattle.ent_functions.specs.Identifiers.{functions_at, id_of}
 use Rattle.ent_functions.specs.declared.function.Element.TheVariants as elements
 use Rattle.ent_functions.specs.declared.function.Function.{Function}

@@ -1,5 +1,5 @@
-use Rattle.std.proofs.Common.{◌≡◌, sym, ◌∙◌}
-use Rattle.std.specs.Prelude.{bytes_eq, find, flat_map}
+use Rattle.std.proofs.Common.{sym, ◌∙◌}
+use Rattle.std.specs.Prelude.{bytes_eq, flat_map}
 use Rattle.ent_functions.specs.Identifiers.{all_elements, all_functions, all_ordered, comparisons_at, function_of, functions_at, id_of, single_functions}
 use Rattle.ent_functions.specs.declared.function.Function.{Function}
 use Rattle.ent_functions.proofs.Groups.{in_first, in_second, in_third}
