@@ -26,7 +26,7 @@ same_turned a b = agree (same_value a b) (same_value b a)
 abbrev others : Value → List Value → List Value
 others value values = filter (λ other. not (same_value other value)) values
 
-filter_append : (p : Value → Bool) (xs ys : List Value) → filter p (xs ++ ys) ≡ filter p xs ++ filter p ys
+pub filter_append : (p : Value → Bool) (xs ys : List Value) → filter p (xs ++ ys) ≡ filter p xs ++ filter p ys
 filter_append p [] ys = refl
 filter_append p (x ∷ xs) ys = at (p x) (filter_append p xs ys) where
   at : (b : Bool) → filter p (xs ++ ys) ≡ filter p xs ++ filter p ys → cond b (x ∷ filter p (xs ++ ys)) (filter p (xs ++ ys)) ≡ cond b (x ∷ filter p xs) (filter p xs) ++ filter p ys

@@ -1,7 +1,7 @@
 -- Arguments and results: their types, and how a function reads them.
-use Rattle.std.specs.Prelude.{◌≡◌, ℕ, ℤ, Bool, false, List, [], ◌∷◌, Result, Ok, Err, Option, Some, None, filter_map, flat_map}
+use Rattle.std.specs.Prelude.{◌≡◌, ◌<◌, ℕ, ℤ, Bool, true, false, length, List, [], ◌∷◌, Result, Ok, Err, Option, Some, None, filter_map, flat_map}
 use Rattle.ent_values.specs.Calendar.{Day}
-use Rattle.ent_values.specs.Types.{datatype_of}
+use Rattle.ent_values.specs.Types.{datatype_of, is_textual}
 use Rattle.ent_values.specs.declared.value.Value.{Value}
 use Rattle.ent_values.specs.declared.value.Value.TheVariants as values
 use Rattle.ent_functions.specs.declared.arg.Arg.{Arg}
@@ -17,10 +17,16 @@ type_of_arg (One value) = types.One (datatype_of value)
 type_of_arg (Many bag) = types.Many bag.datatype
 type_of_arg (Fun function) = types.Fun function
 
--- an answer is what the function is defined to come to, or want of memory
+-- a result takes memory: a string or URI, or a bag with a value in it
+abbrev pub TakesMemory : Result Arg Fault → Type 0
+TakesMemory (Ok (One value)) = is_textual (datatype_of value) ≡ true
+TakesMemory (Ok (Many bag)) = 0 < length bag.values
+TakesMemory _ = ⊥
+
+-- an answer is what the function is defined to come to, or want of memory where that takes memory
 abbrev pub Applies : Result Arg Fault → Result Arg Fault → Type 0
 Applies defined (Ok outcome) = defined ≡ Ok outcome
-Applies defined (Err Memory) = Unit {0}
+Applies defined (Err Memory) = TakesMemory defined
 Applies defined (Err DivideByZero) = defined ≡ Err DivideByZero
 Applies defined (Err Overflow) = defined ≡ Err Overflow
 Applies defined (Err NotSingle) = defined ≡ Err NotSingle

@@ -1,6 +1,6 @@
 //! Functions of bags, and bags of values.
 
-ghost use Rattle.std.specs.Prelude.{◌≡◌, true, pos, length, IfErr, IfOk, OnOk, ◌++◌, All};
+ghost use Rattle.std.specs.Prelude.{◌≡◌, ◌<◌, true, pos, length, IfErr, IfOk, OnErr, OnOk, ◌++◌, All};
 ghost use Rattle.ent_values.specs.Types.{is_textual};
 ghost use Rattle.ent_functions.specs.Applied.{bag_result};
 ghost use Rattle.ent_functions.specs.Arguments.{Applies, values_in, values_of};
@@ -58,6 +58,7 @@ pub(crate) fn values_of(argument: &Arg) -> &[Value]
 fn all_values(alloc: Global, arguments: &[Arg]) -> Result<Items<Value>, AllocError>
     ensures value { IfOk result (λ values. values ≡ values_of arguments.now) }
     ensures held { OnOk result (All IsHeld arguments.now) }
+    ensures filled { OnErr result (0 < length (values_of arguments.now)) }
 {
     let mut all = Items::new(alloc);
     for argument in arguments {
@@ -68,7 +69,8 @@ fn all_values(alloc: Global, arguments: &[Arg]) -> Result<Items<Value>, AllocErr
 
 // Puts copies of values last.
 fn push_all(alloc: Global, all: &mut Items<Value>, values: &[Value]) -> Result<(), AllocError>
-    ensures { OnOk result (all.new ≡ all.old ++ values.now) }
+    ensures value { OnOk result (all.new ≡ all.old ++ values.now) }
+    ensures filled { OnErr result (0 < length values.now) }
 {
     for value in values {
         all.push(value.copy(alloc)?)?;

@@ -26,8 +26,8 @@ use std::alloc::Global;
 
 /// The result of a function for arguments that it takes (appendix A.3).
 ///
-/// A fault other than `Memory` is the function's own, and the same for the same arguments. `Memory` comes from a function alone whose
-/// result takes memory: a bag, or a string or URI.
+/// A fault other than `Memory` is the function's own, and the same for the same arguments. `Memory` comes only where the
+/// result takes memory: a string or URI out of a bag or joined, or a bag with a value in it.
 #[tactic(auto, unfolding(crate::specs::Applied::applied, crate::specs::Types::result_type_of))]
 pub fn apply(alloc: Global, function: Function, arguments: &[Arg]) -> Result<Arg, Fault>
     requires { IsSome (result_type_of function (map type_of_arg arguments.now)) }

@@ -1,6 +1,6 @@
 //! Bags as sets of values.
 
-ghost use Rattle.std.specs.Prelude.{◌≡◌, List, [], ◌∷◌, ◌++◌, All, Ok, IfOk, OnOk};
+ghost use Rattle.std.specs.Prelude.{◌≡◌, ◌<◌, List, [], ◌∷◌, ◌++◌, All, Ok, IfOk, OnErr, OnOk, length};
 ghost use Rattle.ent_values.specs.declared.value.Value.{Value};
 ghost use Rattle.ent_functions.specs.Applied.{bag_result};
 ghost use Rattle.ent_functions.specs.Arguments.{Applies, values_of};
@@ -47,7 +47,8 @@ fn add_new(alloc: Global, found: &mut Items<Value>, value: &Value) -> Result<(),
 
 // Puts copies of the values last that aren't there yet.
 fn add_all_new(alloc: Global, found: &mut Items<Value>, values: &[Value]) -> Result<(), AllocError>
-    ensures { OnOk result ((seen : List Value) → found.old ≡ each_once seen → found.new ≡ each_once (seen ++ values.now)) }
+    ensures value { OnOk result ((seen : List Value) → found.old ≡ each_once seen → found.new ≡ each_once (seen ++ values.now)) }
+    ensures filled { OnErr result (0 < length values.now) }
 {
     for value in values {
         add_new(alloc, found, value)?;
@@ -61,7 +62,8 @@ fn common_values(
     first: &[Value],
     second: &[Value],
 ) -> Result<Items<Value>, AllocError>
-    ensures { IfOk result (λ values. values ≡ in_both first.now second.now) }
+    ensures value { IfOk result (λ values. values ≡ in_both first.now second.now) }
+    ensures filled { OnErr result (0 < length (in_both first.now second.now)) }
 {
     let mut found = Items::new(alloc);
     for value in first {
@@ -76,6 +78,7 @@ fn common_values(
 fn distinct_values(alloc: Global, arguments: &[Arg]) -> Result<Items<Value>, AllocError>
     ensures value { IfOk result (λ values. values ≡ each_once (values_of arguments.now)) }
     ensures held { OnOk result (All IsHeld arguments.now) }
+    ensures filled { OnErr result (0 < length (values_of arguments.now)) }
 {
     let mut found = Items::new(alloc);
     for argument in arguments {
