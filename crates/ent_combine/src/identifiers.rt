@@ -1,5 +1,7 @@
 ghost use Rattle.std.specs.Prelude.{◌≡◌};
-ghost use Rattle.ent_combine.specs.Identifiers.{rule_id_of, shared_id_of, policy_id_of, rule_algorithm_of, policy_algorithm_of, RuleIdsReadBack, PolicyIdsReadBack};
+ghost use Rattle.ent_combine.specs.Identifiers.{rule_id_of, shared_id_of, policy_id_of};
+ghost use Rattle.ent_combine.specs.Identifiers.{rule_algorithm_of, policy_algorithm_of};
+ghost use Rattle.ent_combine.specs.Identifiers.{RuleIdsReadBack, PolicyIdsReadBack};
 
 use crate::outcome::{PolicyAlg, RuleAlg};
 
