@@ -127,3 +127,6 @@ test_of_two _ or and not test = test
 pub seen_none : (arguments : List Arg) → seen_arguments None arguments ≡ arguments
 seen_none [] = refl
 seen_none (argument ∷ arguments) = ap (λ rest. argument ∷ rest) (seen_none arguments)
+
+-- what the functions of values that give a boolean take and come to
+pub ruleset tests = (two_values_taken, or_is, and_is, not_is)

@@ -106,3 +106,6 @@ stops f first total arguments i argument below at within left lacks = by_case (i
       let beyond : FitsSigned w64 (f total number) → ⊥ = λ fit. lacks (subst (λ z. FitsSigned w64 z) (sym next) fit) in
       sym (one_too_many f total number (integers_of (drop (suc i) arguments)) (outside (f total number) beyond))
       ∙ ap (λ numbers. from_left f total numbers) (sym there) ∙ left
+
+-- what the functions of integers come to
+pub ruleset calculations = (add_is, multiply_is, abs_is, one_integer_taken)

@@ -98,3 +98,9 @@ unfolding first_order_type
 not_higher functions.AnyOf arguments kind taken = cc
 not_higher functions.AllOf arguments kind taken = cc
 not_higher _ arguments kind taken = cc
+
+-- what the functions of a bag take
+pub ruleset of_bags = (one_bag_taken, value_and_bag_taken)
+
+-- what the functions that make a bag take
+pub ruleset making_bags = (bag_taken, union_taken, intersection_taken)

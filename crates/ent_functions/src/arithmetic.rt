@@ -14,7 +14,7 @@ use crate::reading::{integer, one_integer, two_integers};
 use ent_values::Value;
 
 /// What a function of integers comes to (appendix A.3.2).
-#[tactic(auto, using(crate::proofs::Numbers::add_is, crate::proofs::Numbers::multiply_is, crate::proofs::Numbers::abs_is, crate::proofs::Numbers::one_integer_taken))]
+#[tactic(auto, using(crate::proofs::Numbers::calculations))]
 pub(crate) fn calculated(function: Function, arguments: &[Arg]) -> Result<Arg, Fault>
     requires kind { is_arithmetic function ≡ true }
     requires taken { Takes function arguments.now }
@@ -71,7 +71,8 @@ fn sum(arguments: &[Arg]) -> Result<Arg, Fault>
 
 // The total and one argument more.
 fn plus(total: i64, argument: &Arg) -> Option<i64>
-    ensures { SomeIff result (FitsSigned w64 (next_result ◌+ℤ◌ total argument.now)) (next_result ◌+ℤ◌ total argument.now) }
+    ensures { SomeIff result (FitsSigned w64 (next_result ◌+ℤ◌ total argument.now))
+        (next_result ◌+ℤ◌ total argument.now) }
 {
     match integer(argument) {
         Some(number) => total.checked_add(number),
@@ -95,7 +96,8 @@ fn product(arguments: &[Arg]) -> Result<Arg, Fault>
 
 // The total times one argument more.
 fn times(total: i64, argument: &Arg) -> Option<i64>
-    ensures { SomeIff result (FitsSigned w64 (next_result ◌*ℤ◌ total argument.now)) (next_result ◌*ℤ◌ total argument.now) }
+    ensures { SomeIff result (FitsSigned w64 (next_result ◌*ℤ◌ total argument.now))
+        (next_result ◌*ℤ◌ total argument.now) }
 {
     match integer(argument) {
         Some(number) => total.checked_mul(number),
@@ -121,7 +123,8 @@ fn quotient(dividend: i64, divisor: i64) -> Result<Arg, Fault>
     made(Fault::Overflow, dividend.checked_div(divisor))
 }
 
-// What is left of the first integer, with its sign. It is 0 where the divisor is -1, also where the quotient is too large.
+// What is left of the first integer, with its sign. It is 0 where the divisor is -1, also where the quotient is too
+// large.
 fn remainder(dividend: i64, divisor: i64) -> Result<Arg, Fault>
     ensures { result ≡ remainder dividend divisor }
 {

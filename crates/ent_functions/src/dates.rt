@@ -1,6 +1,7 @@
 //! Sums of dates and durations.
 
-ghost use Rattle.std.specs.Prelude.{◌≡◌, true, ℤ, pos, ◌+ℤ◌, neg_ℤ, ◌≤◌, ◌<◌, ◌-◌, ◌+◌, ◌*◌, ◌/◌, ◌%◌, min, Some, nat_le};
+ghost use Rattle.std.specs.Prelude.{◌≡◌, true, ℤ, pos, ◌+ℤ◌, neg_ℤ, min, Some, nat_le};
+ghost use Rattle.std.specs.Prelude.{◌≤◌, ◌<◌, ◌-◌, ◌+◌, ◌*◌, ◌/◌, ◌%◌};
 ghost use Rattle.ent_values.specs.Calendar.{days_of_month};
 ghost use Rattle.ent_values.specs.Durations.{is_duration};
 ghost use Rattle.ent_functions.specs.Dates.{date_in_month, day_in_month, month_number, months_later};

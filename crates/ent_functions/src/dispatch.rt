@@ -3,9 +3,11 @@
 ghost use Rattle.std.specs.Prelude.{◌≡◌, true, [], ◌∷◌, All, IsSome, IfErr, IfOk, Some, map};
 ghost use Rattle.ent_values.specs.Durations.{is_duration};
 ghost use Rattle.ent_values.specs.declared.value.Value.TheVariants as values;
-ghost use Rattle.ent_functions.specs.Applied.{BooleanFunctionsHaveNoFault, WellTypedCallsHaveAnswers, allocates, applied, bag_result, first_order};
+ghost use Rattle.ent_functions.specs.Applied.{BooleanFunctionsHaveNoFault, WellTypedCallsHaveAnswers};
+ghost use Rattle.ent_functions.specs.Applied.{allocates, applied, bag_result, first_order};
 ghost use Rattle.ent_functions.specs.Arguments.{Applies, of_two_bags, type_of_arg};
-ghost use Rattle.ent_functions.specs.Reading.{IsHeld, Takes, is_date_sum, is_of_bag, is_one_and_only, is_set_test, is_test, makes_bag};
+ghost use Rattle.ent_functions.specs.Reading.{IsHeld, Takes, is_date_sum, is_of_bag, is_one_and_only};
+ghost use Rattle.ent_functions.specs.Reading.{is_set_test, is_test, makes_bag};
 ghost use Rattle.ent_functions.specs.Sets.{in_both};
 ghost use Rattle.ent_functions.specs.Types.{bag_of, result_type_of};
 ghost use Rattle.ent_functions.specs.declared.arg.Fault.TheVariants.{Memory};
@@ -26,8 +28,8 @@ use std::alloc::Global;
 
 /// The result of a function for arguments that it takes (appendix A.3).
 ///
-/// A fault other than `Memory` is the function's own, and the same for the same arguments. `Memory` comes only where the
-/// result takes memory: a string or URI out of a bag or joined, or a bag with a value in it.
+/// A fault other than `Memory` is the function's own, and the same for the same arguments. `Memory` comes only where
+/// the result takes memory: a string or URI out of a bag or joined, or a bag with a value in it.
 #[tactic(auto, unfolding(crate::specs::Applied::applied, crate::specs::Types::result_type_of))]
 pub fn apply(alloc: Global, function: Function, arguments: &[Arg]) -> Result<Arg, Fault>
     requires { IsSome (result_type_of function (map type_of_arg arguments.now)) }
@@ -98,7 +100,7 @@ fn tested(function: Function, arguments: &[Arg]) -> Result<Arg, Fault>
 }
 
 // What a function of one bag, or of a value and a bag, comes to.
-#[tactic(auto, using(crate::proofs::Taken::one_bag_taken, crate::proofs::Taken::value_and_bag_taken), unfolding(crate::specs::Applied::first_order))]
+#[tactic(auto, using(crate::proofs::Taken::of_bags), unfolding(crate::specs::Applied::first_order))]
 fn of_bag(alloc: Global, function: Function, arguments: &[Arg]) -> Result<Arg, Fault>
     requires kind { is_of_bag function ≡ true }
     requires taken { Takes function arguments.now }
@@ -118,7 +120,7 @@ fn of_bag(alloc: Global, function: Function, arguments: &[Arg]) -> Result<Arg, F
 }
 
 // The bag that a function makes.
-#[tactic(auto, using(crate::proofs::Taken::bag_taken, crate::proofs::Taken::union_taken, crate::proofs::Taken::intersection_taken), unfolding(crate::specs::Applied::first_order))]
+#[tactic(auto, using(crate::proofs::Taken::making_bags), unfolding(crate::specs::Applied::first_order))]
 fn made_bag(alloc: Global, function: Function, arguments: &[Arg]) -> Result<Arg, Fault>
     requires kind { makes_bag function ≡ true }
     requires taken { Takes function arguments.now }

@@ -36,7 +36,8 @@ pub(crate) fn all_of(arguments: &[Arg]) -> bool
 // Whether the function is True with one of the values of one of the bags in the bag's place: there is one bag.
 fn any_holds(function: Function, arguments: &[Arg]) -> bool
     requires { IsInner function arguments.now }
-    ensures { result ≡ list_any (λ argument. list_any (comes_true_with function arguments.now) (bag_values_in argument)) arguments.now }
+    ensures { result ≡ list_any (λ argument. list_any (comes_true_with function arguments.now) (bag_values_in argument))
+        arguments.now }
 {
     for argument in arguments {
         if any_holds_with(function, arguments, bag_values(argument)) {
@@ -49,7 +50,8 @@ fn any_holds(function: Function, arguments: &[Arg]) -> bool
 // Whether the function is True with each of the values of each of the bags in the bag's place: there is one bag.
 fn all_hold(function: Function, arguments: &[Arg]) -> bool
     requires { IsInner function arguments.now }
-    ensures { result ≡ list_all (λ argument. list_all (comes_true_with function arguments.now) (bag_values_in argument)) arguments.now }
+    ensures { result ≡ list_all (λ argument. list_all (comes_true_with function arguments.now) (bag_values_in argument))
+        arguments.now }
 {
     for argument in arguments {
         if !all_hold_with(function, arguments, bag_values(argument)) {

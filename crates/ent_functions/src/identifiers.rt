@@ -1,8 +1,10 @@
 //! The URIs that name the functions.
 
 ghost use Rattle.std.specs.Prelude.{◌≡◌, ◌++◌, ◌∷◌, [], IfOk, map, find, bytes_eq, flat_map};
-ghost use Rattle.ent_functions.specs.Identifiers.{element_word, ordered_word, comparison_word, prefix_of, type_word_of, operation_of, id_of};
-ghost use Rattle.ent_functions.specs.Identifiers.{function_of, functions_at, comparisons_at, single_functions, all_elements, all_ordered, IdsReadBack};
+ghost use Rattle.ent_functions.specs.Identifiers.{element_word, ordered_word, comparison_word, prefix_of};
+ghost use Rattle.ent_functions.specs.Identifiers.{type_word_of, operation_of, id_of, function_of, IdsReadBack};
+ghost use Rattle.ent_functions.specs.Identifiers.{all_elements, all_ordered};
+ghost use Rattle.ent_functions.specs.Identifiers.{functions_at, comparisons_at, single_functions};
 
 use crate::function::{Comparison, Element, Function, Ordered};
 use ent_values::Text;
@@ -148,7 +150,8 @@ impl Function {
         operation == self.operation()
     }
 
-    /// The function that has the URI `id` (appendix A.3), None where there is none. The type in its name is looked at once for all functions of that type.
+    /// The function that has the URI `id` (appendix A.3), None where there is none. The type in its name is looked at
+    /// once for all functions of that type.
     #[tactic(auto, unfolding(crate::specs::Identifiers::function_of, crate::specs::Identifiers::all_functions))]
     pub fn from_id(id: &str) -> Option<Function>
         ensures { result ≡ function_of id.now }

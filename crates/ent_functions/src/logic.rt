@@ -15,7 +15,7 @@ use ent_values::Value;
 use std::cmp::Ordering;
 
 /// Whether a function of values that gives a boolean gives True. Where `value` is given, it stands in the bag's place.
-#[tactic(auto, using(crate::proofs::Comparing::two_values_taken, crate::proofs::Comparing::or_is, crate::proofs::Comparing::and_is, crate::proofs::Comparing::not_is))]
+#[tactic(auto, using(crate::proofs::Comparing::tests))]
 pub(crate) fn holds(function: Function, arguments: &[Arg], value: Option<&Value>) -> bool
     requires test { is_test function ≡ true }
     requires taken { Takes function (seen_arguments (option_copied value) arguments.now) }
@@ -34,14 +34,16 @@ pub(crate) fn holds(function: Function, arguments: &[Arg], value: Option<&Value>
 
 // Whether some argument is True.
 fn some_true(arguments: &[Arg], value: Option<&Value>) -> bool
-    ensures { result ≡ list_any (λ argument. is_true (seen_argument (option_copied value.entry) argument)) arguments.now }
+    ensures { result ≡ list_any (λ argument. is_true (seen_argument (option_copied value.entry) argument))
+        arguments.now }
 {
     arguments.iter().any(|argument| is_true(argument, value))
 }
 
 // Whether each argument is True.
 fn all_true(arguments: &[Arg], value: Option<&Value>) -> bool
-    ensures { result ≡ list_all (λ argument. is_true (seen_argument (option_copied value.entry) argument)) arguments.now }
+    ensures { result ≡ list_all (λ argument. is_true (seen_argument (option_copied value.entry) argument))
+        arguments.now }
 {
     arguments.iter().all(|argument| is_true(argument, value))
 }

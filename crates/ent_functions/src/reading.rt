@@ -5,7 +5,8 @@ ghost use Rattle.ent_values.specs.Types.{datatype_of};
 ghost use Rattle.ent_values.specs.declared.datatype.DataType.TheVariants as data_types;
 ghost use Rattle.ent_values.specs.declared.value.Value.TheVariants as values;
 ghost use Rattle.ent_functions.specs.Arguments.{type_of_arg, integer_in, is_true};
-ghost use Rattle.ent_functions.specs.Reading.{AreOneBag, AreTwoBags, AreTwoValues, AreValueAndBag, seen_argument, seen_arguments};
+ghost use Rattle.ent_functions.specs.Reading.{AreOneBag, AreTwoBags, AreTwoValues, AreValueAndBag};
+ghost use Rattle.ent_functions.specs.Reading.{seen_argument, seen_arguments};
 ghost use Rattle.ent_functions.specs.Types.{higher_order_type};
 ghost use Rattle.ent_functions.specs.declared.types.ArgType.TheVariants as types;
 
@@ -19,7 +20,8 @@ pub(crate) fn two_values<'a>(
     value: Option<&'a Value>,
 ) -> (&'a Value, &'a Value)
     requires { AreTwoValues (seen_arguments (option_copied value) arguments.now) }
-    ensures { seen_arguments (option_copied value.entry) arguments.now ≡ Arg.One result.0.now ∷ Arg.One result.1.now ∷ [] }
+    ensures { seen_arguments (option_copied value.entry) arguments.now
+        ≡ Arg.One result.0.now ∷ Arg.One result.1.now ∷ [] }
 {
     match arguments {
         [first, second] => (value_at(first, value), value_at(second, value)),

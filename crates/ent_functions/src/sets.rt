@@ -37,7 +37,8 @@ pub(crate) fn are_equal_sets(first: &[Value], second: &[Value]) -> bool
 
 // Puts a copy of the value last, if it isn't there yet.
 fn add_new(alloc: Global, found: &mut Items<Value>, value: &Value) -> Result<(), AllocError>
-    ensures { OnOk result ((seen : List Value) → found.old ≡ each_once seen → found.new ≡ each_once (seen ++ value.now ∷ [])) }
+    ensures { OnOk result ((seen : List Value) → found.old ≡ each_once seen
+        → found.new ≡ each_once (seen ++ value.now ∷ [])) }
 {
     if !is_in(value, found.as_slice()) {
         found.push(value.copy(alloc)?)?;
@@ -47,7 +48,8 @@ fn add_new(alloc: Global, found: &mut Items<Value>, value: &Value) -> Result<(),
 
 // Puts copies of the values last that aren't there yet.
 fn add_all_new(alloc: Global, found: &mut Items<Value>, values: &[Value]) -> Result<(), AllocError>
-    ensures value { OnOk result ((seen : List Value) → found.old ≡ each_once seen → found.new ≡ each_once (seen ++ values.now)) }
+    ensures value { OnOk result ((seen : List Value) → found.old ≡ each_once seen
+        → found.new ≡ each_once (seen ++ values.now)) }
     ensures filled { OnErr result (0 < length values.now) }
 {
     for value in values {
@@ -90,7 +92,9 @@ fn distinct_values(alloc: Global, arguments: &[Arg]) -> Result<Items<Value>, All
 /// The bag of the values of the first bag that are in the second, each once.
 #[tactic(auto, using(crate::proofs::EachOnce::in_both_types))]
 pub(crate) fn intersection(alloc: Global, first: &Bag, second: &Bag) -> Result<Arg, Fault>
-    ensures { Applies (Ok (Arg.Many (record { datatype = first.now.datatype; values = in_both first.now.values second.now.values }))) result }
+    ensures { Applies
+        (Ok (Arg.Many (record { datatype = first.now.datatype; values = in_both first.now.values second.now.values })))
+        result }
 {
     let values = common_values(alloc, first.values(), second.values())?;
     Ok(Arg::Many(Bag::of(first.datatype(), values)))

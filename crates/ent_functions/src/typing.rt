@@ -4,7 +4,8 @@ ghost use Rattle.std.specs.Prelude.{◌≡◌, ◌==◌, [], ◌∷◌, map, cou
 ghost use Rattle.std.specs.List.{list_all};
 ghost use Rattle.std.specs.Cmp.Lexicographic.{pointwise};
 ghost use Rattle.ent_functions.specs.Types.{element_type, ordered_type, same_type, exactly, each, two_or_more, is_bag};
-ghost use Rattle.ent_functions.specs.Types.{one_of, seen_type, is_boolean, first_order_type, higher_order_type, result_type_of};
+ghost use Rattle.ent_functions.specs.Types.{one_of, seen_type, is_boolean, first_order_type, higher_order_type};
+ghost use Rattle.ent_functions.specs.Types.{result_type_of};
 
 use crate::function::{Element, Function, Ordered};
 use crate::types::ArgType;
@@ -37,7 +38,8 @@ impl Ordered {
     }
 }
 
-// The types of the arguments of a call. The function under any-of and all-of is given one value of the bag in the bag's place.
+// The types of the arguments of a call. The function under any-of and all-of is given one value of the bag in the bag's
+// place.
 #[derive(Clone, Copy)]
 struct Given<'a> {
     types: &'a [ArgType],
@@ -79,7 +81,8 @@ impl Given<'_> {
 
     // That result type, if there are two arguments, and of these types.
     fn exactly_two(self, wanted: ArgType, then: ArgType, outcome: ArgType) -> Option<ArgType>
-        ensures { result ≡ exactly (wanted ∷ then ∷ []) outcome (map (seen_type self.entry.one_of_bag) self.entry.types.now) }
+        ensures { result ≡ exactly (wanted ∷ then ∷ []) outcome
+            (map (seen_type self.entry.one_of_bag) self.entry.types.now) }
     {
         match self.types {
             [first, second] => {
@@ -97,7 +100,8 @@ impl Given<'_> {
 
     // Whether each argument has that type.
     fn is_each(self, wanted: ArgType) -> bool
-        ensures { result ≡ list_all (λ type. same_type (seen_type self.entry.one_of_bag type) wanted) self.entry.types.now }
+        ensures { result ≡ list_all (λ type. same_type (seen_type self.entry.one_of_bag type) wanted)
+            self.entry.types.now }
     {
         let one_of_bag = self.one_of_bag;
         self.types
@@ -130,8 +134,8 @@ impl Given<'_> {
 }
 
 impl Function {
-    /// The type of the function's result for arguments of these types (appendix A.3), None if the function takes no such
-    /// arguments.
+    /// The type of the function's result for arguments of these types (appendix A.3), None if the function takes no
+    /// such arguments.
     #[tactic(auto, using(crate::proofs::TypesSeen::seen_as_given), unfolding(crate::specs::Types::result_type_of))]
     pub fn result_type(self, given: &[ArgType]) -> Option<ArgType>
         ensures { result ≡ result_type_of self given.now }
