@@ -2,6 +2,7 @@
 use Rattle.std.proofs.Common.{◌≡◌, ℕ, ℤ, pos, negsuc, Bool, true, false, List, [], ◌∷◌, map, refl, ap, sym, ◌∙◌}
 use Rattle.std.specs.Prelude.{IsSome, Result, Ok, Err, ◌+ℤ◌, ◌-ℤ◌, ◌*ℤ◌, neg_ℤ, int_div, int_rem, unsigned_abs, ◌&&◌, nat_le, nat_lt, length, not, if◌then◌else◌}
 use Rattle.std.specs.List.{list_all}
+use Rattle.ent_values.specs.Order.{value_order}
 use Rattle.ent_values.specs.Calendar.{Day}
 use Rattle.ent_values.specs.Reading.{is_within_64_bits}
 use Rattle.ent_values.specs.Types.{datatype_of}
@@ -16,7 +17,7 @@ use Rattle.ent_functions.specs.Dates.{date_in_month, day_in_month, month_number,
 use Rattle.ent_functions.specs.Integers.{from_left, is_zero, partial_results, quotient, remainder, within_64_bits, whole_result}
 use Rattle.ent_functions.specs.Reading.{AreOneBag, AreTwoBags, AreTwoValues, AreValueAndBag, Takes}
 use Rattle.ent_functions.specs.Sets.{are_equal_sets, have_common, in_both, is_among, is_subset, only_value}
-use Rattle.ent_functions.specs.Orders.{order_of, stands}
+use Rattle.ent_functions.specs.Orders.{stands}
 use Rattle.ent_functions.specs.Texts.{begins_with, ends_with, has_part}
 use Rattle.ent_values.specs.Same.{same_value}
 use Rattle.ent_functions.specs.Types.{boolean, date, duration, element_type, first_order_type, higher_order_type, integer, result_type_of, text}
@@ -173,7 +174,7 @@ value_and_bag_answered f arguments two = rw two.2 tt
 pub first_order_answered : (function : Function) (arguments : List Arg) → Takes function arguments → HasAnswer (first_order function arguments)
 unfolding first_order first_order_type
 first_order_answered (functions.Equal e) arguments taken = values_answered same_value arguments (two_values_taken (functions.Equal e) arguments refl taken)
-first_order_answered (functions.Compare k o) arguments taken = values_answered (λ a b. stands k (order_of a b)) arguments (two_values_taken (functions.Compare k o) arguments refl taken)
+first_order_answered (functions.Compare k o) arguments taken = values_answered (λ a b. stands k (value_order a b)) arguments (two_values_taken (functions.Compare k o) arguments refl taken)
 first_order_answered functions.Add arguments taken = from_left_answered ◌+ℤ◌ (pos 0) (integers_of arguments)
 first_order_answered functions.Multiply arguments taken = from_left_answered ◌*ℤ◌ (pos 1) (integers_of arguments)
 first_order_answered functions.Subtract arguments taken = integers_answered (λ a b. within_64_bits (a -ℤ b)) arguments (two_integers_taken functions.Subtract arguments refl taken) (λ a b. within_answered (a -ℤ b))

@@ -2,6 +2,7 @@
 use Rattle.std.proofs.Common.{◌≡◌, ℕ, Bool, true, List, [], ◌∷◌, map, refl, ap, subst, ◌∙◌}
 use Rattle.std.specs.Prelude.{Some, not}
 use Rattle.std.specs.List.{list_all, list_any}
+use Rattle.ent_values.specs.Order.{value_order}
 use Rattle.ent_values.specs.Same.{same_value}
 use Rattle.ent_values.specs.Types.{datatype_of}
 use Rattle.ent_values.specs.declared.datatype.DataType.TheVariants as data_types
@@ -9,7 +10,7 @@ use Rattle.ent_values.specs.declared.value.Value.{Value}
 use Rattle.ent_values.specs.declared.value.Value.TheVariants as values
 use Rattle.ent_functions.specs.Applied.{applied, first_order}
 use Rattle.ent_functions.specs.Arguments.{of_texts, truth, type_of_arg, is_true}
-use Rattle.ent_functions.specs.Orders.{order_of, stands}
+use Rattle.ent_functions.specs.Orders.{stands}
 use Rattle.ent_functions.specs.Reading.{Takes, is_test, is_test_of_two}
 use Rattle.ent_functions.specs.Texts.{begins_with, ends_with, has_part}
 use Rattle.ent_functions.specs.Types.{boolean, first_order_type, higher_order_type, is_boolean, one_of, result_type_of}
@@ -52,7 +53,7 @@ of_two : (function : Function) (first second : Value) → is_test_of_two functio
     → (answer : Bool) × (first_order function (One first ∷ One second ∷ []) ≡ truth answer)
 unfolding first_order
 of_two (functions.Equal e) first second test taken = (same_value first second, refl)
-of_two (functions.Compare k o) first second test taken = (stands k (order_of first second), refl)
+of_two (functions.Compare k o) first second test taken = (stands k (value_order first second), refl)
 of_two functions.StartsWith first second test taken = of_two_texts begins_with first second (texts_taken functions.StartsWith first second refl taken)
 of_two functions.EndsWith first second test taken = of_two_texts ends_with first second (texts_taken functions.EndsWith first second refl taken)
 of_two functions.Contains first second test taken = of_two_texts has_part first second (texts_taken functions.Contains first second refl taken)

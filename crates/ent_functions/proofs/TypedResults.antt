@@ -4,6 +4,7 @@ use Rattle.std.specs.Prelude.{All, Some, None, IsSome, IfOk, Result, Ok, Err, �
 use Rattle.std.specs.Cmp.Lexicographic.{pointwise}
 use Rattle.std.specs.List.{list_all}
 use Rattle.std.proofs.lemmas.List.Elements.{All-head}
+use Rattle.ent_values.specs.Order.{value_order}
 use Rattle.ent_values.specs.Calendar.{Day}
 use Rattle.ent_values.specs.Reading.{is_within_64_bits}
 use Rattle.ent_values.specs.Same.{same_value}
@@ -17,7 +18,7 @@ use Rattle.ent_functions.specs.Dates.{date_in_month, month_number, months_later}
 use Rattle.ent_functions.specs.Integers.{from_left, is_zero, partial_results, quotient, remainder, within_64_bits}
 use Rattle.ent_functions.specs.Reading.{IsHeld, Takes, is_one_and_only}
 use Rattle.ent_functions.specs.Sets.{are_equal_sets, have_common, is_among, is_subset, only_value}
-use Rattle.ent_functions.specs.Orders.{order_of, stands}
+use Rattle.ent_functions.specs.Orders.{stands}
 use Rattle.ent_functions.specs.Texts.{begins_with, ends_with, has_part}
 use Rattle.ent_functions.specs.Types.{bag_of, boolean, date, duration, each, exactly, first_order_type, higher_order_type, integer, ordered_type, result_type_of, same_type, text, two_or_more, value_of}
 use Rattle.ent_functions.specs.declared.arg.Arg.{Arg}
@@ -197,7 +198,7 @@ pub typed : (function : Function) (arguments : List Arg) → Takes function argu
     → HasType (outcome_of function) (first_order function arguments)
 unfolding first_order first_order_type
 typed (functions.Equal e) arguments taken held = two_values_typed boolean (λ a b. truth (same_value a b)) arguments (λ a b. refl)
-typed (functions.Compare k o) arguments taken held = two_values_typed boolean (λ a b. truth (stands k (order_of a b))) arguments (λ a b. refl)
+typed (functions.Compare k o) arguments taken held = two_values_typed boolean (λ a b. truth (stands k (value_order a b))) arguments (λ a b. refl)
 typed functions.Add arguments taken held = from_left_typed ◌+ℤ◌ (pos 0) (integers_of arguments)
 typed functions.Subtract arguments taken held = two_values_typed integer (of_integers (λ a b. within_64_bits (a -ℤ b))) arguments (integers_typed integer (λ a b. within_64_bits (a -ℤ b)) (λ a b. within_typed (a -ℤ b)))
 typed functions.Multiply arguments taken held = from_left_typed ◌*ℤ◌ (pos 1) (integers_of arguments)

@@ -1,6 +1,7 @@
 -- What each function comes to (appendix A.3): the whole table, a line for each function.
 use Rattle.std.specs.Prelude.{◌≡◌, pos, neg_ℤ, ◌+ℤ◌, ◌-ℤ◌, ◌*ℤ◌, unsigned_abs, Bool, true, false, not, List, ◌∷◌, length, map, Some, IsSome, Result, Ok}
 use Rattle.std.specs.List.{list_any, list_all}
+use Rattle.ent_values.specs.Order.{value_order}
 use Rattle.ent_values.specs.Same.{same_value}
 use Rattle.ent_values.specs.Types.{datatype_of, is_textual}
 use Rattle.ent_values.specs.declared.value.Value.{Value}
@@ -9,7 +10,7 @@ use Rattle.ent_functions.specs.Arguments.{HasAnswer, type_of_arg, ill_typed, tru
 use Rattle.ent_functions.specs.Dates.{months_later}
 use Rattle.ent_functions.specs.Higher.{bag_values, with_value}
 use Rattle.ent_functions.specs.Integers.{within_64_bits, from_left, quotient, remainder}
-use Rattle.ent_functions.specs.Orders.{order_of, stands}
+use Rattle.ent_functions.specs.Orders.{stands}
 use Rattle.ent_functions.specs.Sets.{only_value, is_among, each_once, in_both, have_common, is_subset, are_equal_sets}
 use Rattle.ent_functions.specs.Texts.{begins_with, ends_with, has_part, joined}
 use Rattle.ent_functions.specs.Types.{element_type, result_type_of, boolean}
@@ -28,7 +29,7 @@ bag_result element contents = Ok (Many (record { datatype = element_type element
 -- what a function that takes no function comes to
 unfoldable pub first_order : Function → List Arg → Result Arg Fault
 first_order (functions.Equal e) = of_two_values (λ first second. truth (same_value first second))
-first_order (functions.Compare c o) = of_two_values (λ first second. truth (stands c (order_of first second)))
+first_order (functions.Compare c o) = of_two_values (λ first second. truth (stands c (value_order first second)))
 first_order functions.Add = λ arguments. from_left ◌+ℤ◌ (pos 0) (integers_of arguments)
 first_order functions.Subtract = of_two_values (of_integers (λ first second. within_64_bits (first -ℤ second)))
 first_order functions.Multiply = λ arguments. from_left ◌*ℤ◌ (pos 1) (integers_of arguments)

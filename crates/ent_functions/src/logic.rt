@@ -2,9 +2,10 @@
 
 ghost use Rattle.std.specs.Prelude.{◌≡◌, true, [], ◌∷◌, option_copied};
 ghost use Rattle.std.specs.List.{list_any, list_all};
+ghost use Rattle.ent_values.specs.Order.{value_order};
 ghost use Rattle.ent_functions.specs.Applied.{first_order};
 ghost use Rattle.ent_functions.specs.Arguments.{is_true, truth};
-ghost use Rattle.ent_functions.specs.Orders.{order_of, stands};
+ghost use Rattle.ent_functions.specs.Orders.{stands};
 ghost use Rattle.ent_functions.specs.Reading.{Takes, is_test, is_test_of_two, seen_argument, seen_arguments};
 ghost use Rattle.ent_functions.specs.Texts.{begins_with, ends_with, has_part};
 
@@ -76,7 +77,7 @@ fn holds_of_two(function: Function, first: &Value, second: &Value) -> bool
 
 // Whether the first value is greater, less .. than the second.
 fn compared(comparison: Comparison, first: &Value, second: &Value) -> bool
-    ensures { result ≡ stands comparison (order_of first.now second.now) }
+    ensures { result ≡ stands comparison (value_order first.now second.now) }
 {
     let order = order(first, second);
     match comparison {
@@ -89,14 +90,9 @@ fn compared(comparison: Comparison, first: &Value, second: &Value) -> bool
 
 // How the first value lies to the second.
 fn order(first: &Value, second: &Value) -> Ordering
-    ensures { result ≡ order_of first.now second.now }
+    ensures { result ≡ value_order first.now second.now }
 {
-    match (first, second) {
-        (Value::Integer(first), Value::Integer(second)) => first.cmp(second),
-        (Value::Text(first), Value::Text(second)) => first.cmp(second),
-        (Value::Date(first), Value::Date(second)) => first.cmp(second),
-        _ => Ordering::Equal,
-    }
+    first.cmp(second)
 }
 
 // Whether the text begins with the part.
