@@ -13,7 +13,8 @@ use Rattle.ent_values.specs.declared.value.Value.{Value}
 use Rattle.ent_values.specs.declared.value.Value.TheVariants as values
 use Rattle.ent_policy.specs.Check.{IsChecked}
 use Rattle.ent_policy.specs.Reading.{all_of_read, any_of_read, assignment_read, boolean_as, child_read, child_step, definition_read, designator_read, document_read, each_read, expression_read, expression_step, function_read, given_expression_read, given_read, integer_as, known, literal_as, match_read, maybe_read, policy_read, reference_read, rule_read, set_read, set_step, target_read, type_of_value, value_read}
-use Rattle.ent_policy.specs.Values.{IsWithin, HoldsWithin, all_of_values, any_of_values, assignment_values, child_values, definition_values, expression_values, given_values, match_values, policy_values, rule_values, target_values, values_given, values_here, values_in_level, values_in_set}
+use Rattle.ent_values.specs.ReadBack.{IsReal}
+use Rattle.ent_policy.specs.Values.{HoldsWithin, all_of_values, any_of_values, assignment_values, child_values, definition_values, expression_values, given_values, match_values, policy_values, rule_values, target_values, values_given, values_here, values_in_level, values_in_set}
 use Rattle.ent_policy.specs.declared.document.Child.{Child}
 use Rattle.ent_policy.specs.declared.document.Child.TheFolds.{fold-roll-Child, fold_out-PolicySet}
 use Rattle.ent_policy.specs.declared.document.Child.TheOpen.{Child-F}
@@ -60,7 +61,7 @@ use Rattle.ent_policy.proofs.Wholes.{passes}
 -- what is there is within
 abbrev MaybeWithin : Option Value → Type 0
 MaybeWithin None = Unit {0}
-MaybeWithin (Some v) = IsWithin v
+MaybeWithin (Some v) = IsReal v
 
 if_within : (b : Bool) (o : Option Value) → (b ≡ true → MaybeWithin o) → MaybeWithin (if b then o else None)
 if_within true o h = h refl
@@ -129,7 +130,7 @@ literal_within (literals.Text text) datatype = text_within datatype text
 literal_within (literals.Boolean boolean) datatype = flag_within boolean datatype
 literal_within (literals.Integer n) datatype = if_within (is_within_64_bits n) (integer_as n datatype) (number_within n datatype)
 
-known_within : (o : Option Value) → MaybeWithin o → IsWithin (known (values.Boolean false) faults.«Type» o).value
+known_within : (o : Option Value) → MaybeWithin o → IsReal (known (values.Boolean false) faults.«Type» o).value
 known_within None h = tt
 known_within (Some v) h = h
 
@@ -137,7 +138,7 @@ typed_within : (literal : RawLiteral) (o : Option DataType) → MaybeWithin (opt
 typed_within literal None = tt
 typed_within literal (Some datatype) = literal_within literal datatype
 
-value_within : (v : RawValue) → IsWithin (value_read v).value
+value_within : (v : RawValue) → IsReal (value_read v).value
 unfolding value_read
 value_within v = known_within _ (typed_within v.literal (type_of_value v.literal v.datatype))
 
@@ -145,7 +146,7 @@ value_within v = known_within _ (typed_within v.literal (type_of_value v.literal
 
 -- so is every value of a list
 abbrev AreWithin : List Value → Type 0
-AreWithin = AllByRecursion IsWithin
+AreWithin = AllByRecursion IsReal
 
 all_within : (vs ws : List Value) → AreWithin vs → AreWithin ws → AreWithin (vs ++ ws)
 all_within [] ws h k = k

@@ -1,11 +1,9 @@
 -- The values that stand in a document, and what is true of each.
-use Rattle.std.specs.Prelude.{◌≡◌, List, [], ◌∷◌, ◌++◌, true, ⊤}
+use Rattle.std.specs.Prelude.{List, [], ◌∷◌, ◌++◌}
 use Rattle.std.specs.List.{AllByRecursion, flat_map}
 use Rattle.std.specs.Option.{option_to_list}
-use Rattle.ent_values.specs.Calendar.{is_date}
-use Rattle.ent_values.specs.Reading.{is_within_64_bits}
+use Rattle.ent_values.specs.ReadBack.{IsReal}
 use Rattle.ent_values.specs.declared.value.Value.{Value}
-use Rattle.ent_values.specs.declared.value.Value.TheVariants as values
 use Rattle.ent_policy.specs.Children.{as_child}
 use Rattle.ent_policy.specs.declared.document.AllOf.{AllOf}
 use Rattle.ent_policy.specs.declared.document.AnyOf.{AnyOf}
@@ -99,12 +97,6 @@ child_values = fold-Child (List Value) (List Value) values_in_level values_in_se
 abbrev pub document_values : Tree → List Value
 document_values t = child_values (as_child t)
 
--- an integer is within signed 64 bits, and a date is a day of the calendar
-abbrev pub IsWithin : Value → Type 0
-IsWithin (values.Integer integer) = is_within_64_bits integer ≡ true
-IsWithin (values.Date date) = is_date date.year date.month date.day ≡ true
-IsWithin _ = ⊤
-
--- so it is of every value of a document
+-- each value of a document is what its type says: an integer is within signed 64 bits, a date is a day of the calendar
 abbrev pub HoldsWithin : Tree → Type 0
-HoldsWithin t = AllByRecursion IsWithin (document_values t)
+HoldsWithin t = AllByRecursion IsReal (document_values t)
