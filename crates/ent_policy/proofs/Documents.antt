@@ -1,5 +1,5 @@
 -- `==` decides whether documents are equal.
-use denote.Enum.Bare.{sameb, same_true}
+use denote.Enum.Bare.{same_true}
 use denote.Enum.Compared.{Each}
 use denote.Hole.Compared.{compared_is}
 use Rattle.std.proofs.Common.{◌≡◌, Bool, ◌&&◌, sym, ◌∙◌, subst}
@@ -12,13 +12,7 @@ use Rattle.ent_combine.specs.contracts.outcome.PolicyAlg as policy_alg
 use Rattle.ent_combine.specs.contracts.outcome.PolicyAlgPartialEq.TheImpl as policy_algs
 use Rattle.ent_combine.specs.contracts.outcome.RuleAlg as rule_alg
 use Rattle.ent_combine.specs.declared.outcome.PolicyAlg.{PolicyAlg}
-use Rattle.ent_functions.specs.contracts.function.Comparison as comparison
-use Rattle.ent_functions.specs.contracts.function.Element as element
-use Rattle.ent_functions.specs.contracts.function.Function as function
 use Rattle.ent_functions.specs.contracts.function.FunctionPartialEq.TheImpl as functions
-use Rattle.ent_functions.specs.contracts.function.Ordered as ordered
-use Rattle.ent_functions.specs.declared.function.Element.{Element}
-use Rattle.ent_functions.specs.declared.function.Function.{Function}
 use Rattle.ent_policy.specs.Same.{same_document, same_reference}
 use Rattle.ent_policy.specs.contracts.document.AllOf as all_of
 use Rattle.ent_policy.specs.contracts.document.AnyOf as any_of
@@ -66,17 +60,10 @@ use Rattle.ent_policy.specs.declared.expression.Expression.TheOpen.{Expression-F
 use Rattle.ent_policy.specs.declared.expression.Expression.TheViews.{out-roll-Expression, roll-Expression}
 use Rattle.std.proofs.lemmas.Bool.{and_parts}
 use Rattle.ent_policy.proofs.Same.{reference-tells, same_version-Decides}
-use Rattle.ent_policy.proofs.Telling.{Tells, Told, decided, decides, enum, last, list, listed, maybe, more, struct, variant}
+use Rattle.ent_values.proofs.Telling.{Tells, Told, decided, decides, enum, last, list, listed, maybe, more, struct, variant}
+use Rattle.ent_functions.proofs.Same.{function-tells}
 use Rattle.ent_values.proofs.Values.{same_type-Decides, same_value-Decides}
 use Rattle.ent_values.specs.Same.{same_value}
-
-one-tells : (v : Element × Unit {0}) → Tells (λ a b. sameb element.the_type a.0 b.0) v
-one-tells = last (same_true element.the_type tt)
-
-function-tells : (f : Function) → Tells (functions.ghosts).eq f
-function-tells =
-    enum function.enum _
-    (one-tells, (more (same_true comparison.the_type tt) (last (same_true ordered.the_type tt)), (one-tells, (one-tells, (one-tells, (one-tells, (one-tells, (one-tells, (one-tells, (one-tells, (one-tells, tt)))))))))))
 
 designator-tells : (d : Designator) → Tells (designators.ghosts).eq d
 designator-tells =

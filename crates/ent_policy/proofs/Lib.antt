@@ -14,7 +14,6 @@ pub mod Patterns
 pub mod Accepting
 pub mod Ids
 pub mod References
-pub mod Telling
 pub mod Documents
 pub mod Used
 pub mod Ending

@@ -7,7 +7,7 @@ use Rattle.std.specs.Ordering.{nat_cmp}
 use Rattle.std.proofs.lemmas.Bool.Decides.{nat_tests}
 use Rattle.ent_policy.proofs.Dotted.{dotted_kept}
 use Rattle.ent_policy.proofs.Numbers.{number_small}
-use Rattle.ent_policy.proofs.Telling.{decided, decides, last, maybe, more, struct}
+use Rattle.ent_values.proofs.Telling.{decided, decides, last, maybe, more, struct}
 use Rattle.ent_policy.specs.Patterns.{beside, ending_right, is_more, is_part, is_pattern, matches, more_is_last, part_of, pattern_of}
 use Rattle.ent_policy.specs.Versions.{dotted_of, number_of}
 use Rattle.ent_policy.specs.Same.{same_constraints}

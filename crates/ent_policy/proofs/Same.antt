@@ -3,7 +3,7 @@ use Rattle.std.proofs.Common.{◌≡◌, ℕ, List, rules}
 use Rattle.std.specs.Bool.{Decides}
 use Rattle.std.proofs.lemmas.Slice.Eq.{bytes_eq-Decides}
 use Rattle.ent_policy.proofs.Patterns.{same_constraints-Decides}
-use Rattle.ent_policy.proofs.Telling.{Tells, decided, decides, last, more, struct}
+use Rattle.ent_values.proofs.Telling.{Tells, decided, decides, last, more, struct}
 use Rattle.ent_policy.specs.Same.{same_kind, same_key, same_name, same_reference, same_version}
 use Rattle.ent_policy.specs.contracts.key.DocKey as key
 use Rattle.ent_policy.specs.contracts.key.DocKeyEq.TheImpl.Laws as keys
