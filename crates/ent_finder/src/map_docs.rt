@@ -45,7 +45,7 @@ impl MapDocs {
         MapDocs {
             alloc,
             slots: Vec::new(alloc),
-            hints: Hints::new(alloc),
+            hints: Hints::new(),
         }
     }
 }
@@ -62,7 +62,6 @@ impl PolicyFinderModule for MapDocs {
         key: &DocKey,
         document: &mut Option<Document>,
     ) -> Result<(), AllocError> {
-        self.hints.prepare(self.alloc);
         list::swap_document(self.alloc, &mut self.slots, key, document)?;
         Ok(())
     }

@@ -51,7 +51,7 @@ impl MapRows {
             categories,
             blocks: Vec::new(alloc),
             count: 0,
-            hints: Hints::new(alloc),
+            hints: Hints::new(),
         }
     }
 }
@@ -72,7 +72,6 @@ impl AttributeFinderModule for MapRows {
     }
 
     fn swap_row(&mut self, key: &RowKey, values: &mut Items<Value>) -> Result<(), AllocError> {
-        self.hints.prepare(self.alloc);
         blocks::swap_row(self.alloc, &mut self.blocks, &mut self.count, key, values)?;
         Ok(())
     }
