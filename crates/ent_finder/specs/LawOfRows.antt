@@ -21,6 +21,10 @@ SwapLeavesRow = (rows : Rows) (key : RowKey) (values : List Value) → get (inse
 abbrev pub SecondSwapRestoresRows : Type 0
 SecondSwapRestoresRows = (rows : Rows) (key : RowKey) (values : List Value) → filled (insert (insert rows key values) key (values_at rows key)) ≡ filled rows
 
+-- and so are all rows, the empty ones too, if the row was there
+abbrev pub SecondSwapRestoresAllRows : Type 0
+SecondSwapRestoresAllRows = (rows : Rows) (key : RowKey) (before values : List Value) → get rows key ≡ Some before → insert (insert rows key values) key before ≡ rows
+
 -- ---- values
 
 -- an empty row counts as none

@@ -1,6 +1,8 @@
 //! Laws of rows that are held, and of values that are found.
 
-ghost use Rattle.ent_finder.specs.LawOfRows.{EmptyRowsDoNotCount, FirstSourceAnswers, IssuerNamesOneRow, NoSourceAnswers, SecondSwapRestoresRows, SwapChangesOneRow, SwapLeavesRow};
+ghost use Rattle.ent_finder.specs.LawOfRows.{EmptyRowsDoNotCount, FirstSourceAnswers, IssuerNamesOneRow};
+ghost use Rattle.ent_finder.specs.LawOfRows.{NoSourceAnswers, SwapChangesOneRow, SwapLeavesRow};
+ghost use Rattle.ent_finder.specs.LawOfRows.{SecondSwapRestoresAllRows, SecondSwapRestoresRows};
 
 /// A law, with nothing to run: a swap changes one row, and the row is there afterwards.
 pub fn swap_changes_one_row()
@@ -10,7 +12,8 @@ pub fn swap_changes_one_row()
 
 /// A law, with nothing to run: two equal swaps in turn leave what was there.
 pub fn second_swap_restores_rows()
-    ensures { SecondSwapRestoresRows }
+    ensures rows { SecondSwapRestoresRows }
+    ensures all { SecondSwapRestoresAllRows }
 {}
 
 /// A law, with nothing to run: an empty row counts as none.
