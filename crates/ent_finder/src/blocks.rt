@@ -227,10 +227,7 @@ fn only_row<'a>(blocks: &'a [Block], number: usize, place: usize, key: &AttrKey)
     let before = rows.get(place.checked_sub(1)?)?;
     let row = rows.get(place)?;
     let after = rows.get(place.checked_add(1)?)?;
-    if rows::is_named(&row.key, key)
-        && !rows::is_named(&before.key, key)
-        && !rows::is_named(&after.key, key)
-    {
+    if key.names(&row.key) && !key.names(&before.key) && !key.names(&after.key) {
         Some(row)
     } else {
         None

@@ -2,6 +2,7 @@
 
 ghost use Rattle.std.specs.Prelude.{◌≡◌, IfOk};
 ghost use Rattle.ent_values.specs.Bags.{AllOfType};
+ghost use Rattle.ent_finder.specs.Looking.{is_wanted, names_row};
 
 use ent_values::{DataType, Items, Text, Value};
 use std::alloc::{AllocError, Global};
@@ -47,7 +48,31 @@ fn copy_of(issuer: &Option<Text>, alloc: Global) -> Result<Option<Text>, AllocEr
     }
 }
 
+/// Whether an issuer is the one that is wanted, if one is.
+fn is_wanted(wanted: &Option<Text>, issuer: &Option<Text>) -> bool
+    ensures { result ≡ is_wanted wanted.now issuer.now }
+{
+    match (wanted, issuer) {
+        (None, _) => true,
+        (Some(wanted), Some(issuer)) => wanted == issuer,
+        (Some(_), None) => false,
+    }
+}
+
 impl AttrKey {
+    /// Whether it names a row: without an issuer that of any issuer and of none, with one that of this issuer alone. The other
+    /// fields are equal.
+    pub fn names(&self, row: &RowKey) -> bool
+        ensures { result ≡ names_row self.now row.now }
+    {
+        // Rows that differ mostly have other entities.
+        self.entity == row.entity
+            && self.attribute == row.attribute
+            && self.datatype == row.datatype
+            && is_wanted(&self.issuer, &row.issuer)
+            && self.category == row.category
+    }
+
     /// An equal key.
     pub fn copy(&self, alloc: Global) -> Result<AttrKey, AllocError>
         ensures { IfOk result (λ k. k ≡ self.now) }

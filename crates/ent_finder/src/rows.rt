@@ -4,7 +4,7 @@ ghost use Rattle.std.specs.Prelude.{◌≡◌, ◌≤◌, ◌++◌, [], IfErr, I
 ghost use Rattle.std.specs.FinMap as finmap;
 ghost use Rattle.std.specs.List.{filter};
 ghost use Rattle.ent_values.specs.Bags.{AllOfType};
-ghost use Rattle.ent_finder.specs.Looking.{is_wanted, names_row, values_of};
+ghost use Rattle.ent_finder.specs.Looking.{names_row, values_of};
 ghost use Rattle.ent_finder.specs.Order.{issuer_cmp, named_cmp};
 ghost use Rattle.ent_finder.specs.Places.{IsPlace, IsSeat, is_at};
 ghost use Rattle.ent_finder.specs.RowEntry.{RowsAreSorted, row_entries, rows_of};
@@ -82,28 +82,6 @@ fn issuer_order(issuer: &Option<Text>, wanted: &Option<Text>) -> Ordering
         None => Ordering::Equal,
         Some(_) => issuer.cmp(wanted),
     }
-}
-
-/// Whether an issuer is the one that is wanted, if one is.
-fn is_wanted(wanted: &Option<Text>, issuer: &Option<Text>) -> bool
-    ensures { result ≡ is_wanted wanted.now issuer.now }
-{
-    match (wanted, issuer) {
-        (None, _) => true,
-        (Some(wanted), Some(issuer)) => wanted == issuer,
-        (Some(_), None) => false,
-    }
-}
-
-/// Whether a key names a row. Rows that differ mostly have other entities.
-pub fn is_named(row: &RowKey, key: &AttrKey) -> bool
-    ensures { result ≡ names_row key.now row.now }
-{
-    key.entity == row.entity
-        && key.attribute == row.attribute
-        && key.datatype == row.datatype
-        && is_wanted(&key.issuer, &row.issuer)
-        && key.category == row.category
 }
 
 /// How the key of a row stands to those that a key names.

@@ -4,8 +4,8 @@ use Rattle.ent_finder.specs.Looking.{names_row}
 use Rattle.ent_finder.proofs.Lone.{only_named}
 use Rattle.ent_finder.proofs.blocks.only_row.Goals as goal
 
-pub returns-then-not-is_named-2 : goal.returns-then-not-is_named-2
-returns-then-not-is_named-2 c =
+pub returns-then-not-names-2 : goal.returns-then-not-names-2
+returns-then-not-names-2 c =
     let key = c.args.key.now in
     let b = c.in_ok-rows.field-0.now in
     let block = c.in_ok-rows.ensures.lookup in
