@@ -7,6 +7,7 @@ pub mod Gathered
 pub mod Held
 pub mod Kept
 pub mod Homes
+pub mod KeyLaws
 pub mod Keys
 pub mod Latest
 pub mod Lone

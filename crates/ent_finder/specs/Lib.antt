@@ -2,6 +2,7 @@ pub mod Blocks
 pub mod Entry
 pub mod Finding
 pub mod Law
+pub mod LawOfKeys
 pub mod LawOfRows
 pub mod Looking
 pub mod Order

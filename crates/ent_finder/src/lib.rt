@@ -11,6 +11,7 @@ mod boxed_attributes;
 mod finder;
 mod hints;
 mod law;
+mod law_of_keys;
 mod law_of_rows;
 mod list;
 mod map_docs;
@@ -30,6 +31,7 @@ pub use law::{
     first_module_answers, most_recent_is_latest, second_swap_undoes_first,
     swap_changes_one_document,
 };
+pub use law_of_keys::{keys_order_by_field, same_is_equal};
 pub use law_of_rows::{
     empty_rows_do_not_count, first_source_answers, issuer_names_one_row, second_swap_restores_rows,
     swap_changes_one_row,
