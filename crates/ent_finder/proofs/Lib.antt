@@ -17,6 +17,7 @@ pub mod Orders
 pub mod Parts
 pub mod Ranges
 pub mod Recent
+pub mod Refusals
 pub mod RowKeys
 pub mod Seats
 pub mod Sorted

@@ -1,6 +1,6 @@
 //! What a module of attributes promises.
 
-ghost use Rattle.std.specs.Prelude.{◌≡◌, ◌≤◌, ℕ, List, [], None, OnErr, OnOk, slice_get};
+ghost use Rattle.std.specs.Prelude.{◌≡◌, ◌≢◌, ◌≤◌, ℕ, List, [], None, OnErr, OnOk, slice_get};
 ghost use Rattle.std.specs.FinMap as finmap;
 ghost use Rattle.std.specs.Option.{option_copied, option_map};
 ghost use Rattle.ent_values.specs.Bags.{AllOfType};
@@ -27,7 +27,10 @@ pub trait AttributeFinderModule: Drop {
         requires datatype { bag.old.datatype ≡ key.now.datatype }
         requires empty { bag.old.values ≡ [] }
         ensures ok { OnOk result (bag.new ≡ record { datatype = key.now.datatype; values = values_of key.now (filled (source self.now).rows) }) }
-        ensures err { OnErr result (bag.new ≡ bag.old) };
+        ensures err { OnErr result (bag.new ≡ bag.old) }
+
+        // Memory is asked for values that are found alone, so a look that finds none is not refused.
+        ensures memory { OnErr result (values_of key.now (filled (source self.now).rows) ≢ []) };
 
     /// Exchanges what is in the row of a key with `values`. The row is made if it isn't there; where it is, the exchange takes no
     /// memory, so that a second one undoes the first.

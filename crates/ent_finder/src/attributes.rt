@@ -1,6 +1,6 @@
 //! What the layers above need of where values of attributes are held.
 
-ghost use Rattle.std.specs.Prelude.{◌≡◌, ◌<◌, ◌≤◌, List, [], None, OnErr, OnOk, length, map, slice_get};
+ghost use Rattle.std.specs.Prelude.{◌≡◌, ◌≢◌, ◌<◌, ◌≤◌, List, [], None, OnErr, OnOk, length, map, slice_get};
 ghost use Rattle.std.specs.FinMap as finmap;
 ghost use Rattle.std.specs.Option.{option_copied, option_map};
 ghost use Rattle.ent_values.specs.Bags.{AllOfType};
@@ -32,7 +32,10 @@ pub trait Attributes: Drop {
         requires datatype { bag.old.datatype ≡ key.now.datatype }
         requires empty { bag.old.values ≡ [] }
         ensures ok { OnOk result (bag.new ≡ record { datatype = key.now.datatype; values = looked key.now (map filled_source (sources self.now)) }) }
-        ensures err { OnErr result (bag.new ≡ bag.old) };
+        ensures err { OnErr result (bag.new ≡ bag.old) }
+
+        // Memory is asked for values that are found alone, so a look that finds none is not refused.
+        ensures memory { OnErr result (looked key.now (map filled_source (sources self.now)) ≢ []) };
 
     /// Exchanges what is in the row of a key with `values`, in the module of that number. The row is made if it isn't there; where it
     /// is, the exchange takes no memory, so that a second one undoes the first.

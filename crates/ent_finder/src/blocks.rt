@@ -1,6 +1,6 @@
 //! Rows in the order of their keys, in blocks of a bounded length, so that a row that is made moves those of its own block alone.
 
-ghost use Rattle.std.specs.Prelude.{◌≡◌, ◌≤◌, ◌<◌, ◌+◌, [], ◌∷◌, IfOk, IfSome, None, OnErr, OnOk, if◌then◌else◌, is_some, length, slice_get, slice_range};
+ghost use Rattle.std.specs.Prelude.{◌≡◌, ◌≢◌, ◌≤◌, ◌<◌, ◌+◌, [], ◌∷◌, IfOk, IfSome, None, OnErr, OnOk, if◌then◌else◌, is_some, length, slice_get, slice_range};
 ghost use Rattle.std.specs.FinMap as finmap;
 ghost use Rattle.std.specs.List.{filter};
 ghost use Rattle.std.specs.Option.{option_copied};
@@ -250,7 +250,8 @@ fn beginning(blocks: &[Block], key: &AttrKey) -> usize {
 
 /// The values of a row, as a bag.
 fn values_in(alloc: Global, row: &Row) -> Result<Bag, AllocError>
-    ensures { IfOk result (λ b. b ≡ record { datatype = row.now.key.datatype; values = row.now.values }) }
+    ensures value { IfOk result (λ b. b ≡ record { datatype = row.now.key.datatype; values = row.now.values }) }
+    ensures memory { OnErr result (row.now.values ≢ []) }
 {
     let mut bag = Bag::new(alloc, row.key.datatype);
     rows::add_all(alloc, &mut bag, row.values.as_slice())?;
@@ -265,7 +266,8 @@ pub fn values_of(
     key: &AttrKey,
 ) -> Result<Bag, AllocError>
     requires { RowsAreSorted (rows_in blocks.now) }
-    ensures { IfOk result (λ b. b ≡ record { datatype = key.now.datatype; values = values_of key.now (filled (rows_of (rows_in blocks.now))) }) }
+    ensures value { IfOk result (λ b. b ≡ record { datatype = key.now.datatype; values = values_of key.now (filled (rows_of (rows_in blocks.now))) }) }
+    ensures memory { OnErr result (values_of key.now (filled (rows_of (rows_in blocks.now))) ≢ []) }
 {
     let asked = mixed(mixed(0, key.entity.as_str()), key.attribute.as_str());
     let hint = hints.place(asked);
@@ -279,7 +281,8 @@ pub fn values_of(
 /// The same by a search.
 fn all_values_of(alloc: Global, blocks: &[Block], key: &AttrKey) -> Result<Bag, AllocError>
     requires { RowsAreSorted (rows_in blocks.now) }
-    ensures { IfOk result (λ b. b ≡ record { datatype = key.now.datatype; values = values_of key.now (filled (rows_of (rows_in blocks.now))) }) }
+    ensures value { IfOk result (λ b. b ≡ record { datatype = key.now.datatype; values = values_of key.now (filled (rows_of (rows_in blocks.now))) }) }
+    ensures memory { OnErr result (values_of key.now (filled (rows_of (rows_in blocks.now))) ≢ []) }
 {
     let (start, end) = bounds(blocks, key);
     let named = &blocks[start..end];

@@ -1,6 +1,6 @@
 //! What is asked of one boxed module of attributes, with the clauses of a module.
 
-ghost use Rattle.std.specs.Prelude.{◌≡◌, ◌≤◌, [], None, OnErr, OnOk, slice_get};
+ghost use Rattle.std.specs.Prelude.{◌≡◌, ◌≢◌, ◌≤◌, [], None, OnErr, OnOk, slice_get};
 ghost use Rattle.std.specs.FinMap as finmap;
 ghost use Rattle.std.specs.Option.{option_copied, option_map};
 ghost use Rattle.ent_values.specs.Bags.{AllOfType};
@@ -28,6 +28,7 @@ pub fn find_in(
     requires empty { bag.old.values ≡ [] }
     ensures ok { OnOk result (bag.new ≡ record { datatype = key.now.datatype; values = values_of key.now (filled (source store.now).rows) }) }
     ensures err { OnErr result (bag.new ≡ bag.old) }
+    ensures memory { OnErr result (values_of key.now (filled (source store.now).rows) ≢ []) }
 {
     store.find(key, bag)
 }

@@ -1,6 +1,6 @@
 //! A list of rows in the order of their keys.
 
-ghost use Rattle.std.specs.Prelude.{◌≡◌, ◌≤◌, ◌++◌, [], IfErr, IfOk, None, OnErr, OnOk, false, is_some, length, slice_range, true};
+ghost use Rattle.std.specs.Prelude.{◌≡◌, ◌≢◌, ◌≤◌, ◌++◌, [], IfErr, IfOk, None, OnErr, OnOk, false, is_some, length, slice_range, true};
 ghost use Rattle.std.specs.FinMap as finmap;
 ghost use Rattle.std.specs.List.{filter};
 ghost use Rattle.ent_values.specs.Bags.{AllOfType};
@@ -112,7 +112,8 @@ fn bounds(rows: &[Row], key: &AttrKey) -> (usize, usize)
 /// Puts copies of the values last.
 pub fn add_all(alloc: Global, bag: &mut Bag, values: &[Value]) -> Result<(), AllocError>
     requires { AllOfType bag.old.datatype values.now }
-    ensures { OnOk result (bag.new ≡ record { datatype = bag.old.datatype; values = bag.old.values ++ values.now }) }
+    ensures value { OnOk result (bag.new ≡ record { datatype = bag.old.datatype; values = bag.old.values ++ values.now }) }
+    ensures memory { OnErr result (values.now ≢ []) }
 {
     for value in values {
         bag.push(value.copy(alloc)?)?;
@@ -129,7 +130,8 @@ pub fn add_named(
 ) -> Result<(), AllocError>
     requires sorted { RowsAreSorted rows.now }
     requires datatype { bag.old.datatype ≡ key.now.datatype }
-    ensures { OnOk result (bag.new ≡ record { datatype = bag.old.datatype; values = bag.old.values ++ values_of key.now (filled (rows_of rows.now)) }) }
+    ensures value { OnOk result (bag.new ≡ record { datatype = bag.old.datatype; values = bag.old.values ++ values_of key.now (filled (rows_of rows.now)) }) }
+    ensures memory { OnErr result (values_of key.now (filled (rows_of rows.now)) ≢ []) }
 {
     let (start, end) = bounds(rows, key);
     let named = &rows[start..end];

@@ -1,5 +1,6 @@
 use Rattle.std.proofs.Common.{ap, arith, sym, ◌∙◌}
 use Rattle.ent_values.specs.Bags.{Contents}
+use Rattle.ent_finder.proofs.Refusals.{refused}
 use Rattle.ent_finder.proofs.Sources.{found_none, found_some, passed_over, still_empty}
 use Rattle.ent_finder.specs.Looking.{values_of}
 use Rattle.ent_finder.specs.Rows.{filled, supports}
@@ -40,3 +41,13 @@ loop-store-preserved g c =
             ∙ passed_over _ c.args.key.now c.deref-store-items.result.now c.loop-store.store-index c.store-item.result (omega arith) c.store-item.is c.supports_in.result asked w.if-supports_in.false;
       }
     ]
+
+-- memory was refused for values of this module
+pub returns-in_err-find_in-clause-memory : goal.returns-in_err-find_in-clause-memory
+returns-in_err-find_in-clause-memory g c =
+    let key = c.args.key.now in
+    let asked = c.supports_in.ensures ∙ (λ t. supports (c.as_str.ensures t) ((goal.AttributeFinderModule-dyn g (c.as_ref.ensures.1 t)).source (c.as_ref.ensures.1 t).1)) in
+    let here = found_some _ key c.deref-store-items.result.now c.loop-store.store-index c.store-item.result (omega arith) c.store-item.is c.supports_in.result asked c.if-supports_in.true _
+    (λ t. values_of key (filled ((goal.AttributeFinderModule-dyn g (c.as_ref-then-supports_in.ensures.1 t)).source (c.as_ref-then-supports_in.ensures.1 t).1).rows))
+    c.in_err-find_in.ensures.memory in
+    refused c.from_residual.result (rw (← c.deref-store-items.ensures.value) (λ none. c.in_err-find_in.ensures.memory (here ∙ sym c.loop-store.invariant.found ∙ none)))
