@@ -8,12 +8,16 @@ use Rattle.std.specs.declared.cmp.Ordering.TheVariants.{Less}
 use Rattle.ent_finder.specs.declared.block.Block.{Block}
 use Rattle.ent_finder.specs.declared.row.Row.{Row}
 use Rattle.ent_finder.specs.declared.row.RowKey.{RowKey}
-use Rattle.ent_finder.specs.RowEntry.{row_entries}
-use Rattle.ent_finder.specs.Rows.{row_cmp}
+use Rattle.ent_finder.specs.RowEntry.{row_entries, rows_of}
+use Rattle.ent_finder.specs.Rows.{Rows, row_cmp}
 
 -- the rows of several blocks
 abbrev pub rows_in : List Block → List Row
 rows_in = flat_map (λ b. b.rows.items)
+
+-- these rows as a map, where they stand in the order of their keys
+abbrev pub held_in : List Block → Rows
+held_in blocks = rows_of (rows_in blocks)
 
 -- how the first row stands to what is wanted
 abbrev pub first_cmp : (Row → Ordering) → List Row → Ordering

@@ -57,6 +57,10 @@ supports category source = list_any (bytes_eq category) source.categories
 abbrev pub source_at : List Source → ℕ → Source
 source_at sources number = slice_index_or sources number (record { categories = []; rows = empty })
 
+-- the module with these values in the row of a key, which is there also where they are none
+abbrev pub with_row_put : Source → RowKey → List Value → Source
+with_row_put source key values = record source { rows = insert source.rows key values }
+
 -- the modules with these values in the row of a key in one of them, which is there also where they are none
 abbrev pub with_row_in : List Source → ℕ → RowKey → List Value → List Source
 with_row_in sources number key values = slice_set sources number (record (source_at sources number) { rows = insert (source_at sources number).rows key values })

@@ -26,19 +26,22 @@ pub trait Attributes: Drop {
         requires { number < length (sources self.now) }
         ensures { result ≡ supports category.now (source_at (sources self.now) number) };
 
-    /// Puts into the bag the values of the first module that supports the key's category and has any that the key names. After a
-    /// refusal the bag is empty, as before.
+    /// Puts into the bag the values of the first module that supports the key's category and has any that the key
+    /// names. After a refusal the bag is empty, as before.
     fn look(&self, key: &AttrKey, bag: &mut Bag) -> Result<(), AllocError>
         requires datatype { bag.old.datatype ≡ key.now.datatype }
         requires empty { bag.old.values ≡ [] }
-        ensures ok { OnOk result (bag.new ≡ record { datatype = key.now.datatype; values = looked key.now (map filled_source (sources self.now)) }) }
+        ensures ok { OnOk result (bag.new ≡ record {
+          datatype = key.now.datatype;
+          values = looked key.now (map filled_source (sources self.now));
+        }) }
         ensures err { OnErr result (bag.new ≡ bag.old) }
 
         // Memory is asked for values that are found alone, so a look that finds none is not refused.
         ensures memory { OnErr result (looked key.now (map filled_source (sources self.now)) ≢ []) };
 
-    /// Exchanges what is in the row of a key with `values`, in the module of that number. The row is made if it isn't there; where it
-    /// is, the exchange takes no memory, so that a second one undoes the first.
+    /// Exchanges what is in the row of a key with `values`, in the module of that number. The row is made if it isn't
+    /// there; where it is, the exchange takes no memory, so that a second one undoes the first.
     fn swap_row(
         &mut self,
         number: usize,
@@ -61,7 +64,8 @@ pub trait Attributes: Drop {
     /// The row at an index of a module, counted from 0. It takes no memory.
     fn row_at(&self, number: usize, index: usize) -> Option<&Row>
         requires { number < length (sources self.now) }
-        ensures row { option_map row_entry (option_copied result) ≡ slice_get (finmap.entries (source_at (sources self.now) number).rows) index }
+        ensures row { option_map row_entry (option_copied result)
+            ≡ slice_get (finmap.entries (source_at (sources self.now) number).rows) index }
 
         // Each row has an index.
         ensures indexed { finmap.len (source_at (sources self.now) number).rows ≤ usize.MAX };

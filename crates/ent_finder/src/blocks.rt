@@ -1,14 +1,16 @@
-//! Rows in the order of their keys, in blocks of a bounded length, so that a row that is made moves those of its own block alone.
+//! Rows in the order of their keys, in blocks of a bounded length, so that a row that is made moves those of its own
+//! block alone.
 
-ghost use Rattle.std.specs.Prelude.{◌≡◌, ◌≢◌, ◌≤◌, ◌<◌, ◌+◌, [], ◌∷◌, IfOk, IfSome, None, OnErr, OnOk, if◌then◌else◌, is_some, length, slice_get, slice_range};
+ghost use Rattle.std.specs.Prelude.{◌≡◌, ◌≢◌, ◌≤◌, ◌<◌, ◌+◌, [], ◌∷◌, if◌then◌else◌, length};
+ghost use Rattle.std.specs.Prelude.{IfOk, IfSome, None, OnErr, OnOk, is_some, slice_get, slice_range};
 ghost use Rattle.std.specs.FinMap as finmap;
 ghost use Rattle.std.specs.List.{filter};
 ghost use Rattle.std.specs.Option.{option_copied};
 ghost use Rattle.ent_values.specs.Bags.{AllOfType};
-ghost use Rattle.ent_finder.specs.Blocks.{IsHome, first_cmp, rows_in};
-ghost use Rattle.ent_finder.specs.Looking.{names_row, values_of};
+ghost use Rattle.ent_finder.specs.Blocks.{IsHome, first_cmp, held_in, rows_in};
+ghost use Rattle.ent_finder.specs.Looking.{bag_found, names_row, values_of};
 ghost use Rattle.ent_finder.specs.Order.{named_cmp};
-ghost use Rattle.ent_finder.specs.RowEntry.{RowsAreSorted, rows_of};
+ghost use Rattle.ent_finder.specs.RowEntry.{RowsAreSorted};
 ghost use Rattle.ent_finder.specs.Rows.{filled, row_cmp, values_at};
 
 use crate::block::Block;
@@ -59,7 +61,7 @@ fn home(blocks: &[Block], key: &RowKey) -> usize
 /// Whether the row of a key is there.
 fn has_row(blocks: &[Block], key: &RowKey) -> bool
     requires { RowsAreSorted (rows_in blocks.now) }
-    ensures { result ≡ is_some (finmap.get (rows_of (rows_in blocks.now)) key.now) }
+    ensures { result ≡ is_some (finmap.get (held_in blocks.now) key.now) }
 {
     match blocks.get(home(blocks, key)) {
         None => false,
@@ -94,13 +96,15 @@ fn make_room(blocks: &mut Vec<Block>, key: &RowKey) -> Result<(), AllocError>
     Ok(())
 }
 
-/// Makes room for the row of a key, if it isn't there. Gives how many rows there are to be, of that many that there are.
+/// Makes room for the row of a key, if it isn't there. Gives how many rows there are to be, of that many that there
+/// are.
 fn count_with(blocks: &mut Vec<Block>, count: usize, key: &RowKey) -> Result<usize, AllocError>
     requires { RowsAreSorted (rows_in blocks.old.items) }
     ensures rows { rows_in blocks.new.items ≡ rows_in blocks.old.items }
     ensures few { IfOk result (λ n. n ≤ usize.MAX) }
-    ensures count { IfOk result (λ n. n ≡ (if is_some (finmap.get (rows_of (rows_in blocks.old.items)) key.now) then count else count + 1)) }
-    ensures absent { OnErr result (finmap.get (rows_of (rows_in blocks.old.items)) key.now ≡ None) }
+    ensures count { IfOk result (λ n.
+        n ≡ (if is_some (finmap.get (held_in blocks.old.items) key.now) then count else count + 1)) }
+    ensures absent { OnErr result (finmap.get (held_in blocks.old.items) key.now ≡ None) }
 {
     if has_row(blocks, key) {
         return Ok(count);
@@ -122,10 +126,10 @@ fn begin(
     requires empty { blocks.old.items ≡ [] }
     requires types { AllOfType key.now.datatype values.old }
     ensures sorted { RowsAreSorted (rows_in blocks.new.items) }
-    ensures swapped { OnOk result (rows_of (rows_in blocks.new.items) ≡ finmap.insert (rows_of (rows_in blocks.old.items)) key.now values.old) }
-    ensures taken { OnOk result (values.new ≡ values_at (rows_of (rows_in blocks.old.items)) key.now) }
+    ensures swapped { OnOk result (held_in blocks.new.items ≡ finmap.insert (held_in blocks.old.items) key.now values.old) }
+    ensures taken { OnOk result (values.new ≡ values_at (held_in blocks.old.items) key.now) }
     ensures own { AllOfType key.now.datatype values.new }
-    ensures absent { OnErr result (finmap.get (rows_of (rows_in blocks.old.items)) key.now ≡ None) }
+    ensures absent { OnErr result (finmap.get (held_in blocks.old.items) key.now ≡ None) }
     ensures kept { OnErr result (blocks.new.items ≡ blocks.old.items) }
     ensures stayed { OnErr result (values.new ≡ values.old) }
 {
@@ -146,11 +150,11 @@ fn swap_in_block(
     requires sorted { RowsAreSorted (rows_in blocks.old.items) }
     requires types { AllOfType key.now.datatype values.old }
     ensures sorted { RowsAreSorted (rows_in blocks.new.items) }
-    ensures swapped { OnOk result (rows_of (rows_in blocks.new.items) ≡ finmap.insert (rows_of (rows_in blocks.old.items)) key.now values.old) }
-    ensures taken { OnOk result (values.new ≡ values_at (rows_of (rows_in blocks.old.items)) key.now) }
+    ensures swapped { OnOk result (held_in blocks.new.items ≡ finmap.insert (held_in blocks.old.items) key.now values.old) }
+    ensures taken { OnOk result (values.new ≡ values_at (held_in blocks.old.items) key.now) }
     ensures own { AllOfType key.now.datatype values.new }
-    ensures absent { OnErr result (finmap.get (rows_of (rows_in blocks.old.items)) key.now ≡ None) }
-    ensures kept { OnErr result (rows_of (rows_in blocks.new.items) ≡ rows_of (rows_in blocks.old.items)) }
+    ensures absent { OnErr result (finmap.get (held_in blocks.old.items) key.now ≡ None) }
+    ensures kept { OnErr result (held_in blocks.new.items ≡ held_in blocks.old.items) }
     ensures stayed { OnErr result (values.new ≡ values.old) }
 {
     if blocks.is_empty() {
@@ -175,11 +179,11 @@ pub fn swap_row(
     ensures sorted { RowsAreSorted (rows_in blocks.new.items) }
     ensures counted { count.new ≡ length (rows_in blocks.new.items) }
     ensures few { count.new ≤ usize.MAX }
-    ensures swapped { OnOk result (rows_of (rows_in blocks.new.items) ≡ finmap.insert (rows_of (rows_in blocks.old.items)) key.now values.old) }
-    ensures taken { OnOk result (values.new ≡ values_at (rows_of (rows_in blocks.old.items)) key.now) }
+    ensures swapped { OnOk result (held_in blocks.new.items ≡ finmap.insert (held_in blocks.old.items) key.now values.old) }
+    ensures taken { OnOk result (values.new ≡ values_at (held_in blocks.old.items) key.now) }
     ensures own { AllOfType key.now.datatype values.new }
-    ensures absent { OnErr result (finmap.get (rows_of (rows_in blocks.old.items)) key.now ≡ None) }
-    ensures kept { OnErr result (rows_of (rows_in blocks.new.items) ≡ rows_of (rows_in blocks.old.items)) }
+    ensures absent { OnErr result (finmap.get (held_in blocks.old.items) key.now ≡ None) }
+    ensures kept { OnErr result (held_in blocks.new.items ≡ held_in blocks.old.items) }
     ensures stayed { OnErr result (values.new ≡ values.old) }
 {
     let after = count_with(blocks, *count, key)?;
@@ -207,7 +211,8 @@ fn bounds(blocks: &[Block], key: &AttrKey) -> (usize, usize)
     requires { RowsAreSorted (rows_in blocks.now) }
     ensures ordered { result.0 ≤ result.1 }
     ensures within { result.1 ≤ length blocks.now }
-    ensures named { filter (λ r. names_row key.now r.key) (rows_in (slice_range blocks.now result.0 result.1)) ≡ filter (λ r. names_row key.now r.key) (rows_in blocks.now) }
+    ensures named { filter (λ r. names_row key.now r.key) (rows_in (slice_range blocks.now result.0 result.1))
+        ≡ filter (λ r. names_row key.now r.key) (rows_in blocks.now) }
 {
     let passed = blocks.partition_point(|block| first_to_named(block, key).is_lt());
     let begun = count_passing(
@@ -217,8 +222,8 @@ fn bounds(blocks: &[Block], key: &AttrKey) -> (usize, usize)
     (passed.saturating_sub(1), passed + begun)
 }
 
-/// The only row that a key names, if it is the one at a place in the block of that number, and stands between two there that the key
-/// doesn't name.
+/// The only row that a key names, if it is the one at a place in the block of that number, and stands between two
+/// there that the key doesn't name.
 fn only_row<'a>(blocks: &'a [Block], number: usize, place: usize, key: &AttrKey) -> Option<&'a Row>
     requires { RowsAreSorted (rows_in blocks.now) }
     ensures { IfSome result (λ r. filter (λ x. names_row key.now x.key) (rows_in blocks.now) ≡ r.now ∷ []) }
@@ -266,8 +271,8 @@ pub fn values_of(
     key: &AttrKey,
 ) -> Result<Bag, AllocError>
     requires { RowsAreSorted (rows_in blocks.now) }
-    ensures value { IfOk result (λ b. b ≡ record { datatype = key.now.datatype; values = values_of key.now (filled (rows_of (rows_in blocks.now))) }) }
-    ensures memory { OnErr result (values_of key.now (filled (rows_of (rows_in blocks.now))) ≢ []) }
+    ensures value { IfOk result (λ b. b ≡ bag_found key.now (held_in blocks.now)) }
+    ensures memory { OnErr result (values_of key.now (filled (held_in blocks.now)) ≢ []) }
 {
     let asked = mixed(mixed(0, key.entity.as_str()), key.attribute.as_str());
     let hint = hints.place(asked);
@@ -281,8 +286,8 @@ pub fn values_of(
 /// The same by a search.
 fn all_values_of(alloc: Global, blocks: &[Block], key: &AttrKey) -> Result<Bag, AllocError>
     requires { RowsAreSorted (rows_in blocks.now) }
-    ensures value { IfOk result (λ b. b ≡ record { datatype = key.now.datatype; values = values_of key.now (filled (rows_of (rows_in blocks.now))) }) }
-    ensures memory { OnErr result (values_of key.now (filled (rows_of (rows_in blocks.now))) ≢ []) }
+    ensures value { IfOk result (λ b. b ≡ bag_found key.now (held_in blocks.now)) }
+    ensures memory { OnErr result (values_of key.now (filled (held_in blocks.now)) ≢ []) }
 {
     let (start, end) = bounds(blocks, key);
     let named = &blocks[start..end];

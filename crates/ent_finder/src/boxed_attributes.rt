@@ -4,9 +4,9 @@ ghost use Rattle.std.specs.Prelude.{◌≡◌, ◌≢◌, ◌≤◌, [], None, O
 ghost use Rattle.std.specs.FinMap as finmap;
 ghost use Rattle.std.specs.Option.{option_copied, option_map};
 ghost use Rattle.ent_values.specs.Bags.{AllOfType};
-ghost use Rattle.ent_finder.specs.Looking.{values_of};
+ghost use Rattle.ent_finder.specs.Looking.{bag_found, values_of};
 ghost use Rattle.ent_finder.specs.RowEntry.{row_entry};
-ghost use Rattle.ent_finder.specs.Rows.{filled, supports, values_at};
+ghost use Rattle.ent_finder.specs.Rows.{filled, supports, values_at, with_row_put};
 
 use crate::attribute_module::AttributeFinderModule;
 use crate::row::{AttrKey, Row, RowKey};
@@ -26,7 +26,7 @@ pub fn find_in(
 ) -> Result<(), AllocError>
     requires datatype { bag.old.datatype ≡ key.now.datatype }
     requires empty { bag.old.values ≡ [] }
-    ensures ok { OnOk result (bag.new ≡ record { datatype = key.now.datatype; values = values_of key.now (filled (source store.now).rows) }) }
+    ensures ok { OnOk result (bag.new ≡ bag_found key.now (source store.now).rows) }
     ensures err { OnErr result (bag.new ≡ bag.old) }
     ensures memory { OnErr result (values_of key.now (filled (source store.now).rows) ≢ []) }
 {
@@ -39,7 +39,7 @@ pub fn swap_in(
     values: &mut Items<Value>,
 ) -> Result<(), AllocError>
     requires { AllOfType key.now.datatype values.old }
-    ensures swapped { OnOk result (source store.new ≡ record (source store.old) { rows = finmap.insert (source store.old).rows key.now values.old }) }
+    ensures swapped { OnOk result (source store.new ≡ with_row_put (source store.old) key.now values.old) }
     ensures taken { OnOk result (values.new ≡ values_at (source store.old).rows key.now) }
     ensures own { AllOfType key.now.datatype values.new }
     ensures absent { OnErr result (finmap.get (source store.old).rows key.now ≡ None) }
@@ -50,7 +50,8 @@ pub fn swap_in(
 }
 
 pub fn row_in(store: &dyn AttributeFinderModule, index: usize) -> Option<&Row>
-    ensures row { option_map row_entry (option_copied result) ≡ slice_get (finmap.entries (source store.now).rows) index }
+    ensures row { option_map row_entry (option_copied result)
+        ≡ slice_get (finmap.entries (source store.now).rows) index }
     ensures indexed { finmap.len (source store.now).rows ≤ usize.MAX }
 {
     store.row_at(index)

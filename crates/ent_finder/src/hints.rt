@@ -13,9 +13,9 @@ const MIXED_BYTES: usize = 4;
 /// What a number is multiplied with for each of them.
 const MIXING_FACTOR: usize = 31;
 
-/// For what was found last, by a number made of what was asked for, where that was. Something else may stand there by now, or
-/// what is asked for may share its number with another: what is kept is a place to look first, and nothing that is found depends
-/// on it. The places stand in the value itself, so no memory is asked for.
+/// For what was found last, by a number made of what was asked for, where that was. Something else may stand there by
+/// now, or what is asked for may share its number with another: what is kept is a place to look first, and nothing
+/// that is found depends on it. The places stand in the value itself, so no memory is asked for.
 #[derive(Drop)]
 pub struct Hints {
     places: [Cell<usize>; PLACES],

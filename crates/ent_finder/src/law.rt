@@ -1,7 +1,8 @@
 //! Laws of what is held and what is found.
 
 ghost use Rattle.ent_finder.specs.Law.{FirstModuleAnswers, MostRecentIsLatest, NoModuleAnswers, NoneIsNamed};
-ghost use Rattle.ent_finder.specs.Law.{SecondSwapRestoresDocuments, SecondSwapRestoresSlots, SwapChangesOneDocument, SwapLeavesSlot};
+ghost use Rattle.ent_finder.specs.Law.{SecondSwapRestoresDocuments, SecondSwapRestoresSlots};
+ghost use Rattle.ent_finder.specs.Law.{SwapChangesOneDocument, SwapLeavesSlot};
 
 /// A law, with nothing to run: a swap changes one document, and the slot is there afterwards.
 pub fn swap_changes_one_document()

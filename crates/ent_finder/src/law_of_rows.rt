@@ -26,7 +26,8 @@ pub fn issuer_names_one_row()
     ensures { IssuerNamesOneRow }
 {}
 
-/// A law, with nothing to run: values that are found are all of one module, the first that supports the category and has any.
+/// A law, with nothing to run: values that are found are all of one module, the first that supports the category and
+/// has any.
 pub fn first_source_answers()
     ensures found { FirstSourceAnswers }
     ensures none { NoSourceAnswers }

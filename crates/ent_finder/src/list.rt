@@ -1,6 +1,7 @@
 //! A list of slots in the order of their keys.
 
-ghost use Rattle.std.specs.Prelude.{◌≡◌, ◌≤◌, bytes_eq, IfErr, IfOk, None, IfSome, OnErr, OnOk, Some, false, if◌then◌else◌, length, not, slice_get, slice_range, true};
+ghost use Rattle.std.specs.Prelude.{◌≡◌, ◌≤◌, if◌then◌else◌, bytes_eq, false, length, not, true};
+ghost use Rattle.std.specs.Prelude.{IfErr, IfOk, IfSome, None, OnErr, OnOk, Some, slice_get, slice_range};
 ghost use Rattle.std.specs.Bool.{OnTrue};
 ghost use Rattle.std.specs.FinMap as finmap;
 ghost use Rattle.std.specs.List.{filter};
@@ -25,8 +26,10 @@ use std::mem;
 /// Where the slot of a key is, or where it would go.
 fn place(slots: &[DocSlot], key: &DocKey) -> Result<usize, usize>
     requires { AreSorted slots.now }
-    ensures found { IfOk result (λ i. IsPlace key_cmp key.now (entries_of slots.now) i × (is_at key_cmp key.now (entries_of slots.now) i ≡ true)) }
-    ensures absent { IfErr result (λ i. IsPlace key_cmp key.now (entries_of slots.now) i × (is_at key_cmp key.now (entries_of slots.now) i ≡ false)) }
+    ensures found { IfOk result (λ i. IsPlace key_cmp key.now (entries_of slots.now) i
+        × (is_at key_cmp key.now (entries_of slots.now) i ≡ true)) }
+    ensures absent { IfErr result (λ i. IsPlace key_cmp key.now (entries_of slots.now) i
+        × (is_at key_cmp key.now (entries_of slots.now) i ≡ false)) }
 {
     slots.binary_search_by(|slot| slot.key.cmp(key))
 }
@@ -59,7 +62,8 @@ pub fn swap_document(
     requires sorted { AreSorted slots.old.items }
     requires key { ForSome document.old (λ d. key_of d ≡ key.now) }
     ensures sorted { AreSorted slots.new.items }
-    ensures swapped { OnOk result (slots_of slots.new.items ≡ finmap.insert (slots_of slots.old.items) key.now document.old) }
+    ensures swapped { OnOk result (slots_of slots.new.items
+        ≡ finmap.insert (slots_of slots.old.items) key.now document.old) }
     ensures taken { OnOk result (document.new ≡ document_at (slots_of slots.old.items) key.now) }
     ensures own { ForSome document.new (λ d. key_of d ≡ key.now) }
     ensures absent { OnErr result (finmap.get (slots_of slots.old.items) key.now ≡ None) }
@@ -93,7 +97,8 @@ fn bounds(slots: &[DocSlot], reference: &Reference) -> (usize, usize)
 
 /// The document of a slot, if there is one and its version meets the constraints of a reference.
 fn accepted<'a>(slot: &'a DocSlot, reference: &Reference) -> Option<&'a Document>
-    ensures { option_copied result ≡ (if meets reference.now.constraints slot.now.key.version then slot.now.document else None) }
+    ensures { option_copied result
+        ≡ (if meets reference.now.constraints slot.now.key.version then slot.now.document else None) }
 {
     if reference.constraints.meets(&slot.key.version) {
         slot.document.as_ref()

@@ -38,7 +38,9 @@ impl Model for MapRows {
 
     ghost view = { λ m. record { categories = m.categories; rows = rows_of (rows_in m.blocks.items) } };
 
-    ghost invariant = { λ m. RowsAreSorted (rows_in m.blocks.items) × (m.count ≡ length (rows_in m.blocks.items)) × (m.count ≤ MAX) };
+    ghost invariant = { λ m. RowsAreSorted (rows_in m.blocks.items)
+        × (m.count ≡ length (rows_in m.blocks.items))
+        × (m.count ≤ MAX) };
 }
 
 impl MapRows {

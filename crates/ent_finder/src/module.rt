@@ -20,8 +20,8 @@ pub trait PolicyFinderModule: Drop {
     fn find_reference(&self, reference: &Reference) -> Option<&Document>
         ensures { option_copied result ≡ most_recent reference.now (held (slots self.now)) };
 
-    /// Exchanges what is in the slot of a key with `document`. The slot is made if it isn't there; where it is, the exchange takes
-    /// no memory, so that a second one undoes the first.
+    /// Exchanges what is in the slot of a key with `document`. The slot is made if it isn't there; where it is, the
+    /// exchange takes no memory, so that a second one undoes the first.
     fn swap_document(
         &mut self,
         key: &DocKey,

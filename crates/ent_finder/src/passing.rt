@@ -11,7 +11,8 @@ const NEAR: usize = 2;
 pub fn count_passing<T, P: FnMut(&T) -> bool>(items: &[T], mut passes: P) -> usize
     requires { P.IsAlwaysCallable passes }
     ensures bound { result ≤ length items.now }
-    ensures partitioned { (p : T → Bool) → ComputesKey P.FnMut p passes → IsPartitionedBy p items.now → IsPartitionPoint (λ y. p y ≡ true) (λ y. p y ≡ false) items.now result }
+    ensures partitioned { (p : T → Bool) → ComputesKey P.FnMut p passes → IsPartitionedBy p items.now
+        → IsPartitionPoint (λ y. p y ≡ true) (λ y. p y ≡ false) items.now result }
 {
     let near = items.len().min(NEAR);
     for index in 0..near {

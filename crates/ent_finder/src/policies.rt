@@ -21,8 +21,8 @@ pub trait Policies: Drop {
     fn len(&self) -> usize
         ensures { result ≡ length (slots self.now) };
 
-    /// Of the first module that has a document which the reference names, the most recent such one (sections 5.10 and 5.11), and
-    /// that module's number. It takes no memory.
+    /// Of the first module that has a document which the reference names, the most recent such one (sections 5.10 and
+    /// 5.11), and that module's number. It takes no memory.
     fn resolve(&self, reference: &Reference) -> Option<(usize, &Document)>
         ensures { option_map (λ r. (r.0, r.1.now)) result ≡ resolved reference.now (map held (slots self.now)) };
 
@@ -35,8 +35,8 @@ pub trait Policies: Drop {
     fn document_count(&self) -> u128
         ensures { result ≡ document_count (map held (slots self.now)) };
 
-    /// Exchanges what is in the slot of a key with `document`, in the module of that number. The slot is made if it isn't there;
-    /// where it is, the exchange takes no memory, so that a second one undoes the first.
+    /// Exchanges what is in the slot of a key with `document`, in the module of that number. The slot is made if it
+    /// isn't there; where it is, the exchange takes no memory, so that a second one undoes the first.
     fn swap_document(
         &mut self,
         number: usize,
@@ -45,7 +45,8 @@ pub trait Policies: Drop {
     ) -> Result<(), AllocError>
         requires number { number < length (slots self.old) }
         requires key { ForSome document.old (λ d. key_of d ≡ key.now) }
-        ensures swapped { OnOk result (slots self.new ≡ slice_set (slots self.old) number (finmap.insert (module_at (slots self.old) number) key.now document.old)) }
+        ensures swapped { OnOk result (slots self.new
+            ≡ slice_set (slots self.old) number (finmap.insert (module_at (slots self.old) number) key.now document.old)) }
         ensures taken { OnOk result (document.new ≡ document_at (module_at (slots self.old) number) key.now) }
 
         // What comes out has that key too.
@@ -59,7 +60,8 @@ pub trait Policies: Drop {
     /// The slot at an index of a module, counted from 0. It takes no memory.
     fn slot_at(&self, number: usize, index: usize) -> Option<&DocSlot>
         requires { number < length (slots self.now) }
-        ensures slot { option_map entry_of (option_copied result) ≡ slice_get (finmap.entries (module_at (slots self.now) number)) index }
+        ensures slot { option_map entry_of (option_copied result)
+            ≡ slice_get (finmap.entries (module_at (slots self.now) number)) index }
 
         // Each slot has an index.
         ensures indexed { finmap.len (module_at (slots self.now) number) ≤ usize.MAX };

@@ -7,7 +7,8 @@ ghost use Rattle.ent_finder.specs.Looking.{is_wanted, names_row};
 use ent_values::{DataType, Items, Text, Value};
 use std::alloc::{AllocError, Global};
 
-/// Names values of an entity (section 7.3.5): those that the issuer gives, or without an issuer those that anyone gives.
+/// Names values of an entity (section 7.3.5): those that the issuer gives, or without an issuer those that anyone
+/// gives.
 #[derive(PartialEq, Eq, PartialOrd, Ord, Drop)]
 pub struct AttrKey {
     pub category: Text,
@@ -17,8 +18,8 @@ pub struct AttrKey {
     pub issuer: Option<Text>,
 }
 
-/// The key of one row: the values that the issuer gives, or without an issuer those that are given without one. Keys order field by
-/// field, that without an issuer first.
+/// The key of one row: the values that the issuer gives, or without an issuer those that are given without one. Keys
+/// order field by field, that without an issuer first.
 #[derive(PartialEq, Eq, PartialOrd, Ord, Drop)]
 pub struct RowKey {
     pub category: Text,
@@ -60,8 +61,8 @@ fn is_wanted(wanted: &Option<Text>, issuer: &Option<Text>) -> bool
 }
 
 impl AttrKey {
-    /// Whether it names a row: without an issuer that of any issuer and of none, with one that of this issuer alone. The other
-    /// fields are equal.
+    /// Whether it names a row: without an issuer that of any issuer and of none, with one that of this issuer alone.
+    /// The other fields are equal.
     pub fn names(&self, row: &RowKey) -> bool
         ensures { result ≡ names_row self.now row.now }
     {

@@ -1,6 +1,7 @@
 //! A list of rows in the order of their keys.
 
-ghost use Rattle.std.specs.Prelude.{◌≡◌, ◌≢◌, ◌≤◌, ◌++◌, [], IfErr, IfOk, None, OnErr, OnOk, false, is_some, length, slice_range, true};
+ghost use Rattle.std.specs.Prelude.{◌≡◌, ◌≢◌, ◌≤◌, ◌++◌, [], false, length, true};
+ghost use Rattle.std.specs.Prelude.{IfErr, IfOk, None, OnErr, OnOk, is_some, slice_range};
 ghost use Rattle.std.specs.FinMap as finmap;
 ghost use Rattle.std.specs.List.{filter};
 ghost use Rattle.ent_values.specs.Bags.{AllOfType};
@@ -20,8 +21,10 @@ use std::mem;
 /// Where the row of a key is, or where it would go.
 fn place(rows: &[Row], key: &RowKey) -> Result<usize, usize>
     requires { RowsAreSorted rows.now }
-    ensures found { IfOk result (λ i. IsPlace row_cmp key.now (row_entries rows.now) i × (is_at row_cmp key.now (row_entries rows.now) i ≡ true)) }
-    ensures absent { IfErr result (λ i. IsPlace row_cmp key.now (row_entries rows.now) i × (is_at row_cmp key.now (row_entries rows.now) i ≡ false)) }
+    ensures found { IfOk result (λ i. IsPlace row_cmp key.now (row_entries rows.now) i
+        × (is_at row_cmp key.now (row_entries rows.now) i ≡ true)) }
+    ensures absent { IfErr result (λ i. IsPlace row_cmp key.now (row_entries rows.now) i
+        × (is_at row_cmp key.now (row_entries rows.now) i ≡ false)) }
 {
     rows.binary_search_by(|row| row.key.cmp(key))
 }
@@ -112,7 +115,7 @@ fn bounds(rows: &[Row], key: &AttrKey) -> (usize, usize)
 /// Puts copies of the values last.
 pub fn add_all(alloc: Global, bag: &mut Bag, values: &[Value]) -> Result<(), AllocError>
     requires { AllOfType bag.old.datatype values.now }
-    ensures value { OnOk result (bag.new ≡ record { datatype = bag.old.datatype; values = bag.old.values ++ values.now }) }
+    ensures value { OnOk result (bag.new ≡ record bag.old { values = bag.old.values ++ values.now }) }
     ensures memory { OnErr result (values.now ≢ []) }
 {
     for value in values {
@@ -130,7 +133,9 @@ pub fn add_named(
 ) -> Result<(), AllocError>
     requires sorted { RowsAreSorted rows.now }
     requires datatype { bag.old.datatype ≡ key.now.datatype }
-    ensures value { OnOk result (bag.new ≡ record { datatype = bag.old.datatype; values = bag.old.values ++ values_of key.now (filled (rows_of rows.now)) }) }
+    ensures value { OnOk result (bag.new ≡ record bag.old {
+      values = bag.old.values ++ values_of key.now (filled (rows_of rows.now));
+    }) }
     ensures memory { OnErr result (values_of key.now (filled (rows_of rows.now)) ≢ []) }
 {
     let (start, end) = bounds(rows, key);
