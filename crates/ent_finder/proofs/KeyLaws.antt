@@ -4,7 +4,7 @@ use Rattle.std.specs.Bool.{Decides}
 use Rattle.std.specs.Option.{option_cmp}
 use Rattle.std.proofs.lemmas.Slice.Eq.{bytes_eq-Decides}
 use Rattle.ent_values.proofs.Values.{same_type-Decides}
-use Rattle.ent_policy.proofs.Telling.{decided, decides, last, maybe, more, struct}
+use Rattle.ent_values.proofs.Telling.{decided, decides, last, maybe, more, struct}
 use Rattle.ent_finder.specs.LawOfKeys.{in_turn, issuer_order, row_order, same_attr_key, same_row_key, text_order, wanted_cmp, wanted_key_order}
 use Rattle.ent_finder.specs.Order.{type_cmp}
 use Rattle.ent_finder.specs.Rows.{row_cmp}
