@@ -1,3 +1,4 @@
-pub mod Members
+pub mod MemberLemmas
 pub mod ObjectLemmas
 pub mod Reading
+pub mod TextLemmas

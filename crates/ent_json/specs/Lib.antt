@@ -1,3 +1,5 @@
 pub mod Content
 pub mod Line
 pub mod Objects
+pub mod Members
+pub mod Text

@@ -15,12 +15,13 @@ use std::alloc::{AllocError, Global};
 /// How deep arrays and objects may nest, as in `serde_json`.
 const MAX_DEPTH: usize = 127;
 
-/// The value that a text is, as `serde_json` reads it, or nothing where it is none. Strings without escapes are borrowed from the text, others
-/// from the scratch.
+/// The value that a text is, as `serde_json` reads it, or nothing where it is none. Strings without escapes are
+/// borrowed from the text, others from the scratch.
 ///
 /// # Errors
 ///
-/// Where memory runs out, which is asked for only where the scratch has no room for the text, or where an array or an object begins.
+/// Where memory runs out, which is asked for only where the scratch has no room for the text, or where an array or an
+/// object begins.
 pub fn read_json<'a>(
     alloc: Global,
     text: &'a [u8],

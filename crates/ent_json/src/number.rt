@@ -7,7 +7,8 @@ ghost use Rattle.serde_json.specs.View.{number_view};
 use fast_float::Numeral;
 use serde_json::Number;
 
-/// The number that a text of JSON writes, as `serde_json` reads it, where it is in range. Most are whole and fit 64 bits, so that is tried first.
+/// The number that a text of JSON writes, as `serde_json` reads it, where it is in range. Most are whole and fit 64
+/// bits, so that is tried first.
 pub(crate) fn number(text: &str) -> Option<Number>
     ensures { option_map number_view result ≡ number_of text.now }
 {

@@ -7,8 +7,8 @@ ghost use Rattle.serde_json.specs.View.{items_of};
 ghost use Rattle.std.specs.Option.{is_some};
 ghost use Rattle.ent_json.specs.Objects.{among, has_only, one_member};
 
-/// A JSON value. Contracts see the data that `serde_json` gives it: an object has each key once, with the value that came last, and a
-/// number is a whole one of 64 bits or a float.
+/// A JSON value. Contracts see the data that `serde_json` gives it: an object has each key once, with the value that
+/// came last, and a number is a whole one of 64 bits or a float.
 pub trait JsonTree: Sized {
     ghost content: { Self → Data };
 

@@ -5,7 +5,7 @@ use Rattle.json.specs.declared.value.Value.{Value}
 use Rattle.serde_json.specs.Data.{Data, Members, no_members, member, put}
 use Rattle.ent_json.specs.Content.{content_of, members_content}
 use Rattle.ent_json.specs.Objects.{alone}
-use Rattle.ent_json.proofs.Members.{alone-other, put_again}
+use Rattle.ent_json.proofs.MemberLemmas.{alone-other, put_again}
 use Rattle.ent_json.proofs.borrowed.alone.Goals as goal
 
 abbrev Member : Type 0

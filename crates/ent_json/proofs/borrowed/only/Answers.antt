@@ -3,7 +3,7 @@ use Rattle.std.proofs.lemmas.List.{at_drop_more, at_drop_all}
 use Rattle.json.specs.Value.{members_view}
 use Rattle.json.specs.declared.value.Value.{Value}
 use Rattle.ent_json.specs.Objects.{among}
-use Rattle.ent_json.proofs.Members.{keys_among, only-members_content}
+use Rattle.ent_json.proofs.MemberLemmas.{keys_among, only-members_content}
 use Rattle.ent_json.proofs.borrowed.only.Goals as goal
 
 abbrev Member : Type 0

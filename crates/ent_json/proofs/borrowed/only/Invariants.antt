@@ -1,6 +1,6 @@
 use Rattle.std.proofs.Common.{◌≡◌, map, drop}
 use Rattle.json.specs.Value.{members_view}
-use Rattle.ent_json.proofs.Members.{keys_among}
+use Rattle.ent_json.proofs.MemberLemmas.{keys_among}
 use Rattle.ent_json.proofs.borrowed.only.Given as goal
 
 abbrev pub invariant-loop-member : goal.invariant-loop-member

@@ -2,7 +2,7 @@ use Rattle.std.proofs.Common.{◌≡◌, Option, Some, None, option_map, Bor, Gl
 use Rattle.json.specs.Value.{value_view}
 use Rattle.json.specs.declared.value.Value.{Value}
 use Rattle.ent_json.specs.Content.{content_of}
-use Rattle.ent_json.proofs.Members.{get-content_of}
+use Rattle.ent_json.proofs.MemberLemmas.{get-content_of}
 use Rattle.ent_json.proofs.borrowed.ValueJsonTree.get.Goals as goal
 
 both : (r : Option (Bor (Value Global))) → option_map (λ v. content_of (value_view v.now)) r ≡ option_map content_of (option_map (λ v. value_view v.now) r)
