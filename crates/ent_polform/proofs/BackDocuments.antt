@@ -42,9 +42,10 @@ use Rattle.ent_policy.proofs.Wholes.{ReadOf}
 use Rattle.ent_polform.specs.Form.{child_of, policy_of, raw_named, raw_of, set_by}
 use Rattle.ent_polform.specs.Given.{given_of}
 use Rattle.ent_polform.specs.Objects.{◌>>=◌, each_by}
-use Rattle.ent_polform.specs.ReadBack.{child_values, document_values, given_values, policy_values, target_values, values_in_level, values_in_set}
+use Rattle.ent_policy.specs.Values.{child_values, document_values, given_values, policy_values, target_values, values_in_level, values_in_set}
 use Rattle.ent_polform.specs.Targets.{target_or_empty}
-use Rattle.ent_polform.specs.Written.{child_step, child_written, filled_list, only_member, optional, policy_written, reference_written, set_with, set_written, target_written, written}
+use Rattle.ent_json.specs.Members.{filled_list, only_member, optional}
+use Rattle.ent_polform.specs.Written.{child_step, child_written, policy_written, reference_written, set_with, set_written, target_written, written}
 use Rattle.ent_polform.proofs.Back.{Back, Returns, both_readable, each_back, none_there}
 use Rattle.ent_polform.proofs.BackGiven.{advice_of, both_back, given_in, obligations_of}
 use Rattle.ent_polform.proofs.BackPolicies.{policy_back, version_back}

@@ -24,7 +24,7 @@ use Rattle.ent_policy.proofs.WhatIsRead.{apply_is_read}
 use Rattle.ent_policy.proofs.Wholes.{ReadOf}
 use Rattle.ent_polform.specs.Expressions.{apply_by, expression_by, expression_named, expression_of, name_of}
 use Rattle.ent_polform.specs.Objects.{◌>>=◌, each_by}
-use Rattle.ent_polform.specs.ReadBack.{expression_values, values_here}
+use Rattle.ent_policy.specs.Values.{expression_values, values_here}
 use Rattle.ent_polform.specs.Written.{apply_written, expression_step, expression_written}
 use Rattle.ent_polform.proofs.Back.{Returns, each_back, no_fault}
 use Rattle.ent_polform.proofs.BackTargets.{function_back}

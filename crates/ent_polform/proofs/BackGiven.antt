@@ -15,9 +15,11 @@ use Rattle.ent_policy.specs.declared.given.GivenExpressions.{GivenExpressions}
 use Rattle.ent_policy.specs.declared.raw.RawGivenExpressions.{RawGivenExpressions}
 use Rattle.ent_polform.specs.Expressions.{expression_of}
 use Rattle.ent_polform.specs.Given.{assignment_of, given_by}
-use Rattle.ent_polform.specs.Objects.{◌>>=◌, each_by, put_optional}
-use Rattle.ent_polform.specs.ReadBack.{assignment_values, given_values, values_given}
-use Rattle.ent_polform.specs.Written.{expression_written, filled_list, optional}
+use Rattle.ent_json.specs.Members.{put_optional}
+use Rattle.ent_polform.specs.Objects.{◌>>=◌, each_by}
+use Rattle.ent_policy.specs.Values.{assignment_values, given_values, values_given}
+use Rattle.ent_json.specs.Members.{filled_list, optional}
+use Rattle.ent_polform.specs.Written.{expression_written}
 use Rattle.ent_polform.specs.Written.{assignment_written, effect_word, given_written}
 use Rattle.ent_polform.proofs.Back.{Back, Returns, all_back, both_readable, no_fault}
 use Rattle.ent_polform.proofs.BackExpressions.{expression_back}

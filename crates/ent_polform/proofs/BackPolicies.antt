@@ -25,10 +25,11 @@ use Rattle.ent_polform.specs.Expressions.{expression_of}
 use Rattle.ent_polform.specs.Form.{definition_of, policy_of, rule_of}
 use Rattle.ent_polform.specs.Given.{given_of}
 use Rattle.ent_polform.specs.Objects.{◌>>=◌, each_by}
-use Rattle.ent_polform.specs.ReadBack.{definition_values, expression_values, given_values, policy_values, rule_values, target_values}
+use Rattle.ent_policy.specs.Values.{definition_values, expression_values, given_values, policy_values, rule_values, target_values}
 use Rattle.ent_polform.specs.Reading.{maybe}
 use Rattle.ent_polform.specs.Targets.{target_or_empty}
-use Rattle.ent_polform.specs.Written.{definition_written, effect_word, expression_written, filled_list, optional, policy_written, rule_written, target_written}
+use Rattle.ent_json.specs.Members.{filled_list, optional}
+use Rattle.ent_polform.specs.Written.{definition_written, effect_word, expression_written, policy_written, rule_written, target_written}
 use Rattle.ent_polform.proofs.Back.{Back, Returns, all_back, both_readable, no_fault, none_there}
 use Rattle.ent_polform.proofs.BackExpressions.{expression_back}
 use Rattle.ent_polform.proofs.BackGiven.{advice_of, both_back, given_in, obligations_of}

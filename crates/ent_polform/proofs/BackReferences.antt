@@ -1,5 +1,7 @@
 -- References that are read, written and read again.
-use Rattle.std.proofs.Common.{◌≡◌, ℕ, List, [], ◌∷◌, Bool, true, false, Option, Some, None, option_map, Ok, codes, cond, refl, ap}
+use Rattle.std.proofs.Common.{◌≡◌, ℕ, List, [], ◌∷◌, Bool, true, false, IsTrue, Option, Some, None, option_map, Result, Ok, Err, IfOk, codes, cond, refl, ap, ◌∙◌}
+use Rattle.serde_json.specs.Data.{Data}
+use Rattle.ent_policy.specs.Check.{reference_checked}
 use Rattle.ent_policy.specs.Names.{is_bad_name, name_of}
 use Rattle.ent_policy.specs.Patterns.{pattern_of, pattern_text}
 use Rattle.ent_policy.specs.Reading.{constraints_read, done, known, made, maybe_read, pattern_read, reference_read}
@@ -13,8 +15,9 @@ use Rattle.ent_policy.specs.declared.raw.RawReference.{RawReference}
 use Rattle.ent_policy.proofs.Patterns.{is_pattern_of}
 use Rattle.ent_policy.proofs.Written.{patterns_read_back}
 use Rattle.ent_policy.proofs.Wholes.{ReadOf}
-use Rattle.ent_polform.specs.Reference.{kind_of, reference_by, reference_key}
-use Rattle.ent_polform.specs.Written.{reference_body}
+use Rattle.ent_polform.specs.ReadBack.{IsReference, ReferencesReadBack, is_maybe_pattern}
+use Rattle.ent_polform.specs.Reference.{kind_of, reference_by, reference_key, reference_of}
+use Rattle.ent_polform.specs.Written.{reference_body, reference_written}
 use Rattle.ent_polform.proofs.Back.{Back}
 
 pub kind_back : (kind : Kind) → kind_of (reference_key kind) ≡ Some kind
@@ -70,3 +73,21 @@ reference_back raw =
       record { kind = raw.kind; id = (id_read raw.id).value; version = option_map pattern_text version; earliest = option_map pattern_text earliest; latest = option_map pattern_text latest },
       (reference_form raw.kind (id_read raw.id).value version earliest latest, rw (id_again raw.id, constraint_again raw.version, constraint_again raw.earliest, constraint_again raw.latest) refl),
     )
+
+-- ---- a reference that stands alone
+
+constraint_back : (o : Option (List PatternPart)) → IsTrue (is_maybe_pattern o) → maybe_read pattern_read (option_map pattern_text o) ≡ done o
+constraint_back None h = refl
+constraint_back (Some parts) h = rw (patterns_read_back parts h) refl
+
+pub references_back : ReferencesReadBack
+unfolding reference_of reference_written reference_checked reference_read constraints_read
+references_back r is =
+    let c = r.constraints in
+    rw (kind_back r.kind, reference_form r.kind r.id c.version c.earliest c.latest, is.name, constraint_back c.version is.version, constraint_back c.earliest is.earliest, constraint_back c.latest is.latest) refl
+
+-- what was written of a reference
+pub written_back : {A E : Type 0} (view : A → Data) (r : Result A E) (reference : Reference) → IsReference reference → IfOk r (λ v. view v ≡ reference_written reference)
+    → IfOk r (λ v. reference_of (view v) ≡ Ok reference)
+written_back view (Ok v) reference by_type is = ap reference_of is ∙ references_back reference by_type
+written_back view (Err e) reference by_type is = tt

@@ -13,8 +13,9 @@ use Rattle.ent_policy.specs.declared.document.AnyOf.{AnyOf}
 use Rattle.ent_policy.specs.declared.document.Match.{Match}
 use Rattle.ent_policy.specs.declared.document.Target.{Target}
 use Rattle.ent_policy.proofs.Wholes.{neither}
-use Rattle.ent_polform.specs.Objects.{◌>>=◌, each_by, filled}
-use Rattle.ent_polform.specs.ReadBack.{all_of_values, any_of_values, match_values, target_values}
+use Rattle.ent_json.specs.Objects.{filled}
+use Rattle.ent_polform.specs.Objects.{◌>>=◌, each_by}
+use Rattle.ent_policy.specs.Values.{all_of_values, any_of_values, match_values, target_values}
 use Rattle.ent_polform.specs.Targets.{match_of, one_all_of, one_any_of, target_of, target_or_empty}
 use Rattle.ent_polform.specs.Written.{all_of_written, any_of_written, match_written, target_written}
 use Rattle.ent_polform.proofs.Back.{Returns, all_back}

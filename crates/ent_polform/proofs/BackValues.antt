@@ -1,7 +1,8 @@
 -- Values and designators that are written read back.
-use Rattle.std.proofs.Common.{◌≡◌, ℕ, pos, negsuc, List, Bool, Option, Some, None, Ok, refl}
-use Rattle.ent_values.proofs.ReadBack.{read_back}
-use Rattle.ent_values.specs.ReadBack.{IsReadable}
+use Rattle.std.proofs.Common.{◌≡◌, ℕ, pos, negsuc, List, Bool, Option, Some, None, Result, Ok, Err, IfOk, refl, subst, sym}
+use Rattle.serde_json.specs.Data.{Data}
+use Rattle.ent_values.proofs.ReadBack.{read_back, readable}
+use Rattle.ent_values.specs.ReadBack.{IsReadable, IsReal}
 use Rattle.ent_values.specs.Types.{datatype_of, short_name_of, type_of, uri_of}
 use Rattle.ent_values.specs.Writing.{text_of}
 use Rattle.ent_values.specs.declared.datatype.DataType.{DataType}
@@ -15,20 +16,28 @@ use Rattle.ent_policy.specs.declared.raw.RawLiteral.{RawLiteral}
 use Rattle.ent_policy.specs.declared.raw.RawLiteral.TheVariants as literals
 use Rattle.ent_policy.specs.declared.raw.RawValue.{RawValue}
 use Rattle.ent_polform.specs.Expressions.{designator_of, value_of}
-use Rattle.ent_polform.specs.ReadBack.{ValuesReadBack}
+use Rattle.ent_polform.specs.ReadBack.{ValueReadsBack, ValuesReadBack}
 use Rattle.ent_polform.specs.Values.{value_in}
 use Rattle.ent_polform.specs.Written.{designator_written, literal_written, value_written}
 use Rattle.ent_polform.proofs.Back.{Back}
 
-pub values_back : ValuesReadBack
+pub value_in_back : (value : Value) → IsReadable value → value_in (datatype_of value) (value_written value) ≡ Some value
 unfolding value_in value_written
-values_back (values.Text text) h = read_back (values.Text text) h
-values_back (values.Boolean boolean) h = refl
-values_back (values.Integer (pos n)) h = rw h refl
-values_back (values.Integer (negsuc n)) h = refl
-values_back (values.Date date) h = read_back (values.Date date) h
-values_back (values.AnyUri uri) h = read_back (values.AnyUri uri) h
-values_back (values.YearMonth months) h = read_back (values.YearMonth months) h
+value_in_back (values.Text text) h = read_back (values.Text text) h
+value_in_back (values.Boolean boolean) h = refl
+value_in_back (values.Integer (pos n)) h = rw h refl
+value_in_back (values.Integer (negsuc n)) h = refl
+value_in_back (values.Date date) h = read_back (values.Date date) h
+value_in_back (values.AnyUri uri) h = read_back (values.AnyUri uri) h
+value_in_back (values.YearMonth months) h = read_back (values.YearMonth months) h
+
+pub values_back : ValuesReadBack
+values_back value real few = value_in_back value (readable value real few)
+
+-- what was written of a value
+pub value_reads_back : {A E : Type 0} (view : A → Data) (r : Result A E) (value : Value) → IsReal value → IfOk r (λ v. view v ≡ value_written value) → IfOk r (λ v. ValueReadsBack value (view v))
+value_reads_back view (Ok v) value real is = subst (ValueReadsBack value) (sym is) (values_back value real)
+value_reads_back view (Err e) value real is = tt
 
 -- ---- as read, before the check
 

@@ -1,21 +1,16 @@
 -- What the loops over a list's members have read, and what is still to read.
-use Rattle.std.proofs.Common.{◌≡◌, ℕ, ◌+◌, ◌<◌, ◌==◌, false, List, [], ◌∷◌, ◌++◌, length, get_or, drop, map, append_assoc, add-one, drop-cons, Some, Result, Ok, Err, refl, sym, ap, ◌∙◌}
+use Rattle.std.proofs.Common.{◌≡◌, ℕ, ◌+◌, ◌<◌, List, [], ◌∷◌, ◌++◌, length, get_or, drop, map, append_assoc, add-one, drop-cons, Result, Ok, Err, refl, sym, ap, ◌∙◌}
 use Rattle.serde_json.specs.Data.{Data, Items}
 use Rattle.serde_json.specs.View.{items_of}
 use Rattle.ent_policy.specs.declared.fault.CheckFault.{CheckFault}
 use Rattle.ent_policy.specs.declared.fault.CheckFault.TheVariants as faults
 use Rattle.ent_policy.specs.declared.fault.DocFault.{DocFault}
 use Rattle.ent_policy.specs.Gives.{Fails}
-use Rattle.ent_polform.specs.Objects.{◌>>=◌, filled, each_by}
+use Rattle.ent_polform.specs.Objects.{◌>>=◌, each_by}
 
 -- the items that these are, each seen as its content
 abbrev pub items_in : {B : Type 0} → (B → Data) → List B → Items
 items_in content vs = items_of (map content vs)
-
--- a list that is not empty has a member
-pub filled-some : {B : Type 0} (content : B → Data) (vs : List B) → false ≡ (length vs == 0) → filled (items_in content vs) ≡ Some (items_in content vs)
-filled-some content [] h = absurd cc
-filled-some content (v ∷ vs) h = refl
 
 -- what was read before, and what is still read
 abbrev with_front : {A : Type 0} → List A → Result (List A) DocFault → Result (List A) DocFault

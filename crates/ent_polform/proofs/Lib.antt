@@ -13,4 +13,6 @@ pub mod ReferenceLemmas
 pub mod BackReferences
 pub mod BackDocuments
 pub mod BackWhole
-pub mod TextLemmas
+pub mod Levels
+pub mod LevelsOfDocuments
+pub mod IdLemmas

@@ -2,8 +2,8 @@
 use Rattle.std.proofs.Common.{◌≡◌, Option, Some, None, codes, refl}
 use Rattle.serde_json.specs.Data as json
 use Rattle.serde_json.specs.Data.{Data, put}
-use Rattle.ent_polform.specs.Objects.{put_optional}
-use Rattle.ent_polform.specs.Written.{optional}
+use Rattle.ent_json.specs.Members.{put_optional}
+use Rattle.ent_json.specs.Members.{optional}
 
 pub designator_members : (attribute category datatype flag : Data) (issuer : Option Data) →
     put (codes "MustBePresent") flag (put_optional (codes "Issuer") issuer (put (codes "DataType") datatype (put (codes "Category") category (put (codes "AttributeId") attribute json.no_members))))

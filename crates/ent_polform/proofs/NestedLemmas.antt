@@ -10,7 +10,8 @@ use Rattle.ent_policy.specs.declared.fault.DocFault.TheVariants as fault
 use Rattle.ent_policy.specs.declared.key.Kind.{Kind}
 use Rattle.ent_policy.specs.declared.raw.RawChild.{RawChild}
 use Rattle.ent_policy.specs.declared.raw.RawExpression.{RawExpression}
-use Rattle.ent_polform.specs.Objects.{◌>>=◌, alone, one_member, list_or_empty, list_at, each_by, list_by}
+use Rattle.ent_json.specs.Objects.{alone, one_member, list_or_empty, list_at}
+use Rattle.ent_polform.specs.Objects.{◌>>=◌, each_by, list_by}
 use Rattle.ent_polform.specs.Reading.{part, within, nested}
 use Rattle.ent_polform.specs.Expressions.{apply_by, expression_named, expression_by, expression_of}
 use Rattle.ent_polform.specs.Form.{set_by, raw_named, child_named, child_by, child_of}

@@ -11,7 +11,8 @@ use Rattle.ent_policy.specs.declared.raw.RawExpression.TheVariants as raw
 use Rattle.ent_policy.specs.declared.raw.RawLiteral.{RawLiteral}
 use Rattle.ent_policy.specs.declared.raw.RawLiteral.TheVariants as literal
 use Rattle.ent_policy.specs.declared.raw.RawValue.{RawValue}
-use Rattle.ent_polform.specs.Objects.{◌>>=◌, has_only, one_member, text_at, flag_at, list_at, list_by}
+use Rattle.ent_json.specs.Objects.{has_only, one_member, text_at, flag_at, list_at}
+use Rattle.ent_polform.specs.Objects.{◌>>=◌, list_by}
 use Rattle.ent_polform.specs.Reading.{part, formed, maybe, text_of, nested}
 
 -- ---- values

@@ -1,6 +1,6 @@
 -- The JSON form of policies and policy sets: which document, as read, a JSON value spells. Every other key or kind of value is a
 -- fault of form.
-use Rattle.std.specs.Prelude.{ℕ, ◌&&◌, List, [], ◌∷◌, if◌then◌else◌, Option, Some, None, option_and_then, Result, Ok, Err, codes, bytes_eq}
+use Rattle.std.specs.Prelude.{ℕ, ◌&&◌, Bool, List, [], ◌∷◌, if◌then◌else◌, Option, Some, None, option_and_then, Result, Ok, Err, codes, bytes_eq}
 use Rattle.serde_json.specs.Data.{Data}
 use Rattle.serde_json.specs.Find.{get}
 use Rattle.ent_policy.specs.declared.fault.DocFault.{DocFault}
@@ -16,7 +16,8 @@ use Rattle.ent_policy.specs.declared.raw.RawRule.{RawRule}
 use Rattle.ent_policy.specs.declared.raw.RawVariableDefinition.{RawVariableDefinition}
 use Rattle.ent_policy.specs.declared.document.Tree.{Tree}
 use Rattle.ent_policy.specs.Check.{checked}
-use Rattle.ent_polform.specs.Objects.{◌>>=◌, has_only, one_member, text_at, text_or_absent, list_at, list_by}
+use Rattle.ent_json.specs.Objects.{has_only, one_member, text_at, text_or_absent, list_at}
+use Rattle.ent_polform.specs.Objects.{◌>>=◌, list_by}
 use Rattle.ent_polform.specs.Reading.{part, formed, maybe, nested}
 use Rattle.ent_polform.specs.Expressions.{expression_of}
 use Rattle.ent_polform.specs.Given.{effect_of, given_of}
@@ -42,9 +43,16 @@ rule_of d = formed (has_only (codes "AdviceExpressions" ∷ codes "Condition" �
   given ← given_of d
   Ok (record { id = id; effect = effect; target = target; condition = condition; given = given }))
 
+-- an object with no other keys than those of a Policy, whose description is a text if it is there
+abbrev pub has_policy_keys : Data → Bool
+has_policy_keys d =
+    has_only (codes "AdviceExpressions" ∷ codes "Description" ∷ codes "ObligationExpressions" ∷ codes "PolicyId" ∷ codes "Rule" ∷ codes "RuleCombiningAlgId"
+    ∷ codes "Target" ∷ codes "VariableDefinition" ∷ codes "Version" ∷ []) d
+    && text_or_absent (codes "Description") d
+
 -- a Policy (section 5.14). Its description is not kept
 unfoldable pub policy_of : Data → Result RawPolicy DocFault
-policy_of d = formed (has_only (codes "AdviceExpressions" ∷ codes "Description" ∷ codes "ObligationExpressions" ∷ codes "PolicyId" ∷ codes "Rule" ∷ codes "RuleCombiningAlgId" ∷ codes "Target" ∷ codes "VariableDefinition" ∷ codes "Version" ∷ []) d && text_or_absent (codes "Description") d) (do
+policy_of d = formed (has_policy_keys d) (do
   id ← part (text_at (codes "PolicyId") d)
   version ← part (text_at (codes "Version") d)
   algorithm ← part (text_at (codes "RuleCombiningAlgId") d)
@@ -56,9 +64,16 @@ policy_of d = formed (has_only (codes "AdviceExpressions" ∷ codes "Description
 
 -- ---- policy sets and documents
 
+-- an object with no other keys than those of a PolicySet, whose description is a text if it is there
+abbrev pub has_set_keys : Data → Bool
+has_set_keys d =
+    has_only (codes "AdviceExpressions" ∷ codes "Children" ∷ codes "Description" ∷ codes "ObligationExpressions" ∷ codes "PolicyCombiningAlgId" ∷ codes "PolicySetId"
+    ∷ codes "Target" ∷ codes "Version" ∷ []) d
+    && text_or_absent (codes "Description") d
+
 -- a PolicySet (section 5.1) whose children f reads. Its description is not kept
 unfoldable pub set_by : (Data → Result RawChild DocFault) → Data → Result RawPolicySet DocFault
-set_by f d = formed (has_only (codes "AdviceExpressions" ∷ codes "Children" ∷ codes "Description" ∷ codes "ObligationExpressions" ∷ codes "PolicyCombiningAlgId" ∷ codes "PolicySetId" ∷ codes "Target" ∷ codes "Version" ∷ []) d && text_or_absent (codes "Description") d) (do
+set_by f d = formed (has_set_keys d) (do
   id ← part (text_at (codes "PolicySetId") d)
   version ← part (text_at (codes "Version") d)
   algorithm ← part (text_at (codes "PolicyCombiningAlgId") d)
@@ -90,6 +105,16 @@ child_by f d = part (one_member d) >>= λ m. child_named f m.0 m.1 (kind_of m.0)
 -- a child of a set: a document or a reference
 unfoldable pub child_of : Data → Result RawChild DocFault
 child_of d = nested child_by d
+
+-- what is read first of a document of that key: its id, where it has the keys of one
+unfoldable pub id_named : List ℕ → Data → Result (List ℕ) DocFault
+id_named key d =
+    if bytes_eq key (codes "Policy") then formed (has_policy_keys d) (part (text_at (codes "PolicyId") d))
+    else (if bytes_eq key (codes "PolicySet") then formed (has_set_keys d) (part (text_at (codes "PolicySetId") d)) else Err fault.Form)
+
+-- the id of the document that a JSON value spells, or that its form is wrong up to there
+unfoldable pub id_of : Data → Result (List ℕ) DocFault
+id_of d = part (one_member d) >>= λ m. id_named m.0 m.1
 
 -- the document that a JSON value spells, or that its form is wrong
 unfoldable pub raw_of : Data → Result RawDocument DocFault

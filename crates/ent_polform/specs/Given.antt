@@ -9,7 +9,8 @@ use Rattle.ent_policy.specs.declared.fault.DocFault.TheVariants as fault
 use Rattle.ent_policy.specs.declared.raw.RawAssignment.{RawAssignment}
 use Rattle.ent_policy.specs.declared.raw.RawGivenExpression.{RawGivenExpression}
 use Rattle.ent_policy.specs.declared.raw.RawGivenExpressions.{RawGivenExpressions}
-use Rattle.ent_polform.specs.Objects.{◌>>=◌, has_only, text_at, list_at, list_by}
+use Rattle.ent_json.specs.Objects.{has_only, text_at, list_at}
+use Rattle.ent_polform.specs.Objects.{◌>>=◌, list_by}
 use Rattle.ent_polform.specs.Reading.{part, formed, maybe, text_of}
 use Rattle.ent_polform.specs.Expressions.{expression_of}
 

@@ -7,5 +7,5 @@ pub mod Given
 pub mod Form
 pub mod Values
 pub mod Written
+pub mod Depths
 pub mod ReadBack
-pub mod Text

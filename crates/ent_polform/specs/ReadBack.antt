@@ -1,117 +1,55 @@
 -- That what is written reads back.
-use Rattle.std.specs.Prelude.{◌≡◌, List, [], ◌∷◌, ◌++◌, Some, Ok}
-use Rattle.std.specs.List.{AllByRecursion, flat_map}
-use Rattle.std.specs.Option.{option_to_list}
+use Rattle.std.specs.Prelude.{◌≡◌, List, Bool, true, false, IsTrue, Option, Some, None, Ok}
+use Rattle.std.specs.List.{AllByRecursion}
 use Rattle.serde_json.specs.Data.{Data}
-use Rattle.ent_values.specs.ReadBack.{IsReadable}
+use Rattle.ent_values.specs.ReadBack.{HasFewYears, IsReal}
 use Rattle.ent_values.specs.Types.{datatype_of}
 use Rattle.ent_values.specs.declared.value.Value.{Value}
 use Rattle.ent_policy.specs.Check.{IsChecked}
-use Rattle.ent_policy.specs.Children.{as_child}
-use Rattle.ent_policy.specs.declared.document.AllOf.{AllOf}
-use Rattle.ent_policy.specs.declared.document.AnyOf.{AnyOf}
-use Rattle.ent_policy.specs.declared.document.Child.{Child}
-use Rattle.ent_policy.specs.declared.document.Child.TheOpen.{Child-F, PolicySet-F}
-use Rattle.ent_policy.specs.declared.document.Child.TheFolds.{fold-Child}
-use Rattle.ent_policy.specs.declared.document.Match.{Match}
-use Rattle.ent_policy.specs.declared.document.Policy.{Policy}
-use Rattle.ent_policy.specs.declared.document.Rule.{Rule}
-use Rattle.ent_policy.specs.declared.document.Target.{Target}
+use Rattle.ent_policy.specs.Names.{is_bad_name}
+use Rattle.ent_policy.specs.Patterns.{is_pattern}
+use Rattle.ent_policy.specs.Values.{document_values}
 use Rattle.ent_policy.specs.declared.document.Tree.{Tree}
-use Rattle.ent_policy.specs.declared.expression.Expression.{Expression}
-use Rattle.ent_policy.specs.declared.expression.Expression.TheOpen.{Expression-F}
-use Rattle.ent_policy.specs.declared.expression.Expression.TheFolds.{fold-Expression}
-use Rattle.ent_policy.specs.declared.given.AssignmentExpression.{AssignmentExpression}
-use Rattle.ent_policy.specs.declared.given.GivenExpression.{GivenExpression}
-use Rattle.ent_policy.specs.declared.given.GivenExpressions.{GivenExpressions}
-use Rattle.ent_policy.specs.declared.expression.VariableDefinition.{VariableDefinition}
+use Rattle.ent_policy.specs.declared.key.Reference.{Reference}
+use Rattle.ent_policy.specs.declared.pattern.PatternPart.{PatternPart}
 use Rattle.ent_polform.specs.Form.{document_of}
+use Rattle.ent_polform.specs.Reference.{reference_of}
 use Rattle.ent_polform.specs.Values.{value_in}
-use Rattle.ent_polform.specs.Written.{value_written, written}
+use Rattle.ent_polform.specs.Written.{reference_written, value_written, written}
 
--- a value that is written reads as that value, where a duration has at most 999,999,999 whole years
+-- ---- values
+
+-- this JSON is read as that value, where a duration has at most 999,999,999 whole years
+abbrev pub ValueReadsBack : Value → Data → Type 0
+ValueReadsBack value d = HasFewYears value → value_in (datatype_of value) d ≡ Some value
+
+-- what is written of a value that is what its type says reads as that value
 abbrev pub ValuesReadBack : Type 0
-ValuesReadBack = (value : Value) → IsReadable value → value_in (datatype_of value) (value_written value) ≡ Some value
+ValuesReadBack = (value : Value) → IsReal value → ValueReadsBack value (value_written value)
 
--- ---- the values of a document
+-- ---- references
 
--- the members of all lists
-abbrev pub joined : {A : Type 0} → List (List A) → List A
-joined lists = flat_map (λ l. l) lists
+-- a version pattern, where there is one
+abbrev pub is_maybe_pattern : Option (List PatternPart) → Bool
+is_maybe_pattern None = true
+is_maybe_pattern (Some parts) = is_pattern parts
 
--- the values in one level of an expression, with those of each argument already seen
-abbrev pub values_here : Expression-F (List Value) → List Value
-values_here (Expression-F.Value value) = value ∷ []
-values_here (Expression-F.Designator designator) = []
-values_here (Expression-F.Variable id) = []
-values_here (Expression-F.Apply function arguments) = joined arguments
-values_here (Expression-F.Function function) = []
+-- what the type of a reference says: its id is a name, and each of its constraints a version pattern
+pub record IsReference (r : Reference) : Type 0 where
+  pub name : is_bad_name r.id ≡ false
+  pub version : IsTrue (is_maybe_pattern r.constraints.version)
+  pub earliest : IsTrue (is_maybe_pattern r.constraints.earliest)
+  pub latest : IsTrue (is_maybe_pattern r.constraints.latest)
 
--- the values in an expression
-abbrev pub expression_values : Expression → List Value
-expression_values = fold-Expression (List Value) values_here
+-- a reference that is written reads as that reference
+abbrev pub ReferencesReadBack : Type 0
+ReferencesReadBack = (reference : Reference) → IsReference reference → reference_of (reference_written reference) ≡ Ok reference
 
--- the value in a match
-abbrev pub match_values : Match → List Value
-match_values m = m.literal ∷ []
-
--- the values in an AllOf
-abbrev pub all_of_values : AllOf → List Value
-all_of_values a = flat_map match_values a.matches
-
--- the values in an AnyOf
-abbrev pub any_of_values : AnyOf → List Value
-any_of_values a = flat_map all_of_values a.all_of
-
--- the values in a target
-abbrev pub target_values : Target → List Value
-target_values t = flat_map any_of_values t.any_of
-
--- the values in a variable's definition
-abbrev pub definition_values : VariableDefinition → List Value
-definition_values d = expression_values d.expression
-
--- the value in an assignment's expression
-abbrev pub assignment_values : AssignmentExpression → List Value
-assignment_values a = expression_values a.expression
-
--- the values in an obligation expression or an advice expression
-abbrev pub values_given : GivenExpression → List Value
-values_given g = flat_map assignment_values g.assignments
-
--- the values in both sorts
-abbrev pub given_values : GivenExpressions → List Value
-given_values g = flat_map values_given g.obligations ++ flat_map values_given g.advice
-
--- the values in a rule
-abbrev pub rule_values : Rule → List Value
-rule_values r = target_values r.target ++ (flat_map expression_values (option_to_list r.condition) ++ given_values r.given)
-
--- the values in a policy
-abbrev pub policy_values : Policy → List Value
-policy_values p = target_values p.target ++ (flat_map definition_values p.variables ++ (flat_map rule_values p.rules ++ given_values p.given))
-
--- the values in one level of a child of a set, with those of a set already seen
-abbrev pub values_in_level : Child-F (List Value) (List Value) → List Value
-values_in_level (Child-F.Policy policy) = policy_values policy
-values_in_level (Child-F.Set set) = set
-values_in_level (Child-F.Reference reference) = []
-
--- the values in a set
-abbrev pub values_in_set : PolicySet-F (List Value) (List Value) → List Value
-values_in_set set = target_values set.target ++ (joined set.children ++ given_values set.given)
-
--- the values in a child of a set
-abbrev pub child_values : Child → List Value
-child_values = fold-Child (List Value) (List Value) values_in_level values_in_set
-
--- every value of a document
-abbrev pub document_values : Tree → List Value
-document_values t = child_values (as_child t)
+-- ---- documents
 
 -- this JSON is read as that document, where no duration in it has more than 999,999,999 whole years
 abbrev pub ReadsBack : Tree → Data → Type 0
-ReadsBack document d = AllByRecursion IsReadable (document_values document) → document_of d ≡ Ok document
+ReadsBack document d = AllByRecursion HasFewYears (document_values document) → document_of d ≡ Ok document
 
 -- what is written of a document that the checker passes is read as that document
 abbrev pub DocumentsReadBack : Type 0

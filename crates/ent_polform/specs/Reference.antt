@@ -7,7 +7,8 @@ use Rattle.ent_policy.specs.declared.key.Kind.{Kind}
 use Rattle.ent_policy.specs.declared.key.Kind.TheVariants as kind
 use Rattle.ent_policy.specs.declared.key.Reference.{Reference}
 use Rattle.ent_policy.specs.declared.raw.RawReference.{RawReference}
-use Rattle.ent_polform.specs.Objects.{◌>>=◌, has_only, one_member, text_at, text_or_absent}
+use Rattle.ent_json.specs.Objects.{has_only, one_member, text_at, text_or_absent}
+use Rattle.ent_polform.specs.Objects.{◌>>=◌}
 use Rattle.ent_polform.specs.Reading.{part, formed}
 
 -- the key of a PolicyIdReference (section 5.11) or a PolicySetIdReference (section 5.10)

@@ -8,7 +8,8 @@ use Rattle.ent_policy.specs.declared.raw.RawAllOf.{RawAllOf}
 use Rattle.ent_policy.specs.declared.raw.RawAnyOf.{RawAnyOf}
 use Rattle.ent_policy.specs.declared.raw.RawMatch.{RawMatch}
 use Rattle.ent_policy.specs.declared.raw.RawTarget.{RawTarget}
-use Rattle.ent_polform.specs.Objects.{◌>>=◌, has_only, text_at, list_at, filled_list_at, list_by}
+use Rattle.ent_json.specs.Objects.{has_only, text_at, list_at, filled_list_at}
+use Rattle.ent_polform.specs.Objects.{◌>>=◌, list_by}
 use Rattle.ent_polform.specs.Reading.{part, formed}
 use Rattle.ent_polform.specs.Expressions.{value_of, designator_of}
 

@@ -1,8 +1,8 @@
 -- The JSON that a document is written as. Absent parts and empty lists are left out; a data type is written as its full URI, that of
 -- a value too; MustBePresent is always written. The keys of an object stand in byte order.
-use Rattle.std.specs.Prelude.{ℕ, List, [], ◌∷◌, map, Option, Some, None, option_map, codes}
+use Rattle.std.specs.Prelude.{ℕ, List, map, Option, option_map, codes}
 use Rattle.serde_json.specs.Data as json
-use Rattle.serde_json.specs.Data.{Data, Members, put}
+use Rattle.serde_json.specs.Data.{Data, put}
 use Rattle.serde_json.specs.Find.{of_integer}
 use Rattle.serde_json.specs.View.{items_of}
 use Rattle.ent_values.specs.Types.{datatype_of, uri_of}
@@ -38,24 +38,8 @@ use Rattle.ent_policy.specs.declared.given.GivenExpression.{GivenExpression}
 use Rattle.ent_policy.specs.declared.given.GivenExpressions.{GivenExpressions}
 use Rattle.ent_policy.specs.declared.key.Reference.{Reference}
 use Rattle.ent_policy.specs.declared.pattern.PatternPart.{PatternPart}
-use Rattle.ent_polform.specs.Objects.{put_optional}
+use Rattle.ent_json.specs.Members.{only_member, optional, filled_list, put_optional}
 use Rattle.ent_polform.specs.Reference.{reference_key}
-
--- ---- members
-
--- an object that has one member
-abbrev pub only_member : List ℕ → Data → Data
-only_member key d = json.object (json.member key d json.no_members)
-
--- a member that may be absent, in front of the others
-abbrev pub optional : List ℕ → Option Data → Members → Members
-optional key None members = members
-optional key (Some d) members = json.member key d members
-
--- a list, which is left out where it has no member
-abbrev pub filled_list : List Data → Option Data
-filled_list [] = None
-filled_list (d ∷ ds) = Some (json.array (items_of (d ∷ ds)))
 
 -- ---- values and attributes
 

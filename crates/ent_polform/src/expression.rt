@@ -4,12 +4,13 @@ ghost use Rattle.std.specs.Prelude.{◌≡◌, codes, map};
 ghost use Rattle.serde_json.specs.Find.{get};
 ghost use Rattle.serde_json.specs.View.{items_of};
 ghost use Rattle.ent_policy.specs.Gives.{Gives};
-ghost use Rattle.ent_polform.specs.Expressions.{apply_by, designator_of, expression_by, expression_named, expression_of, literal_of, name_of, value_of};
+ghost use Rattle.ent_polform.specs.Expressions.{apply_by, designator_of, expression_by, expression_named};
+ghost use Rattle.ent_polform.specs.Expressions.{expression_of, literal_of, name_of, value_of};
 ghost use Rattle.ent_polform.specs.Objects.{each_by};
 ghost use Rattle.ent_polform.specs.Reading.{maybe};
 
-use crate::objects::{flag_at, list_at, optional, required};
-use ent_json::JsonTree;
+use crate::objects::{optional, required};
+use ent_json::{JsonTree, flag_at, list_at};
 use ent_policy::{CheckFault, DocFault, RawDesignator, RawExpression, RawLiteral, RawValue};
 use ent_values::{Items, Text};
 use std::alloc::Global;

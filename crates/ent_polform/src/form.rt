@@ -1,17 +1,20 @@
 //! Documents and their rules, as the form has them.
 
-ghost use Rattle.std.specs.Prelude.{map};
+ghost use Rattle.std.specs.Prelude.{◌≡◌, IfErr, IsTrue, codes, map};
 ghost use Rattle.serde_json.specs.View.{items_of};
 ghost use Rattle.ent_policy.specs.Gives.{Gives};
-ghost use Rattle.ent_polform.specs.Form.{child_by, child_of, definition_of, document_of, policy_of, raw_named, raw_of, rule_of, set_by};
+ghost use Rattle.ent_policy.specs.declared.fault.CheckFault.TheVariants.{Memory};
+ghost use Rattle.ent_polform.specs.Form.{child_by, child_of, definition_of, document_of, id_named, id_of, policy_of};
+ghost use Rattle.ent_polform.specs.Form.{raw_named, raw_of, rule_of, set_by};
 ghost use Rattle.ent_polform.specs.Objects.{each_by};
+ghost use Rattle.ent_polform.specs.Reading.{has_form};
 
 use crate::expression::{condition_at, expression};
 use crate::given::{effect, given_at};
-use crate::objects::{list_at, required, text_at, text_or_absent};
+use crate::objects::required;
 use crate::reference::{kind, reference};
 use crate::target::target_at;
-use ent_json::JsonTree;
+use ent_json::{JsonTree, list_at, text_at, text_or_absent};
 use ent_policy::{
     CheckFault, DocFault, Document, RawChild, RawDocument, RawPolicy, RawPolicySet, RawRule,
     RawVariableDefinition, check,
@@ -92,9 +95,11 @@ fn rules<J: JsonTree>(alloc: Global, values: &[J]) -> Result<Items<RawRule>, Che
 }
 
 /// A Policy.
-#[tactic(auto, unfolding(crate::specs::Form::policy_of))]
+#[tactic(auto, unfolding(crate::specs::Form::policy_of, crate::specs::Form::id_named))]
 fn policy<J: JsonTree>(alloc: Global, object: &J) -> Result<RawPolicy, CheckFault>
-    ensures { Gives result (policy_of (J.content object.now)) }
+    ensures read { Gives result (policy_of (J.content object.now)) }
+    ensures memory { IfErr result (λ e. e ≡ Memory
+        → IsTrue (has_form (id_named (codes "Policy") (J.content object.now)))) }
 {
     let keys = [
         "AdviceExpressions",
@@ -131,9 +136,11 @@ fn policy<J: JsonTree>(alloc: Global, object: &J) -> Result<RawPolicy, CheckFaul
 
 /// A PolicySet.
 #[cycle(child)]
-#[tactic(auto, unfolding(crate::specs::Form::set_by))]
+#[tactic(auto, unfolding(crate::specs::Form::set_by, crate::specs::Form::id_named))]
 fn set<J: JsonTree>(alloc: Global, object: &J) -> Result<RawPolicySet, CheckFault>
-    ensures { Gives result (set_by child_of (J.content object.now)) }
+    ensures read { Gives result (set_by child_of (J.content object.now)) }
+    ensures memory { IfErr result (λ e. e ≡ Memory
+        → IsTrue (has_form (id_named (codes "PolicySet") (J.content object.now)))) }
 {
     let keys = [
         "AdviceExpressions",
@@ -200,7 +207,8 @@ fn child<J: JsonTree>(alloc: Global, json: &J) -> Result<RawChild, CheckFault>
 #[cycle(child)]
 #[tactic(auto, unfolding(crate::specs::Form::raw_named))]
 fn document<J: JsonTree>(alloc: Global, key: &str, body: &J) -> Result<RawDocument, CheckFault>
-    ensures { Gives result (raw_named child_of key.now (J.content body.now)) }
+    ensures read { Gives result (raw_named child_of key.now (J.content body.now)) }
+    ensures memory { IfErr result (λ e. e ≡ Memory → IsTrue (has_form (id_named key.now (J.content body.now)))) }
 {
     if key == "Policy" {
         return Ok(RawDocument::Policy(policy(alloc, body)?));
@@ -212,39 +220,45 @@ fn document<J: JsonTree>(alloc: Global, key: &str, body: &J) -> Result<RawDocume
 }
 
 /// The document that a JSON value spells, as read. The only fault that is found here is that of its form.
-#[tactic(auto, unfolding(crate::specs::Form::raw_of))]
+#[tactic(auto, unfolding(crate::specs::Form::raw_of, crate::specs::Form::id_of))]
 fn raw_document<J: JsonTree>(alloc: Global, json: &J) -> Result<RawDocument, CheckFault>
-    ensures { Gives result (raw_of (J.content json.now)) }
+    ensures read { Gives result (raw_of (J.content json.now)) }
+    ensures memory { IfErr result (λ e. e ≡ Memory → IsTrue (has_form (id_of (J.content json.now)))) }
 {
     let (key, body) = json.one_member().ok_or(DocFault::Form)?;
     document(alloc, key, body)
 }
 
-/// The document that a JSON value spells: an object `{"Policy": {..}}` (section 5.14) or `{"PolicySet": {..}}` (section 5.1).
+/// The document that a JSON value spells: an object `{"Policy": {..}}` (section 5.14) or `{"PolicySet": {..}}` (section
+/// 5.1).
 ///
-/// A Policy has the keys PolicyId, Version and RuleCombiningAlgId, and may have Description, Target, VariableDefinition and Rule.
-/// A PolicySet has PolicySetId, Version and PolicyCombiningAlgId, and may have Description, Target and Children, a list of
-/// documents and references, the latter as [`crate::read_reference`] reads them. A Rule has RuleId and Effect, and may have
-/// Description, Target and Condition, an expression. A VariableDefinition has VariableId and Expression. A Target may have AnyOf, a
-/// list of objects with AllOf, each a list of objects with Match; neither AllOf nor Match may be empty. A Match has MatchId,
-/// AttributeValue and AttributeDesignator.
+/// A Policy has the keys PolicyId, Version and RuleCombiningAlgId, and may have Description, Target, VariableDefinition
+/// and Rule. A PolicySet has PolicySetId, Version and PolicyCombiningAlgId, and may have Description, Target and
+/// Children, a list of documents and references, the latter as [`crate::read_reference`] reads them. A Rule has RuleId
+/// and Effect, and may have Description, Target and Condition, an expression. A VariableDefinition has VariableId and
+/// Expression. A Target may have AnyOf, a list of objects with AllOf, each a list of objects with Match; neither AllOf
+/// nor Match may be empty. A Match has MatchId, AttributeValue and AttributeDesignator.
 ///
 /// Each of a Policy, a PolicySet and a Rule may also have ObligationExpressions, a list of {ObligationId, FulfillOn,
-/// AttributeAssignmentExpression?}, and AdviceExpressions, a list of {AdviceId, AppliesTo, AttributeAssignmentExpression?}. FulfillOn
-/// and AppliesTo are Permit or Deny; an AttributeAssignmentExpression is a list of {AttributeId, Category?, Issuer?, Expression}.
+/// AttributeAssignmentExpression?}, and AdviceExpressions, a list of {AdviceId, AppliesTo,
+/// AttributeAssignmentExpression?}. FulfillOn and AppliesTo are Permit or Deny; an AttributeAssignmentExpression is a
+/// list of {AttributeId, Category?, Issuer?, Expression}.
 ///
-/// An expression is an object with one key: AttributeValue {DataType?, Value}, AttributeDesignator {Category, AttributeId,
-/// DataType, Issuer?, MustBePresent?}, VariableReference {VariableId}, Apply {FunctionId, Arguments?} or Function {FunctionId}.
-/// A Value is a text, a boolean, or a whole number of 64 bits. MustBePresent is false where it is absent. A description is a text
-/// that isn't kept. Each other text is copied once.
+/// An expression is an object with one key: AttributeValue {DataType?, Value}, AttributeDesignator {Category,
+/// AttributeId, DataType, Issuer?, MustBePresent?}, VariableReference {VariableId}, Apply {FunctionId, Arguments?} or
+/// Function {FunctionId}. A Value is a text, a boolean, or a whole number of 64 bits. MustBePresent is false where it
+/// is absent. A description is a text that isn't kept. Each other text is copied once.
 ///
 /// # Errors
 ///
-/// [`DocFault::Form`] for every other key or kind of value, wherever it stands, before any other fault of the document. Then the
-/// first fault that [`ent_policy::check`] finds. [`CheckFault::Memory`] if memory runs out.
-#[tactic(auto, unfolding(crate::specs::Form::document_of))]
+/// [`DocFault::Form`] for every other key or kind of value, wherever it stands, before any other fault of the document.
+/// Then the first fault that [`ent_policy::check`] finds. [`CheckFault::Memory`] if memory runs out, never where the
+/// value is no object of one key Policy or PolicySet, or where the object at that key has a key that isn't one of the
+/// above, or no text as its id.
+#[tactic(auto, unfolding(crate::specs::Form::document_of), using(crate::proofs::IdLemmas::id_read))]
 pub fn read_document<J: JsonTree>(alloc: Global, json: &J) -> Result<Document, CheckFault>
-    ensures { Gives result (document_of (J.content json.now)) }
+    ensures document { Gives result (document_of (J.content json.now)) }
+    ensures memory { IfErr result (λ e. e ≡ Memory → IsTrue (has_form (id_of (J.content json.now)))) }
 {
     check(alloc, raw_document(alloc, json)?)
 }

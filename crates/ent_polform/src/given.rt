@@ -7,8 +7,8 @@ ghost use Rattle.ent_polform.specs.Given.{assignment_of, effect_of, given_by, gi
 ghost use Rattle.ent_polform.specs.Objects.{each_by};
 
 use crate::expression::expression;
-use crate::objects::{list_at, optional, required, text_at};
-use ent_json::JsonTree;
+use crate::objects::{optional, required};
+use ent_json::{JsonTree, list_at, text_at};
 use ent_policy::{
     CheckFault, DocFault, Effect, RawAssignment, RawGivenExpression, RawGivenExpressions,
 };

@@ -6,8 +6,8 @@ ghost use Rattle.ent_policy.specs.declared.fault.CheckFault.TheVariants.{Memory}
 ghost use Rattle.ent_polform.specs.Reading.{has_form};
 ghost use Rattle.ent_polform.specs.Reference.{has_reference_form, kind_of, reference_by, reference_key, reference_of};
 
-use crate::objects::{copy_at, required, text_or_absent};
-use ent_json::JsonTree;
+use crate::objects::{copy_at, required};
+use ent_json::{JsonTree, text_or_absent};
 use ent_policy::{CheckFault, DocFault, Kind, RawReference, Reference, check_reference};
 use std::alloc::Global;
 
@@ -67,8 +67,8 @@ pub(crate) fn reference<J: JsonTree>(
 }
 
 /// The reference that a JSON value spells: an object `{"PolicyIdReference": {..}}` (section 5.11) or
-/// `{"PolicySetIdReference": {..}}` (section 5.10). It has the key Id, and may have Version, EarliestVersion and LatestVersion,
-/// version patterns (section 5.13). Each of them is a text.
+/// `{"PolicySetIdReference": {..}}` (section 5.10). It has the key Id, and may have Version, EarliestVersion and
+/// LatestVersion, version patterns (section 5.13). Each of them is a text.
 ///
 /// # Errors
 ///

@@ -8,8 +8,8 @@ ghost use Rattle.ent_polform.specs.Objects.{each_by};
 ghost use Rattle.ent_polform.specs.Targets.{match_of, one_all_of, one_any_of, target_of, target_or_empty};
 
 use crate::expression::{attribute_value, designator};
-use crate::objects::{filled_list_at, list_at, required};
-use ent_json::JsonTree;
+use crate::objects::required;
+use ent_json::{JsonTree, filled_list_at, list_at};
 use ent_policy::{CheckFault, DocFault, RawAllOf, RawAnyOf, RawMatch, RawTarget};
 use ent_values::Items;
 use std::alloc::Global;

@@ -1,15 +1,17 @@
 //! Documents and their rules, as they are written.
 
-ghost use Rattle.std.specs.Prelude.{◌≡◌, IfOk, map};
+ghost use Rattle.std.specs.Prelude.{◌≡◌, ◌≤◌, IfOk, map};
+ghost use Rattle.serde_json.specs.Data.{depth};
 ghost use Rattle.serde_json.specs.View.{view};
 ghost use Rattle.ent_polform.specs.ReadBack.{ReadsBack};
-ghost use Rattle.ent_polform.specs.Written.{child_written, definition_written, policy_written, rule_written, set_written, written};
+ghost use Rattle.ent_polform.specs.Written.{child_written, definition_written, policy_written, rule_written};
+ghost use Rattle.ent_polform.specs.Written.{set_written, written};
 
-use crate::members::{filled, only_member, put_optional, put_text};
 use crate::written_expressions::{condition, expression};
 use crate::written_given::{advice, effect_word, obligations};
-use crate::written_references::reference;
+use crate::written_references::write_reference;
 use crate::written_targets::target;
+use ent_json::{filled, only_member, put_optional, put_text};
 use ent_policy::{Child, Document, Policy, PolicySet, Rule, Tree, VariableDefinition};
 use serde_json::{Map, Value as Json, json};
 use std::alloc::{AllocError, Global};
@@ -145,7 +147,7 @@ fn child(alloc: Global, child: &Child) -> Result<Json, AllocError>
     match child {
         Child::Policy(part) => only_member(alloc, "Policy", policy(alloc, part)?),
         Child::Set(part) => only_member(alloc, "PolicySet", set(alloc, part)?),
-        Child::Reference(part) => reference(alloc, part),
+        Child::Reference(part) => write_reference(alloc, part),
     }
 }
 
@@ -160,10 +162,11 @@ fn written(alloc: Global, tree: &Tree) -> Result<Json, AllocError>
     }
 }
 
-/// The JSON that a document is written as, in the form that [`crate::read_document`] reads. Absent parts and empty lists are left
-/// out. A data type is written as its full URI, that of a value too; MustBePresent is always written; an integer is a number, a
-/// boolean is a boolean, and every other value, a version and a version pattern are their written texts. Reading it gives the
-/// document again, unless it holds a duration of more than 999,999,999 whole years.
+/// The JSON that a document is written as, in the form that [`crate::read_document`] reads. Absent parts and empty
+/// lists are left out. A data type is written as its full URI, that of a value too; MustBePresent is always written; an
+/// integer is a number, a boolean is a boolean, and every other value, a version and a version pattern are their
+/// written texts. Reading it gives the document again, unless it holds a duration of more than 999,999,999 whole years.
+/// Arrays and objects nest at most 100 deep.
 ///
 /// # Errors
 ///
@@ -171,6 +174,7 @@ fn written(alloc: Global, tree: &Tree) -> Result<Json, AllocError>
 pub fn write_document(alloc: Global, document: &Document) -> Result<Json, AllocError>
     ensures written { IfOk result (λ v. view v ≡ written document.now) }
     ensures read_back { IfOk result (λ v. ReadsBack document.now (view v)) }
+    ensures shallow { IfOk result (λ v. depth (view v) ≤ 100) }
 {
     written(alloc, document.tree())
 }

@@ -4,9 +4,9 @@ ghost use Rattle.std.specs.Prelude.{◌≡◌, IfOk, map, option_map};
 ghost use Rattle.serde_json.specs.View.{view};
 ghost use Rattle.ent_polform.specs.Written.{apply_written, expression_written};
 
-use crate::members::{filled, put_optional, put_text};
 use crate::written_values::{designator, literal};
 use ent_functions::Function;
+use ent_json::{filled, put_optional, put_text};
 use ent_policy::Expression;
 use serde_json::{Map, Value as Json, json};
 use std::alloc::{AllocError, Global};

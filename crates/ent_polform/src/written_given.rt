@@ -2,11 +2,12 @@
 
 ghost use Rattle.std.specs.Prelude.{◌≡◌, IfOk, map, option_map};
 ghost use Rattle.serde_json.specs.View.{view};
-ghost use Rattle.ent_polform.specs.Written.{advice_written, assignment_written, effect_word, given_written, obligations_written};
+ghost use Rattle.ent_polform.specs.Written.{advice_written, assignment_written, effect_word, given_written};
+ghost use Rattle.ent_polform.specs.Written.{obligations_written};
 
-use crate::members::{filled, put_optional, put_text};
 use crate::written_expressions::expression;
 use crate::written_values::optional_text;
+use ent_json::{filled, put_optional, put_text};
 use ent_policy::{AssignmentExpression, Effect, GivenExpression, GivenExpressions};
 use serde_json::{Map, Value as Json, put};
 use std::alloc::{AllocError, Global};

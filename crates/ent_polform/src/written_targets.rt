@@ -4,8 +4,8 @@ ghost use Rattle.std.specs.Prelude.{◌≡◌, IfOk, map, option_map};
 ghost use Rattle.serde_json.specs.View.{view};
 ghost use Rattle.ent_polform.specs.Written.{all_of_written, any_of_written, match_written, target_written};
 
-use crate::members::filled;
 use crate::written_values::{designator, literal};
+use ent_json::filled;
 use ent_policy::{AllOf, AnyOf, Match, Target};
 use serde_json::{Value as Json, json};
 use std::alloc::{AllocError, Global};

@@ -3,23 +3,19 @@
 ghost use Rattle.std.specs.Prelude.{◌≡◌, IfOk, OnErr, option_map};
 ghost use Rattle.serde_json.specs.Data.{string};
 ghost use Rattle.serde_json.specs.View.{view};
+ghost use Rattle.ent_polform.specs.ReadBack.{ValueReadsBack};
 ghost use Rattle.ent_polform.specs.Values.{IsText};
 ghost use Rattle.ent_polform.specs.Written.{designator_written, literal_written, value_written};
 
-use crate::members::{put_optional, put_text};
+use ent_json::{put_optional, put_text};
 use ent_policy::Designator;
-use ent_values::{Text, Value};
+use ent_values::{Text, Value, value_is_real};
 use serde_json::{Map, Value as Json, json, put};
 use std::alloc::{AllocError, Global};
 
-/// The JSON that a value is written as: an integer as a number, a boolean as a boolean, every other value as its written text
-/// (appendix B.3).
-///
-/// # Errors
-///
-/// `AllocError` if memory runs out, which only what is written as a text takes.
+/// A value.
 #[tactic(auto, unfolding(crate::specs::Written::value_written))]
-pub fn write_value(alloc: Global, value: &Value) -> Result<Json, AllocError>
+fn written(alloc: Global, value: &Value) -> Result<Json, AllocError>
     ensures written { IfOk result (λ v. view v ≡ value_written value.now) }
     ensures memory { OnErr result (IsText (value_written value.now)) }
 {
@@ -28,6 +24,22 @@ pub fn write_value(alloc: Global, value: &Value) -> Result<Json, AllocError>
         Value::Integer(integer) => Ok(Json::from(*integer)),
         _ => Ok(Json::String(value.text(alloc)?.into_string(alloc)?)),
     }
+}
+
+/// The JSON that a value is written as: an integer as a number, a boolean as a boolean, every other value as its
+/// written text (appendix B.3). Reading it with the value's type gives the value again, unless it is a duration of more
+/// than 999,999,999 whole years.
+///
+/// # Errors
+///
+/// `AllocError` if memory runs out, which only what is written as a text takes.
+pub fn write_value(alloc: Global, value: &Value) -> Result<Json, AllocError>
+    ensures written { IfOk result (λ v. view v ≡ value_written value.now) }
+    ensures read_back { IfOk result (λ v. ValueReadsBack value.now (view v)) }
+    ensures memory { OnErr result (IsText (value_written value.now)) }
+{
+    value_is_real(value);
+    written(alloc, value)
 }
 
 /// An AttributeValue.

@@ -1,0 +1,5 @@
+use Rattle.ent_polform.proofs.LevelsOfDocuments.{documents_are_shallow}
+use Rattle.ent_polform.proofs.law.documents_are_shallow.Goals as goal
+
+pub returns : goal.returns
+returns c = documents_are_shallow
