@@ -8,14 +8,15 @@ use Rattle.serde_json.specs.Data.{Data}
 use Rattle.serde_json.specs.Find.{as_bool, as_str}
 use Rattle.serde_json.specs.View.{items_of}
 use Rattle.ent_values.specs.Bags.{AllOfType, Contents}
-use Rattle.ent_values.specs.ReadBack.{IsReadable}
+use Rattle.ent_values.specs.ReadBack.{HasFewYears, IsReal}
 use Rattle.ent_values.specs.Types.{datatype_of, type_of, uri_of}
 use Rattle.ent_values.specs.declared.datatype.DataType.{DataType}
 use Rattle.ent_values.specs.declared.value.Value.{Value}
 use Rattle.ent_values.proofs.TypeNames.{names_read_back}
 use Rattle.ent_policy.specs.Limits.{has_double}
 use Rattle.ent_polform.specs.Values.{value_in}
-use Rattle.ent_polform.specs.Written.{only_member, optional, value_written}
+use Rattle.ent_json.specs.Members.{only_member, optional}
+use Rattle.ent_polform.specs.Written.{value_written}
 use Rattle.ent_polform.proofs.BackValues.{values_back}
 use Rattle.ent_eval.specs.declared.request.Attribute.{Attribute}
 use Rattle.ent_eval.specs.declared.request.Category.{Category}
@@ -47,20 +48,20 @@ members_again most P read spell one xs few all = rw (listed most spell xs few) (
 
 -- ---- values and attributes
 
-values_again : (t : DataType) (vs : List Value) → AllOfType t vs → All IsReadable vs → values_of t (map value_written vs) ≡ Some (record { datatype = t; values = vs })
-values_again t vs typed readable = rw (each_again vs typed readable) refl
+values_again : (t : DataType) (vs : List Value) → AllOfType t vs → All IsReal vs → All HasFewYears vs → values_of t (map value_written vs) ≡ Some (record { datatype = t; values = vs })
+values_again t vs typed real few_years = rw (each_again vs typed real few_years) refl
   where
-    each_again : (vs : List Value) → AllOfType t vs → All IsReadable vs → each (value_in t) (map value_written vs) ≡ Some vs
-    each_again [] typed readable = refl
-    each_again (v ∷ vs) typed readable =
+    each_again : (vs : List Value) → AllOfType t vs → All IsReal vs → All HasFewYears vs → each (value_in t) (map value_written vs) ≡ Some vs
+    each_again [] typed real few_years = refl
+    each_again (v ∷ vs) typed real few_years =
         let same : datatype_of v ≡ t = All-head (λ w. datatype_of w ≡ t) v vs typed in
-        let one : value_in t (value_written v) ≡ Some v = subst (λ s. value_in s (value_written v) ≡ Some v) same (values_back v (All-head IsReadable v vs readable)) in
-        rw (one, each_again vs (All-tail (λ w. datatype_of w ≡ t) v vs typed) (All-tail IsReadable v vs readable)) refl
+        let one : value_in t (value_written v) ≡ Some v = subst (λ s. value_in s (value_written v) ≡ Some v) same (values_back v (All-head IsReal v vs real) (All-head HasFewYears v vs few_years)) in
+        rw (one, each_again vs (All-tail (λ w. datatype_of w ≡ t) v vs typed) (All-tail IsReal v vs real) (All-tail HasFewYears v vs few_years)) refl
 
 -- at most so many values, and their type by its name
-bag_again : (most : ℕ) (t : DataType) (vs : List Value) → length vs ≤ most → AllOfType t vs → All IsReadable vs →
+bag_again : (most : ℕ) (t : DataType) (vs : List Value) → length vs ≤ most → AllOfType t vs → All IsReal vs → All HasFewYears vs →
     (at_most most (one_or_many (json.array (items_of (map value_written vs)))) >>= λ ds. type_of (uri_of t) >>= λ datatype. values_of datatype ds) ≡ Some (record { datatype = t; values = vs })
-bag_again most t vs few typed readable = rw (listed most value_written vs few, (names_read_back t).0) (values_again t vs typed readable)
+bag_again most t vs few typed real few_years = rw (listed most value_written vs few, (names_read_back t).0) (values_again t vs typed real few_years)
 
 issuer_again : (issuer : Option (List ℕ)) → IfSome issuer IsName → maybe name_in (option_map json.string issuer) ≡ Some issuer
 issuer_again None is = refl
@@ -91,7 +92,7 @@ attribute_again : (a : Attribute) → IsAskableAttribute a → attribute_of (att
 unfolding attribute_spelled
 attribute_again a is =
     attribute_parts (json.string a.id) (json.string (uri_of a.bag.datatype)) (json.boolean a.included) (json.array (items_of (map value_written a.bag.values))) (option_map json.string a.issuer)
-    ∙ made _ _ _ a is.id (issuer_again a.issuer is.issuer) (bag_again 256 a.bag.datatype a.bag.values is.few is.typed is.readable)
+    ∙ made _ _ _ a is.id (issuer_again a.issuer is.issuer) (bag_again 256 a.bag.datatype a.bag.values is.few is.typed is.real is.few_years)
 
 -- ---- categories and requests
 

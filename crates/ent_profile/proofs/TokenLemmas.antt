@@ -10,8 +10,9 @@ use Rattle.serde_json.specs.Data.{Data, Members}
 use Rattle.serde_json.specs.Find.{of_integer}
 use Rattle.serde_json.specs.Written.{members_outline}
 use Rattle.ent_values.specs.Types.{datatype_of, uri_of}
-use Rattle.ent_polform.specs.Text.{items_tokens_of, tokens_of}
-use Rattle.ent_polform.specs.Written.{filled_list, optional, value_written}
+use Rattle.ent_json.specs.Text.{items_tokens_of, tokens_of}
+use Rattle.ent_json.specs.Members.{filled_list, optional}
+use Rattle.ent_polform.specs.Written.{value_written}
 use Rattle.ent_eval.specs.declared.answer.Answer.{Answer}
 use Rattle.ent_eval.specs.declared.given.Assignment.{Assignment}
 use Rattle.ent_eval.specs.declared.given.Given.{Given}

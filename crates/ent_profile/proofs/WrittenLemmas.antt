@@ -4,8 +4,7 @@ use Rattle.std.specs.List.{cons_option}
 use Rattle.std.specs.Option.{option_to_list}
 use Rattle.serde_json.specs.Data as json
 use Rattle.serde_json.specs.Data.{Data, put}
-use Rattle.ent_polform.specs.Objects.{put_optional}
-use Rattle.ent_polform.specs.Written.{optional}
+use Rattle.ent_json.specs.Members.{optional, put_optional}
 
 pub assignment_members : (attribute datatype value : Data) (category issuer : Option Data) →
     put (codes "Value") value (put_optional (codes "Issuer") issuer (put (codes "DataType") datatype (put_optional (codes "Category") category (put (codes "AttributeId") attribute json.no_members))))

@@ -10,7 +10,7 @@ use Rattle.ent_values.specs.declared.datatype.DataType.{DataType}
 use Rattle.ent_values.specs.declared.datatype.DataType.TheVariants as types
 use Rattle.ent_policy.specs.Limits.{has_double}
 use Rattle.ent_policy.specs.Names.{name_of}
-use Rattle.ent_polform.specs.Objects.{has_only, text_or_absent, flag_at}
+use Rattle.ent_json.specs.Objects.{has_only, text_or_absent, flag_at}
 use Rattle.ent_polform.specs.Values.{value_in}
 use Rattle.ent_eval.specs.declared.request.Attribute.{Attribute}
 use Rattle.ent_eval.specs.declared.request.Category.{Category}

@@ -8,7 +8,8 @@ use Rattle.ent_values.specs.Types.{datatype_of, uri_of}
 use Rattle.ent_values.specs.declared.value.Value.{Value}
 use Rattle.ent_combine.specs.declared.outcome.Outcome.{Outcome}
 use Rattle.ent_combine.specs.declared.outcome.Outcome.TheVariants as outcome
-use Rattle.ent_polform.specs.Written.{filled_list, only_member, optional, value_written}
+use Rattle.ent_json.specs.Members.{filled_list, only_member, optional}
+use Rattle.ent_polform.specs.Written.{value_written}
 use Rattle.ent_eval.specs.declared.answer.Answer.{Answer}
 use Rattle.ent_eval.specs.declared.answer.Status.{Status}
 use Rattle.ent_eval.specs.declared.answer.Status.TheVariants as status

@@ -4,11 +4,12 @@ use Rattle.serde_json.specs.Data as json
 use Rattle.serde_json.specs.Data.{Data}
 use Rattle.serde_json.specs.View.{items_of}
 use Rattle.ent_values.specs.Bags.{AllOfType}
-use Rattle.ent_values.specs.ReadBack.{IsReadable}
+use Rattle.ent_values.specs.ReadBack.{HasFewYears, IsReal}
 use Rattle.ent_values.specs.Types.{uri_of}
 use Rattle.ent_policy.specs.Limits.{has_double}
 use Rattle.ent_policy.specs.Names.{name_of}
-use Rattle.ent_polform.specs.Written.{only_member, optional, value_written}
+use Rattle.ent_json.specs.Members.{only_member, optional}
+use Rattle.ent_polform.specs.Written.{value_written}
 use Rattle.ent_eval.specs.declared.request.Attribute.{Attribute}
 use Rattle.ent_eval.specs.declared.request.Category.{Category}
 use Rattle.ent_eval.specs.declared.request.Request.{Request}
@@ -44,14 +45,15 @@ spelled q = only_member (codes "Request") (only_member (codes "Category") (json.
 abbrev pub IsName : List ℕ → Type 0
 IsName text = name_of text ≡ Some text
 
--- an attribute whose id, and issuer if it has one, are names, with at most 256 values of its type, of which no duration has more than
--- 999,999,999 whole years
+-- an attribute whose id, and issuer if it has one, are names, with at most 256 values of its type, each what that type says, of which no
+-- duration has more than 999,999,999 whole years
 pub record IsAskableAttribute (a : Attribute) : Type 0 where
   pub id : IsName a.id
   pub issuer : IfSome a.issuer IsName
   pub few : length a.bag.values ≤ 256
   pub typed : AllOfType a.bag.datatype a.bag.values
-  pub readable : All IsReadable a.bag.values
+  pub real : All IsReal a.bag.values
+  pub few_years : All HasFewYears a.bag.values
 
 -- a category whose id is a name, but none of the short names, each of which stands for a URI, with at most 256 attributes
 pub record IsAskableCategory (c : Category) : Type 0 where

@@ -3,7 +3,7 @@ use Rattle.std.specs.Prelude.{ℕ, List, [], ◌∷◌, Option, Some, None}
 use Rattle.json.specs.Token as token
 use Rattle.json.specs.Token.{Token}
 use Rattle.serde_json.specs.Data.{Data}
-use Rattle.ent_polform.specs.Text.{tokens_of}
+use Rattle.ent_json.specs.Text.{tokens_of}
 
 -- the tokens of a value, if there is one
 abbrev pub tokens_if_any : Option Data → List Token

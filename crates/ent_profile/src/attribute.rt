@@ -4,14 +4,15 @@ ghost use Rattle.std.specs.Prelude.{◌≡◌, codes, map};
 ghost use Rattle.std.specs.List.{list_all};
 ghost use Rattle.serde_json.specs.Find.{get};
 ghost use Rattle.ent_polform.specs.Values.{value_in};
-ghost use Rattle.ent_profile.specs.Asks.{attribute_of, attributes_of, bag_of, is_boolean, is_number, is_text, type_at, type_by_values, values_of};
+ghost use Rattle.ent_profile.specs.Asks.{attribute_of, attributes_of, bag_of, is_boolean, is_number, is_text, type_at};
+ghost use Rattle.ent_profile.specs.Asks.{type_by_values, values_of};
 ghost use Rattle.ent_profile.specs.Reading.{Reads, each};
 
 use crate::fault::RequestFault;
 use crate::form::{MOST_MEMBERS, at_most, maybe_name_at, name_in, none_or_many, one_or_many};
 use ent_eval::Attribute;
-use ent_json::JsonTree;
-use ent_polform::{flag_at, read_value, text_or_absent};
+use ent_json::{JsonTree, flag_at, text_or_absent};
+use ent_polform::read_value;
 use ent_values::{Bag, DataType, Items, Text, Value as AttributeValue};
 use std::alloc::Global;
 

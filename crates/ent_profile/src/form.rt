@@ -6,8 +6,7 @@ ghost use Rattle.ent_profile.specs.Asks.{is_unset, name_in};
 ghost use Rattle.ent_profile.specs.Reading.{Reads, at_most, maybe, none_or_many, one_or_many};
 
 use crate::fault::RequestFault;
-use ent_json::JsonTree;
-use ent_polform::flag_at;
+use ent_json::{JsonTree, flag_at};
 use ent_values::Text;
 use std::alloc::Global;
 

@@ -6,7 +6,8 @@ ghost use Rattle.serde_json.specs.View.{items_of, view};
 ghost use Rattle.ent_profile.specs.Response.{assignment_written, given_written};
 
 use ent_eval::{Assignment, Given};
-use ent_polform::{put_optional, put_text, write_value};
+use ent_json::{put_optional, put_text};
+use ent_polform::write_value;
 use ent_values::Text;
 use serde_json::{Map, Value, json, put};
 use std::alloc::{AllocError, Global};
@@ -75,8 +76,9 @@ pub(crate) fn each_given(alloc: Global, all: &[Given]) -> Result<Vec<Value>, All
     Ok(values)
 }
 
-/// The list of obligations or of advice as a response has it: each with its Id and its AttributeAssignment, a list that is always
-/// written; each assignment with AttributeId, DataType as its full URI, Value, and the Category and the Issuer that the policy gives.
+/// The list of obligations or of advice as a response has it: each with its Id and its AttributeAssignment, a list that
+/// is always written; each assignment with AttributeId, DataType as its full URI, Value, and the Category and the
+/// Issuer that the policy gives.
 ///
 /// # Errors
 ///

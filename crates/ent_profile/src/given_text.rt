@@ -4,13 +4,13 @@ ghost use Rattle.std.specs.Prelude.{◌≡◌, [], ◌∷◌, ◌++◌, OnOk, ma
 ghost use Rattle.json.specs.Token as token;
 ghost use Rattle.serde_json.specs.Data as json;
 ghost use Rattle.serde_json.specs.View.{items_of};
-ghost use Rattle.ent_polform.specs.Text.{items_tokens_of, tokens_of};
+ghost use Rattle.ent_json.specs.Text.{items_tokens_of, tokens_of};
 ghost use Rattle.ent_polform.specs.Written.{value_written};
 ghost use Rattle.ent_profile.specs.Response.{assignment_written, given_written};
 ghost use Rattle.ent_profile.specs.Written.{optional_tokens};
 
 use ent_eval::{Assignment, Given};
-use ent_polform::JsonText;
+use ent_json::JsonText;
 use ent_values::{Text, Value};
 use std::alloc::{AllocError, Global};
 

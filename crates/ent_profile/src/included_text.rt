@@ -2,14 +2,15 @@
 
 ghost use Rattle.std.specs.Prelude.{◌≡◌, ◌++◌, OnOk, codes, filter_map, map};
 ghost use Rattle.std.specs.List.{list_any};
-ghost use Rattle.ent_polform.specs.Text.{items_tokens_of, tokens_of};
-ghost use Rattle.ent_polform.specs.Written.{filled_list, value_written};
+ghost use Rattle.ent_json.specs.Text.{items_tokens_of, tokens_of};
+ghost use Rattle.ent_json.specs.Members.{filled_list};
+ghost use Rattle.ent_polform.specs.Written.{value_written};
 ghost use Rattle.ent_profile.specs.Response.{attribute_written, category_written, included, values_written};
 ghost use Rattle.ent_profile.specs.Written.{optional_tokens, tokens_if_any};
 
 use crate::given_text::{write_optional, write_text, write_value};
 use ent_eval::{Attribute, Category};
-use ent_polform::JsonText;
+use ent_json::JsonText;
 use ent_values::Value;
 use std::alloc::{AllocError, Global};
 

@@ -1,5 +1,5 @@
-//! Requests and responses as JSON (JSON Profile of XACML 3.0, version 1.1): which request a JSON value asks for, and how an answer is
-//! written.
+//! Requests and responses as JSON (JSON Profile of XACML 3.0, version 1.1): which request a JSON value asks for, and
+//! how an answer is written.
 #![tactic(auto)]
 
 mod attribute;

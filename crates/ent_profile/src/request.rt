@@ -10,8 +10,7 @@ use crate::category::categories;
 use crate::fault::RequestFault;
 use crate::form::is_unset;
 use ent_eval::{Category, Request};
-use ent_json::JsonTree;
-use ent_polform::text_or_absent;
+use ent_json::{JsonTree, text_or_absent};
 use std::alloc::Global;
 
 /// Whether the value has the keys of a request, and no wish that isn't met.
@@ -77,16 +76,16 @@ fn request<J: JsonTree>(alloc: Global, object: &J) -> Result<Request, RequestFau
 
 /// The request that a JSON value asks for (section 5.42).
 ///
-/// The value is an object `{"Request": {..}}`. Categories stand at the short names AccessSubject, Action, Resource, Environment,
-/// RecipientSubject, IntermediarySubject, Codebase and RequestingMachine, each at most once, and at Category, where each has its
-/// CategoryId, a URI or a short name. No category stands twice. A category has any number of attributes with an AttributeId, a Value
-/// or a list of them, and perhaps a DataType, an Issuer and IncludeInResult. Lists have at most 256 members; ids, CategoryId and
-/// Issuer have 1 to 256 bytes.
+/// The value is an object `{"Request": {..}}`. Categories stand at the short names AccessSubject, Action, Resource,
+/// Environment, RecipientSubject, IntermediarySubject, Codebase and RequestingMachine, each at most once, and at
+/// Category, where each has its CategoryId, a URI or a short name. No category stands twice. A category has any number
+/// of attributes with an AttributeId, a Value or a list of them, and perhaps a DataType, an Issuer and IncludeInResult.
+/// Lists have at most 256 members; ids, CategoryId and Issuer have 1 to 256 bytes.
 ///
 /// # Errors
 ///
-/// [`RequestFault::Bad`] if the value asks for no request: also where it has any other key, or asks for a combined decision or for a
-/// list of policies. [`RequestFault::Memory`] if memory runs out.
+/// [`RequestFault::Bad`] if the value asks for no request: also where it has any other key, or asks for a combined
+/// decision or for a list of policies. [`RequestFault::Memory`] if memory runs out.
 #[tactic(auto, unfolding(crate::specs::Asks::asks))]
 pub fn read_request<J: JsonTree>(alloc: Global, json: &J) -> Result<Request, RequestFault>
     ensures { Reads result (asks (J.content json.now)) }

@@ -8,7 +8,7 @@ use crate::given::each_given;
 use crate::included::categories;
 use ent_combine::Outcome;
 use ent_eval::{Answer, Request, Status};
-use ent_polform::{filled, put_optional, put_text};
+use ent_json::{filled, put_optional, put_text};
 use serde_json::{Map, Value, json, put};
 use std::alloc::{AllocError, Global};
 
@@ -67,9 +67,9 @@ fn result(alloc: Global, answer: &Answer, request: &Request) -> Result<Value, Al
 
 /// The response to a request that has that answer (section 5.47): an object `{"Response": [..]}` with one result.
 ///
-/// The result has Decision and Status, and, where they aren't empty, Obligations, AssociatedAdvice and Category. An Indeterminate
-/// doesn't tell what it could have been. Category has the attributes of the request that it wants in the result, each category by its
-/// URI, in the order of the request.
+/// The result has Decision and Status, and, where they aren't empty, Obligations, AssociatedAdvice and Category. An
+/// Indeterminate doesn't tell what it could have been. Category has the attributes of the request that it wants in the
+/// result, each category by its URI, in the order of the request.
 ///
 /// # Errors
 ///

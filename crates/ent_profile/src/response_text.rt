@@ -2,8 +2,8 @@
 
 ghost use Rattle.std.specs.Prelude.{◌≡◌, ◌++◌, IfOk, OnOk, map, string_bytes};
 ghost use Rattle.serde_json.specs.Written.{compact_text};
-ghost use Rattle.ent_polform.specs.Text.{tokens_of};
-ghost use Rattle.ent_polform.specs.Written.{filled_list};
+ghost use Rattle.ent_json.specs.Text.{tokens_of};
+ghost use Rattle.ent_json.specs.Members.{filled_list};
 ghost use Rattle.ent_profile.specs.Response.{given_written, response, result_written, status_written};
 ghost use Rattle.ent_profile.specs.Written.{optional_tokens};
 
@@ -11,7 +11,7 @@ use crate::given_text::{write_given_text, write_text};
 use crate::included_text::write_categories;
 use crate::response::{decision_word, status_uri};
 use ent_eval::{Answer, Given, Request, Status};
-use ent_polform::JsonText;
+use ent_json::JsonText;
 use std::alloc::{AllocError, Global};
 
 /// Writes obligations or advice at a key, if there are some.
@@ -78,8 +78,8 @@ fn write_whole(
     out.end_object()
 }
 
-/// The text of the response that [`write_response`](crate::write_response) gives, without spaces. It is written straight, so that no
-/// JSON value is built for it.
+/// The text of the response that [`write_response`](crate::write_response) gives, without spaces. It is written
+/// straight, so that no JSON value is built for it.
 ///
 /// # Errors
 ///
@@ -91,7 +91,7 @@ pub fn write_response_text(
 ) -> Result<String, AllocError>
     ensures { IfOk result (λ s. string_bytes s ≡ compact_text (response answer.now request.now)) }
 {
-    let mut out = JsonText::new(alloc);
+    let mut out = JsonText::with_room(alloc)?;
     write_whole(alloc, &mut out, answer, request)?;
     Ok(out.into_string())
 }

@@ -1,6 +1,6 @@
 use Rattle.std.proofs.Common.{◌≡◌, [], ◌∷◌, ◌∙◌, append-nil, codes, false, filter_map, is_some, sym, true}
 use Rattle.json.specs.Token as token
-use Rattle.ent_polform.specs.Written.{filled_list}
+use Rattle.ent_json.specs.Members.{filled_list}
 use Rattle.ent_profile.specs.Response.{category_written}
 use Rattle.ent_profile.proofs.TextLemmas.{ends}
 use Rattle.ent_profile.proofs.TokenLemmas.{categories_kept, empty_tokens, filled_tokens}
@@ -17,5 +17,5 @@ returns c =
     let written = filter_map category_written c.args.categories.now in
     let some : is_some (filled_list written) ≡ true = sym (categories_kept c.args.categories.now) ∙ sym c.have_included.ensures ∙ c.if-not-have_included.false in
     rw (filled_tokens (codes "Category") written (sym some))
-    (ends _ _ _ _ (token.key (codes "Category") ∷ []) _ c.in_ok-key.ensures
-    (ends _ _ _ _ (token.begin_array ∷ []) _ c.in_ok-begin_array.ensures c.write_each_category.ensures))
+    (ends _ _ _ _ (token.key (codes "Category") ∷ []) _ c.in_ok-key.ensures.ok
+    (ends _ _ _ _ (token.begin_array ∷ []) _ c.in_ok-begin_array.ensures.ok c.write_each_category.ensures))

@@ -1,7 +1,7 @@
 use Rattle.std.proofs.Common.{[], ◌∷◌, codes, filter_map, map}
 use Rattle.json.specs.Token as token
-use Rattle.ent_polform.specs.Text.{tokens_of}
-use Rattle.ent_polform.specs.Written.{filled_list}
+use Rattle.ent_json.specs.Text.{tokens_of}
+use Rattle.ent_json.specs.Members.{filled_list}
 use Rattle.ent_profile.specs.Response.{category_written, given_written, status_written}
 use Rattle.ent_profile.specs.Written.{optional_tokens}
 use Rattle.ent_profile.proofs.TextLemmas.{ends}
@@ -17,10 +17,10 @@ returns c =
     let obligations = optional_tokens (codes "Obligations") (filled_list (map given_written c.as_slice-3.result.now)) in
     let status = tokens_of (status_written a.status) in
     rw (result_tokens a c.args.request.now, ← c.as_slice.ensures, ← c.as_slice-2.ensures, ← c.as_slice-3.ensures, ← c.decision_word.ensures)
-    (ends _ _ _ _ (token.begin_object ∷ []) _ c.in_ok-begin_object.ensures
+    (ends _ _ _ _ (token.begin_object ∷ []) _ c.in_ok-begin_object.ensures.ok
     (ends _ _ _ _ advice _ c.in_ok-write_some_given.ensures
     (ends _ _ _ _ categories _ c.in_ok-write_categories.ensures
     (ends _ _ _ _ decision _ c.in_ok-write_text.ensures
     (ends _ _ _ _ obligations _ c.in_ok-write_some_given-2.ensures
-    (ends _ _ _ _ (token.key (codes "Status") ∷ []) _ c.in_ok-key.ensures
-    (ends _ _ _ _ status _ c.in_ok-write_status.ensures c.end_object.ensures)))))))
+    (ends _ _ _ _ (token.key (codes "Status") ∷ []) _ c.in_ok-key.ensures.ok
+    (ends _ _ _ _ status _ c.in_ok-write_status.ensures c.end_object.ensures.ok)))))))
