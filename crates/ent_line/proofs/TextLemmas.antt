@@ -4,8 +4,8 @@ use Rattle.json.specs.Print.{print}
 use Rattle.json.specs.Token.{Token}
 use Rattle.serde_json.specs.Data.{Data}
 use Rattle.serde_json.specs.Written.{compact_text}
-use Rattle.ent_polform.specs.Text.{tokens_of}
-use Rattle.ent_polform.proofs.TextLemmas as text
+use Rattle.ent_json.specs.Text.{tokens_of}
+use Rattle.ent_json.proofs.TextLemmas as text
 
 -- the text of a value's tokens
 pub printed : (d : Data) → print (tokens_of d) ≡ compact_text d

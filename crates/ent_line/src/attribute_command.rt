@@ -10,8 +10,7 @@ ghost use Rattle.ent_line.specs.CommandView.{asked_row_view, asked_view};
 use crate::command::{Command, module_number};
 use crate::refusal::SHAPE;
 use ent_eval::{ACCESS_SUBJECT, ACTION, RESOURCE};
-use ent_json::JsonTree;
-use ent_polform::{text_at, text_or_absent};
+use ent_json::{JsonTree, text_at, text_or_absent};
 
 /// A row as a line has it, with its category's URI. Its texts and values stay where they are in the line's JSON.
 #[derive(Drop)]

@@ -4,7 +4,7 @@ ghost use Rattle.std.specs.Prelude.{◌≡◌, [], ◌∷◌, ◌++◌, IfOk, On
 ghost use Rattle.json.specs.Token as token;
 ghost use Rattle.serde_json.specs.Data as json;
 ghost use Rattle.serde_json.specs.View.{items_of};
-ghost use Rattle.ent_polform.specs.Text.{items_tokens_of, tokens_of};
+ghost use Rattle.ent_json.specs.Text.{items_tokens_of, tokens_of};
 ghost use Rattle.ent_profile.specs.Response.{given_written};
 ghost use Rattle.ent_table.specs.Left.{cells_left};
 ghost use Rattle.ent_table.specs.Names.{triple_of};
@@ -12,7 +12,7 @@ ghost use Rattle.ent_line.specs.Cells.{cell_data, decision_text, entry_data, key
 
 use ent_combine::{IndKind, Outcome};
 use ent_eval::{Answer, Given, Request, Status, WhyEntry};
-use ent_polform::JsonText;
+use ent_json::JsonText;
 use ent_policy::DocKey;
 use ent_profile::{write_given_text, write_response_text};
 use ent_table::Cells;
@@ -258,7 +258,7 @@ fn write_one_cell(
 pub(crate) fn table_text(alloc: Global, cells: Cells<'_>) -> Result<String, AllocError>
     ensures { IfOk result (λ s. string_bytes s ≡ table_text (cells_left cells.entry)) }
 {
-    let mut out = JsonText::new(alloc);
+    let mut out = JsonText::with_room(alloc)?;
     write_table(alloc, &mut out, cells)?;
     Ok(out.into_string())
 }
@@ -273,7 +273,7 @@ pub(crate) fn one_cell_text(
 ) -> Result<String, AllocError>
     ensures { IfOk result (λ s. string_bytes s ≡ one_cell_text (triple_of person.now action.now resource.now, answer.now)) }
 {
-    let mut out = JsonText::new(alloc);
+    let mut out = JsonText::with_room(alloc)?;
     write_one_cell(alloc, &mut out, person, action, resource, answer)?;
     Ok(out.into_string())
 }

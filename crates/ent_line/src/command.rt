@@ -10,8 +10,7 @@ ghost use Rattle.ent_line.specs.CommandView.{asked_view, document_view, name_vie
 use crate::attribute_command::{AskedRow, attribute_command, day_command};
 use crate::refusal::{SHAPE, UNKNOWN_COMMAND, UNKNOWN_SESSION};
 use crate::report_command::{decided_named, marking_named};
-use ent_json::JsonTree;
-use ent_polform::text_at;
+use ent_json::{JsonTree, text_at};
 use ent_policy::Kind;
 use ent_report::SESSIONS;
 use ent_table::List;

@@ -7,8 +7,7 @@ ghost use Rattle.ent_line.specs.CommandView.{asked_view};
 use crate::attribute_command::text_or_null;
 use crate::command::Command;
 use crate::refusal::SHAPE;
-use ent_json::JsonTree;
-use ent_polform::text_at;
+use ent_json::{JsonTree, text_at};
 
 /// `counts`.
 #[tactic(auto, unfolding(crate::specs::Asked::counts_command))]

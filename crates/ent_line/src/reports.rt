@@ -4,12 +4,12 @@ ghost use Rattle.std.specs.Prelude.{◌≡◌, [], ◌∷◌, ◌++◌, IfOk, On
 ghost use Rattle.json.specs.Token as token;
 ghost use Rattle.serde_json.specs.Data as json;
 ghost use Rattle.serde_json.specs.View.{items_of};
-ghost use Rattle.ent_polform.specs.Text.{items_tokens_of, tokens_of};
+ghost use Rattle.ent_json.specs.Text.{items_tokens_of, tokens_of};
 ghost use Rattle.ent_line.specs.Reports.{by_rule_text, can_text, count_data, counts_data, counts_text, decision_data, notice_data, notices_text, pair_data, reply_data, triple_data, who_text};
 
 use crate::cell::{decision_text, write_text};
 use ent_combine::Outcome;
-use ent_polform::JsonText;
+use ent_json::JsonText;
 use ent_report::{Counts, Notice};
 use ent_values::Text;
 use std::alloc::{AllocError, Global};
@@ -196,7 +196,7 @@ fn write_notices_reply(out: &mut JsonText, notices: &[Notice]) -> Result<(), All
 pub(crate) fn counts_text(alloc: Global, counts: Counts) -> Result<String, AllocError>
     ensures { IfOk result (λ s. string_bytes s ≡ counts_text counts) }
 {
-    let mut out = JsonText::new(alloc);
+    let mut out = JsonText::with_room(alloc)?;
     write_counts_reply(&mut out, counts)?;
     Ok(out.into_string())
 }
@@ -205,7 +205,7 @@ pub(crate) fn counts_text(alloc: Global, counts: Counts) -> Result<String, Alloc
 pub(crate) fn can_text(alloc: Global, found: &[(Text, Text)]) -> Result<String, AllocError>
     ensures { IfOk result (λ s. string_bytes s ≡ can_text found.now) }
 {
-    let mut out = JsonText::new(alloc);
+    let mut out = JsonText::with_room(alloc)?;
     write_can_reply(&mut out, found)?;
     Ok(out.into_string())
 }
@@ -214,7 +214,7 @@ pub(crate) fn can_text(alloc: Global, found: &[(Text, Text)]) -> Result<String, 
 pub(crate) fn who_text(alloc: Global, people: &[Text]) -> Result<String, AllocError>
     ensures { IfOk result (λ s. string_bytes s ≡ who_text people.now) }
 {
-    let mut out = JsonText::new(alloc);
+    let mut out = JsonText::with_room(alloc)?;
     write_who_reply(&mut out, people)?;
     Ok(out.into_string())
 }
@@ -226,7 +226,7 @@ pub(crate) fn by_rule_text(
 ) -> Result<String, AllocError>
     ensures { IfOk result (λ s. string_bytes s ≡ by_rule_text found.now) }
 {
-    let mut out = JsonText::new(alloc);
+    let mut out = JsonText::with_room(alloc)?;
     write_by_rule_reply(&mut out, found)?;
     Ok(out.into_string())
 }
@@ -235,7 +235,7 @@ pub(crate) fn by_rule_text(
 pub(crate) fn notices_text(alloc: Global, notices: &[Notice]) -> Result<String, AllocError>
     ensures { IfOk result (λ s. string_bytes s ≡ notices_text notices.now) }
 {
-    let mut out = JsonText::new(alloc);
+    let mut out = JsonText::with_room(alloc)?;
     write_notices_reply(&mut out, notices)?;
     Ok(out.into_string())
 }

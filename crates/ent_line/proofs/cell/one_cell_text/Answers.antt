@@ -8,4 +8,4 @@ pub returns : goal.returns
 unfolding one_cell_text
 returns c =
     c.into_string.ensures
-    ∙ written (one_cell_data (triple_of c.args.person.now c.args.action.now c.args.resource.now, c.args.answer.now)) _ _ c.new-out.ensures c.in_ok-write_one_cell.ensures
+    ∙ written (one_cell_data (triple_of c.args.person.now c.args.action.now c.args.resource.now, c.args.answer.now)) _ _ c.in_ok-out.ensures c.in_ok-write_one_cell.ensures

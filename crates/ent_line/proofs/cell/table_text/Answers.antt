@@ -6,4 +6,4 @@ use Rattle.ent_line.proofs.cell.table_text.Goals as goal
 
 pub returns : goal.returns
 unfolding table_text
-returns c = c.into_string.ensures ∙ written (table_data (cells_left c.args.cells)) _ _ c.new-out.ensures c.in_ok-write_table.ensures
+returns c = c.into_string.ensures ∙ written (table_data (cells_left c.args.cells)) _ _ c.in_ok-out.ensures c.in_ok-write_table.ensures

@@ -8,4 +8,4 @@ pub returns : goal.returns
 returns c =
     let decision = token.key (codes "decision") ∷ token.string (decision_text c.args.decision) ∷ [] in
     let key = token.key (codes "obligations") ∷ [] in
-    ends _ _ _ _ _ _ (joined _ _ _ decision key c.in_ok-write_decision.ensures c.in_ok-key.ensures) c.write_given_text.ensures
+    ends _ _ _ _ _ _ (joined _ _ _ decision key c.in_ok-write_decision.ensures c.in_ok-key.ensures.ok) c.write_given_text.ensures

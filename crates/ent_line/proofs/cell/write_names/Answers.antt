@@ -7,4 +7,4 @@ pub returns : goal.returns
 returns c =
     let person = token.key (codes "person") ∷ token.string c.args.person.now ∷ [] in
     let key = token.key (codes "resource") ∷ [] in
-    ends _ _ _ _ _ _ (joined _ _ _ person key c.in_ok-write_text.ensures c.in_ok-key.ensures) c.string.ensures
+    ends _ _ _ _ _ _ (joined _ _ _ person key c.in_ok-write_text.ensures c.in_ok-key.ensures.ok) c.string.ensures.ok

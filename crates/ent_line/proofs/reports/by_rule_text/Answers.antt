@@ -9,4 +9,4 @@ pub returns : goal.returns
 unfolding by_rule_text
 returns c =
     c.into_string.ensures
-    ∙ written (reply_data (codes "by_rule") (json.array (items_of (map triple_data c.args.found.now)))) _ _ c.new-out.ensures c.in_ok-write_by_rule_reply.ensures
+    ∙ written (reply_data (codes "by_rule") (json.array (items_of (map triple_data c.args.found.now)))) _ _ c.in_ok-out.ensures c.in_ok-write_by_rule_reply.ensures

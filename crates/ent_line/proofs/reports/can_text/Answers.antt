@@ -9,4 +9,4 @@ pub returns : goal.returns
 unfolding can_text
 returns c =
     c.into_string.ensures
-    ∙ written (reply_data (codes "can") (json.array (items_of (map pair_data c.args.found.now)))) _ _ c.new-out.ensures c.in_ok-write_can_reply.ensures
+    ∙ written (reply_data (codes "can") (json.array (items_of (map pair_data c.args.found.now)))) _ _ c.in_ok-out.ensures c.in_ok-write_can_reply.ensures

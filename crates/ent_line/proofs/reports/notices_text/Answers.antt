@@ -9,4 +9,4 @@ pub returns : goal.returns
 unfolding notices_text
 returns c =
     c.into_string.ensures
-    ∙ written (reply_data (codes "notices") (json.array (items_of (map notice_data c.args.notices.now)))) _ _ c.new-out.ensures c.in_ok-write_notices_reply.ensures
+    ∙ written (reply_data (codes "notices") (json.array (items_of (map notice_data c.args.notices.now)))) _ _ c.in_ok-out.ensures c.in_ok-write_notices_reply.ensures

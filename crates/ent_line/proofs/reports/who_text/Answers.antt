@@ -9,4 +9,4 @@ pub returns : goal.returns
 unfolding who_text
 returns c =
     c.into_string.ensures
-    ∙ written (reply_data (codes "who") (json.array (items_of (map json.string c.args.people.now)))) _ _ c.new-out.ensures c.in_ok-write_who_reply.ensures
+    ∙ written (reply_data (codes "who") (json.array (items_of (map json.string c.args.people.now)))) _ _ c.in_ok-out.ensures c.in_ok-write_who_reply.ensures

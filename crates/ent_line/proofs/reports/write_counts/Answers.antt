@@ -16,8 +16,8 @@ returns c =
     let indeterminate = count_at (codes "Indeterminate") c.args.counts.indeterminate in
     let inapplicable = count_at (codes "NotApplicable") c.args.counts.not_applicable in
     let permit = count_at (codes "Permit") c.args.counts.permit in
-    let one = joined old _ _ start deny c.in_ok-begin_object.ensures c.in_ok-write_count.ensures in
+    let one = joined old _ _ start deny c.in_ok-begin_object.ensures.ok c.in_ok-write_count.ensures in
     let two = joined old _ _ (start ++ deny) indeterminate one c.in_ok-write_count-2.ensures in
     let three = joined old _ _ ((start ++ deny) ++ indeterminate) inapplicable two c.in_ok-write_count-3.ensures in
     let four = joined old _ _ (((start ++ deny) ++ indeterminate) ++ inapplicable) permit three c.in_ok-write_count-4.ensures in
-    ends _ old _ _ _ (token.end_object ∷ []) four c.end_object.ensures
+    ends _ old _ _ _ (token.end_object ∷ []) four c.end_object.ensures.ok

@@ -9,5 +9,5 @@ returns c =
     let start = token.begin_object ∷ [] in
     let action = token.key (codes "action") ∷ token.string c.args.action.now ∷ [] in
     let resource = token.key (codes "resource") ∷ token.string c.args.resource.now ∷ [] in
-    let front = joined old _ _ start action c.in_ok-begin_object.ensures c.in_ok-write_text.ensures in
-    ends _ old _ _ _ (token.end_object ∷ []) (joined old _ _ (start ++ action) resource front c.in_ok-write_text-2.ensures) c.end_object.ensures
+    let front = joined old _ _ start action c.in_ok-begin_object.ensures.ok c.in_ok-write_text.ensures in
+    ends _ old _ _ _ (token.end_object ∷ []) (joined old _ _ (start ++ action) resource front c.in_ok-write_text-2.ensures) c.end_object.ensures.ok

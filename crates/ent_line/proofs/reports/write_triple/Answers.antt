@@ -10,6 +10,6 @@ returns c =
     let action = token.key (codes "action") ∷ token.string c.args.action.now ∷ [] in
     let person = token.key (codes "person") ∷ token.string c.args.person.now ∷ [] in
     let resource = token.key (codes "resource") ∷ token.string c.args.resource.now ∷ [] in
-    let front = joined old _ _ start action c.in_ok-begin_object.ensures c.in_ok-write_text.ensures in
+    let front = joined old _ _ start action c.in_ok-begin_object.ensures.ok c.in_ok-write_text.ensures in
     let middle = joined old _ _ (start ++ action) person front c.in_ok-write_text-2.ensures in
-    ends _ old _ _ _ (token.end_object ∷ []) (joined old _ _ ((start ++ action) ++ person) resource middle c.in_ok-write_text-3.ensures) c.end_object.ensures
+    ends _ old _ _ _ (token.end_object ∷ []) (joined old _ _ ((start ++ action) ++ person) resource middle c.in_ok-write_text-3.ensures) c.end_object.ensures.ok
