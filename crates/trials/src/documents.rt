@@ -1,10 +1,7 @@
 //! The JSON of documents, references and values: what is read of it, and what is written.
 
-use ent_json::JsonTree;
-use ent_polform::{
-    filled_list_at, flag_at, list_at, read_document, read_reference, read_value, text_at,
-    text_or_absent, write_document, write_value,
-};
+use ent_json::{JsonTree, filled_list_at, flag_at, list_at, text_at, text_or_absent};
+use ent_polform::{read_document, read_reference, read_value, write_document, write_value};
 use ent_policy::{CheckFault, DocFault, Document, Expression, Kind, Tree};
 use ent_values::{DataType, Date, Value, ValueFault, YearMonth};
 use serde_json::Value as Json;

@@ -6,7 +6,7 @@ use ent_eval::{Answer, Given, Pdp, Request};
 use ent_finder::{
     AttributeFinder, AttributeFinderModule, MapDocs, MapRows, PolicyFinder, PolicyFinderModule,
 };
-use ent_polform::JsonText;
+use ent_json::JsonText;
 use ent_profile::{
     read_request, write_given, write_given_text, write_response, write_response_text,
 };
