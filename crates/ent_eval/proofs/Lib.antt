@@ -11,6 +11,7 @@ pub mod Fit
 pub mod Gathered
 pub mod Giving
 pub mod Hops
+pub mod KeyOrders
 pub mod Keys
 pub mod Left
 pub mod Literals
@@ -20,6 +21,7 @@ pub mod PathKeys
 pub mod Reached
 pub mod Recorded
 pub mod Rests
+pub mod SameLooks
 pub mod Sames
 pub mod Sets
 pub mod Shallow

@@ -8,6 +8,7 @@ pub mod Lending
 pub mod Hops
 pub mod Judged
 pub mod Law
+pub mod KeyOrder
 pub mod Latest
 pub mod Listed
 pub mod Looked
@@ -22,6 +23,7 @@ pub mod Part
 pub mod Path
 pub mod Rule
 pub mod Same
+pub mod SameLook
 pub mod Sought
 pub mod Sources
 pub mod Target

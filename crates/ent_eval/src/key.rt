@@ -1,6 +1,7 @@
 //! Keys of look-ups.
 
-ghost use Rattle.std.specs.Prelude.{◌≡◌, IfOk};
+ghost use Rattle.std.specs.Prelude.{◌≡◌, IfOk, OnErr, true};
+ghost use Rattle.ent_eval.specs.KeyOrder.{has_texts};
 
 use ent_finder::AttrKey;
 use ent_policy::Reference;
@@ -20,9 +21,10 @@ pub enum ReadKey {
 }
 
 impl ReadKey {
-    /// An equal key.
+    /// An equal key. Of the root and of the day it takes no memory.
     pub fn copy(&self, alloc: Global) -> Result<ReadKey, AllocError>
-        ensures { IfOk result (λ k. k ≡ self.now) }
+        ensures value { IfOk result (λ k. k ≡ self.now) }
+        ensures memory { OnErr result (has_texts self.now ≡ true) }
     {
         match self {
             ReadKey::Root => Ok(ReadKey::Root),

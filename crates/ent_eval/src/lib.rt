@@ -48,7 +48,7 @@ pub use look_ups::LookUps;
 pub use pdp::{Evaluation, Pdp};
 pub use reads::Reads;
 pub use request::{Attribute, Category, Request};
-pub use same::{same_answer_is_equal, same_key_is_equal};
+pub use same::{keys_order_by_kind, same_answer_is_equal, same_key_is_equal, same_look_is_equal};
 pub use sources::id_attribute;
 pub use target::Targeted;
 pub use uris::{ACCESS_SUBJECT, ACTION, RESOURCE};

@@ -1,11 +1,12 @@
 //! The look-ups that an evaluation makes.
 
-ghost use Rattle.std.specs.Prelude.{◌≡◌, [], length, OnErr, OnOk};
+ghost use Rattle.std.specs.Prelude.{◌≡◌, [], false, length, IfOk, OnErr, OnOk};
 ghost use Rattle.ent_eval.specs.Noted.{has_key, with_key};
 ghost use Rattle.ent_eval.specs.declared.key.ReadKey.TheVariants.{Ref};
 
 use crate::key::ReadKey;
 use ent_policy::Reference;
+use ent_values::Items;
 use std::alloc::{AllocError, Global};
 use std::collections::BTreeSet;
 use std::marker::Model;
@@ -49,10 +50,18 @@ impl Reads {
         self.keys.contains(key)
     }
 
-    /// Notes a key, if it isn't there yet. After a refusal the keys are as before.
+    /// The keys, in their order. They are moved and not copied, into one list that is allocated for them.
+    pub fn into_items(self, alloc: Global) -> Result<Items<ReadKey>, AllocError>
+        ensures { IfOk result (λ keys. keys ≡ self) }
+    {
+        Ok(Items::from_vec(self.keys.into_iter().collect(alloc)?))
+    }
+
+    /// Notes a key, if it isn't there yet. After a refusal the keys are as before. A key that is there takes no memory.
     pub fn note(&mut self, key: ReadKey) -> Result<(), AllocError>
         ensures ok { OnOk result (self.new ≡ with_key self.old key) }
         ensures err { OnErr result (self.new ≡ self.old) }
+        ensures known { OnErr result (has_key self.old key ≡ false) }
     {
         self.keys.insert(key)?;
         Ok(())
