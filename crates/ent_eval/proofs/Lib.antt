@@ -15,6 +15,7 @@ pub mod KeyOrders
 pub mod Keys
 pub mod Left
 pub mod Literals
+pub mod Noting
 pub mod Once
 pub mod Parts
 pub mod PathKeys

@@ -37,11 +37,11 @@ impl<'a, L: LookUps> Scene<'a, L> {
         expression: &'a Expression,
     ) -> Result<Evaluated, AllocError>
         requires typed { IsSome (type_of definitions.now references expression.now) }
-        requires looked { AreLooked (L.looks self.now.held.now) self.now.request.now looked.old }
+        requires looked { AreLooked (L.looks self.now.held.now) self.now.request.now reads.old looked.old }
         ensures value { IfOk result (λ v. v ≡ (meaning (L.looks self.now.held.now) self.now.request.now definitions.now references expression.now).value) }
         ensures reads { OnOk result (reads.new ≡ noting reads.old (meaning (L.looks self.now.held.now) self.now.request.now definitions.now references expression.now).reads) }
         ensures typed { IfOk result (λ v. HasType (type_of definitions.now references expression.now) v) }
-        ensures looked { AreLooked (L.looks self.now.held.now) self.now.request.now looked.new }
+        ensures looked { OnOk result (AreLooked (L.looks self.now.held.now) self.now.request.now reads.new looked.new) }
     {
         if let Expression::Apply(function, arguments) = expression {
             if let Some((value, designator)) = membership(
@@ -55,8 +55,8 @@ impl<'a, L: LookUps> Scene<'a, L> {
         self.expression(reads, definitions, references, expression)
     }
 
-    // Is-in of a value and a designator, whose values are at hand from then on. Those that are at hand are no look-up, so they serve
-    // only where no look-ups are asked for.
+    // Is-in of a value and a designator, whose values are at hand from then on. What was looked up for those that are at hand is noted
+    // already, so they serve as they are.
     fn is_among_looked(
         &self,
         reads: &mut Notes,
@@ -64,14 +64,14 @@ impl<'a, L: LookUps> Scene<'a, L> {
         value: &Value,
         designator: &'a Designator,
     ) -> Result<Evaluated, AllocError>
-        requires { AreLooked (L.looks self.now.held.now) self.now.request.now looked.old }
+        requires { AreLooked (L.looks self.now.held.now) self.now.request.now reads.old looked.old }
         ensures value { IfOk result (λ v. v ≡ (member_part (L.looks self.now.held.now) self.now.request.now value.now designator.now).value) }
         ensures reads { OnOk result (reads.new ≡ noting reads.old (member_part (L.looks self.now.held.now) self.now.request.now value.now designator.now).reads) }
         ensures typed { IfOk result (λ v. HasType (Some boolean) v) }
-        ensures looked { AreLooked (L.looks self.now.held.now) self.now.request.now looked.new }
+        ensures looked { OnOk result (AreLooked (L.looks self.now.held.now) self.now.request.now reads.new looked.new) }
     {
         if let Some(latest) = &*looked {
-            if reads.are_unasked() && seeks_same(latest.designator, designator) {
+            if seeks_same(latest.designator, designator) {
                 return Ok(member(value, designator, latest.bag.values()));
             }
         }

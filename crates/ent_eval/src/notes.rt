@@ -1,6 +1,6 @@
 //! What an evaluation notes of its look-ups.
 
-ghost use Rattle.std.specs.Prelude.{◌≡◌, [], IfOk, IsTrue, None, OnOk, Some};
+ghost use Rattle.std.specs.Prelude.{◌≡◌, [], IfOk, None, OnOk, Some};
 ghost use Rattle.ent_eval.specs.Noted.{with_note};
 ghost use Rattle.ent_eval.specs.Path.{keys_of};
 ghost use Rattle.ent_eval.specs.declared.key.ReadKey.TheVariants.{Ref};
@@ -51,13 +51,6 @@ impl Notes {
             reads: Some(Reads::new(alloc)),
             paths: Paths::new(alloc),
         }
-    }
-
-    // Whether no look-ups are asked for.
-    pub(crate) fn are_unasked(&self) -> bool
-        ensures { IsTrue result → self.now ≡ None }
-    {
-        self.reads.is_none()
     }
 
     // The look-ups, if they were asked for.

@@ -44,12 +44,12 @@ impl<'a, L: LookUps> Scene<'a, L> {
     ) -> Result<Progress, AllocError>
         requires typed { rule_is_typed definitions.now rule.now ≡ true }
         requires own { own.old ≡ self.now.request.now }
-        requires looked { AreLooked (L.looks self.now.held.now) self.now.request.now looked.old }
+        requires looked { AreLooked (L.looks self.now.held.now) self.now.request.now reads.old looked.old }
         ensures gathered { OnOk result (Gathers gathering.old gathering.new (rule_part (L.looks self.now.held.now) self.now.request.now definitions.now (keys_of path.now) rule.now).value) }
         ensures progress { IfOk result (Tells gathering.old (rule_part (L.looks self.now.held.now) self.now.request.now definitions.now (keys_of path.now) rule.now).value) }
         ensures reads { OnOk result (reads.new ≡ noting reads.old (rule_part (L.looks self.now.held.now) self.now.request.now definitions.now (keys_of path.now) rule.now).reads) }
         ensures own { own.new ≡ own.old }
-        ensures looked { AreLooked (L.looks self.now.held.now) self.now.request.now looked.new }
+        ensures looked { OnOk result (AreLooked (L.looks self.now.held.now) self.now.request.now reads.new looked.new) }
     {
         let targeted = self.target_with(reads, own, &rule.target)?;
         if let Targeted::NoMatch = targeted {
@@ -72,10 +72,10 @@ impl<'a, L: LookUps> Scene<'a, L> {
     ) -> Result<Option<Answer>, AllocError>
         requires condition { condition_is_typed definitions.now rule.now.condition ≡ true }
         requires given { given_is_typed definitions.now rule.now.given ≡ true }
-        requires looked { AreLooked (L.looks self.now.held.now) self.now.request.now looked.old }
+        requires looked { AreLooked (L.looks self.now.held.now) self.now.request.now reads.old looked.old }
         ensures value { IfOk result (λ a. or_nothing a ≡ (rule_under (L.looks self.now.held.now) self.now.request.now definitions.now (keys_of path.now) rule.now targeted).value) }
         ensures reads { OnOk result (reads.new ≡ noting reads.old (rule_under (L.looks self.now.held.now) self.now.request.now definitions.now (keys_of path.now) rule.now targeted).reads) }
-        ensures looked { AreLooked (L.looks self.now.held.now) self.now.request.now looked.new }
+        ensures looked { OnOk result (AreLooked (L.looks self.now.held.now) self.now.request.now reads.new looked.new) }
     {
         match targeted {
             Targeted::NoMatch => Ok(None),
@@ -100,10 +100,10 @@ impl<'a, L: LookUps> Scene<'a, L> {
         condition: &'a Option<Expression>,
     ) -> Result<Truth, AllocError>
         requires typed { condition_is_typed definitions.now condition.now ≡ true }
-        requires looked { AreLooked (L.looks self.now.held.now) self.now.request.now looked.old }
+        requires looked { AreLooked (L.looks self.now.held.now) self.now.request.now reads.old looked.old }
         ensures value { IfOk result (λ t. t ≡ (condition_part (L.looks self.now.held.now) self.now.request.now definitions.now condition.now).value) }
         ensures reads { OnOk result (reads.new ≡ noting reads.old (condition_part (L.looks self.now.held.now) self.now.request.now definitions.now condition.now).reads) }
-        ensures looked { AreLooked (L.looks self.now.held.now) self.now.request.now looked.new }
+        ensures looked { OnOk result (AreLooked (L.looks self.now.held.now) self.now.request.now reads.new looked.new) }
     {
         match condition {
             None => Ok(Truth::True),

@@ -3,6 +3,7 @@ use Rattle.ent_eval.specs.Gathered.{Gathers, Tells}
 use Rattle.ent_eval.specs.Path.{keys_of}
 use Rattle.ent_eval.specs.Rule.{rule_under}
 use Rattle.ent_eval.specs.Target.{target_part}
+use Rattle.ent_eval.proofs.Again.{looked_stay}
 use Rattle.ent_eval.proofs.Left.{gathers_equal, left_behind, tells_equal}
 use Rattle.ent_eval.proofs.Parts.{on_ok}
 use Rattle.ent_eval.proofs.scene.Scene.next_rule.Goals as goal
@@ -38,3 +39,15 @@ returns-clause-reads g c =
     let looks = g.L.LookUps.looks c.args.self.now.held.now in
     let under = rule_under looks c.args.self.now.request.now c.args.definitions.now (keys_of c.args.path.now) c.args.rule.now in
     on_ok c.take.result _ (c.in_ok-answer.ensures.reads ∙ (left_behind under (target_part looks c.args.self.now.request.now c.args.rule.now.target) c.in_ok-targeted.targeted c.args.reads.now c.target_with.new.reads c.in_ok-targeted.ensures.value c.in_ok-targeted.ensures.reads).1)
+
+pub returns-in-NoMatch-clause-looked : goal.returns-in-NoMatch-clause-looked
+returns-in-NoMatch-clause-looked g c =
+    let looks = g.L.LookUps.looks c.args.self.now.held.now in
+    let request = c.args.self.now.request.now in
+    looked_stay looks request c.args.reads.now c.target_with.new.reads (target_part looks request c.args.rule.now.target).reads c.args.looked.now c.in_ok-targeted.ensures.reads c.requires.looked
+
+pub rule_after-requires-clause-looked : goal.rule_after-requires-clause-looked
+rule_after-requires-clause-looked g c =
+    let looks = g.L.LookUps.looks c.args.self.now.held.now in
+    let request = c.args.self.now.request.now in
+    looked_stay looks request c.args.reads.now c.target_with.new.reads (target_part looks request c.args.rule.now.target).reads c.args.looked.now c.in_ok-targeted.ensures.reads c.requires.looked

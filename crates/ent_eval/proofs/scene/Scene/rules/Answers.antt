@@ -27,7 +27,7 @@ loop-rule-preserved g c =
     c.loop-rule.gathering c.next_rule.new.gathering c.args.reads.now c.loop-rule.reads c.next_rule.new.reads
     c.loop-rule-test.true c.rule-item.is c.loop-rule.invariant.going c.loop-rule.invariant.gathered refl c.in_ok-progress.ensures.reads
     c.in_ok-progress.ensures.gathered c.in_ok-progress.ensures.progress c.in_default.is in
-    record { going = next.going; gathered = next.gathered; own = c.next_rule.ensures.own ∙ c.loop-rule.invariant.own; looked = c.next_rule.ensures.looked }
+    record { going = next.going; gathered = next.gathered; own = c.next_rule.ensures.own ∙ c.loop-rule.invariant.own; looked = c.in_ok-progress.ensures.looked }
 
 pub returns-clause-value : goal.returns-clause-value
 returns-clause-value g c =

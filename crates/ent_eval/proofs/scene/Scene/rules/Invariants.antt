@@ -12,5 +12,5 @@ invariant-loop-rule g l = record {
   going : IsGoing (stops l.fn.algorithm) (rule_part (g.L.LookUps.looks l.self.held.now) l.self.request.now l.definitions (keys_of l.path)) l.rules l.rule-index l.initial.reads l.reads;
   gathered : HasGathered l.fn.algorithm l.gathering (values_to (rule_part (g.L.LookUps.looks l.self.held.now) l.self.request.now l.definitions (keys_of l.path)) l.rules l.rule-index);
   own : l.own ≡ l.self.request.now;
-  looked : AreLooked (g.L.LookUps.looks l.self.held.now) l.self.request.now l.looked;
+  looked : AreLooked (g.L.LookUps.looks l.self.held.now) l.self.request.now l.reads l.looked;
 }
