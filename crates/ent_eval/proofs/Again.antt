@@ -1,7 +1,8 @@
 -- Values that are at hand serve for each designator that asks for them, with what is noted for them.
 use Rattle.std.proofs.Common.{◌≡◌, List, Option, Some, None, Result, Ok, Err, false, sym, ap, subst, ◌∙◌}
-use Rattle.std.specs.Prelude.{OnOk}
+use Rattle.std.specs.Prelude.{IfOk, OnOk}
 use Rattle.ent_policy.specs.declared.document.Designator.{Designator}
+use Rattle.ent_eval.specs.Comes.{Comes}
 use Rattle.ent_eval.specs.Looked.{AreLooked}
 use Rattle.ent_eval.specs.Looks.{Looks}
 use Rattle.ent_eval.specs.Noted.{Notes, noting}
@@ -33,3 +34,9 @@ module _ (looks : Looks) (request : Request) where
   pub looked_now : (before after : Notes) (l : Looked) → l.bag.values ≡ (values_part looks request l.designator.now).value
       → after ≡ noting before (values_part looks request l.designator.now).reads → AreLooked looks request after (Some l)
   looked_now before after l values is = subst (λ n. AreLooked looks request n (Some l)) (sym is) (values, noted_now before (values_part looks request l.designator.now).reads)
+
+  -- and behind a part that came
+  pub looked_behind : {A B E : Type 0} (meaning : A → B) (r : Result A E) (p : Part B) (before after : Notes) (o : Option Looked) → AreLooked looks request before o
+      → IfOk r (λ a. Comes p before after (meaning a)) → OnOk r (AreLooked looks request after o)
+  looked_behind meaning (Ok a) p before after o has came = looked_stay before after p.reads o came.reads has
+  looked_behind meaning (Err e) p before after o has came = tt

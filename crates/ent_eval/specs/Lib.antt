@@ -1,4 +1,5 @@
 pub mod Answer
+pub mod Comes
 pub mod Entities
 pub mod Expression
 pub mod Gathered

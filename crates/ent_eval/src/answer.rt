@@ -22,7 +22,8 @@ pub enum Status {
 /// A rule that gave the decision, or an element that gave it by default.
 #[derive(PartialEq, Eq, Drop)]
 pub struct WhyEntry {
-    /// The policies from the root on to the one in which the rule stands, or to the element. Entries with equal paths may share it.
+    /// The policies from the root on to the one in which the rule stands, or to the element. Entries with equal paths
+    /// may share it.
     pub path: Shared<Items<DocKey>>,
     /// The rule's id, or `None` for a default.
     pub rule: Option<Text>,
@@ -36,7 +37,8 @@ pub struct Answer {
     pub status: Status,
     /// The rules that gave a Permit or a Deny, in document order. It is empty for every other decision.
     pub why: Items<WhyEntry>,
-    /// The obligations that go with a Permit or a Deny (section 7.18), in document order. They are none for every other decision.
+    /// The obligations that go with a Permit or a Deny (section 7.18), in document order. They are none for every other
+    /// decision.
     pub obligations: Items<Given>,
     /// The advice that goes with it, in the same manner.
     pub advice: Items<Given>,

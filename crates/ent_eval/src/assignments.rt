@@ -3,7 +3,9 @@
 ghost use Rattle.std.specs.Prelude.{◌≡◌, ◌++◌, IfOk, OnOk, Ok, length, map, true};
 ghost use Rattle.std.specs.List.{list_all};
 ghost use Rattle.ent_policy.specs.Typing.{assignment_is_typed};
-ghost use Rattle.ent_eval.specs.Given.{added, assigned, assignment_of, assignment_part, given_in_turn, joined, joined_with};
+ghost use Rattle.ent_eval.specs.Comes.{Comes, in_scene};
+ghost use Rattle.ent_eval.specs.Given.{added, assigned, assignment_of, assignment_part, given_in_turn, joined};
+ghost use Rattle.ent_eval.specs.Given.{joined_with};
 ghost use Rattle.ent_eval.specs.Noted.{noting};
 ghost use Rattle.ent_eval.specs.Typed.{is_held};
 
@@ -27,8 +29,8 @@ impl<L: LookUps> Scene<'_, L> {
         expressions: &[AssignmentExpression],
     ) -> Result<Result<Items<Assignment>, Status>, AllocError>
         requires { list_all (assignment_is_typed definitions.now) expressions.now ≡ true }
-        ensures value { IfOk result (λ a. a ≡ (given_in_turn (assignment_part (L.looks self.now.held.now) self.now.request.now definitions.now) expressions.now).value) }
-        ensures reads { OnOk result (reads.new ≡ noting reads.old (given_in_turn (assignment_part (L.looks self.now.held.now) self.now.request.now definitions.now) expressions.now).reads) }
+        ensures comes { IfOk result (Comes (given_in_turn
+            (in_scene L.looks self.now assignment_part definitions.now) expressions.now) reads.old reads.new) }
     {
         let mut assignments = Items::with_capacity(self.alloc, expressions.len())?;
         for expression in expressions {
@@ -50,8 +52,10 @@ impl<L: LookUps> Scene<'_, L> {
         assignments: &mut Items<Assignment>,
     ) -> Result<Option<Status>, AllocError>
         requires { assignment_is_typed definitions.now expression.now ≡ true }
-        ensures value { IfOk result (λ s. added assignments.new s ≡ joined_with assignments.old (assignment_part (L.looks self.now.held.now) self.now.request.now definitions.now expression.now)) }
-        ensures reads { OnOk result (reads.new ≡ noting reads.old (assignment_part (L.looks self.now.held.now) self.now.request.now definitions.now expression.now).reads) }
+        ensures value { IfOk result (λ s. added assignments.new s ≡ joined_with assignments.old
+            (in_scene L.looks self.now assignment_part definitions.now expression.now)) }
+        ensures reads { OnOk result (reads.new ≡ noting reads.old
+            (in_scene L.looks self.now assignment_part definitions.now expression.now).reads) }
     {
         let evaluated = self.expression(
             reads,

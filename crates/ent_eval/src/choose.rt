@@ -1,9 +1,9 @@
 //! Which child of several applies.
 
-ghost use Rattle.std.specs.Prelude.{◌≡◌, ◌≤◌, IfOk, OnOk, length, map, true};
+ghost use Rattle.std.specs.Prelude.{◌≡◌, ◌≤◌, IfOk, length, map, true};
 ghost use Rattle.std.specs.List.{list_all};
+ghost use Rattle.ent_eval.specs.Comes.{Comes, in_scene};
 ghost use Rattle.ent_eval.specs.Hops.{child_target};
-ghost use Rattle.ent_eval.specs.Noted.{noting};
 ghost use Rattle.ent_eval.specs.Only.{choice_part, result_of_target, status_of_target};
 ghost use Rattle.ent_eval.specs.Typed.{is_fit};
 
@@ -18,8 +18,8 @@ use ent_policy::Child;
 use std::alloc::AllocError;
 
 impl<'a, L: LookUps> Scene<'a, L> {
-    // The child whose target alone matches: the targets are looked at up to the first that is Indeterminate or the second that
-    // matches.
+    // The child whose target alone matches: the targets are looked at up to the first that is Indeterminate or the
+    // second that matches.
     pub(crate) fn choose(
         &self,
         reads: &mut Notes,
@@ -28,8 +28,8 @@ impl<'a, L: LookUps> Scene<'a, L> {
     ) -> Result<Only, AllocError>
         requires fit { list_all is_fit children.now ≡ true }
         requires room { length children.now ≤ 256 }
-        ensures value { IfOk result (λ o. o ≡ (choice_part (map (child_target (L.looks self.now.held.now) self.now.request.now hops) children.now)).value) }
-        ensures reads { OnOk result (reads.new ≡ noting reads.old (choice_part (map (child_target (L.looks self.now.held.now) self.now.request.now hops) children.now)).reads) }
+        ensures comes { IfOk result (Comes (choice_part (map (in_scene L.looks self.now child_target hops) children.now))
+            reads.old reads.new) }
     {
         let mut chooser = Chooser::new();
         for child in children {
@@ -54,8 +54,7 @@ impl<'a, L: LookUps> Scene<'a, L> {
         child: &'a Child,
     ) -> Result<Targeted, AllocError>
         requires { is_fit child.now ≡ true }
-        ensures value { IfOk result (λ t. t ≡ (child_target (L.looks self.now.held.now) self.now.request.now hops child.now).value) }
-        ensures reads { OnOk result (reads.new ≡ noting reads.old (child_target (L.looks self.now.held.now) self.now.request.now hops child.now).reads) }
+        ensures comes { IfOk result (Comes (in_scene L.looks self.now child_target hops child.now) reads.old reads.new) }
     {
         match child {
             Child::Policy(policy) => self.target(reads, &policy.target),

@@ -1,6 +1,6 @@
 //! What expressions come to.
 
-ghost use Rattle.std.specs.Prelude.{◌≡◌, IfOk, IsSome, MatchResult, OnOk, Some, map, true, false};
+ghost use Rattle.std.specs.Prelude.{◌≡◌, IfOk, IsSome, MatchResult, Some, map, true, false};
 ghost use Rattle.std.specs.Option.{option_copied};
 ghost use Rattle.ent_functions.specs.Applied.{applied};
 ghost use Rattle.ent_functions.specs.Arguments.{type_of_arg};
@@ -8,9 +8,10 @@ ghost use Rattle.ent_functions.specs.Types.{boolean, result_type_of};
 ghost use Rattle.ent_functions.specs.declared.types.ArgType.TheVariants.{Many};
 ghost use Rattle.ent_policy.specs.Typing.{variable_type};
 ghost use Rattle.ent_policy.specs.Variables.{definition_of};
-ghost use Rattle.ent_eval.specs.Expression.{apply_part, evaluated_of, designated, is_result, meaning, settles, variable_part};
+ghost use Rattle.ent_eval.specs.Comes.{Comes, in_scene};
+ghost use Rattle.ent_eval.specs.Expression.{apply_part, evaluated_of, designated, is_result, meaning, settles};
+ghost use Rattle.ent_eval.specs.Expression.{variable_part};
 ghost use Rattle.ent_eval.specs.declared.evaluated.Evaluated.TheVariants.{Known};
-ghost use Rattle.ent_eval.specs.Noted.{noting};
 ghost use Rattle.ent_eval.specs.Typed.{HasType, apply_type, type_of};
 ghost use Rattle.ent_eval.specs.Uncopied.{member_part};
 
@@ -37,8 +38,8 @@ impl<L: LookUps> Scene<'_, L> {
         expression: &Expression,
     ) -> Result<Evaluated, AllocError>
         requires typed { IsSome (type_of definitions.now references expression.now) }
-        ensures value { IfOk result (λ v. v ≡ (meaning (L.looks self.now.held.now) self.now.request.now definitions.now references expression.now).value) }
-        ensures reads { OnOk result (reads.new ≡ noting reads.old (meaning (L.looks self.now.held.now) self.now.request.now definitions.now references expression.now).reads) }
+        ensures comes { IfOk result (Comes (in_scene L.looks self.now meaning definitions.now references expression.now)
+            reads.old reads.new) }
         ensures typed { IfOk result (λ v. HasType (type_of definitions.now references expression.now) v) }
     {
         match expression {
@@ -66,8 +67,8 @@ impl<L: LookUps> Scene<'_, L> {
         id: &Text,
     ) -> Result<Evaluated, AllocError>
         requires typed { IsSome (variable_type definitions.now references id.now) }
-        ensures value { IfOk result (λ v. v ≡ (variable_part (L.looks self.now.held.now) self.now.request.now definitions.now references id.now).value) }
-        ensures reads { OnOk result (reads.new ≡ noting reads.old (variable_part (L.looks self.now.held.now) self.now.request.now definitions.now references id.now).reads) }
+        ensures comes { IfOk result (Comes (in_scene L.looks self.now variable_part definitions.now references id.now)
+            reads.old reads.new) }
         ensures typed { IfOk result (λ v. HasType (variable_type definitions.now references id.now) v) }
     {
         match definition_of(definitions, id) {
@@ -92,8 +93,8 @@ impl<L: LookUps> Scene<'_, L> {
         arguments: &[Expression],
     ) -> Result<Evaluated, AllocError>
         requires typed { IsSome (apply_type definitions.now references function arguments.now) }
-        ensures value { IfOk result (λ v. v ≡ (apply_part (L.looks self.now.held.now) self.now.request.now definitions.now references function arguments.now).value) }
-        ensures reads { OnOk result (reads.new ≡ noting reads.old (apply_part (L.looks self.now.held.now) self.now.request.now definitions.now references function arguments.now).reads) }
+        ensures comes { IfOk result (Comes (in_scene L.looks self.now apply_part definitions.now references function arguments.now)
+            reads.old reads.new) }
         ensures typed { IfOk result (λ v. HasType (apply_type definitions.now references function arguments.now) v) }
     {
         if let Some((value, designator)) = membership(self.request, function, arguments) {
@@ -120,8 +121,7 @@ impl<L: LookUps> Scene<'_, L> {
         value: &Value,
         designator: &Designator,
     ) -> Result<Evaluated, AllocError>
-        ensures value { IfOk result (λ v. v ≡ (member_part (L.looks self.now.held.now) self.now.request.now value.now designator.now).value) }
-        ensures reads { OnOk result (reads.new ≡ noting reads.old (member_part (L.looks self.now.held.now) self.now.request.now value.now designator.now).reads) }
+        ensures comes { IfOk result (Comes (in_scene L.looks self.now member_part value.now designator.now) reads.old reads.new) }
         ensures typed { IfOk result (λ v. HasType (Some boolean) v) }
     {
         if let Some(found) = is_own(self.request, designator, value) {
@@ -137,8 +137,7 @@ impl<L: LookUps> Scene<'_, L> {
         reads: &mut Notes,
         designator: &Designator,
     ) -> Result<Evaluated, AllocError>
-        ensures value { IfOk result (λ v. v ≡ (designated (L.looks self.now.held.now) self.now.request.now designator.now).value) }
-        ensures reads { OnOk result (reads.new ≡ noting reads.old (designated (L.looks self.now.held.now) self.now.request.now designator.now).reads) }
+        ensures comes { IfOk result (Comes (in_scene L.looks self.now designated designator.now) reads.old reads.new) }
         ensures typed { IfOk result (λ v. HasType (Some (Many designator.now.datatype)) v) }
     {
         let bag = self.values(reads, designator)?;
@@ -166,7 +165,8 @@ fn definition_of<'a>(
 
 // An argument, unless it is the result of the function.
 fn argument_of(function: Function, value: Evaluated) -> Result<Arg, Evaluated>
-    ensures { MatchResult result (λ a. (value ≡ Known a) × (is_result function value ≡ false)) (λ v. (v ≡ value) × (is_result function value ≡ true)) }
+    ensures { MatchResult result (λ a. (value ≡ Known a) × (is_result function value ≡ false))
+        (λ v. (v ≡ value) × (is_result function value ≡ true)) }
 {
     match value {
         Evaluated::Indeterminate(_) => Err(value),

@@ -13,7 +13,8 @@ use crate::told::Told;
 use ent_combine::{Combiner, Outcome, Progress, RuleAlg};
 use std::alloc::{AllocError, Global};
 
-// The children that were seen: what they come to, the first status that isn't `Okay`, and what those of each decision tell.
+// The children that were seen: what they come to, the first status that isn't `Okay`, and what those of each decision
+// tell.
 #[derive(Drop)]
 pub(crate) struct Gathering {
     pub(crate) combiner: Combiner,
@@ -95,7 +96,8 @@ impl Gathering {
         here: &Path<'_>,
         algorithm: RuleAlg,
     ) -> Result<Option<Answer>, AllocError>
-        ensures value { IfOk result (λ a. (answers : List Answer) → HasGathered algorithm self answers → or_nothing a ≡ judged_by (keys_of here.now) algorithm answers) }
+        ensures value { IfOk result (λ a. (answers : List Answer) → HasGathered algorithm self answers → or_nothing a
+            ≡ judged_by (keys_of here.now) algorithm answers) }
         ensures reads { reads.new ≡ reads.old }
     {
         let decision = self.combiner.finish();

@@ -31,7 +31,8 @@ pub(crate) fn holds_in(alloc: Global, test: &Match, values: &[Value]) -> Result<
 // The same of the request's own values, which lie in several attributes.
 pub(crate) fn holds_of(alloc: Global, test: &Match, request: &Request) -> Result<bool, AllocError>
     requires { Tests test.now.function test.now.literal test.now.designator.datatype }
-    ensures { IfOk result (λ b. b ≡ list_any (is_true test.now.function test.now.literal) (own_values test.now.designator request.now)) }
+    ensures { IfOk result (λ b. b
+        ≡ list_any (is_true test.now.function test.now.literal) (own_values test.now.designator request.now)) }
 {
     let sought = Sought::of(&test.designator);
     for category in request.categories.as_slice() {
@@ -50,7 +51,8 @@ fn holds_of_category(
     sought: &Sought<'_>,
 ) -> Result<bool, AllocError>
     requires { Tests test.now.function test.now.literal sought.now.datatype }
-    ensures { IfOk result (λ b. b ≡ list_any (is_true test.now.function test.now.literal) (values_of (designator_of sought.now) category.now)) }
+    ensures { IfOk result (λ b. b
+        ≡ list_any (is_true test.now.function test.now.literal) (values_of (designator_of sought.now) category.now)) }
 {
     for attribute in attributes_in(sought.category, category) {
         if holds_in(alloc, test, values_in(attribute, sought))? {

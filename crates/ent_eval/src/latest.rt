@@ -10,7 +10,8 @@ use ent_policy::Designator;
 use ent_values::{Text, Value};
 use std::marker::Model;
 
-// A request, with its own values for the designator that was asked for last: targets that follow each other mostly ask for the same.
+// A request, with its own values for the designator that was asked for last: targets that follow each other mostly ask
+// for the same.
 #[derive(Drop)]
 pub(crate) struct Latest<'a> {
     request: &'a Request,
@@ -55,7 +56,8 @@ impl<'a> Latest<'a> {
 
     // The request's own values, where one slice has them all: where they don't lie in several attributes.
     pub(crate) fn values(&mut self, designator: &'a Designator) -> Option<&'a [Value]>
-        ensures value { MatchOption result (AreSeveral (own_values designator.now self.old)) (λ v. IsWhole designator.now.datatype (own_values designator.now self.old) v.now) }
+        ensures value { MatchOption result (AreSeveral (own_values designator.now self.old))
+            (λ v. IsWhole designator.now.datatype (own_values designator.now self.old) v.now) }
         ensures request { self.new ≡ self.old }
     {
         if let Some(found) = self.found {

@@ -3,7 +3,8 @@
 ghost use Rattle.ent_eval.specs.Entities.{ListedNamesThree, ValuesAreOfTheRequest};
 ghost use Rattle.ent_eval.specs.Law.{EachKeyIsRecordedOnce, EqualLookUpsGiveEqualAnswers, WhatIsLookedUpIsRecorded};
 
-/// Law: where each look-up that is recorded for an answer gives the same, the answer is the same, and so are the look-ups.
+/// Law: where each look-up that is recorded for an answer gives the same, the answer is the same, and so are the
+/// look-ups.
 pub fn equal_look_ups_give_equal_answers()
     ensures { EqualLookUpsGiveEqualAnswers }
 {}
@@ -18,8 +19,8 @@ pub fn what_is_looked_up_is_recorded()
     ensures { WhatIsLookedUpIsRecorded }
 {}
 
-/// Law: an answer rests on values of those entities alone that the request names, each in its category (section 7.3.5). Look-ups that
-/// differ in values of other entities give the same answer.
+/// Law: an answer rests on values of those entities alone that the request names, each in its category (section 7.3.5).
+/// Look-ups that differ in values of other entities give the same answer.
 pub fn values_are_of_the_request()
     ensures { ValuesAreOfTheRequest }
 {}

@@ -1,4 +1,5 @@
-//! The evaluator of requests (OASIS XACML 3.0 core, section 7): the answer to a request, and the look-ups that it rests on.
+//! The evaluator of requests (OASIS XACML 3.0 core, section 7): the answer to a request, and the look-ups that it rests
+//! on.
 #![tactic(auto)]
 
 mod answer;

@@ -2,9 +2,9 @@
 
 ghost use Rattle.std.specs.Prelude.{◌≡◌, IfOk, IsSome, OnOk, Some};
 ghost use Rattle.ent_functions.specs.Types.{boolean};
+ghost use Rattle.ent_eval.specs.Comes.{Comes, in_scene};
 ghost use Rattle.ent_eval.specs.Expression.{meaning};
 ghost use Rattle.ent_eval.specs.Looked.{AreLooked};
-ghost use Rattle.ent_eval.specs.Noted.{noting};
 ghost use Rattle.ent_eval.specs.Typed.{HasType, type_of};
 ghost use Rattle.ent_eval.specs.Uncopied.{member_part};
 
@@ -26,8 +26,8 @@ pub(crate) struct Looked<'a> {
 }
 
 impl<'a, L: LookUps> Scene<'a, L> {
-    // A condition's expression among the definitions of its policy. Is-in of a value and a designator is told by the values that are
-    // at hand, if these are the designator's.
+    // A condition's expression among the definitions of its policy. Is-in of a value and a designator is told by the
+    // values that are at hand, if these are the designator's.
     pub(crate) fn tested(
         &self,
         reads: &mut Notes,
@@ -37,11 +37,11 @@ impl<'a, L: LookUps> Scene<'a, L> {
         expression: &'a Expression,
     ) -> Result<Evaluated, AllocError>
         requires typed { IsSome (type_of definitions.now references expression.now) }
-        requires looked { AreLooked (L.looks self.now.held.now) self.now.request.now reads.old looked.old }
-        ensures value { IfOk result (λ v. v ≡ (meaning (L.looks self.now.held.now) self.now.request.now definitions.now references expression.now).value) }
-        ensures reads { OnOk result (reads.new ≡ noting reads.old (meaning (L.looks self.now.held.now) self.now.request.now definitions.now references expression.now).reads) }
+        requires looked { in_scene L.looks self.now AreLooked reads.old looked.old }
+        ensures comes { IfOk result (Comes (in_scene L.looks self.now meaning definitions.now references expression.now)
+            reads.old reads.new) }
         ensures typed { IfOk result (λ v. HasType (type_of definitions.now references expression.now) v) }
-        ensures looked { OnOk result (AreLooked (L.looks self.now.held.now) self.now.request.now reads.new looked.new) }
+        ensures looked { OnOk result (in_scene L.looks self.now AreLooked reads.new looked.new) }
     {
         if let Expression::Apply(function, arguments) = expression {
             if let Some((value, designator)) = membership(
@@ -55,8 +55,8 @@ impl<'a, L: LookUps> Scene<'a, L> {
         self.expression(reads, definitions, references, expression)
     }
 
-    // Is-in of a value and a designator, whose values are at hand from then on. What was looked up for those that are at hand is noted
-    // already, so they serve as they are.
+    // Is-in of a value and a designator, whose values are at hand from then on. What was looked up for those that are
+    // at hand is noted already, so they serve as they are.
     fn is_among_looked(
         &self,
         reads: &mut Notes,
@@ -64,11 +64,10 @@ impl<'a, L: LookUps> Scene<'a, L> {
         value: &Value,
         designator: &'a Designator,
     ) -> Result<Evaluated, AllocError>
-        requires { AreLooked (L.looks self.now.held.now) self.now.request.now reads.old looked.old }
-        ensures value { IfOk result (λ v. v ≡ (member_part (L.looks self.now.held.now) self.now.request.now value.now designator.now).value) }
-        ensures reads { OnOk result (reads.new ≡ noting reads.old (member_part (L.looks self.now.held.now) self.now.request.now value.now designator.now).reads) }
+        requires { in_scene L.looks self.now AreLooked reads.old looked.old }
+        ensures comes { IfOk result (Comes (in_scene L.looks self.now member_part value.now designator.now) reads.old reads.new) }
         ensures typed { IfOk result (λ v. HasType (Some boolean) v) }
-        ensures looked { OnOk result (AreLooked (L.looks self.now.held.now) self.now.request.now reads.new looked.new) }
+        ensures looked { OnOk result (in_scene L.looks self.now AreLooked reads.new looked.new) }
     {
         if let Some(latest) = &*looked {
             if seeks_same(latest.designator, designator) {

@@ -1,11 +1,11 @@
 //! What a policy comes to.
 
-ghost use Rattle.std.specs.Prelude.{◌≡◌, IfOk, OnOk, true};
+ghost use Rattle.std.specs.Prelude.{◌≡◌, IfOk, true};
 ghost use Rattle.std.specs.List.{list_all};
 ghost use Rattle.ent_policy.specs.Typing.{given_is_typed, rule_is_typed};
+ghost use Rattle.ent_eval.specs.Comes.{Comes, in_scene};
 ghost use Rattle.ent_eval.specs.Judged.{or_nothing, under_target};
 ghost use Rattle.ent_eval.specs.Node.{policy_after, policy_rules, rules_combined};
-ghost use Rattle.ent_eval.specs.Noted.{noting};
 ghost use Rattle.ent_eval.specs.Path.{keys_of};
 
 use crate::answer::{Answer, Status};
@@ -22,7 +22,8 @@ use ent_values::Items;
 use std::alloc::{AllocError, Global};
 
 impl<'a, L: LookUps> Scene<'a, L> {
-    // The rules are evaluated unless the target doesn't match, and behind them what the policy gives itself, if it matches.
+    // The rules are evaluated unless the target doesn't match, and behind them what the policy gives itself, if it
+    // matches.
     #[tactic(auto, using(crate::proofs::Walk::noting_both))]
     pub(crate) fn policy_after(
         &self,
@@ -35,8 +36,8 @@ impl<'a, L: LookUps> Scene<'a, L> {
         requires rules { list_all (rule_is_typed policy.now.variables) policy.now.rules ≡ true }
         requires given { given_is_typed policy.now.variables policy.now.given ≡ true }
         requires own { own.old ≡ self.now.request.now }
-        ensures value { IfOk result (λ a. or_nothing a ≡ (policy_after (L.looks self.now.held.now) self.now.request.now (keys_of path.now) policy.now targeted).value) }
-        ensures reads { OnOk result (reads.new ≡ noting reads.old (policy_after (L.looks self.now.held.now) self.now.request.now (keys_of path.now) policy.now targeted).reads) }
+        ensures comes { IfOk result (λ a. Comes (in_scene L.looks self.now policy_after (keys_of path.now) policy.now targeted)
+            reads.old reads.new (or_nothing a)) }
         ensures own { own.new ≡ own.old }
     {
         match targeted {
@@ -66,8 +67,8 @@ impl<'a, L: LookUps> Scene<'a, L> {
     ) -> Result<Option<Answer>, AllocError>
         requires typed { list_all (rule_is_typed policy.now.variables) policy.now.rules ≡ true }
         requires own { own.old ≡ self.now.request.now }
-        ensures value { IfOk result (λ a. or_nothing a ≡ (policy_rules (L.looks self.now.held.now) self.now.request.now (keys_of path.now) policy.now).value) }
-        ensures reads { OnOk result (reads.new ≡ noting reads.old (policy_rules (L.looks self.now.held.now) self.now.request.now (keys_of path.now) policy.now).reads) }
+        ensures comes { IfOk result (λ a. Comes (in_scene L.looks self.now policy_rules (keys_of path.now) policy.now)
+            reads.old reads.new (or_nothing a)) }
         ensures own { own.new ≡ own.old }
     {
         let here = Path::Below {
@@ -98,8 +99,9 @@ impl<'a, L: LookUps> Scene<'a, L> {
     ) -> Result<Option<Answer>, AllocError>
         requires typed { list_all (rule_is_typed definitions.now) rules.now ≡ true }
         requires own { own.old ≡ self.now.request.now }
-        ensures value { IfOk result (λ a. or_nothing a ≡ (rules_combined (L.looks self.now.held.now) self.now.request.now definitions.now (keys_of path.now) algorithm rules.now).value) }
-        ensures reads { OnOk result (reads.new ≡ noting reads.old (rules_combined (L.looks self.now.held.now) self.now.request.now definitions.now (keys_of path.now) algorithm rules.now).reads) }
+        ensures comes { IfOk result (λ a. Comes
+            (in_scene L.looks self.now rules_combined definitions.now (keys_of path.now) algorithm rules.now)
+            reads.old reads.new (or_nothing a)) }
         ensures own { own.new ≡ own.old }
     {
         let mut gathering = gather(self.alloc, algorithm);

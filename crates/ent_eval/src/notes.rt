@@ -15,8 +15,8 @@ use std::alloc::{AllocError, Global};
 use std::marker::Model;
 use std::mem;
 
-// The look-ups that an evaluation made so far, or nothing where they aren't asked for: then no key is made for them. Beside them the
-// lists of keys that are lent for its time.
+// The look-ups that an evaluation made so far, or nothing where they aren't asked for: then no key is made for them.
+// Beside them the lists of keys that are lent for its time.
 #[derive(Drop)]
 pub(crate) struct Notes {
     reads: Option<Reads>,

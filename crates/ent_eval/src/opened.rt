@@ -1,15 +1,15 @@
 //! Children of which the target was looked at, and what is left of them.
 
-ghost use Rattle.std.specs.Prelude.{◌≡◌, ◌≤◌, ◌+◌, ◌*◌, IfOk, OnOk, true};
+ghost use Rattle.std.specs.Prelude.{◌≡◌, ◌≤◌, ◌+◌, ◌*◌, IfOk, true};
 ghost use Rattle.ent_policy.specs.Children.{as_child};
 ghost use Rattle.ent_policy.specs.Depths.{depth};
 ghost use Rattle.ent_policy.specs.Typing.{policy_is_typed};
 ghost use Rattle.ent_policy.specs.declared.document.Child.{size-Child};
 ghost use Rattle.ent_policy.specs.declared.document.PolicySet.{size-PolicySet};
+ghost use Rattle.ent_eval.specs.Comes.{Comes, in_scene};
 ghost use Rattle.ent_eval.specs.Hops.{child_part, followed_part, reference_part, set_part};
 ghost use Rattle.ent_eval.specs.Judged.{or_nothing};
 ghost use Rattle.ent_eval.specs.Node.{policy_part};
-ghost use Rattle.ent_eval.specs.Noted.{noting};
 ghost use Rattle.ent_eval.specs.Opened.{Leaves, is_fit_left, left_part, worth, worth_of_hop};
 ghost use Rattle.ent_eval.specs.Path.{keys_of};
 ghost use Rattle.ent_eval.specs.Typed.{is_fit, set_is_fit};
@@ -24,7 +24,8 @@ use crate::target::Targeted;
 use ent_policy::{Child, Policy, PolicySet, Reference, Tree};
 use std::alloc::AllocError;
 
-// A child of which the target was looked at. Most don't match, and then nothing is left: so no answer is handed on for them.
+// A child of which the target was looked at. Most don't match, and then nothing is left: so no answer is handed on for
+// them.
 #[derive(Clone, Copy)]
 pub(crate) enum Opened<'a> {
     // The target doesn't match.
@@ -48,7 +49,8 @@ impl<'a, L: LookUps> Scene<'a, L> {
     ) -> Result<Opened<'a>, AllocError>
         requires fit { is_fit child.now ≡ true }
         requires own { own.old ≡ self.now.request.now }
-        ensures left { IfOk result (Leaves (L.looks self.now.held.now) self.now.request.now (λ looks request path. child_part looks request hops path child.now) reads.old reads.new) }
+        ensures left { IfOk result (in_scene L.looks self.now Leaves
+            (λ looks request path. child_part looks request hops path child.now) reads.old reads.new) }
         ensures fit { IfOk result (λ o. is_fit_left o ≡ true) }
         ensures worth { IfOk result (λ o. worth o ≤ hops * worth_of_hop + 8 * size-Child child.now) }
         ensures own { own.new ≡ own.old }
@@ -70,7 +72,8 @@ impl<'a, L: LookUps> Scene<'a, L> {
         reference: &Reference,
     ) -> Result<Opened<'a>, AllocError>
         requires own { own.old ≡ self.now.request.now }
-        ensures left { IfOk result (Leaves (L.looks self.now.held.now) self.now.request.now (λ looks request path. reference_part looks request hops path reference.now) reads.old reads.new) }
+        ensures left { IfOk result (in_scene L.looks self.now Leaves
+            (λ looks request path. reference_part looks request hops path reference.now) reads.old reads.new) }
         ensures fit { IfOk result (λ o. is_fit_left o ≡ true) }
         ensures worth { IfOk result (λ o. worth o ≤ hops * worth_of_hop) }
         ensures own { own.new ≡ own.old }
@@ -91,7 +94,8 @@ impl<'a, L: LookUps> Scene<'a, L> {
         reference: &Reference,
     ) -> Result<Opened<'a>, AllocError>
         requires own { own.old ≡ self.now.request.now }
-        ensures left { IfOk result (Leaves (L.looks self.now.held.now) self.now.request.now (λ looks request path. followed_part looks request hops path reference.now) reads.old reads.new) }
+        ensures left { IfOk result (in_scene L.looks self.now Leaves
+            (λ looks request path. followed_part looks request hops path reference.now) reads.old reads.new) }
         ensures fit { IfOk result (λ o. is_fit_left o ≡ true) }
         ensures worth { IfOk result (λ o. worth o ≤ hops * worth_of_hop + 8 * 31) }
         ensures own { own.new ≡ own.old }
@@ -114,7 +118,8 @@ impl<'a, L: LookUps> Scene<'a, L> {
         requires fit { is_fit (as_child tree.now) ≡ true }
         requires shallow { depth (as_child tree.now) ≤ 16 }
         requires own { own.old ≡ self.now.request.now }
-        ensures left { IfOk result (Leaves (L.looks self.now.held.now) self.now.request.now (λ looks request path. child_part looks request hops path (as_child tree.now)) reads.old reads.new) }
+        ensures left { IfOk result (in_scene L.looks self.now Leaves
+            (λ looks request path. child_part looks request hops path (as_child tree.now)) reads.old reads.new) }
         ensures fit { IfOk result (λ o. is_fit_left o ≡ true) }
         ensures worth { IfOk result (λ o. worth o ≤ hops * worth_of_hop + 8 * 31) }
         ensures own { own.new ≡ own.old }
@@ -136,7 +141,8 @@ impl<'a, L: LookUps> Scene<'a, L> {
     ) -> Result<Opened<'a>, AllocError>
         requires typed { policy_is_typed policy.now ≡ true }
         requires own { own.old ≡ self.now.request.now }
-        ensures left { IfOk result (Leaves (L.looks self.now.held.now) self.now.request.now (λ looks request path. policy_part looks request path policy.now) reads.old reads.new) }
+        ensures left { IfOk result (in_scene L.looks self.now Leaves
+            (λ looks request path. policy_part looks request path policy.now) reads.old reads.new) }
         ensures fit { IfOk result (λ o. is_fit_left o ≡ true) }
         ensures worth { IfOk result (λ o. worth o ≡ 0) }
         ensures own { own.new ≡ own.old }
@@ -158,7 +164,8 @@ impl<'a, L: LookUps> Scene<'a, L> {
     ) -> Result<Opened<'a>, AllocError>
         requires fit { set_is_fit set.now ≡ true }
         requires own { own.old ≡ self.now.request.now }
-        ensures left { IfOk result (Leaves (L.looks self.now.held.now) self.now.request.now (λ looks request path. set_part looks request hops path set.now) reads.old reads.new) }
+        ensures left { IfOk result (in_scene L.looks self.now Leaves
+            (λ looks request path. set_part looks request hops path set.now) reads.old reads.new) }
         ensures fit { IfOk result (λ o. is_fit_left o ≡ true) }
         ensures worth { IfOk result (λ o. worth o ≤ hops * worth_of_hop + 8 * size-PolicySet set.now) }
         ensures own { own.new ≡ own.old }
@@ -182,8 +189,8 @@ impl<'a, L: LookUps> Scene<'a, L> {
     ) -> Result<Option<Answer>, AllocError>
         requires fit { is_fit_left opened ≡ true }
         requires own { own.old ≡ self.now.request.now }
-        ensures value { IfOk result (λ a. or_nothing a ≡ (left_part (L.looks self.now.held.now) self.now.request.now (keys_of path.now) opened.entry).value) }
-        ensures reads { OnOk result (reads.new ≡ noting reads.old (left_part (L.looks self.now.held.now) self.now.request.now (keys_of path.now) opened.entry).reads) }
+        ensures comes { IfOk result (λ a. Comes (in_scene L.looks self.now left_part (keys_of path.now) opened.entry)
+            reads.old reads.new (or_nothing a)) }
         ensures own { own.new ≡ own.old }
     {
         match opened {

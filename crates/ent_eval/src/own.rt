@@ -10,8 +10,8 @@ use crate::request::{Attribute, Category, Request};
 use ent_policy::Designator;
 use ent_values::{DataType, Text, Value};
 
-/// What is looked for in a request: the attributes of a category that have an id, a type and, if one is named, an issuer (sections
-/// 5.29 and 7.3.5).
+/// What is looked for in a request: the attributes of a category that have an id, a type and, if one is named, an
+/// issuer (sections 5.29 and 7.3.5).
 #[derive(Clone, Copy)]
 pub(crate) struct Sought<'a> {
     pub(crate) category: &'a str,
@@ -46,7 +46,8 @@ impl<'a> Sought<'a> {
 
 // The request's own values, where one slice has them all: where they don't lie in several attributes.
 pub(crate) fn own_values<'a>(request: &'a Request, sought: &Sought<'_>) -> Option<&'a [Value]>
-    ensures { MatchOption result (AreSeveral (own_values (designator_of sought.now) request.now)) (λ v. IsWhole sought.now.datatype (own_values (designator_of sought.now) request.now) v.now) }
+    ensures { MatchOption result (AreSeveral (own_values (designator_of sought.now) request.now))
+        (λ v. IsWhole sought.now.datatype (own_values (designator_of sought.now) request.now) v.now) }
 {
     let mut so_far: &'a [Value] = &[];
     for category in request.categories.as_slice() {
@@ -57,7 +58,8 @@ pub(crate) fn own_values<'a>(request: &'a Request, sought: &Sought<'_>) -> Optio
 
 // The same of one category.
 fn values_of<'a>(category: &'a Category, sought: &Sought<'_>) -> Option<&'a [Value]>
-    ensures { MatchOption result (AreSeveral (values_of (designator_of sought.now) category.now)) (λ v. IsWhole sought.now.datatype (values_of (designator_of sought.now) category.now) v.now) }
+    ensures { MatchOption result (AreSeveral (values_of (designator_of sought.now) category.now))
+        (λ v. IsWhole sought.now.datatype (values_of (designator_of sought.now) category.now) v.now) }
 {
     let mut so_far: &'a [Value] = &[];
     for attribute in attributes_in(sought.category, category) {

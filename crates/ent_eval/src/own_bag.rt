@@ -18,7 +18,10 @@ pub(crate) fn own_bag(
     request: &Request,
     designator: &Designator,
 ) -> Result<Bag, AllocError>
-    ensures { IfOk result (λ b. b ≡ record { datatype = designator.now.datatype; values = own_values designator.now request.now }) }
+    ensures { IfOk result (λ b. b ≡ record {
+      datatype = designator.now.datatype;
+      values = own_values designator.now request.now;
+    }) }
 {
     let sought = Sought::of(designator);
     match own_values(request, &sought) {
@@ -39,7 +42,10 @@ fn bag_of(alloc: Global, datatype: DataType, values: &[Value]) -> Result<Bag, Al
 
 // Copies of values that lie in several attributes.
 fn gathered(alloc: Global, request: &Request, sought: &Sought<'_>) -> Result<Bag, AllocError>
-    ensures { IfOk result (λ b. b ≡ record { datatype = sought.now.datatype; values = own_values (designator_of sought.now) request.now }) }
+    ensures { IfOk result (λ b. b ≡ record {
+      datatype = sought.now.datatype;
+      values = own_values (designator_of sought.now) request.now;
+    }) }
 {
     let mut bag = Bag::new(alloc, sought.datatype);
     for category in request.categories.as_slice() {
@@ -56,7 +62,10 @@ fn add_of(
     bag: &mut Bag,
 ) -> Result<(), AllocError>
     requires { bag.old.datatype ≡ sought.now.datatype }
-    ensures { OnOk result (bag.new ≡ record { datatype = bag.old.datatype; values = bag.old.values ++ values_of (designator_of sought.now) category.now }) }
+    ensures { OnOk result (bag.new ≡ record {
+      datatype = bag.old.datatype;
+      values = bag.old.values ++ values_of (designator_of sought.now) category.now;
+    }) }
 {
     for attribute in attributes_in(sought.category, category) {
         add_copies(alloc, values_in(attribute, sought), bag)?;
@@ -77,7 +86,8 @@ fn add_copies(alloc: Global, values: &[Value], bag: &mut Bag) -> Result<(), Allo
 
 // Whether a value is one of the request's own, if it has any.
 pub(crate) fn is_own(request: &Request, designator: &Designator, value: &Value) -> Option<bool>
-    ensures { result ≡ (if is_empty (own_values designator.now request.now) then None else Some (is_among value.now (own_values designator.now request.now))) }
+    ensures { result ≡ (if is_empty (own_values designator.now request.now) then None
+        else Some (is_among value.now (own_values designator.now request.now))) }
 {
     let sought = Sought::of(designator);
     match own_values(request, &sought) {

@@ -3,7 +3,9 @@
 ghost use Rattle.std.specs.Prelude.{◌≡◌, IfOk, OnOk, Ok, true};
 ghost use Rattle.std.specs.List.{list_all};
 ghost use Rattle.ent_policy.specs.Typing.{given_expression_is_typed, given_is_typed};
-ghost use Rattle.ent_eval.specs.Given.{added, advice_after, effect_of, finished, given_part, given_with, givens_part, goes_with, indeterminate_of, joined, with_own};
+ghost use Rattle.ent_eval.specs.Comes.{Comes, in_scene};
+ghost use Rattle.ent_eval.specs.Given.{added, advice_after, effect_of, finished, given_part, given_with, givens_part};
+ghost use Rattle.ent_eval.specs.Given.{goes_with, indeterminate_of, joined, with_own};
 ghost use Rattle.ent_eval.specs.Judged.{or_nothing};
 ghost use Rattle.ent_eval.specs.Noted.{noting};
 ghost use Rattle.std.specs.Prelude.{Some};
@@ -29,8 +31,8 @@ impl<L: LookUps> Scene<'_, L> {
         answer: Option<Answer>,
     ) -> Result<Option<Answer>, AllocError>
         requires { given_is_typed definitions.now given.now ≡ true }
-        ensures value { IfOk result (λ a. or_nothing a ≡ (finished (L.looks self.now.held.now) self.now.request.now definitions.now given.now (or_nothing answer)).value) }
-        ensures reads { OnOk result (reads.new ≡ noting reads.old (finished (L.looks self.now.held.now) self.now.request.now definitions.now given.now (or_nothing answer)).reads) }
+        ensures comes { IfOk result (λ a. Comes (in_scene L.looks self.now finished definitions.now given.now (or_nothing answer))
+            reads.old reads.new (or_nothing a)) }
     {
         let Some(answer) = answer else {
             return Ok(None);
@@ -54,8 +56,8 @@ impl<L: LookUps> Scene<'_, L> {
     ) -> Result<Answer, AllocError>
         requires obligations { list_all (given_expression_is_typed definitions.now) given.now.obligations ≡ true }
         requires advice { list_all (given_expression_is_typed definitions.now) given.now.advice ≡ true }
-        ensures value { IfOk result (λ a. a ≡ (given_with (L.looks self.now.held.now) self.now.request.now definitions.now given.now (Some effect) answer).value) }
-        ensures reads { OnOk result (reads.new ≡ noting reads.old (given_with (L.looks self.now.held.now) self.now.request.now definitions.now given.now (Some effect) answer).reads) }
+        ensures comes { IfOk result (Comes (in_scene L.looks self.now given_with definitions.now given.now (Some effect) answer)
+            reads.old reads.new) }
     {
         let obligations = self.givens(reads, definitions, effect, given.obligations.as_slice())?;
         self.with_advice(reads, definitions, given, effect, answer, obligations)
@@ -72,8 +74,9 @@ impl<L: LookUps> Scene<'_, L> {
         obligations: Result<Items<Given>, Status>,
     ) -> Result<Answer, AllocError>
         requires { list_all (given_expression_is_typed definitions.now) given.now.advice ≡ true }
-        ensures value { IfOk result (λ a. a ≡ (advice_after (L.looks self.now.held.now) self.now.request.now definitions.now given.now effect answer obligations).value) }
-        ensures reads { OnOk result (reads.new ≡ noting reads.old (advice_after (L.looks self.now.held.now) self.now.request.now definitions.now given.now effect answer obligations).reads) }
+        ensures comes { IfOk result (Comes
+            (in_scene L.looks self.now advice_after definitions.now given.now effect answer obligations)
+            reads.old reads.new) }
     {
         match obligations {
             Err(status) => Ok(Answer::indeterminate(self.alloc, indeterminate_of(effect), status)),
@@ -113,8 +116,8 @@ impl<L: LookUps> Scene<'_, L> {
         expressions: &[GivenExpression],
     ) -> Result<Result<Items<Given>, Status>, AllocError>
         requires { list_all (given_expression_is_typed definitions.now) expressions.now ≡ true }
-        ensures value { IfOk result (λ g. g ≡ (givens_part (L.looks self.now.held.now) self.now.request.now definitions.now effect expressions.now).value) }
-        ensures reads { OnOk result (reads.new ≡ noting reads.old (givens_part (L.looks self.now.held.now) self.now.request.now definitions.now effect expressions.now).reads) }
+        ensures comes { IfOk result (Comes (in_scene L.looks self.now givens_part definitions.now effect expressions.now)
+            reads.old reads.new) }
     {
         let mut givens = Items::with_capacity(self.alloc, expressions.len())?;
         for expression in expressions {
@@ -137,8 +140,10 @@ impl<L: LookUps> Scene<'_, L> {
         givens: &mut Items<Given>,
     ) -> Result<Option<Status>, AllocError>
         requires { given_expression_is_typed definitions.now expression.now ≡ true }
-        ensures value { IfOk result (λ s. added givens.new s ≡ joined (Ok givens.old) (given_part (L.looks self.now.held.now) self.now.request.now definitions.now effect expression.now).value) }
-        ensures reads { OnOk result (reads.new ≡ noting reads.old (given_part (L.looks self.now.held.now) self.now.request.now definitions.now effect expression.now).reads) }
+        ensures value { IfOk result (λ s. added givens.new s ≡ joined (Ok givens.old)
+            (in_scene L.looks self.now given_part definitions.now effect expression.now).value) }
+        ensures reads { OnOk result (reads.new ≡ noting reads.old
+            (in_scene L.looks self.now given_part definitions.now effect expression.now).reads) }
     {
         if !goes_with(effect, expression.effect) {
             return Ok(None);

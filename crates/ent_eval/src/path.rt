@@ -13,7 +13,8 @@ const MIXED_BYTES: usize = 16;
 /// What a number is multiplied with for each of them.
 const MIXING_FACTOR: usize = 0x100_0000_01b3;
 
-// The policies from the root on to an element: each level stands on the stack for as long as what is below it is evaluated.
+// The policies from the root on to an element: each level stands on the stack for as long as what is below it is
+// evaluated.
 #[derive(Clone, Copy)]
 pub(crate) enum Path<'a> {
     Root,

@@ -12,8 +12,8 @@ use std::marker::Model;
 /// In so many places a list is kept.
 const PLACES: usize = 1024;
 
-// The lists of keys that were made last, so that equal paths of many answers share one. What it gives for a path never depends on
-// what is kept, so that it has no meaning of its own.
+// The lists of keys that were made last, so that equal paths of many answers share one. What it gives for a path never
+// depends on what is kept, so that it has no meaning of its own.
 #[derive(Drop)]
 pub(crate) struct Paths {
     places: Vec<Option<Shared<Items<DocKey>>>>,
@@ -33,7 +33,8 @@ impl Paths {
         }
     }
 
-    // The keys of a path: the list that is kept in its place, if it is that, and else a new one, which is kept there from now on.
+    // The keys of a path: the list that is kept in its place, if it is that, and else a new one, which is kept there
+    // from now on.
     pub(crate) fn keys(
         &mut self,
         alloc: Global,

@@ -20,8 +20,8 @@ use ent_values::{Bag, Date};
 use std::alloc::{AllocError, Global};
 use std::mem;
 
-/// Answers requests by the documents that its policies hold, from the root on, by the values that its attributes hold, and by the day,
-/// and counts the evaluations.
+/// Answers requests by the documents that its policies hold, from the root on, by the values that its attributes hold,
+/// and by the day, and counts the evaluations.
 #[derive(Drop)]
 pub struct Pdp<A = AttributeFinder, P = PolicyFinder> {
     alloc: Global,
@@ -62,8 +62,8 @@ impl<A: Attributes, P: Policies> LookUps for Pdp<A, P> {
 }
 
 impl<A: Attributes, P: Policies> Pdp<A, P> {
-    /// A decision point over these values of attributes and the documents of these policies, without a root and a day. Nothing is
-    /// allocated.
+    /// A decision point over these values of attributes and the documents of these policies, without a root and a day.
+    /// Nothing is allocated.
     pub fn new(alloc: Global, attributes: A, policies: P) -> Pdp<A, P>
         ensures attributes { result.attributes ≡ attributes }
         ensures policies { result.policies ≡ policies }
@@ -84,8 +84,8 @@ impl<A: Attributes, P: Policies> Pdp<A, P> {
 
     /// The answer to a request (section 7), and the look-ups that it rests on, each once.
     ///
-    /// On each path from the root at most six references are followed. One more, or one that finds no document, is Indeterminate
-    /// (section 7.15).
+    /// On each path from the root at most six references are followed. One more, or one that finds no document, is
+    /// Indeterminate (section 7.15).
     ///
     /// Each call counts, also one that is refused for want of memory. It changes nothing but the count.
     pub fn evaluate(&mut self, request: &Request) -> Result<Evaluation, AllocError>

@@ -3,8 +3,9 @@
 ghost use Rattle.std.specs.Prelude.{◌≡◌, IfOk, OnOk, true};
 ghost use Rattle.std.specs.Option.{option_copied};
 ghost use Rattle.ent_policy.specs.Children.{as_child};
+ghost use Rattle.ent_eval.specs.Comes.{Comes, in_scene};
 ghost use Rattle.ent_eval.specs.Hops.{child_target, reference_target};
-ghost use Rattle.ent_eval.specs.Noted.{noting, with_note};
+ghost use Rattle.ent_eval.specs.Noted.{with_note};
 ghost use Rattle.ent_eval.specs.Typed.{is_fit};
 ghost use Rattle.ent_eval.specs.declared.key.ReadKey.TheVariants.{Ref};
 
@@ -24,8 +25,7 @@ impl<'a, L: LookUps> Scene<'a, L> {
         hops: usize,
         reference: &Reference,
     ) -> Result<Targeted, AllocError>
-        ensures value { IfOk result (λ t. t ≡ (reference_target (L.looks self.now.held.now) self.now.request.now hops reference.now).value) }
-        ensures reads { OnOk result (reads.new ≡ noting reads.old (reference_target (L.looks self.now.held.now) self.now.request.now hops reference.now).reads) }
+        ensures comes { IfOk result (Comes (in_scene L.looks self.now reference_target hops reference.now) reads.old reads.new) }
     {
         if hops == 0 {
             return Ok(Targeted::Indeterminate(Status::ProcessingError));
@@ -45,8 +45,7 @@ impl<'a, L: LookUps> Scene<'a, L> {
         tree: &'a Tree,
     ) -> Result<Targeted, AllocError>
         requires { is_fit (as_child tree.now) ≡ true }
-        ensures value { IfOk result (λ t. t ≡ (child_target (L.looks self.now.held.now) self.now.request.now hops (as_child tree.now)).value) }
-        ensures reads { OnOk result (reads.new ≡ noting reads.old (child_target (L.looks self.now.held.now) self.now.request.now hops (as_child tree.now)).reads) }
+        ensures comes { IfOk result (Comes (in_scene L.looks self.now child_target hops (as_child tree.now)) reads.old reads.new) }
     {
         match tree {
             Tree::Policy(policy) => self.target(reads, &policy.target),

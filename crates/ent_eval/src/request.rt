@@ -43,7 +43,8 @@ pub struct Request {
 }
 
 impl Request {
-    /// Whether a person may do an action with a resource, each by its id, a text without an issuer (appendix B.2 and B.4 to B.6).
+    /// Whether a person may do an action with a resource, each by its id, a text without an issuer (appendix B.2 and
+    /// B.4 to B.6).
     pub fn listed(
         alloc: Global,
         person: &str,
@@ -59,8 +60,9 @@ impl Request {
         Ok(Request { categories })
     }
 
-    /// Exchanges the third category, which in a listed request is that of the resource, with another: what was listed for one
-    /// resource is then listed for the other. Where there is no third one, nothing changes. No memory is needed.
+    /// Exchanges the third category, which in a listed request is that of the resource, with another: what was listed
+    /// for one resource is then listed for the other. Where there is no third one, nothing changes. No memory is
+    /// needed.
     pub fn exchange_resource(&mut self, alloc: Global, resource: &mut Category)
         ensures request { self.new ≡ asked_about resource.old self.old }
         ensures resource { resource.new ≡ slice_index_or self.old.categories 2 resource.old }

@@ -3,6 +3,7 @@
 ghost use Rattle.std.specs.Prelude.{◌≡◌, IfOk, OnOk, Some, true};
 ghost use Rattle.ent_functions.specs.Types.{boolean};
 ghost use Rattle.ent_policy.specs.Typing.{condition_is_typed, given_is_typed, rule_is_typed};
+ghost use Rattle.ent_eval.specs.Comes.{Comes, in_scene};
 ghost use Rattle.ent_eval.specs.Gathered.{Gathers, Tells};
 ghost use Rattle.ent_eval.specs.Judged.{or_nothing};
 ghost use Rattle.ent_eval.specs.Looked.{AreLooked};
@@ -29,8 +30,8 @@ use ent_values::{Items, Value};
 use std::alloc::{AllocError, Global};
 
 impl<'a, L: LookUps> Scene<'a, L> {
-    // One rule more of the policy at the end of the path, among the policy's definitions, which is gathered, and whether it fixes the
-    // decision.
+    // One rule more of the policy at the end of the path, among the policy's definitions, which is gathered, and
+    // whether it fixes the decision.
     #[tactic(auto, using(crate::proofs::Walk::noting_both, crate::proofs::Typing::both_true), unfolding(ent_policy::specs::Typing::rule_is_typed))]
     pub(crate) fn next_rule(
         &self,
@@ -44,12 +45,15 @@ impl<'a, L: LookUps> Scene<'a, L> {
     ) -> Result<Progress, AllocError>
         requires typed { rule_is_typed definitions.now rule.now ≡ true }
         requires own { own.old ≡ self.now.request.now }
-        requires looked { AreLooked (L.looks self.now.held.now) self.now.request.now reads.old looked.old }
-        ensures gathered { OnOk result (Gathers gathering.old gathering.new (rule_part (L.looks self.now.held.now) self.now.request.now definitions.now (keys_of path.now) rule.now).value) }
-        ensures progress { IfOk result (Tells gathering.old (rule_part (L.looks self.now.held.now) self.now.request.now definitions.now (keys_of path.now) rule.now).value) }
-        ensures reads { OnOk result (reads.new ≡ noting reads.old (rule_part (L.looks self.now.held.now) self.now.request.now definitions.now (keys_of path.now) rule.now).reads) }
+        requires looked { in_scene L.looks self.now AreLooked reads.old looked.old }
+        ensures gathered { OnOk result (Gathers gathering.old gathering.new
+            (in_scene L.looks self.now rule_part definitions.now (keys_of path.now) rule.now).value) }
+        ensures progress { IfOk result (Tells gathering.old
+            (in_scene L.looks self.now rule_part definitions.now (keys_of path.now) rule.now).value) }
+        ensures reads { OnOk result (reads.new ≡ noting reads.old
+            (in_scene L.looks self.now rule_part definitions.now (keys_of path.now) rule.now).reads) }
         ensures own { own.new ≡ own.old }
-        ensures looked { OnOk result (AreLooked (L.looks self.now.held.now) self.now.request.now reads.new looked.new) }
+        ensures looked { OnOk result (in_scene L.looks self.now AreLooked reads.new looked.new) }
     {
         let targeted = self.target_with(reads, own, &rule.target)?;
         if let Targeted::NoMatch = targeted {
@@ -72,10 +76,11 @@ impl<'a, L: LookUps> Scene<'a, L> {
     ) -> Result<Option<Answer>, AllocError>
         requires condition { condition_is_typed definitions.now rule.now.condition ≡ true }
         requires given { given_is_typed definitions.now rule.now.given ≡ true }
-        requires looked { AreLooked (L.looks self.now.held.now) self.now.request.now reads.old looked.old }
-        ensures value { IfOk result (λ a. or_nothing a ≡ (rule_under (L.looks self.now.held.now) self.now.request.now definitions.now (keys_of path.now) rule.now targeted).value) }
-        ensures reads { OnOk result (reads.new ≡ noting reads.old (rule_under (L.looks self.now.held.now) self.now.request.now definitions.now (keys_of path.now) rule.now targeted).reads) }
-        ensures looked { OnOk result (AreLooked (L.looks self.now.held.now) self.now.request.now reads.new looked.new) }
+        requires looked { in_scene L.looks self.now AreLooked reads.old looked.old }
+        ensures comes { IfOk result (λ a. Comes
+            (in_scene L.looks self.now rule_under definitions.now (keys_of path.now) rule.now targeted)
+            reads.old reads.new (or_nothing a)) }
+        ensures looked { OnOk result (in_scene L.looks self.now AreLooked reads.new looked.new) }
     {
         match targeted {
             Targeted::NoMatch => Ok(None),
@@ -100,10 +105,10 @@ impl<'a, L: LookUps> Scene<'a, L> {
         condition: &'a Option<Expression>,
     ) -> Result<Truth, AllocError>
         requires typed { condition_is_typed definitions.now condition.now ≡ true }
-        requires looked { AreLooked (L.looks self.now.held.now) self.now.request.now reads.old looked.old }
-        ensures value { IfOk result (λ t. t ≡ (condition_part (L.looks self.now.held.now) self.now.request.now definitions.now condition.now).value) }
-        ensures reads { OnOk result (reads.new ≡ noting reads.old (condition_part (L.looks self.now.held.now) self.now.request.now definitions.now condition.now).reads) }
-        ensures looked { OnOk result (AreLooked (L.looks self.now.held.now) self.now.request.now reads.new looked.new) }
+        requires looked { in_scene L.looks self.now AreLooked reads.old looked.old }
+        ensures comes { IfOk result (Comes (in_scene L.looks self.now condition_part definitions.now condition.now)
+            reads.old reads.new) }
+        ensures looked { OnOk result (in_scene L.looks self.now AreLooked reads.new looked.new) }
     {
         match condition {
             None => Ok(Truth::True),

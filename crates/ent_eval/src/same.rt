@@ -14,7 +14,8 @@ pub fn same_key_is_equal()
     ensures { SameKeyIsEqual }
 {}
 
-/// Law: keys of look-ups order by kind: the root, then references as they order, then keys of attributes as they do, then the day.
+/// Law: keys of look-ups order by kind: the root, then references as they order, then keys of attributes as they do,
+/// then the day.
 pub fn keys_order_by_kind()
     ensures { KeysOrderByKind }
 {}

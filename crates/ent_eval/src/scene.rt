@@ -1,8 +1,8 @@
 //! What an evaluation runs over, and how it begins.
 
-ghost use Rattle.std.specs.Prelude.{◌≡◌, IfOk, OnOk};
+ghost use Rattle.std.specs.Prelude.{◌≡◌, IfOk};
 ghost use Rattle.ent_eval.specs.Answer.{answer_part};
-ghost use Rattle.ent_eval.specs.Noted.{noting};
+ghost use Rattle.ent_eval.specs.Comes.{Comes, in_scene};
 
 use crate::answer::Answer;
 use crate::key::ReadKey;
@@ -28,8 +28,7 @@ impl<'a, L: LookUps> Scene<'a, L> {
     // The answer to the request.
     #[tactic(auto, using(crate::proofs::PathKeys::keys_of_root))]
     pub(crate) fn answer(&self, reads: &mut Notes) -> Result<Answer, AllocError>
-        ensures value { IfOk result (λ a. a ≡ (answer_part (L.looks self.now.held.now) self.now.request.now).value) }
-        ensures reads { OnOk result (reads.new ≡ noting reads.old (answer_part (L.looks self.now.held.now) self.now.request.now).reads) }
+        ensures comes { IfOk result (Comes (in_scene L.looks self.now answer_part) reads.old reads.new) }
     {
         reads.note(ReadKey::Root)?;
         match self.held.root() {

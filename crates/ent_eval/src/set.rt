@@ -3,6 +3,7 @@
 ghost use Rattle.std.specs.Prelude.{◌≡◌, ◌≤◌, [], IfOk, OnOk, length, map, true};
 ghost use Rattle.std.specs.List.{list_all};
 ghost use Rattle.ent_policy.specs.Typing.{given_is_typed};
+ghost use Rattle.ent_eval.specs.Comes.{Comes, in_scene};
 ghost use Rattle.ent_eval.specs.Gathered.{Gathers, Tells};
 ghost use Rattle.ent_eval.specs.Hops.{child_part, children_combined, only_child, set_after, set_children};
 ghost use Rattle.ent_eval.specs.Judged.{or_nothing};
@@ -28,7 +29,8 @@ use ent_policy::{Child, Kind, PolicySet};
 use std::alloc::AllocError;
 
 impl<'a, L: LookUps> Scene<'a, L> {
-    // A child of a set, where the path leads from the root to the set, and so many references may be followed from here on.
+    // A child of a set, where the path leads from the root to the set, and so many references may be followed from here
+    // on.
     #[cycle(child)]
     fn child(
         &self,
@@ -40,8 +42,8 @@ impl<'a, L: LookUps> Scene<'a, L> {
     ) -> Result<Option<Answer>, AllocError>
         requires fit { is_fit child.now ≡ true }
         requires own { own.old ≡ self.now.request.now }
-        ensures value { IfOk result (λ a. or_nothing a ≡ (child_part (L.looks self.now.held.now) self.now.request.now hops (keys_of path.now) child.now).value) }
-        ensures reads { OnOk result (reads.new ≡ noting reads.old (child_part (L.looks self.now.held.now) self.now.request.now hops (keys_of path.now) child.now).reads) }
+        ensures comes { IfOk result (λ a. Comes (in_scene L.looks self.now child_part hops (keys_of path.now) child.now)
+            reads.old reads.new (or_nothing a)) }
         ensures own { own.new ≡ own.old }
     {
         let opened = self.open(reads, own, hops, child)?;
@@ -61,9 +63,12 @@ impl<'a, L: LookUps> Scene<'a, L> {
     ) -> Result<Progress, AllocError>
         requires fit { is_fit child.now ≡ true }
         requires own { own.old ≡ self.now.request.now }
-        ensures gathered { OnOk result (Gathers gathering.old gathering.new (child_part (L.looks self.now.held.now) self.now.request.now hops (keys_of path.now) child.now).value) }
-        ensures progress { IfOk result (Tells gathering.old (child_part (L.looks self.now.held.now) self.now.request.now hops (keys_of path.now) child.now).value) }
-        ensures reads { OnOk result (reads.new ≡ noting reads.old (child_part (L.looks self.now.held.now) self.now.request.now hops (keys_of path.now) child.now).reads) }
+        ensures gathered { OnOk result (Gathers gathering.old gathering.new
+            (in_scene L.looks self.now child_part hops (keys_of path.now) child.now).value) }
+        ensures progress { IfOk result (Tells gathering.old
+            (in_scene L.looks self.now child_part hops (keys_of path.now) child.now).value) }
+        ensures reads { OnOk result (reads.new ≡ noting reads.old
+            (in_scene L.looks self.now child_part hops (keys_of path.now) child.now).reads) }
         ensures own { own.new ≡ own.old }
     {
         let opened = self.open(reads, own, hops, child)?;
@@ -86,16 +91,20 @@ impl<'a, L: LookUps> Scene<'a, L> {
     ) -> Result<Progress, AllocError>
         requires fit { is_fit_left opened ≡ true }
         requires own { own.old ≡ self.now.request.now }
-        ensures gathered { OnOk result (Gathers gathering.old gathering.new (left_part (L.looks self.now.held.now) self.now.request.now (keys_of path.now) opened.entry).value) }
-        ensures progress { IfOk result (Tells gathering.old (left_part (L.looks self.now.held.now) self.now.request.now (keys_of path.now) opened.entry).value) }
-        ensures reads { OnOk result (reads.new ≡ noting reads.old (left_part (L.looks self.now.held.now) self.now.request.now (keys_of path.now) opened.entry).reads) }
+        ensures gathered { OnOk result (Gathers gathering.old gathering.new
+            (in_scene L.looks self.now left_part (keys_of path.now) opened.entry).value) }
+        ensures progress { IfOk result (Tells gathering.old
+            (in_scene L.looks self.now left_part (keys_of path.now) opened.entry).value) }
+        ensures reads { OnOk result (reads.new ≡ noting reads.old
+            (in_scene L.looks self.now left_part (keys_of path.now) opened.entry).reads) }
         ensures own { own.new ≡ own.old }
     {
         let answer = self.judge(reads, own, path, opened)?;
         gathering.take(answer)
     }
 
-    // The children are evaluated unless the target doesn't match, and behind them what the set gives itself, if it matches.
+    // The children are evaluated unless the target doesn't match, and behind them what the set gives itself, if it
+    // matches.
     #[cycle(child)]
     #[tactic(auto, using(crate::proofs::Walk::noting_both))]
     pub(crate) fn set_after(
@@ -111,8 +120,8 @@ impl<'a, L: LookUps> Scene<'a, L> {
         requires room { length set.now.children ≤ 256 }
         requires given { given_is_typed [] set.now.given ≡ true }
         requires own { own.old ≡ self.now.request.now }
-        ensures value { IfOk result (λ a. or_nothing a ≡ (set_after (L.looks self.now.held.now) self.now.request.now hops (keys_of path.now) set.now targeted).value) }
-        ensures reads { OnOk result (reads.new ≡ noting reads.old (set_after (L.looks self.now.held.now) self.now.request.now hops (keys_of path.now) set.now targeted).reads) }
+        ensures comes { IfOk result (λ a. Comes (in_scene L.looks self.now set_after hops (keys_of path.now) set.now targeted)
+            reads.old reads.new (or_nothing a)) }
         ensures own { own.new ≡ own.old }
     {
         match targeted {
@@ -144,8 +153,8 @@ impl<'a, L: LookUps> Scene<'a, L> {
         requires fit { list_all is_fit set.now.children ≡ true }
         requires room { length set.now.children ≤ 256 }
         requires own { own.old ≡ self.now.request.now }
-        ensures value { IfOk result (λ a. or_nothing a ≡ (set_children (L.looks self.now.held.now) self.now.request.now hops (keys_of path.now) set.now).value) }
-        ensures reads { OnOk result (reads.new ≡ noting reads.old (set_children (L.looks self.now.held.now) self.now.request.now hops (keys_of path.now) set.now).reads) }
+        ensures comes { IfOk result (λ a. Comes (in_scene L.looks self.now set_children hops (keys_of path.now) set.now)
+            reads.old reads.new (or_nothing a)) }
         ensures own { own.new ≡ own.old }
     {
         let here = Path::Below {
@@ -180,8 +189,9 @@ impl<'a, L: LookUps> Scene<'a, L> {
     ) -> Result<Option<Answer>, AllocError>
         requires fit { list_all is_fit children.now ≡ true }
         requires own { own.old ≡ self.now.request.now }
-        ensures value { IfOk result (λ a. or_nothing a ≡ (children_combined (L.looks self.now.held.now) self.now.request.now hops (keys_of path.now) algorithm children.now).value) }
-        ensures reads { OnOk result (reads.new ≡ noting reads.old (children_combined (L.looks self.now.held.now) self.now.request.now hops (keys_of path.now) algorithm children.now).reads) }
+        ensures comes { IfOk result (λ a. Comes
+            (in_scene L.looks self.now children_combined hops (keys_of path.now) algorithm children.now)
+            reads.old reads.new (or_nothing a)) }
         ensures own { own.new ≡ own.old }
     {
         let mut gathering = gather(self.alloc, algorithm);
@@ -208,8 +218,8 @@ impl<'a, L: LookUps> Scene<'a, L> {
         requires fit { list_all is_fit children.now ≡ true }
         requires room { length children.now ≤ 256 }
         requires own { own.old ≡ self.now.request.now }
-        ensures value { IfOk result (λ a. or_nothing a ≡ (only_child (L.looks self.now.held.now) self.now.request.now hops (keys_of path.now) children.now).value) }
-        ensures reads { OnOk result (reads.new ≡ noting reads.old (only_child (L.looks self.now.held.now) self.now.request.now hops (keys_of path.now) children.now).reads) }
+        ensures comes { IfOk result (λ a. Comes (in_scene L.looks self.now only_child hops (keys_of path.now) children.now)
+            reads.old reads.new (or_nothing a)) }
         ensures own { own.new ≡ own.old }
     {
         let only = self.choose(reads, hops, children)?;
@@ -229,8 +239,9 @@ impl<'a, L: LookUps> Scene<'a, L> {
     ) -> Result<Option<Answer>, AllocError>
         requires fit { list_all is_fit children.now ≡ true }
         requires own { own.old ≡ self.now.request.now }
-        ensures value { IfOk result (λ a. or_nothing a ≡ (chosen_part (map (child_part (L.looks self.now.held.now) self.now.request.now hops (keys_of path.now)) children.now) only).value) }
-        ensures reads { OnOk result (reads.new ≡ noting reads.old (chosen_part (map (child_part (L.looks self.now.held.now) self.now.request.now hops (keys_of path.now)) children.now) only).reads) }
+        ensures comes { IfOk result (λ a. Comes
+            (chosen_part (map (in_scene L.looks self.now child_part hops (keys_of path.now)) children.now) only)
+            reads.old reads.new (or_nothing a)) }
         ensures own { own.new ≡ own.old }
     {
         match only {

@@ -3,8 +3,10 @@
 ghost use Rattle.std.specs.Prelude.{◌≡◌, IfOk, OnOk};
 ghost use Rattle.std.specs.Option.{option_copied};
 ghost use Rattle.ent_values.specs.declared.datatype.DataType.TheVariants.{Date};
-ghost use Rattle.ent_eval.specs.Noted.{noting, with_note};
-ghost use Rattle.ent_eval.specs.Sources.{asks_day, day_values, entity_of, id_attribute, key_for, only_text, source_part, text_of, values_part};
+ghost use Rattle.ent_eval.specs.Comes.{Comes, bag_part, in_scene};
+ghost use Rattle.ent_eval.specs.Noted.{with_note};
+ghost use Rattle.ent_eval.specs.Sources.{asks_day, day_values, entity_of, id_attribute, key_for, only_text};
+ghost use Rattle.ent_eval.specs.Sources.{source_part, text_of, values_part};
 ghost use Rattle.ent_eval.specs.declared.key.ReadKey.TheVariants.{Attr, Day};
 
 use crate::answer::copied_text;
@@ -30,8 +32,8 @@ impl<L: LookUps> Scene<'_, L> {
         reads: &mut Notes,
         designator: &Designator,
     ) -> Result<Bag, AllocError>
-        ensures value { IfOk result (λ b. b ≡ record { datatype = designator.now.datatype; values = (values_part (L.looks self.now.held.now) self.now.request.now designator.now).value }) }
-        ensures reads { OnOk result (reads.new ≡ noting reads.old (values_part (L.looks self.now.held.now) self.now.request.now designator.now).reads) }
+        ensures comes { IfOk result (Comes (bag_part designator.now.datatype (in_scene L.looks self.now values_part designator.now))
+            reads.old reads.new) }
     {
         let own = own_bag(self.alloc, self.request, designator)?;
         if !is_empty(&own) {
@@ -46,8 +48,8 @@ impl<L: LookUps> Scene<'_, L> {
         reads: &mut Notes,
         designator: &Designator,
     ) -> Result<Bag, AllocError>
-        ensures value { IfOk result (λ b. b ≡ record { datatype = designator.now.datatype; values = (source_part (L.looks self.now.held.now) self.now.request.now designator.now).value }) }
-        ensures reads { OnOk result (reads.new ≡ noting reads.old (source_part (L.looks self.now.held.now) self.now.request.now designator.now).reads) }
+        ensures comes { IfOk result (Comes (bag_part designator.now.datatype (in_scene L.looks self.now source_part designator.now))
+            reads.old reads.new) }
     {
         if asks_day(designator) {
             return self.day(reads);
@@ -77,7 +79,10 @@ impl<L: LookUps> Scene<'_, L> {
         designator: &Designator,
         entity: &Text,
     ) -> Result<Bag, AllocError>
-        ensures value { IfOk result (λ b. b ≡ record { datatype = designator.now.datatype; values = (L.looks self.now.held.now).values (key_for designator.now entity.now) }) }
+        ensures value { IfOk result (λ b. b ≡ record {
+          datatype = designator.now.datatype;
+          values = (L.looks self.now.held.now).values (key_for designator.now entity.now);
+        }) }
         ensures reads { OnOk result (reads.new ≡ with_note reads.old (Attr (key_for designator.now entity.now))) }
     {
         let key = key_for(self.alloc, designator, entity)?;
@@ -98,7 +103,8 @@ fn asks_day(designator: &Designator) -> bool
         && designator.issuer.is_none()
 }
 
-/// The id attribute of a category whose values modules hold: of access-subject, resource or action (appendix B.4 to B.6).
+/// The id attribute of a category whose values modules hold: of access-subject, resource or action (appendix B.4 to
+/// B.6).
 pub fn id_attribute(category: &str) -> Option<&str>
     ensures { option_copied result ≡ id_attribute category.now }
 {

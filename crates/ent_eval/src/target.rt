@@ -1,13 +1,14 @@
 //! Whether targets match.
 
-ghost use Rattle.std.specs.Prelude.{◌≡◌, IfOk, OnOk, if◌then◌else◌, map, true};
+ghost use Rattle.std.specs.Prelude.{◌≡◌, IfOk, if◌then◌else◌, map, true};
 ghost use Rattle.std.specs.List.{list_all};
 ghost use Rattle.ent_policy.specs.Typing.{all_of_is_typed, any_of_is_typed, match_is_typed, target_is_typed};
+ghost use Rattle.ent_eval.specs.Comes.{Comes, in_scene};
 ghost use Rattle.ent_eval.specs.Typed.{Tests};
-ghost use Rattle.ent_eval.specs.Noted.{noting};
 ghost use Rattle.ent_eval.specs.Own.{own_values};
 ghost use Rattle.ent_eval.specs.Part.{whole};
-ghost use Rattle.ent_eval.specs.Target.{all_match, all_of_part, any_of_part, is_match, is_no_match, match_part, matched, one_matches, own_match, target_part, unless_indeterminate};
+ghost use Rattle.ent_eval.specs.Target.{all_match, all_of_part, any_of_part, is_match, is_no_match, match_part};
+ghost use Rattle.ent_eval.specs.Target.{matched, one_matches, own_match, target_part, unless_indeterminate};
 
 use crate::answer::Status;
 use crate::holds::{holds_in, holds_of};
@@ -37,8 +38,7 @@ impl<'a, L: LookUps> Scene<'a, L> {
         target: &'a Target,
     ) -> Result<Targeted, AllocError>
         requires { target_is_typed target.now ≡ true }
-        ensures value { IfOk result (λ t. t ≡ (target_part (L.looks self.now.held.now) self.now.request.now target.now).value) }
-        ensures reads { OnOk result (reads.new ≡ noting reads.old (target_part (L.looks self.now.held.now) self.now.request.now target.now).reads) }
+        ensures comes { IfOk result (Comes (in_scene L.looks self.now target_part target.now) reads.old reads.new) }
     {
         let mut own = Latest::of(self.request);
         self.target_with(reads, &mut own, target)
@@ -54,8 +54,7 @@ impl<'a, L: LookUps> Scene<'a, L> {
     ) -> Result<Targeted, AllocError>
         requires typed { target_is_typed target.now ≡ true }
         requires own { own.old ≡ self.now.request.now }
-        ensures value { IfOk result (λ t. t ≡ (target_part (L.looks self.now.held.now) self.now.request.now target.now).value) }
-        ensures reads { OnOk result (reads.new ≡ noting reads.old (target_part (L.looks self.now.held.now) self.now.request.now target.now).reads) }
+        ensures comes { IfOk result (Comes (in_scene L.looks self.now target_part target.now) reads.old reads.new) }
         ensures own { own.new ≡ own.old }
     {
         self.all_any_of(reads, own, target.any_of.as_slice())
@@ -70,8 +69,8 @@ impl<'a, L: LookUps> Scene<'a, L> {
     ) -> Result<Targeted, AllocError>
         requires typed { list_all any_of_is_typed all.now ≡ true }
         requires own { own.old ≡ self.now.request.now }
-        ensures value { IfOk result (λ t. t ≡ (whole is_no_match all_match (map (any_of_part (L.looks self.now.held.now) self.now.request.now) all.now)).value) }
-        ensures reads { OnOk result (reads.new ≡ noting reads.old (whole is_no_match all_match (map (any_of_part (L.looks self.now.held.now) self.now.request.now) all.now)).reads) }
+        ensures comes { IfOk result (Comes (whole is_no_match all_match (map (in_scene L.looks self.now any_of_part) all.now))
+            reads.old reads.new) }
         ensures own { own.new ≡ own.old }
     {
         let mut so_far = Targeted::Match;
@@ -94,8 +93,8 @@ impl<'a, L: LookUps> Scene<'a, L> {
     ) -> Result<Targeted, AllocError>
         requires typed { list_all all_of_is_typed alternatives.now ≡ true }
         requires own { own.old ≡ self.now.request.now }
-        ensures value { IfOk result (λ t. t ≡ (whole is_match one_matches (map (all_of_part (L.looks self.now.held.now) self.now.request.now) alternatives.now)).value) }
-        ensures reads { OnOk result (reads.new ≡ noting reads.old (whole is_match one_matches (map (all_of_part (L.looks self.now.held.now) self.now.request.now) alternatives.now)).reads) }
+        ensures comes { IfOk result (Comes (whole is_match one_matches (map
+            (in_scene L.looks self.now all_of_part) alternatives.now)) reads.old reads.new) }
         ensures own { own.new ≡ own.old }
     {
         let mut so_far = Targeted::NoMatch;
@@ -118,8 +117,8 @@ impl<'a, L: LookUps> Scene<'a, L> {
     ) -> Result<Targeted, AllocError>
         requires typed { list_all match_is_typed matches.now ≡ true }
         requires own { own.old ≡ self.now.request.now }
-        ensures value { IfOk result (λ t. t ≡ (whole is_no_match all_match (map (match_part (L.looks self.now.held.now) self.now.request.now) matches.now)).value) }
-        ensures reads { OnOk result (reads.new ≡ noting reads.old (whole is_no_match all_match (map (match_part (L.looks self.now.held.now) self.now.request.now) matches.now)).reads) }
+        ensures comes { IfOk result (Comes (whole is_no_match all_match (map (in_scene L.looks self.now match_part) matches.now))
+            reads.old reads.new) }
         ensures own { own.new ≡ own.old }
     {
         let mut so_far = Targeted::Match;
@@ -143,8 +142,7 @@ impl<'a, L: LookUps> Scene<'a, L> {
     ) -> Result<Targeted, AllocError>
         requires typed { match_is_typed test.now ≡ true }
         requires own { own.old ≡ self.now.request.now }
-        ensures value { IfOk result (λ t. t ≡ (match_part (L.looks self.now.held.now) self.now.request.now test.now).value) }
-        ensures reads { OnOk result (reads.new ≡ noting reads.old (match_part (L.looks self.now.held.now) self.now.request.now test.now).reads) }
+        ensures comes { IfOk result (Comes (in_scene L.looks self.now match_part test.now) reads.old reads.new) }
         ensures own { own.new ≡ own.old }
     {
         if let Some(targeted) = own_match(self.alloc, own, test)? {

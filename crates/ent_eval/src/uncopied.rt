@@ -113,7 +113,8 @@ fn two(arguments: &[Expression]) -> Option<(&Expression, &Expression)>
 #[tactic(auto, using(crate::proofs::Literals::same))]
 fn compared(first: &Value, second: &Value) -> Evaluated
     ensures typed { HasType (Some boolean) result }
-    ensures value { (element : Element) → result ≡ result_of (functions.Equal element) (Known (Arg.One first.now) ∷ Known (Arg.One second.now) ∷ []) }
+    ensures value { (element : Element) → result
+        ≡ result_of (functions.Equal element) (Known (Arg.One first.now) ∷ Known (Arg.One second.now) ∷ []) }
 {
     Evaluated::Known(Arg::One(Value::Boolean(first == second)))
 }

@@ -9,6 +9,6 @@ loop-test-preserved g c =
     record {
       so_far = next_so_far is_no_match is.Match (match_part (g.L.LookUps.looks c.args.self.now.held.now) c.args.self.now.request.now) c.args.matches.now other_than_no_match refl
           c.loop-test.test-index c.test-item.result c.loop-test.so_far c.in_ok-targeted.targeted c.first_of-so_far.result c.args.reads.now c.loop-test.reads c.one_match.new.reads
-          c.loop-test-test.true c.test-item.is c.loop-test.invariant.so_far c.in_ok-targeted.ensures.value c.in_ok-targeted.ensures.reads (isn't_no_match c.in_ok-targeted.targeted c.in_default.not-NoMatch) c.first_of-so_far.ensures;
+          c.loop-test-test.true c.test-item.is c.loop-test.invariant.so_far c.in_ok-targeted.ensures.comes.value c.in_ok-targeted.ensures.comes.reads (isn't_no_match c.in_ok-targeted.targeted c.in_default.not-NoMatch) c.first_of-so_far.ensures;
       own = c.one_match.ensures.own ∙ c.loop-test.invariant.own;
     }

@@ -13,24 +13,26 @@ loop-expression-preserved g c =
     c.args.reads.now c.loop-expression.reads c.loop-expression.invariant c.expression-item.result c.give.new.givens c.give.new.reads c.loop-expression-test.true c.expression-item.is
     (ap (added c.give.new.givens) (sym c.in_default.is) ∙ c.in_ok-stopped.ensures.value) c.in_ok-stopped.ensures.reads
 
-pub returns-in-Some-clause-value : goal.returns-in-Some-clause-value
-returns-in-Some-clause-value g c =
-    stopped-value (given_part (g.L.LookUps.looks c.args.self.now.held.now) c.args.self.now.request.now c.args.definitions.now c.args.effect) c.args.expressions.now c.loop-expression.expression-index c.loop-expression.givens
-    c.args.reads.now c.loop-expression.reads c.loop-expression.invariant c.expression-item.result c.in-Some.status c.loop-expression-test.true c.expression-item.is
-    (ap (added c.give.new.givens) (sym c.in-Some.is) ∙ c.in_ok-stopped.ensures.value)
+pub returns-in-Some : goal.returns-in-Some
+returns-in-Some g c =
+    record {
+      comes = record {
+        value = stopped-value (given_part (g.L.LookUps.looks c.args.self.now.held.now) c.args.self.now.request.now c.args.definitions.now c.args.effect) c.args.expressions.now c.loop-expression.expression-index c.loop-expression.givens
+            c.args.reads.now c.loop-expression.reads c.loop-expression.invariant c.expression-item.result c.in-Some.status c.loop-expression-test.true c.expression-item.is
+            (ap (added c.give.new.givens) (sym c.in-Some.is) ∙ c.in_ok-stopped.ensures.value);
+        reads = stopped-reads (given_part (g.L.LookUps.looks c.args.self.now.held.now) c.args.self.now.request.now c.args.definitions.now c.args.effect) c.args.expressions.now c.loop-expression.expression-index c.loop-expression.givens
+            c.args.reads.now c.loop-expression.reads c.loop-expression.invariant c.expression-item.result c.in-Some.status c.give.new.reads c.loop-expression-test.true c.expression-item.is
+            (ap (added c.give.new.givens) (sym c.in-Some.is) ∙ c.in_ok-stopped.ensures.value) c.in_ok-stopped.ensures.reads;
+      };
+    }
 
-pub returns-in-Some-clause-reads : goal.returns-in-Some-clause-reads
-returns-in-Some-clause-reads g c =
-    stopped-reads (given_part (g.L.LookUps.looks c.args.self.now.held.now) c.args.self.now.request.now c.args.definitions.now c.args.effect) c.args.expressions.now c.loop-expression.expression-index c.loop-expression.givens
-    c.args.reads.now c.loop-expression.reads c.loop-expression.invariant c.expression-item.result c.in-Some.status c.give.new.reads c.loop-expression-test.true c.expression-item.is
-    (ap (added c.give.new.givens) (sym c.in-Some.is) ∙ c.in_ok-stopped.ensures.value) c.in_ok-stopped.ensures.reads
-
-pub returns-clause-value : goal.returns-clause-value
-returns-clause-value g c =
-    whole-value (given_part (g.L.LookUps.looks c.args.self.now.held.now) c.args.self.now.request.now c.args.definitions.now c.args.effect) c.args.expressions.now c.loop-expression.expression-index c.loop-expression.givens
-    c.args.reads.now c.loop-expression.reads c.loop-expression.invariant (omega (arith, c.loop-expression-test.false))
-
-pub returns-clause-reads : goal.returns-clause-reads
-returns-clause-reads g c =
-    whole-reads (given_part (g.L.LookUps.looks c.args.self.now.held.now) c.args.self.now.request.now c.args.definitions.now c.args.effect) c.args.expressions.now c.loop-expression.expression-index c.loop-expression.givens
-    c.args.reads.now c.loop-expression.reads c.loop-expression.invariant (omega (arith, c.loop-expression-test.false))
+pub returns : goal.returns
+returns g c =
+    record {
+      comes = record {
+        value = whole-value (given_part (g.L.LookUps.looks c.args.self.now.held.now) c.args.self.now.request.now c.args.definitions.now c.args.effect) c.args.expressions.now c.loop-expression.expression-index c.loop-expression.givens
+            c.args.reads.now c.loop-expression.reads c.loop-expression.invariant (omega (arith, c.loop-expression-test.false));
+        reads = whole-reads (given_part (g.L.LookUps.looks c.args.self.now.held.now) c.args.self.now.request.now c.args.definitions.now c.args.effect) c.args.expressions.now c.loop-expression.expression-index c.loop-expression.givens
+            c.args.reads.now c.loop-expression.reads c.loop-expression.invariant (omega (arith, c.loop-expression-test.false));
+      };
+    }

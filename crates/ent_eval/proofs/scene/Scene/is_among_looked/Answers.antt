@@ -3,17 +3,17 @@ use Rattle.ent_eval.specs.Uncopied.{member}
 use Rattle.ent_eval.proofs.Again.{looked_again, looked_now, noted_again}
 use Rattle.ent_eval.proofs.scene.Scene.is_among_looked.Goals as goal
 
-pub returns-then-seeks_same-clause-value : goal.returns-then-seeks_same-clause-value
-returns-then-seeks_same-clause-value g c =
+pub returns-then-seeks_same-clause-comes : goal.returns-then-seeks_same-clause-comes
+returns-then-seeks_same-clause-comes g c =
+    let looks = g.L.LookUps.looks c.args.self.now.held.now in
+    let request = c.args.self.now.request.now in
     let same : record c.in-Some.latest.designator.now { must_be_present = false } ≡ record c.args.designator.now { must_be_present = false } = search rules in
-    c.member.ensures.value ∙ ap (member c.args.value.now c.args.designator.now)
-    (c.values.ensures.value ∙ looked_again (g.L.LookUps.looks c.args.self.now.held.now) c.args.self.now.request.now c.args.reads.now c.args.looked.now c.in-Some.latest c.args.designator.now c.in-Some.is c.requires same)
-
-pub returns-then-seeks_same-clause-reads : goal.returns-then-seeks_same-clause-reads
-returns-then-seeks_same-clause-reads g c =
-    let same : record c.in-Some.latest.designator.now { must_be_present = false } ≡ record c.args.designator.now { must_be_present = false } = search rules in
-    noted_again (g.L.LookUps.looks c.args.self.now.held.now) c.args.self.now.request.now c.args.reads.now c.args.looked.now c.in-Some.latest c.args.designator.now c.in-Some.is c.requires same
+    record {
+      value = c.member.ensures.value ∙ ap (member c.args.value.now c.args.designator.now)
+          (c.values.ensures.value ∙ looked_again looks request c.args.reads.now c.args.looked.now c.in-Some.latest c.args.designator.now c.in-Some.is c.requires same);
+      reads = noted_again looks request c.args.reads.now c.args.looked.now c.in-Some.latest c.args.designator.now c.in-Some.is c.requires same;
+    }
 
 pub returns-clause-looked : goal.returns-clause-looked
 returns-clause-looked g c =
-    looked_now (g.L.LookUps.looks c.args.self.now.held.now) c.args.self.now.request.now c.args.reads.now c.values-2.new.reads (record { designator = c.args.designator; bag = c.in_ok-bag.bag }) (ap (λ b. b.values) c.in_ok-bag.ensures.value) c.in_ok-bag.ensures.reads
+    looked_now (g.L.LookUps.looks c.args.self.now.held.now) c.args.self.now.request.now c.args.reads.now c.values-2.new.reads (record { designator = c.args.designator; bag = c.in_ok-bag.bag }) (ap (λ b. b.values) c.in_ok-bag.ensures.comes.value) c.in_ok-bag.ensures.comes.reads

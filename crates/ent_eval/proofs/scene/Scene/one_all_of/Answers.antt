@@ -15,7 +15,7 @@ loop-all_of-preserved g c =
     record {
       so_far = next_inner is_match is.NoMatch (λ ms. whole is_no_match all_match (map (match_part (g.L.LookUps.looks c.args.self.now.held.now) c.args.self.now.request.now) ms)) (λ (a : AllOf). a.matches) c.args.alternatives.now other_than_match refl
           c.loop-all_of.all_of-index c.all_of-item.result c.as_slice.result.now c.loop-all_of.so_far c.in_ok-targeted.targeted c.first_of-so_far.result c.args.reads.now c.loop-all_of.reads c.all_matches.new.reads
-          c.loop-all_of-test.true c.all_of-item.is c.loop-all_of.invariant.so_far c.as_slice.ensures c.in_ok-targeted.ensures.value c.in_ok-targeted.ensures.reads (isn't_match c.in_ok-targeted.targeted c.in_default.not-Match)
+          c.loop-all_of-test.true c.all_of-item.is c.loop-all_of.invariant.so_far c.as_slice.ensures c.in_ok-targeted.ensures.comes.value c.in_ok-targeted.ensures.comes.reads (isn't_match c.in_ok-targeted.targeted c.in_default.not-Match)
           c.first_of-so_far.ensures;
       own = c.all_matches.ensures.own ∙ c.loop-all_of.invariant.own;
     }

@@ -7,4 +7,4 @@ pub returns-clause-left : goal.returns-clause-left
 returns-clause-left g c = λ path.
     let looks = g.L.LookUps.looks c.args.self.now.held.now in
     let request = c.args.self.now.request.now in
-    left_behind (policy_after looks request path c.args.policy.now) (target_part looks request c.args.policy.now.target) c.in_ok-targeted.targeted c.args.reads.now c.target_with.new.reads c.in_ok-targeted.ensures.value c.in_ok-targeted.ensures.reads
+    left_behind (policy_after looks request path c.args.policy.now) (target_part looks request c.args.policy.now.target) c.in_ok-targeted.targeted c.args.reads.now c.target_with.new.reads c.in_ok-targeted.ensures.comes.value c.in_ok-targeted.ensures.comes.reads

@@ -12,7 +12,7 @@ returns-in-NoMatch-clause-left g c = λ path.
     let request = c.args.self.now.request.now in
     let set = c.args.set.now in
     left_of_equal _ _ (set_after looks request c.args.hops path set NoMatch) c.args.reads.now c.target_with.new.reads (sym (set_out looks request c.args.hops path set))
-    (left_behind (set_after looks request c.args.hops path set) (target_part looks request set.target) _ c.args.reads.now c.target_with.new.reads (sym c.in-NoMatch.is ∙ c.in_ok-targeted.ensures.value) c.in_ok-targeted.ensures.reads)
+    (left_behind (set_after looks request c.args.hops path set) (target_part looks request set.target) _ c.args.reads.now c.target_with.new.reads (sym c.in-NoMatch.is ∙ c.in_ok-targeted.ensures.comes.value) c.in_ok-targeted.ensures.comes.reads)
 
 pub returns-clause-left : goal.returns-clause-left
 returns-clause-left g c = λ path.
@@ -20,4 +20,4 @@ returns-clause-left g c = λ path.
     let request = c.args.self.now.request.now in
     let set = c.args.set.now in
     left_of_equal _ _ (set_after looks request c.args.hops path set c.in_ok-targeted.targeted) c.args.reads.now c.target_with.new.reads (sym (set_out looks request c.args.hops path set))
-    (left_behind (set_after looks request c.args.hops path set) (target_part looks request set.target) c.in_ok-targeted.targeted c.args.reads.now c.target_with.new.reads c.in_ok-targeted.ensures.value c.in_ok-targeted.ensures.reads)
+    (left_behind (set_after looks request c.args.hops path set) (target_part looks request set.target) c.in_ok-targeted.targeted c.args.reads.now c.target_with.new.reads c.in_ok-targeted.ensures.comes.value c.in_ok-targeted.ensures.comes.reads)
