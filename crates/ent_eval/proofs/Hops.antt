@@ -6,11 +6,10 @@ use Rattle.ent_policy.specs.declared.key.DocKey.{DocKey}
 use Rattle.ent_policy.specs.declared.key.Reference.{Reference}
 use Rattle.ent_eval.specs.declared.key.ReadKey.TheVariants.{Ref}
 use Rattle.ent_eval.specs.declared.request.Request.{Request}
-use Rattle.ent_eval.specs.declared.target.Targeted.{Targeted}
 use Rattle.ent_eval.specs.Looks.{Looks}
 use Rattle.ent_eval.specs.Hops.{child_target, followed_part, node_of, reference_part, reference_target}
 use Rattle.ent_eval.specs.Node.{Node, followed, found_node, refer}
-use Rattle.ent_eval.specs.Part.{Part, after_look}
+use Rattle.ent_eval.specs.Part.{after_look}
 
 module _ (looks : Looks) (request : Request) (hops : ℕ) (reference : Reference) (left : 0 < hops) where
   -- a reference is followed while a hop is left
@@ -24,10 +23,6 @@ module _ (looks : Looks) (request : Request) (hops : ℕ) (reference : Reference
   pub target_followed : (t : Tree) → looks.document reference ≡ Some t → reference_target looks request hops reference ≡ after_look (Ref reference) (child_target looks request (hops - 1) (as_child t))
   target_followed t found =
       ap (λ (n : Node). n.target) is_followed ∙ ap (λ o. after_look (Ref reference) (found_node (node_of looks request (hops - 1)) o).target) found
-
-  -- what that target is
-  pub target_value : (t : Tree) → looks.document reference ≡ Some t → (child_target looks request (hops - 1) (as_child t)).value ≡ (reference_target looks request hops reference).value
-  target_value t found = ap (λ (p : Part Targeted). p.value) (sym (target_followed t found))
 
   -- and it comes to what following it comes to
   pub answer_followed : (path : List DocKey) → followed_part looks request (hops - 1) path reference ≡ reference_part looks request hops path reference

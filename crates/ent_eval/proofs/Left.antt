@@ -1,12 +1,11 @@
 -- What is left of a part behind its target.
-use Rattle.std.proofs.Common.{◌≡◌, Option, Result, ap, subst, ◌∙◌}
+use Rattle.std.proofs.Common.{◌≡◌, Result, ap, subst, ◌∙◌}
 use Rattle.std.specs.Prelude.{IfOk, OnOk}
 use Rattle.ent_combine.specs.declared.combiner.Progress.{Progress}
 use Rattle.ent_eval.specs.declared.answer.Answer.{Answer}
 use Rattle.ent_eval.specs.declared.target.Targeted.{Targeted}
 use Rattle.ent_eval.specs.declared.gather.Gathering.{Gathering}
 use Rattle.ent_eval.specs.Gathered.{Gathers, Tells}
-use Rattle.ent_eval.specs.Judged.{or_nothing}
 use Rattle.ent_eval.specs.Noted.{Notes, noting}
 use Rattle.ent_eval.specs.Opened.{IsLeft}
 use Rattle.ent_eval.specs.Part.{Part, and_then}
@@ -31,10 +30,6 @@ gathers_equal r before after i j same is = subst (λ k. OnOk r (Gathers before a
 -- and so is what is told
 pub tells_equal : {E : Type 0} (r : Result Progress E) (before : Gathering) (i j : Answer) → i ≡ j → IfOk r (Tells before i) → IfOk r (Tells before j)
 tells_equal r before i j same is = subst (λ k. IfOk r (Tells before k)) same is
-
--- and what is answered
-pub answer_equal : {E : Type 0} (r : Result (Option Answer) E) (i j : Answer) → i ≡ j → IfOk r (λ a. or_nothing a ≡ i) → IfOk r (λ a. or_nothing a ≡ j)
-answer_equal r i j same is = subst (λ k. IfOk r (λ a. or_nothing a ≡ k)) same is
 
 -- and what is noted
 pub notes_equal : {A E : Type 0} (r : Result A E) (now i j : Notes) → i ≡ j → OnOk r (now ≡ i) → OnOk r (now ≡ j)

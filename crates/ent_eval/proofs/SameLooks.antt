@@ -1,5 +1,5 @@
 -- A test of what a key gives in two look-ups says whether it gives the same.
-use Rattle.std.proofs.Common.{◌≡◌, List, [], ◌∷◌, Bool, Option, Some, None, refl, ap}
+use Rattle.std.proofs.Common.{◌≡◌, [], ◌∷◌, Bool, Option, Some, None, refl, ap}
 use Rattle.std.specs.Bool.{Decides}
 use Rattle.std.specs.Option.{option_eq}
 use Rattle.ent_values.specs.Calendar.{Day}

@@ -1,6 +1,6 @@
 use Rattle.std.proofs.Common.{◌≡◌, ◌∙◌, Some, sym, ap, subst, arith}
 use Rattle.std.specs.Prelude.{IsSome}
-use Rattle.std.proofs.lemmas.Result.{IfOk-weaker, on_ok_weaker}
+use Rattle.std.proofs.lemmas.Result.{IfOk-weaker}
 use Rattle.ent_functions.specs.Applied.{applied}
 use Rattle.ent_policy.specs.Variables.{definition_of}
 use Rattle.ent_eval.specs.Expression.{evaluated_of, meaning}

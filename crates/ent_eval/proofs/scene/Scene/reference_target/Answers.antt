@@ -1,4 +1,4 @@
-use Rattle.std.proofs.Common.{◌≡◌, ◌-◌, ◌∙◌, Some, sym, ap, arith}
+use Rattle.std.proofs.Common.{◌-◌, ◌∙◌, Some, sym, ap, arith}
 use Rattle.std.specs.Option.{option_copied}
 use Rattle.ent_eval.proofs.Fit.{sound_fit}
 use Rattle.ent_policy.specs.Children.{as_child}
