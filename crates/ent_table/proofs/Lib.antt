@@ -1,6 +1,7 @@
 pub mod Changes
 pub mod Counts
 pub mod Covered
+pub mod Edited
 pub mod Exchanges
 pub mod Fills
 pub mod Grids

@@ -14,7 +14,7 @@ use Rattle.ent_table.specs.declared.edit.EditFault.{EditFault}
 use Rattle.ent_table.specs.declared.edit.List.{List as Which}
 use Rattle.ent_table.specs.Names.{has_name, list_of}
 use Rattle.ent_table.specs.State.{State}
-use Rattle.ent_table.specs.Step.{unless, name_added, name_dropped, policy_added, policy_replaced, policy_withdrawn, root_set, day_set, next, holds, is_last, is_module, exceeds}
+use Rattle.ent_table.specs.Step.{unless, name_added, name_dropped, policy_added, policy_replaced, policy_withdrawn, root_set, day_set, next, holds, is_last, is_module, module_holds, module_lacks, exceeds}
 use Rattle.ent_table.proofs.Changes.{less_names, more_names}
 
 three_pass : (a b c : Bool) (x y z : EditFault) (t : State) → IsOk (unless a x (unless b y (unless c z (Ok t)))) → (a ≡ false) × (unless a x (unless b y (unless c z (Ok t))) ≡ Ok t)
@@ -73,7 +73,7 @@ not_false false h = cc
 -- a document that can be added has a module, and there its key is new
 pub added_is_new : (s : State) (number : ℕ) (d : Tree) → IsOk (policy_added s number d) → (number < length s.held.modules) × (holds s number (key_of d) ≡ false)
 added_is_new s number d h =
-    let first = no_fault (is_module s number && holds s number (key_of d)) AlreadyThere _ h in
+    let first = no_fault (module_holds s number (key_of d)) AlreadyThere _ h in
     let second = no_fault (is_last s || nat_le s.limits.documents (document_count s.held.modules)) Limit _ first.1 in
     let third = no_fault (not (is_module s number)) UnknownModule _ second.1 in
     let is = not_false (is_module s number) third.0 in
@@ -82,7 +82,7 @@ added_is_new s number d h =
 -- a document that can be replaced has a module, and there its key is held
 pub replaced_is_held : (s : State) (number : ℕ) (d : Tree) → IsOk (policy_replaced s number d) → (number < length s.held.modules) × (holds s number (key_of d) ≡ true)
 replaced_is_held s number d h =
-    let first = no_fault (is_module s number && not (holds s number (key_of d))) NotThere _ h in
+    let first = no_fault (module_lacks s number (key_of d)) NotThere _ h in
     let second = no_fault (is_last s) Limit _ first.1 in
     let third = no_fault (not (is_module s number)) UnknownModule _ second.1 in
     let is = not_false (is_module s number) third.0 in
@@ -91,7 +91,7 @@ replaced_is_held s number d h =
 -- so has one that can be withdrawn
 pub withdrawn_is_held : (s : State) (number : ℕ) (key : DocKey) → IsOk (policy_withdrawn s number key) → (number < length s.held.modules) × (holds s number key ≡ true)
 withdrawn_is_held s number key h =
-    let first = no_fault (is_module s number && not (holds s number key)) NotThere _ h in
+    let first = no_fault (module_lacks s number key) NotThere _ h in
     let second = no_fault (is_last s) Limit _ first.1 in
     let third = no_fault (is_bad_name key.id) BadValue _ second.1 in
     let fourth = no_fault (not (is_module s number)) UnknownModule _ third.1 in

@@ -1,5 +1,7 @@
 pub mod Ask
+pub mod Change
 pub mod Difference
+pub mod Evaluated
 pub mod Grid
 pub mod Left
 pub mod Limits

@@ -1,5 +1,5 @@
 -- The state of a review, and when its cells are right.
-use Rattle.std.specs.Prelude.{◌≡◌, ℕ, ◌≤◌, ◌+◌, ◌^◌, List, Option, Result, Ok, Err}
+use Rattle.std.specs.Prelude.{◌≡◌, ℕ, ◌≤◌, ◌+◌, ◌^◌, List, length, Option, Result, Ok, Err}
 use Rattle.std.specs.FinMap.{get}
 use Rattle.ent_policy.specs.declared.document.Tree.{Tree}
 use Rattle.ent_policy.specs.declared.key.DocKey.{DocKey}
@@ -33,6 +33,10 @@ pub record IsFresh {A P : Type 0} (sources : A → List Source) (slots : P → L
   pub documents : v.documents ≡ document_count (state_of sources slots v).held.modules
   pub serial : v.serial ≤ 2 ^ 63
   pub limits : IsStandardAtMost v.limits
+
+-- there are as many cells as listed requests
+abbrev pub HasEachCell : {A P : Type 0} → (A → List Source) → (P → List Slots) → Review A P → Type 0
+HasEachCell sources slots v = length v.table.cells ≡ length (fresh (state_of sources slots v))
 
 -- only the count of evaluations changed
 abbrev pub OnlyEvaluates : {A P : Type 0} → Review A P → Review A P → Type 0

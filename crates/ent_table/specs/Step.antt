@@ -1,5 +1,5 @@
 -- What an edit makes of a state.
-use Rattle.std.specs.Prelude.{◌≡◌, ℕ, ◌+◌, ◌^◌, ◌||◌, ◌&&◌, Bool, false, not, nat_lt, nat_le, bytes_eq, length, List, slice_set, Option, Some, None, Result, Ok, Err, IsOk, IfErr, if◌then◌else◌}
+use Rattle.std.specs.Prelude.{◌≡◌, ℕ, ◌+◌, ◌^◌, ◌||◌, ◌&&◌, Bool, false, not, nat_lt, nat_le, bytes_eq, length, List, slice_set, Option, Some, None, Result, Ok, Err, IsOk, if◌then◌else◌}
 use Rattle.std.specs.List.{list_all}
 use Rattle.std.specs.Option.{option_map_or}
 use Rattle.ent_values.specs.Calendar.{Day}
@@ -48,6 +48,13 @@ is_module s number = nat_lt number (length s.held.modules)
 abbrev pub holds : State → ℕ → DocKey → Bool
 holds s number key = has_document key (module_at s.held.modules number)
 
+-- whether there is such a module and it holds the document, and whether there is one and it doesn't
+abbrev pub module_holds : State → ℕ → DocKey → Bool
+module_holds s number key = is_module s number && holds s number key
+
+abbrev pub module_lacks : State → ℕ → DocKey → Bool
+module_lacks s number key = is_module s number && not (holds s number key)
+
 -- another document under a key in one module, or none
 abbrev pub with_policy : State → ℕ → DocKey → Option Tree → State
 with_policy s number key document =
@@ -60,7 +67,7 @@ policy_next s number key document = Ok (next (with_policy s number key document)
 -- a document is put under its key, where none is yet
 abbrev pub policy_added : State → ℕ → Tree → Result State EditFault
 policy_added s number d =
-    unless (is_module s number && holds s number (key_of d)) AlreadyThere
+    unless (module_holds s number (key_of d)) AlreadyThere
     (unless (is_last s || nat_le s.limits.documents (document_count s.held.modules)) Limit
     (unless (not (is_module s number)) UnknownModule
     (Ok (next (with_policy s number (key_of d) (Some d))))))
@@ -68,7 +75,7 @@ policy_added s number d =
 -- a document is put under its key, where one is
 abbrev pub policy_replaced : State → ℕ → Tree → Result State EditFault
 policy_replaced s number d =
-    unless (is_module s number && not (holds s number (key_of d))) NotThere
+    unless (module_lacks s number (key_of d)) NotThere
     (unless (is_last s) Limit
     (unless (not (is_module s number)) UnknownModule
     (Ok (next (with_policy s number (key_of d) (Some d))))))
@@ -76,7 +83,7 @@ policy_replaced s number d =
 -- the document under a key is taken away
 abbrev pub policy_withdrawn : State → ℕ → DocKey → Result State EditFault
 policy_withdrawn s number key =
-    unless (is_module s number && not (holds s number key)) NotThere
+    unless (module_lacks s number key) NotThere
     (unless (is_last s) Limit
     (unless (is_bad_name key.id) BadValue
     (unless (not (is_module s number)) UnknownModule
@@ -184,8 +191,3 @@ IsTested r (Err fault) = IsRefusal r fault
 -- whether any name more would exceed a limit
 abbrev pub Exceeds : State → Which → Bool → Type 0
 Exceeds s list answer = (name : List ℕ) → answer ≡ exceeds s list name
-
--- an edit that takes no memory is refused as its step is, and never for want of memory
-abbrev pub IsSure : Result State EditFault → Edit → Result Accepted EditFault → Type 0
-IsSure r (DropName list name) result = IfErr result (λ fault. r ≡ Err fault)
-IsSure r _ result = Unit {0}

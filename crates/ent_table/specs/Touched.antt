@@ -2,6 +2,8 @@
 use Rattle.std.specs.Prelude.{◌≡◌, ℕ, ◌+◌, zero, suc, List, [], ◌∷◌, ◌++◌, Bool, false, bytes_eq, filter, slice_get, slice_index_or, slice_set, Option, Some, None, if◌then◌else◌}
 use Rattle.std.specs.Option.{option_map_or}
 use Rattle.ent_values.specs.declared.value.Value.{Value}
+use Rattle.ent_finder.specs.Rows.{Source}
+use Rattle.ent_finder.specs.Slots.{Slots}
 use Rattle.ent_finder.specs.declared.row.RowKey.{RowKey}
 use Rattle.ent_eval.specs.declared.answer.Answer.{Answer}
 use Rattle.ent_eval.specs.Entities.{name_in}
@@ -9,11 +11,13 @@ use Rattle.ent_eval.specs.Looks.{Looks}
 use Rattle.ent_eval.specs.Uris as uris
 use Rattle.ent_table.specs.declared.edit.List.{List as Which}
 use Rattle.ent_table.specs.declared.edit.List.TheVariants as which
+use Rattle.ent_table.specs.declared.review.Review.{Review}
 use Rattle.ent_table.specs.declared.touched.Placed.{Placed}
 use Rattle.ent_table.specs.Difference.{same_optional}
 use Rattle.ent_table.specs.Grid.{times}
 use Rattle.ent_table.specs.Names.{Names, Triple, has_name, triple_of, triples}
-use Rattle.ent_table.specs.State.{State, answer_by, answer_to}
+use Rattle.ent_table.specs.Review.{state_of}
+use Rattle.ent_table.specs.State.{State, answer_by, answer_to, fresh}
 use Rattle.ent_table.specs.Step.{with_values}
 
 -- whether a request names the entity of a row in the row's category
@@ -61,11 +65,19 @@ IsReach key names places = (place : ℕ) (t : Triple) → slice_get (triples nam
 abbrev pub AreAlikeElsewhere : RowKey → Names → List Answer → List Answer → Type 0
 AreAlikeElsewhere key names xs ys = (place : ℕ) (t : Triple) → slice_get (triples names) place ≡ Some t → names_entity key t ≡ false → slice_get xs place ≡ slice_get ys place
 
+-- the cells of a review are right but where the request names the entity of a row
+abbrev pub IsFreshElsewhere : {A P : Type 0} → (A → List Source) → (P → List Slots) → RowKey → Review A P → Type 0
+IsFreshElsewhere sources slots key v = AreAlikeElsewhere key v.table.names v.table.cells (fresh (state_of sources slots v))
+
 -- ---- cells that are put at places
 
 -- two tables differ at these places at most
 abbrev pub DifferAt : List ℕ → List Answer → List Answer → Type 0
 DifferAt places xs ys = (place : ℕ) → times place places ≡ 0 → slice_get xs place ≡ slice_get ys place
+
+-- the cells of a review are right but at these places
+abbrev pub IsFreshBut : {A P : Type 0} → (A → List Source) → (P → List Slots) → List ℕ → Review A P → Type 0
+IsFreshBut sources slots places v = DifferAt places v.table.cells (fresh (state_of sources slots v))
 
 -- the request at a place
 abbrev pub request_at : Names → ℕ → Triple

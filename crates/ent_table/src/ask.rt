@@ -12,8 +12,8 @@ use std::alloc::AllocError;
 impl<A: Attributes, P: Policies> Review<A, P> {
     /// The answer to any request, listed or not, by what is held alone (section 7): the table has no part in it.
     ///
-    /// Each call counts as one evaluation, also one that is refused for want of memory. It changes nothing but the count, which
-    /// stays at its greatest value.
+    /// Each call counts as one evaluation, also one that is refused for want of memory. It changes nothing but the
+    /// count, which stays at its greatest value.
     ///
     /// # Errors
     ///

@@ -9,8 +9,9 @@ ghost use Rattle.ent_values.specs.Same.{same_type};
 ghost use Rattle.ent_values.specs.Types.{datatype_of};
 ghost use Rattle.ent_policy.specs.Names.{is_bad_name};
 ghost use Rattle.ent_finder.specs.Rows.{source_at};
+ghost use Rattle.ent_table.specs.Change.{Becomes, Edits, Stays, Tries};
 ghost use Rattle.ent_table.specs.Review.{IsFresh, OnlyAttributes, row_at, state_of};
-ghost use Rattle.ent_table.specs.Step.{IsAnswered, IsTested, attribute_set, is_bad_row, is_reserved, is_source, values_next, with_values};
+ghost use Rattle.ent_table.specs.Step.{attribute_set, is_bad_row, is_reserved, is_source, values_next, with_values};
 
 use crate::edit::{Accepted, EditFault};
 use crate::lists::is_bad_name;
@@ -69,7 +70,7 @@ impl<A: Attributes, P: Policies> Review<A, P> {
     ) -> Result<Accepted, EditFault>
         requires { IsFresh A.sources P.slots self.old }
         ensures fresh { IsFresh A.sources P.slots self.new }
-        ensures step { IsAnswered (attribute_set (state_of A.sources P.slots self.old) number key.now values) (state_of A.sources P.slots self.old) (state_of A.sources P.slots self.new) result }
+        ensures step { Edits A.sources P.slots (λ s. attribute_set s number key.now values) self.old self.new result }
     {
         self.row_fault(number, key, values.as_slice())?;
         self.exchange_values(number, key, values)
@@ -77,7 +78,7 @@ impl<A: Attributes, P: Policies> Review<A, P> {
 
     /// Why values can't be set in the row of a key, if they can't.
     fn row_fault(&self, number: usize, key: &RowKey, values: &[Value]) -> Result<(), EditFault>
-        ensures tested { IsTested (attribute_set (state_of A.sources P.slots self.now) number key.now values.now) result }
+        ensures tested { Tries A.sources P.slots (λ s. attribute_set s number key.now values.now) self.now result }
         ensures number { OnOk result (number < length (A.sources self.now.pdp.attributes)) }
         ensures types { OnOk result (AllOfType key.now.datatype values.now) }
     {
@@ -104,7 +105,8 @@ impl<A: Attributes, P: Policies> Review<A, P> {
         number < attributes.len() && attributes.supports(number, category)
     }
 
-    /// Gives the row of a key in one module these values, and makes the table right again. After a refusal everything is as before.
+    /// Gives the row of a key in one module these values, and makes the table right again. After a refusal everything
+    /// is as before.
     fn exchange_values(
         &mut self,
         number: usize,
@@ -116,7 +118,7 @@ impl<A: Attributes, P: Policies> Review<A, P> {
         requires number { number < length (A.sources self.old.pdp.attributes) }
         requires types { AllOfType key.now.datatype values }
         ensures fresh { IsFresh A.sources P.slots self.new }
-        ensures step { IsAnswered (values_next (state_of A.sources P.slots self.old) number key.now values) (state_of A.sources P.slots self.old) (state_of A.sources P.slots self.new) result }
+        ensures step { Edits A.sources P.slots (λ s. values_next s number key.now values) self.old self.new result }
     {
         let Ok(()) = self.swap_row(number, key, &mut values) else {
             return Err(EditFault::Memory);
@@ -130,7 +132,8 @@ impl<A: Attributes, P: Policies> Review<A, P> {
         }
     }
 
-    /// Exchanges what a module has in the row of a key with `values`. Once this is done, it can be done again without memory.
+    /// Exchanges what a module has in the row of a key with `values`. Once this is done, it can be done again without
+    /// memory.
     fn swap_row(
         &mut self,
         number: usize,
@@ -139,12 +142,15 @@ impl<A: Attributes, P: Policies> Review<A, P> {
     ) -> Result<(), AllocError>
         requires number { number < length (A.sources self.old.pdp.attributes) }
         requires types { AllOfType key.now.datatype values.old }
-        ensures swapped { OnOk result (state_of A.sources P.slots self.new ≡ with_values (state_of A.sources P.slots self.old) number key.now values.old) }
+        ensures swapped { OnOk result
+            (Becomes A.sources P.slots (λ s. with_values s number key.now values.old) self.old self.new) }
         ensures taken { OnOk result (values.new ≡ row_at (state_of A.sources P.slots self.old) number key.now) }
         ensures own { AllOfType key.now.datatype values.new }
-        ensures there { OnOk result (IsSome (finmap.get (source_at (A.sources self.new.pdp.attributes) number).rows key.now)) }
-        ensures absent { OnErr result (finmap.get (source_at (A.sources self.old.pdp.attributes) number).rows key.now ≡ None) }
-        ensures kept { OnErr result (state_of A.sources P.slots self.new ≡ state_of A.sources P.slots self.old) }
+        ensures there { OnOk result
+            (IsSome (finmap.get (source_at (A.sources self.new.pdp.attributes) number).rows key.now)) }
+        ensures absent { OnErr result
+            (finmap.get (source_at (A.sources self.old.pdp.attributes) number).rows key.now ≡ None) }
+        ensures kept { OnErr result (Stays A.sources P.slots self.old self.new) }
         ensures modules { length (A.sources self.new.pdp.attributes) ≡ length (A.sources self.old.pdp.attributes) }
         ensures rest { OnlyAttributes self.old self.new }
     {
@@ -157,7 +163,7 @@ impl<A: Attributes, P: Policies> Review<A, P> {
         requires number { number < length (A.sources self.old.pdp.attributes) }
         requires types { AllOfType key.now.datatype values }
         requires there { IsSome (finmap.get (source_at (A.sources self.old.pdp.attributes) number).rows key.now) }
-        ensures swapped { state_of A.sources P.slots self.new ≡ with_values (state_of A.sources P.slots self.old) number key.now values }
+        ensures swapped { Becomes A.sources P.slots (λ s. with_values s number key.now values) self.old self.new }
         ensures rest { OnlyAttributes self.old self.new }
     {
         match self.swap_row(number, key, &mut values) {

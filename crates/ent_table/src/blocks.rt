@@ -8,7 +8,8 @@ ghost use Rattle.ent_table.specs.Shape.{woven, taken_out, left_of};
 use slab::Slab;
 use std::cmp::min;
 
-/// Where the cells of one name stand in list order: `each` of them one after another, in each of `count` blocks of `width` cells.
+/// Where the cells of one name stand in list order: `each` of them one after another, in each of `count` blocks of
+/// `width` cells.
 #[derive(Clone, Copy)]
 pub(crate) struct Blocks {
     pub(crate) count: usize,

@@ -10,7 +10,8 @@ use crate::grid::Grid;
 use ent_eval::Answer;
 use ent_values::Shared;
 
-/// The listed requests with their answers: person, action, resource and answer, people outermost, then actions, then resources.
+/// The listed requests with their answers: person, action, resource and answer, people outermost, then actions, then
+/// resources.
 #[derive(Drop)]
 pub struct Cells<'a> {
     // What is left of the first person and its first action, and all lists for those that follow.
@@ -33,7 +34,8 @@ impl<'a> Cells<'a> {
         answers: &'a Grid<Shared<Answer>>,
         place: usize,
     ) -> Cells<'a>
-        ensures { cells_left result ≡ zip (all_triples (texts people.now) (texts actions.now) (texts resources.now)) (drop place answers.now) }
+        ensures { cells_left result
+            ≡ zip (all_triples (texts people.now) (texts actions.now) (texts resources.now)) (drop place answers.now) }
     {
         Cells {
             people,

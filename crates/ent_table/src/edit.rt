@@ -22,7 +22,8 @@ pub enum Edit {
     ReplacePolicy(usize, Document),
     /// Takes the document with that key out of the module of that number.
     WithdrawPolicy(usize, DocKey),
-    /// Gives the row of that key in the module of attributes of that number these values, or takes it away where there are none.
+    /// Gives the row of that key in the module of attributes of that number these values, or takes it away where there
+    /// are none.
     SetAttribute(usize, RowKey, Items<Value>),
     /// Puts a name last in a list.
     AddName(List, Text),
@@ -43,7 +44,8 @@ pub struct Accepted {
     pub changes: u64,
 }
 
-/// Why an edit is refused. Of several reasons the first in this order is given, but want of memory may come in place of any.
+/// Why an edit is refused. Of several reasons the first in this order is given, but want of memory may come in place of
+/// any.
 #[derive(Clone, Copy, Debug, PartialEq, Eq, Error)]
 pub enum EditFault {
     #[error("not there")]

@@ -1,11 +1,9 @@
 //! The fresh table, evaluated aside.
 
 ghost use Rattle.std.specs.Prelude.{◌≡◌, ℕ, List, ◌++◌, ◌∷◌, [], map, IfOk, IfSome, OnOk};
-ghost use Rattle.ent_eval.specs.Answer.{answer};
-ghost use Rattle.ent_eval.specs.Listed.{about, asked_about};
-ghost use Rattle.ent_eval.specs.LooksOf.{looks_of};
+ghost use Rattle.ent_eval.specs.Listed.{about};
+ghost use Rattle.ent_table.specs.Evaluated.{answer_about, answers_by};
 ghost use Rattle.ent_table.specs.Names.{all_triples, texts, with_actions, with_resources};
-ghost use Rattle.ent_table.specs.State.{answer_by};
 
 use crate::grid::Grid;
 use ent_eval::{Answer, Category, Pdp, Request};
@@ -13,7 +11,8 @@ use ent_finder::{Attributes, Policies};
 use ent_values::{Items, Shared};
 use std::alloc::{AllocError, Global};
 
-/// Where an answer that is equal to the next one is likely to stand: in the table so far, and as many cells back as a person has.
+/// Where an answer that is equal to the next one is likely to stand: in the table so far, and as many cells back as a
+/// person has.
 #[derive(Clone, Copy)]
 pub(crate) struct Nearby<'a> {
     pub(crate) table: &'a Grid<Shared<Answer>>,
@@ -92,14 +91,15 @@ fn categories_of(alloc: Global, resources: &[String]) -> Result<Vec<Category>, A
     Ok(categories)
 }
 
-/// The answer to what a request asks, about another resource. The two exchange their categories before, and back afterwards.
+/// The answer to what a request asks, about another resource. The two exchange their categories before, and back
+/// afterwards.
 fn evaluate_about<A: Attributes, P: Policies>(
     alloc: Global,
     pdp: &mut Pdp<A, P>,
     request: &mut Request,
     resource: &mut Category,
 ) -> Result<Answer, AllocError>
-    ensures answer { IfOk result (λ a. a ≡ answer (looks_of A.sources P.slots pdp.old) (asked_about resource.old request.old)) }
+    ensures answer { IfOk result (λ a. a ≡ answer_about A.sources P.slots pdp.old resource.old request.old) }
     ensures request { request.new ≡ request.old }
     ensures resource { resource.new ≡ resource.old }
     ensures rest { pdp.new ≡ record pdp.old { evaluations = pdp.new.evaluations } }
@@ -119,7 +119,8 @@ fn append_answer<A: Attributes, P: Policies>(
     nearby: &Nearby<'_>,
     cells: &mut Vec<Shared<Answer>>,
 ) -> Result<(), AllocError>
-    ensures cells { OnOk result (cells.new.items ≡ cells.old.items ++ answer (looks_of A.sources P.slots pdp.old) (asked_about resource.old request.old) ∷ []) }
+    ensures cells { OnOk result
+        (cells.new.items ≡ cells.old.items ++ answer_about A.sources P.slots pdp.old resource.old request.old ∷ []) }
     ensures request { request.new ≡ request.old }
     ensures resource { resource.new ≡ resource.old }
     ensures rest { pdp.new ≡ record pdp.old { evaluations = pdp.new.evaluations } }
@@ -130,8 +131,8 @@ fn append_answer<A: Attributes, P: Policies>(
     Ok(())
 }
 
-/// Appends the answers for a person and an action with each of the resources, of which these are the categories. One request serves
-/// for all of them.
+/// Appends the answers for a person and an action with each of the resources, of which these are the categories. One
+/// request serves for all of them.
 fn evaluate_resources<A: Attributes, P: Policies>(
     alloc: Global,
     pdp: &mut Pdp<A, P>,
@@ -142,7 +143,8 @@ fn evaluate_resources<A: Attributes, P: Policies>(
     cells: &mut Vec<Shared<Answer>>,
 ) -> Result<(), AllocError>
     ensures cells { OnOk result ((resources : List (List ℕ)) → categories.old ≡ map about resources
-        → cells.new.items ≡ cells.old.items ++ map (answer_by (looks_of A.sources P.slots pdp.old)) (with_resources person.now action.now resources)) }
+        → cells.new.items ≡ cells.old.items
+        ++ answers_by A.sources P.slots pdp.old (with_resources person.now action.now resources)) }
     ensures categories { categories.new ≡ categories.old }
     ensures rest { pdp.new ≡ record pdp.old { evaluations = pdp.new.evaluations } }
 {
@@ -164,7 +166,8 @@ fn evaluate_actions<A: Attributes, P: Policies>(
     cells: &mut Vec<Shared<Answer>>,
 ) -> Result<(), AllocError>
     ensures cells { OnOk result ((resources : List (List ℕ)) → categories.old ≡ map about resources
-        → cells.new.items ≡ cells.old.items ++ map (answer_by (looks_of A.sources P.slots pdp.old)) (with_actions person.now (texts actions.now) resources)) }
+        → cells.new.items ≡ cells.old.items
+        ++ answers_by A.sources P.slots pdp.old (with_actions person.now (texts actions.now) resources)) }
     ensures categories { categories.new ≡ categories.old }
     ensures rest { pdp.new ≡ record pdp.old { evaluations = pdp.new.evaluations } }
 {
@@ -192,7 +195,9 @@ pub(crate) fn evaluate_all<A: Attributes, P: Policies>(
     count: usize,
     nearby: &Nearby<'_>,
 ) -> Result<Items<Shared<Answer>>, AllocError>
-    ensures cells { IfOk result (λ v. v ≡ map (answer_by (looks_of A.sources P.slots pdp.old)) (all_triples (texts people.now) (texts actions.now) (texts resources.now))) }
+    ensures cells { IfOk result (λ v. v
+        ≡ answers_by A.sources P.slots pdp.old
+        (all_triples (texts people.now) (texts actions.now) (texts resources.now))) }
     ensures rest { pdp.new ≡ record pdp.old { evaluations = pdp.new.evaluations } }
 {
     let mut cells = Vec::with_capacity(alloc, count)?;

@@ -11,8 +11,8 @@ use std::alloc::{AllocError, Global};
 use std::marker::Model;
 use std::mem;
 
-/// Values in order. They stand in a slab, and a list of its keys says in which order, so that no value is moved when others are put
-/// between them or dropped.
+/// Values in order. They stand in a slab, and a list of its keys says in which order, so that no value is moved when
+/// others are put between them or dropped.
 #[derive(Drop)]
 pub(crate) struct Grid<A> {
     slab: Slab<A>,
@@ -75,7 +75,9 @@ impl<A: Drop> Grid<A> {
 
     /// The value at a place, and the place behind it.
     pub(crate) fn next_from(&self, place: usize) -> Option<(&A, usize)>
-        ensures { MatchOption result (drop place self.now ≡ []) (λ next. drop place self.now ≡ next.0.now ∷ drop next.1 self.now) }
+        ensures { MatchOption result
+            (drop place self.now ≡ [])
+            (λ next. drop place self.now ≡ next.0.now ∷ drop next.1 self.now) }
     {
         let value = self.get(place)?;
         Some((value, place + 1))
@@ -141,7 +143,8 @@ impl<A: Drop> Grid<A> {
         self.narrow(blocks, len);
     }
 
-    /// Moves the values from place `start` on behind the blocks before it. It takes no memory but the room that it is given.
+    /// Moves the values from place `start` on behind the blocks before it. It takes no memory but the room that it is
+    /// given.
     fn arrange(&mut self, mut room: Vec<usize>, start: usize, blocks: Blocks)
         requires start { start ≤ length self.old }
         requires empty { room.items ≡ [] }
@@ -175,7 +178,8 @@ impl<A: Drop> Grid<A> {
         Ok(())
     }
 
-    /// Puts the values of a new name behind those that each of the blocks has. After a refusal the values are as before.
+    /// Puts the values of a new name behind those that each of the blocks has. After a refusal the values are as
+    /// before.
     pub(crate) fn widen(
         &mut self,
         alloc: Global,

@@ -2,8 +2,8 @@
 
 ghost use Rattle.ent_table.specs.Touched.{OtherAnswersStay};
 
-/// Law: other values in a row of attributes touch only the answers to those requests that name the row's entity in the row's category.
-/// All others stay as they are.
+/// Law: other values in a row of attributes touch only the answers to those requests that name the row's entity in the
+/// row's category. All others stay as they are.
 pub fn other_answers_stay()
     ensures { OtherAnswersStay }
 {}

@@ -4,7 +4,8 @@ ghost use Rattle.std.specs.Prelude.{◌≡◌, ◌*◌, ◌<◌, ◌≤◌, fals
 ghost use Rattle.std.specs.Cmp.Lexicographic.{pointwise};
 ghost use Rattle.std.specs.List.{IsDistinct};
 ghost use Rattle.ent_policy.specs.Names.{is_bad_name};
-ghost use Rattle.ent_table.specs.Names.{CountsWith, IsPlace, TakesLast, cell_count, has_name, list_of, no_names, texts, triple_of, with_list, with_name};
+ghost use Rattle.ent_table.specs.Names.{CountsWith, IsPlace, TakesLast, cell_count, has_name, list_of, no_names};
+ghost use Rattle.ent_table.specs.Names.{texts, triple_of, with_list, with_name};
 ghost use Rattle.ent_table.specs.Place.{IsTaken, blocks_of, most_places, names_in};
 ghost use Rattle.ent_table.specs.Touched.{IsAt};
 
@@ -61,9 +62,14 @@ impl Model for Lists {
 
     ghost Value = { Names };
 
-    ghost view = { λ l. record { people = texts l.people.keys; actions = texts l.actions.keys; resources = texts l.resources.keys } };
+    ghost view = { λ l. record {
+      people = texts l.people.keys;
+      actions = texts l.actions.keys;
+      resources = texts l.resources.keys;
+    } };
 
-    ghost invariant = { λ l. (length l.people.keys ≤ 256) × (length l.actions.keys ≤ 256) × (length l.resources.keys ≤ 256) };
+    ghost invariant = { λ l.
+        (length l.people.keys ≤ 256) × (length l.actions.keys ≤ 256) × (length l.resources.keys ≤ 256) };
 }
 
 impl Lists {

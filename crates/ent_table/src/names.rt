@@ -1,9 +1,10 @@
 //! Edits of names.
 
 ghost use Rattle.std.specs.Prelude.{◌≡◌, ◌∷◌, [], string_bytes, IfErr, IfOk, Err};
+ghost use Rattle.ent_table.specs.Change.{Edits, Tries};
 ghost use Rattle.ent_table.specs.Review.{IsFresh, OnlyEvaluates, state_of};
 ghost use Rattle.ent_table.specs.State.{fresh_with};
-ghost use Rattle.ent_table.specs.Step.{Exceeds, IsAnswered, IsTested, name_added, name_dropped};
+ghost use Rattle.ent_table.specs.Step.{Exceeds, name_added, name_dropped};
 
 use crate::edit::{Accepted, EditFault, List};
 use crate::fill::{Nearby, evaluate_all};
@@ -20,7 +21,7 @@ impl<A: Attributes, P: Policies> Review<A, P> {
     pub(crate) fn add_name(&mut self, list: List, name: Text) -> Result<Accepted, EditFault>
         requires { IsFresh A.sources P.slots self.old }
         ensures fresh { IsFresh A.sources P.slots self.new }
-        ensures step { IsAnswered (name_added (state_of A.sources P.slots self.old) list name) (state_of A.sources P.slots self.old) (state_of A.sources P.slots self.new) result }
+        ensures step { Edits A.sources P.slots (λ s. name_added s list name) self.old self.new result }
     {
         self.name_fault(list, &name)?;
         let Ok(name) = name.into_string(self.alloc) else {
@@ -40,8 +41,9 @@ impl<A: Attributes, P: Policies> Review<A, P> {
     pub(crate) fn drop_name(&mut self, list: List, name: &Text) -> Result<Accepted, EditFault>
         requires { IsFresh A.sources P.slots self.old }
         ensures fresh { IsFresh A.sources P.slots self.new }
-        ensures step { IsAnswered (name_dropped (state_of A.sources P.slots self.old) list name.now) (state_of A.sources P.slots self.old) (state_of A.sources P.slots self.new) result }
-        ensures sure { IfErr result (λ fault. name_dropped (state_of A.sources P.slots self.old) list name.now ≡ Err fault) }
+        ensures step { Edits A.sources P.slots (λ s. name_dropped s list name.now) self.old self.new result }
+        ensures sure { IfErr result
+            (λ fault. name_dropped (state_of A.sources P.slots self.old) list name.now ≡ Err fault) }
         ensures idle { self.new.pdp ≡ self.old.pdp }
     {
         if !self.table.names.has(list, name.as_str()) {
@@ -58,7 +60,7 @@ impl<A: Attributes, P: Policies> Review<A, P> {
 
     /// Why a name can't be added, if it can't.
     fn name_fault(&self, list: List, name: &Text) -> Result<(), EditFault>
-        ensures { IsTested (name_added (state_of A.sources P.slots self.now) list name.now) result }
+        ensures { Tries A.sources P.slots (λ s. name_added s list name.now) self.now result }
     {
         if self.table.names.has(list, name.as_str()) {
             return Err(EditFault::AlreadyThere);
@@ -91,7 +93,8 @@ impl<A: Attributes, P: Policies> Review<A, P> {
         list: List,
         name: &String,
     ) -> Result<Items<Shared<Answer>>, AllocError>
-        ensures cells { IfOk result (λ c. c ≡ fresh_with (state_of A.sources P.slots self.old) list (string_bytes name.now ∷ [])) }
+        ensures cells { IfOk result
+            (λ c. c ≡ fresh_with (state_of A.sources P.slots self.old) list (string_bytes name.now ∷ [])) }
         ensures rest { OnlyEvaluates self.old self.new }
     {
         let blocks = self.table.names.blocks(list);

@@ -14,7 +14,8 @@ use ent_finder::{Attributes, Policies};
 use std::slice;
 
 impl<A: Attributes, P: Policies> Review<A, P> {
-    /// The cells of a person in list order of action, then resource: none where the person isn't listed. No other cell is visited.
+    /// The cells of a person in list order of action, then resource: none where the person isn't listed. No other cell
+    /// is visited.
     pub fn cells_of(&self, person: &str) -> Cells<'_>
         requires { IsFresh A.sources P.slots self.now }
         ensures { cells_left result ≡ cells_of person.now (table_of (state_of A.sources P.slots self.now)) }
@@ -34,11 +35,12 @@ impl<A: Attributes, P: Policies> Review<A, P> {
         }
     }
 
-    /// The people in list order, each with the answer to an action and a resource: none where one of these isn't listed. No other cell is
-    /// visited.
+    /// The people in list order, each with the answer to an action and a resource: none where one of these isn't
+    /// listed. No other cell is visited.
     pub fn answers_to(&self, action: &str, resource: &str) -> Column<'_>
         requires { IsFresh A.sources P.slots self.now }
-        ensures { column_left result ≡ answers_to action.now resource.now (table_of (state_of A.sources P.slots self.now)) }
+        ensures { column_left result
+            ≡ answers_to action.now resource.now (table_of (state_of A.sources P.slots self.now)) }
     {
         let names = &self.table.names;
         let columns = names.blocks(List::Actions);

@@ -1,12 +1,14 @@
 //! Edits of documents.
 
-ghost use Rattle.std.specs.Prelude.{◌≡◌, ◌<◌, ◌^◌, ◌&&◌, IfOk, IsSome, None, OnErr, OnOk, length, not};
+ghost use Rattle.std.specs.Prelude.{◌≡◌, ◌<◌, ◌^◌, IfOk, IsSome, None, OnErr, OnOk, length};
 ghost use Rattle.std.specs.FinMap as finmap;
 ghost use Rattle.std.specs.Option.{ForSome};
 ghost use Rattle.ent_policy.specs.Key.{key_of};
-ghost use Rattle.ent_finder.specs.Slots.{document_count, module_at};
+ghost use Rattle.ent_finder.specs.Slots.{module_at};
+ghost use Rattle.ent_table.specs.Change.{Becomes, Edits, Stays, Tries, count_with};
 ghost use Rattle.ent_table.specs.Review.{IsFresh, OnlyPolicies, policy_at, state_of};
-ghost use Rattle.ent_table.specs.Step.{IsAnswered, IsTested, holds, is_module, policy_added, policy_next, policy_replaced, policy_withdrawn, with_policy};
+ghost use Rattle.ent_table.specs.Step.{is_module, module_holds, module_lacks, policy_added, policy_next};
+ghost use Rattle.ent_table.specs.Step.{policy_replaced, policy_withdrawn, with_policy};
 
 use crate::edit::{Accepted, EditFault};
 use crate::lists::is_bad_name;
@@ -23,7 +25,7 @@ impl<A: Attributes, P: Policies> Review<A, P> {
     ) -> Result<Accepted, EditFault>
         requires { IsFresh A.sources P.slots self.old }
         ensures fresh { IsFresh A.sources P.slots self.new }
-        ensures step { IsAnswered (policy_added (state_of A.sources P.slots self.old) number document) (state_of A.sources P.slots self.old) (state_of A.sources P.slots self.new) result }
+        ensures step { Edits A.sources P.slots (λ s. policy_added s number document) self.old self.new result }
     {
         let key = self.key_to_add(number, &document)?;
         let documents = self.documents + 1;
@@ -37,7 +39,7 @@ impl<A: Attributes, P: Policies> Review<A, P> {
     ) -> Result<Accepted, EditFault>
         requires { IsFresh A.sources P.slots self.old }
         ensures fresh { IsFresh A.sources P.slots self.new }
-        ensures step { IsAnswered (policy_replaced (state_of A.sources P.slots self.old) number document) (state_of A.sources P.slots self.old) (state_of A.sources P.slots self.new) result }
+        ensures step { Edits A.sources P.slots (λ s. policy_replaced s number document) self.old self.new result }
     {
         let key = self.key_to_replace(number, &document)?;
         let documents = self.documents;
@@ -51,7 +53,7 @@ impl<A: Attributes, P: Policies> Review<A, P> {
     ) -> Result<Accepted, EditFault>
         requires { IsFresh A.sources P.slots self.old }
         ensures fresh { IsFresh A.sources P.slots self.new }
-        ensures step { IsAnswered (policy_withdrawn (state_of A.sources P.slots self.old) number key) (state_of A.sources P.slots self.old) (state_of A.sources P.slots self.new) result }
+        ensures step { Edits A.sources P.slots (λ s. policy_withdrawn s number key) self.old self.new result }
     {
         self.withdrawal_fault(number, &key)?;
         let documents = self.documents - 1;
@@ -62,7 +64,7 @@ impl<A: Attributes, P: Policies> Review<A, P> {
     fn key_to_add(&self, number: usize, document: &Document) -> Result<DocKey, EditFault>
         requires { IsFresh A.sources P.slots self.now }
         ensures key { IfOk result (λ k. k ≡ key_of document.now) }
-        ensures tested { IsTested (policy_added (state_of A.sources P.slots self.now) number document.now) result }
+        ensures tested { Tries A.sources P.slots (λ s. policy_added s number document.now) self.now result }
     {
         let Ok(key) = document.key(self.alloc) else {
             return Err(EditFault::Memory);
@@ -82,7 +84,7 @@ impl<A: Attributes, P: Policies> Review<A, P> {
     /// The key under which a document is replaced by this one, or why it can't be.
     fn key_to_replace(&self, number: usize, document: &Document) -> Result<DocKey, EditFault>
         ensures key { IfOk result (λ k. k ≡ key_of document.now) }
-        ensures tested { IsTested (policy_replaced (state_of A.sources P.slots self.now) number document.now) result }
+        ensures tested { Tries A.sources P.slots (λ s. policy_replaced s number document.now) self.now result }
     {
         let Ok(key) = document.key(self.alloc) else {
             return Err(EditFault::Memory);
@@ -101,7 +103,7 @@ impl<A: Attributes, P: Policies> Review<A, P> {
 
     /// Why the document with a key can't be withdrawn, if it can't.
     fn withdrawal_fault(&self, number: usize, key: &DocKey) -> Result<(), EditFault>
-        ensures { IsTested (policy_withdrawn (state_of A.sources P.slots self.now) number key.now) result }
+        ensures { Tries A.sources P.slots (λ s. policy_withdrawn s number key.now) self.now result }
     {
         if self.lacks(number, key) {
             return Err(EditFault::NotThere);
@@ -127,20 +129,20 @@ impl<A: Attributes, P: Policies> Review<A, P> {
 
     /// Whether there is a module of that number that holds a document with that key.
     fn holds(&self, number: usize, key: &DocKey) -> bool
-        ensures { result ≡ (is_module (state_of A.sources P.slots self.now) number && holds (state_of A.sources P.slots self.now) number key.now) }
+        ensures { result ≡ module_holds (state_of A.sources P.slots self.now) number key.now }
     {
         self.is_module(number) && self.pdp.policies().holds(number, key)
     }
 
     /// Whether there is a module of that number that holds no document with that key.
     fn lacks(&self, number: usize, key: &DocKey) -> bool
-        ensures { result ≡ (is_module (state_of A.sources P.slots self.now) number && not (holds (state_of A.sources P.slots self.now) number key.now)) }
+        ensures { result ≡ module_lacks (state_of A.sources P.slots self.now) number key.now }
     {
         self.is_module(number) && !self.pdp.policies().holds(number, key)
     }
 
-    /// Puts a document, or none, under a key of one module, where so many are held afterwards, and makes the table right again.
-    /// After a refusal everything is as before.
+    /// Puts a document, or none, under a key of one module, where so many are held afterwards, and makes the table
+    /// right again. After a refusal everything is as before.
     fn exchange(
         &mut self,
         number: usize,
@@ -152,9 +154,9 @@ impl<A: Attributes, P: Policies> Review<A, P> {
         requires serial { self.old.serial < 2 ^ 63 }
         requires number { number < length (P.slots self.old.pdp.policies) }
         requires key { ForSome document (λ d. key_of d ≡ key.now) }
-        requires documents { documents ≡ document_count (with_policy (state_of A.sources P.slots self.old) number key.now document).held.modules }
+        requires documents { documents ≡ count_with A.sources P.slots self.old number key.now document }
         ensures fresh { IsFresh A.sources P.slots self.new }
-        ensures step { IsAnswered (policy_next (state_of A.sources P.slots self.old) number key.now document) (state_of A.sources P.slots self.old) (state_of A.sources P.slots self.new) result }
+        ensures step { Edits A.sources P.slots (λ s. policy_next s number key.now document) self.old self.new result }
     {
         let Ok(()) = self.swap(number, key, &mut document) else {
             return Err(EditFault::Memory);
@@ -171,7 +173,8 @@ impl<A: Attributes, P: Policies> Review<A, P> {
         }
     }
 
-    /// Exchanges what a module holds under a key with `document`. Once this is done, it can be done again without memory.
+    /// Exchanges what a module holds under a key with `document`. Once this is done, it can be done again without
+    /// memory.
     fn swap(
         &mut self,
         number: usize,
@@ -180,12 +183,13 @@ impl<A: Attributes, P: Policies> Review<A, P> {
     ) -> Result<(), AllocError>
         requires number { number < length (P.slots self.old.pdp.policies) }
         requires key { ForSome document.old (λ d. key_of d ≡ key.now) }
-        ensures swapped { OnOk result (state_of A.sources P.slots self.new ≡ with_policy (state_of A.sources P.slots self.old) number key.now document.old) }
+        ensures swapped { OnOk result
+            (Becomes A.sources P.slots (λ s. with_policy s number key.now document.old) self.old self.new) }
         ensures taken { OnOk result (document.new ≡ policy_at (state_of A.sources P.slots self.old) number key.now) }
         ensures own { ForSome document.new (λ d. key_of d ≡ key.now) }
         ensures there { OnOk result (IsSome (finmap.get (module_at (P.slots self.new.pdp.policies) number) key.now)) }
         ensures absent { OnErr result (finmap.get (module_at (P.slots self.old.pdp.policies) number) key.now ≡ None) }
-        ensures kept { OnErr result (state_of A.sources P.slots self.new ≡ state_of A.sources P.slots self.old) }
+        ensures kept { OnErr result (Stays A.sources P.slots self.old self.new) }
         ensures modules { length (P.slots self.new.pdp.policies) ≡ length (P.slots self.old.pdp.policies) }
         ensures rest { OnlyPolicies self.old self.new }
     {
@@ -200,7 +204,7 @@ impl<A: Attributes, P: Policies> Review<A, P> {
         requires number { number < length (P.slots self.old.pdp.policies) }
         requires key { ForSome document (λ d. key_of d ≡ key.now) }
         requires there { IsSome (finmap.get (module_at (P.slots self.old.pdp.policies) number) key.now) }
-        ensures swapped { state_of A.sources P.slots self.new ≡ with_policy (state_of A.sources P.slots self.old) number key.now document }
+        ensures swapped { Becomes A.sources P.slots (λ s. with_policy s number key.now document) self.old self.new }
         ensures rest { OnlyPolicies self.old self.new }
     {
         match self.swap(number, key, &mut document) {

@@ -1,14 +1,15 @@
 //! The review table and its edits.
 
-ghost use Rattle.std.specs.Prelude.{◌≡◌, ◌+◌, ◌<◌, ◌^◌, length, IfOk};
+ghost use Rattle.std.specs.Prelude.{◌≡◌, ◌+◌, ◌<◌, ◌^◌, IfOk};
 ghost use Rattle.std.specs.Option.{option_copied};
 ghost use Rattle.ent_eval.specs.LooksOf.{held_by};
+ghost use Rattle.ent_table.specs.Change.{Edits, IsSure};
 ghost use Rattle.ent_table.specs.Left.{cells_left};
 ghost use Rattle.ent_table.specs.Limits.{IsStandardAtMost};
 ghost use Rattle.ent_table.specs.Names.{has_name, list_of, triple_of};
-ghost use Rattle.ent_table.specs.Review.{IsFresh, IsIdle, OnlyEvaluates, Settles, state_of};
+ghost use Rattle.ent_table.specs.Review.{HasEachCell, IsFresh, IsIdle, OnlyEvaluates, Settles, state_of};
 ghost use Rattle.ent_table.specs.State.{answer_at, fresh, initial, table_of};
-ghost use Rattle.ent_table.specs.Step.{IsAnswered, IsSure, day_set, root_set, step};
+ghost use Rattle.ent_table.specs.Step.{day_set, root_set, step};
 
 use crate::cells::Cells;
 use crate::edit::{Accepted, Edit, EditFault, List};
@@ -24,7 +25,8 @@ use std::alloc::{AllocError, Global};
 /// No edit is accepted at this serial.
 pub const LAST_SERIAL: u64 = 9_223_372_036_854_775_808;
 
-/// The review table: for each listed person, action and resource the answer to that request, kept right over every edit.
+/// The review table: for each listed person, action and resource the answer to that request, kept right over every
+/// edit.
 #[derive(Drop)]
 pub struct Review<A = AttributeFinder, P = PolicyFinder> {
     pub(crate) alloc: Global,
@@ -60,8 +62,8 @@ impl<A: Attributes, P: Policies> Review<A, P> {
     pub fn edit(&mut self, edit: Edit) -> Result<Accepted, EditFault>
         requires { IsFresh A.sources P.slots self.old }
         ensures fresh { IsFresh A.sources P.slots self.new }
-        ensures step { IsAnswered (step (state_of A.sources P.slots self.old) edit) (state_of A.sources P.slots self.old) (state_of A.sources P.slots self.new) result }
-        ensures sure { IsSure (step (state_of A.sources P.slots self.old) edit) edit result }
+        ensures step { Edits A.sources P.slots (λ s. step s edit) self.old self.new result }
+        ensures sure { IsSure A.sources P.slots edit self.old result }
         ensures idle { IsIdle edit self.old.pdp.evaluations self.new.pdp.evaluations }
     {
         match edit {
@@ -79,7 +81,8 @@ impl<A: Attributes, P: Policies> Review<A, P> {
     /// The answer to a listed request.
     pub fn cell(&self, person: &str, action: &str, resource: &str) -> Option<&Answer>
         requires { IsFresh A.sources P.slots self.now }
-        ensures { option_copied result ≡ answer_at (state_of A.sources P.slots self.now) (triple_of person.now action.now resource.now) }
+        ensures { option_copied result
+            ≡ answer_at (state_of A.sources P.slots self.now) (triple_of person.now action.now resource.now) }
     {
         let place = self.table.names.place(person, action, resource)?;
         let answer = self.table.cells.get(place)?;
@@ -160,7 +163,7 @@ impl<A: Attributes, P: Policies> Review<A, P> {
     /// Puts the fresh answers in the cells, where the names are those of the answers before.
     pub(crate) fn settle_answers(&mut self) -> Result<Accepted, EditFault>
         requires serial { self.old.serial < 2 ^ 63 }
-        requires long { length self.old.table.cells ≡ length (fresh (state_of A.sources P.slots self.old)) }
+        requires long { HasEachCell A.sources P.slots self.old }
         ensures settled { Settles A.sources P.slots self.old self.new result }
     {
         let Ok(answers) = self.evaluated() else {
@@ -173,7 +176,7 @@ impl<A: Attributes, P: Policies> Review<A, P> {
     fn set_root(&mut self, root: Option<Reference>) -> Result<Accepted, EditFault>
         requires { IsFresh A.sources P.slots self.old }
         ensures fresh { IsFresh A.sources P.slots self.new }
-        ensures step { IsAnswered (root_set (state_of A.sources P.slots self.old) root) (state_of A.sources P.slots self.old) (state_of A.sources P.slots self.new) result }
+        ensures step { Edits A.sources P.slots (λ s. root_set s root) self.old self.new result }
     {
         if self.serial >= LAST_SERIAL {
             return Err(EditFault::Limit);
@@ -191,7 +194,7 @@ impl<A: Attributes, P: Policies> Review<A, P> {
     fn set_day(&mut self, day: Option<Date>) -> Result<Accepted, EditFault>
         requires { IsFresh A.sources P.slots self.old }
         ensures fresh { IsFresh A.sources P.slots self.new }
-        ensures step { IsAnswered (day_set (state_of A.sources P.slots self.old) day) (state_of A.sources P.slots self.old) (state_of A.sources P.slots self.new) result }
+        ensures step { Edits A.sources P.slots (λ s. day_set s day) self.old self.new result }
     {
         if self.serial >= LAST_SERIAL {
             return Err(EditFault::Limit);

@@ -14,7 +14,8 @@ use ent_eval::Answer;
 use ent_values::{Items, Shared};
 use std::alloc::{AllocError, Global};
 
-/// The names, and a cell for each of the requests that they make, in list order: people outermost, then actions, then resources.
+/// The names, and a cell for each of the requests that they make, in list order: people outermost, then actions, then
+/// resources.
 #[derive(Drop)]
 pub(crate) struct Table {
     pub(crate) names: Lists,
@@ -49,7 +50,8 @@ impl Table {
         }
     }
 
-    /// Puts a name last in its list, and the answers to its requests where they belong. After a refusal the table is as before.
+    /// Puts a name last in its list, and the answers to its requests where they belong. After a refusal the table is as
+    /// before.
     pub(crate) fn add(
         &mut self,
         alloc: Global,
@@ -73,7 +75,8 @@ impl Table {
         }
     }
 
-    /// Takes a name out of its list and drops the cells of its requests, and tells how many they were. It takes no memory.
+    /// Takes a name out of its list and drops the cells of its requests, and tells how many they were. It takes no
+    /// memory.
     pub(crate) fn remove(&mut self, list: List, name: &str) -> Option<usize>
         ensures { Drops list name.now self.old self.new result }
     {

@@ -1,14 +1,15 @@
 //! Cells that are evaluated aside, each once, and put in their places.
 
-ghost use Rattle.std.specs.Prelude.{◌≡◌, ◌<◌, ◌^◌, length, map, slice_get, slice_set, if◌then◌else◌, IfOk, Some};
+ghost use Rattle.std.specs.Prelude.{◌≡◌, ◌<◌, ◌^◌, length, slice_get, slice_set, if◌then◌else◌, IfOk, Some};
 ghost use Rattle.std.specs.List.{AllByRecursion};
 ghost use Rattle.ent_eval.specs.LooksOf.{looks_of};
 ghost use Rattle.ent_table.specs.Difference.{same_optional};
+ghost use Rattle.ent_table.specs.Evaluated.{answers_at};
 ghost use Rattle.ent_table.specs.Names.{cell_count, texts, triple_of};
 ghost use Rattle.ent_table.specs.Place.{names_in};
-ghost use Rattle.ent_table.specs.Review.{OnlyEvaluates, Settles, state_of};
-ghost use Rattle.ent_table.specs.State.{fresh};
-ghost use Rattle.ent_table.specs.Touched.{AreAlikeElsewhere, DifferAt, answered, request_at, unlike_answers, with_answers};
+ghost use Rattle.ent_table.specs.Review.{HasEachCell, OnlyEvaluates, Settles};
+ghost use Rattle.ent_table.specs.Touched.{IsFreshBut, IsFreshElsewhere, answered, request_at};
+ghost use Rattle.ent_table.specs.Touched.{unlike_answers, with_answers};
 
 use crate::count::has;
 use crate::edit::{Accepted, EditFault};
@@ -83,7 +84,7 @@ fn evaluate_at<A: Attributes, P: Policies>(
     places: &[usize],
 ) -> Result<Items<Placed>, AllocError>
     requires { AllByRecursion (λ p. p < cell_count (names_in requests.now)) places.now }
-    ensures cells { IfOk result (λ cs. cs ≡ map (answered (looks_of A.sources P.slots pdp.old) (names_in requests.now)) places.now) }
+    ensures cells { IfOk result (λ cs. cs ≡ answers_at A.sources P.slots pdp.old (names_in requests.now) places.now) }
     ensures rest { pdp.new ≡ record pdp.old { evaluations = pdp.new.evaluations } }
 {
     let mut cells = Vec::with_capacity(alloc, places.len())?;
@@ -125,7 +126,8 @@ impl<A: Attributes, P: Policies> Review<A, P> {
     /// The answers to the requests at some places, evaluated aside.
     fn evaluated_at(&mut self, places: &[usize]) -> Result<Items<Placed>, AllocError>
         requires { AllByRecursion (λ p. p < cell_count self.old.table.names) places.now }
-        ensures cells { IfOk result (λ cs. cs ≡ map (answered (looks_of A.sources P.slots self.old.pdp) self.old.table.names) places.now) }
+        ensures cells { IfOk result
+            (λ cs. cs ≡ answers_at A.sources P.slots self.old.pdp self.old.table.names places.now) }
         ensures rest { OnlyEvaluates self.old self.new }
     {
         let requests = self.table.names.requests();
@@ -135,9 +137,9 @@ impl<A: Attributes, P: Policies> Review<A, P> {
     /// Puts the fresh answers in the cells at some places, where all other cells have theirs.
     fn settle_places(&mut self, places: &[usize]) -> Result<Accepted, EditFault>
         requires serial { self.old.serial < 2 ^ 63 }
-        requires long { length self.old.table.cells ≡ length (fresh (state_of A.sources P.slots self.old)) }
+        requires long { HasEachCell A.sources P.slots self.old }
         requires within { AllByRecursion (λ p. p < cell_count self.old.table.names) places.now }
-        requires rest { DifferAt places.now self.old.table.cells (fresh (state_of A.sources P.slots self.old)) }
+        requires rest { IsFreshBut A.sources P.slots places.now self.old }
         ensures settled { Settles A.sources P.slots self.old self.new result }
     {
         let Ok(answers) = self.evaluated_at(places) else {
@@ -147,11 +149,12 @@ impl<A: Attributes, P: Policies> Review<A, P> {
         Ok(self.next_serial(changes))
     }
 
-    /// Puts the fresh answers in the cells that a row touches, where all other cells have theirs. Only those are evaluated.
+    /// Puts the fresh answers in the cells that a row touches, where all other cells have theirs. Only those are
+    /// evaluated.
     pub(crate) fn settle_row(&mut self, key: &RowKey) -> Result<Accepted, EditFault>
         requires serial { self.old.serial < 2 ^ 63 }
-        requires long { length self.old.table.cells ≡ length (fresh (state_of A.sources P.slots self.old)) }
-        requires rest { AreAlikeElsewhere key.now self.old.table.names self.old.table.cells (fresh (state_of A.sources P.slots self.old)) }
+        requires long { HasEachCell A.sources P.slots self.old }
+        requires rest { IsFreshElsewhere A.sources P.slots key.now self.old }
         ensures settled { Settles A.sources P.slots self.old self.new result }
     {
         let Ok(places) = self.table.names.reach(self.alloc, key) else {

@@ -1,15 +1,12 @@
-use Rattle.std.proofs.Common.{◌≡◌, ◌≤◌, ◌^◌, List, Ok, refl, sym, ap, subst, ◌∙◌}
+use Rattle.std.proofs.Common.{◌≡◌, List, Ok, refl, sym, ap, subst, ◌∙◌}
 use Rattle.ent_eval.specs.declared.answer.Answer.{Answer}
-use Rattle.ent_finder.specs.Slots.{document_count}
-use Rattle.ent_table.specs.Difference.{changes, unlike_count}
-use Rattle.ent_table.specs.Limits.{IsStandardAtMost}
 use Rattle.ent_table.specs.Review.{state_of}
 use Rattle.ent_table.specs.Names.{Names}
 use Rattle.ent_table.specs.State.{State, fresh}
 use Rattle.ent_table.specs.Step.{IsRefusal, next, with_values}
 use Rattle.ent_table.specs.Touched.{AreAlikeElsewhere}
 use Rattle.ent_table.specs.declared.edit.EditFault.{EditFault}
-use Rattle.ent_table.proofs.Changes.{changes-same_names}
+use Rattle.ent_table.proofs.Edited.{fresh_again, settled_edits}
 use Rattle.ent_table.proofs.Rows.{values_undone}
 use Rattle.ent_table.proofs.Settled.{alike}
 use Rattle.ent_table.proofs.review.Review.exchange_values.Goals as goal
@@ -33,15 +30,9 @@ returns-in-Ok-settle_row-clause-step g c =
     let sources = g.A.Attributes.sources in
     let slots = g.P.Policies.slots in
     let s = state_of sources slots c.args.self.now in
-    let t = next (with_values s c.args.number c.args.key.now c.args.values) in
-    let settled = c.in-Ok-settle_row.ensures.settled in
-    let after : state_of sources slots c.settle_row.new.self ≡ t = ap (state_of sources slots) settled.1 ∙ ap next c.in-Ok.ensures.swapped in
-    let table : c.settle_row.new.self.table.cells ≡ fresh t = settled.0 ∙ ap (λ (u : State). fresh u) c.in-Ok.ensures.swapped in
-    let before = ap (λ v. v.table.cells) c.in-Ok.ensures.rest ∙ c.requires.fresh.cells in (
-      ap Ok (sym after),
-      settled.2 ∙ sym (ap (λ v. v.serial) settled.1),
-      settled.3 ∙ (λ i. unlike_count (before i) (table i)) ∙ sym (changes-same_names s t refl) ∙ ap (λ (u : State). changes s u) (sym after),
-    )
+    let t = with_values s c.args.number c.args.key.now c.args.values in
+    let cells = ap (λ v. v.table.cells) c.in-Ok.ensures.rest ∙ c.requires.fresh.cells in
+    settled_edits sources slots s t c.swap_row.new.self c.settle_row.new.self _ refl cells c.in-Ok.ensures.swapped c.in-Ok-settle_row.ensures.settled
 
 -- the second exchange takes the first one back
 pub returns-in-Err-clause-step : goal.returns-in-Err-clause-step
@@ -61,16 +52,10 @@ returns-in-Err-clause-step g c =
 
 pub returns-in-Err-clause-fresh : goal.returns-in-Err-clause-fresh
 returns-in-Err-clause-fresh g c =
-    let sources = g.A.Attributes.sources in
-    let slots = g.P.Policies.slots in
-    let old = c.requires.fresh in
     let one = c.in-Ok.ensures.rest in
     let two = c.in-Err.ensures.settled.1 in
     let three = c.put_row_back.ensures.rest in
-    let same : state_of sources slots c.args.self.now ≡ state_of sources slots c.put_row_back.new.self = sym (returns-in-Err-clause-step g c).1 in
-    record {
-      cells = ap (λ v. v.table.cells) three ∙ ap (λ v. v.table.cells) two ∙ ap (λ v. v.table.cells) one ∙ old.cells ∙ ap (λ (u : State). fresh u) same;
-      documents = ap (λ v. v.documents) three ∙ ap (λ v. v.documents) two ∙ ap (λ v. v.documents) one ∙ old.documents ∙ ap (λ (u : State). document_count u.held.modules) same;
-      serial = subst (λ n. n ≤ 2 ^ 63) (ap (λ (u : State). u.serial) same) old.serial;
-      limits = subst IsStandardAtMost (ap (λ (u : State). u.limits) same) old.limits;
-    }
+    fresh_again g.A.Attributes.sources g.P.Policies.slots c.args.self.now c.put_row_back.new.self c.requires.fresh
+    (ap (λ v. v.table.cells) three ∙ ap (λ v. v.table.cells) two ∙ ap (λ v. v.table.cells) one)
+    (ap (λ v. v.documents) three ∙ ap (λ v. v.documents) two ∙ ap (λ v. v.documents) one)
+    (returns-in-Err-clause-step g c).1

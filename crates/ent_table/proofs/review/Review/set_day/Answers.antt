@@ -1,10 +1,7 @@
-use Rattle.std.proofs.Common.{◌≡◌, Ok, refl, sym, ap, ◌∙◌}
+use Rattle.std.proofs.Common.{refl, ap, ◌∙◌}
 use Rattle.ent_eval.specs.LooksOf.{held_by}
-use Rattle.ent_table.specs.Difference.{changes, unlike_count}
 use Rattle.ent_table.specs.Review.{state_of}
-use Rattle.ent_table.specs.State.{State, fresh}
-use Rattle.ent_table.specs.Step.{next}
-use Rattle.ent_table.proofs.Changes.{changes-same_names}
+use Rattle.ent_table.proofs.Edited.{settled_edits}
 use Rattle.ent_table.proofs.Steps.{day_passes}
 use Rattle.ent_table.proofs.review.Review.set_day.Goals as goal
 
@@ -13,13 +10,7 @@ returns-in-Ok-clause-step g c =
     let sources = g.A.Attributes.sources in
     let slots = g.P.Policies.slots in
     let s = state_of sources slots c.args.self.now in
-    let t = next (record s { held = record s.held { day = c.args.day } }) in
-    let settled = c.in-Ok.ensures.settled in
-    let same : state_of sources slots c.settle_answers.new.self ≡ t =
-    ap (state_of sources slots) settled.1 ∙ ap (λ p. record t { held = held_by sources slots p }) c.set_day-before.ensures.new in
-    let table : c.settle_answers.new.self.table.cells ≡ fresh t =
-    settled.0 ∙ ap (λ p. fresh (record s { held = held_by sources slots p })) c.set_day-before.ensures.new in (
-      day_passes s c.args.day c.if-self-ge-LAST_SERIAL.false ∙ ap Ok (sym same),
-      settled.2 ∙ sym (ap (λ v. v.serial) settled.1),
-      settled.3 ∙ (λ i. unlike_count (c.requires.cells i) (table i)) ∙ sym (changes-same_names s t refl) ∙ ap (λ (u : State). changes s u) (sym same),
-    )
+    let t = record s { held = record s.held { day = c.args.day } } in
+    let changed = ap (λ p. record s { held = held_by sources slots p }) c.set_day-before.ensures.new in
+    let made = settled_edits sources slots s t (record c.args.self.now { pdp = c.set_day-before.new.self }) c.settle_answers.new.self _ refl c.requires.cells changed c.in-Ok.ensures.settled in
+    (day_passes s c.args.day c.if-self-ge-LAST_SERIAL.false ∙ made.0, made.1, made.2)
