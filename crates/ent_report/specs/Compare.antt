@@ -1,5 +1,6 @@
 -- What a comparison of two tables rests on.
 use Rattle.std.specs.Prelude.{List}
+use Rattle.std.specs.List.{flat_map}
 use Rattle.ent_finder.specs.Rows.{Source}
 use Rattle.ent_finder.specs.Slots.{Slots}
 use Rattle.ent_table.specs.Names.{Triple}
@@ -18,3 +19,7 @@ pub record IsReadyToCompare {A P : Type 0} (sources : A → List Source) (slots 
 -- the notice of a request, if there is one
 abbrev pub told : {A P : Type 0} → (A → List Source) → (P → List Slots) → Comparison A P → Triple → List Notice
 told sources slots c x = told_of x (answer_in (table_in c.kept.now) x) (answer_at (state_of sources slots c.review.now) x)
+
+-- the notices of requests, in their order
+abbrev pub all_told : {A P : Type 0} → (A → List Source) → (P → List Slots) → Comparison A P → List Triple → List Notice
+all_told sources slots c requests = flat_map (told sources slots c) requests

@@ -1,14 +1,18 @@
 -- What a desk holds: the state of its review, and for each session an optional mark.
-use Rattle.std.specs.Prelude.{◌≡◌, ℕ, List, length, Option, Some, None, get_or, replicate, slice_set}
+use Rattle.std.specs.Prelude.{◌≡◌, ℕ, List, length, Option, Some, None, Result, get_or, replicate, slice_set}
 use Rattle.ent_finder.specs.Rows.{Source}
 use Rattle.ent_finder.specs.Slots.{Slots}
 use Rattle.ent_table.specs.Review.{IsFresh, state_of}
 use Rattle.ent_table.specs.State.{State}
-use Rattle.ent_report.specs.Reports.{counts}
+use Rattle.ent_report.specs.Notices.{IsNoticed}
+use Rattle.ent_report.specs.Reports.{IsReported, counts}
 use Rattle.ent_report.specs.Table.{IsKept, kept_of}
 use Rattle.ent_report.specs.declared.counts.Counts.{Counts}
 use Rattle.ent_report.specs.declared.desk.Desk.{Desk}
+use Rattle.ent_report.specs.declared.fault.NoticeFault.{NoticeFault}
+use Rattle.ent_report.specs.declared.fault.ReportFault.{ReportFault}
 use Rattle.ent_report.specs.declared.kept.Kept.{Kept}
+use Rattle.ent_report.specs.declared.notices.Notice.{Notice}
 
 -- a state, and the table that each of the sessions marked last
 pub record World : Type 0 where
@@ -30,6 +34,22 @@ marked w session = record w { marks = slice_set w.marks session (Some (kept_of w
 -- the world of a desk whose attributes have these sources and whose policies these slots
 abbrev pub world_of : {A P : Type 0} → (A → List Source) → (P → List Slots) → Desk A P → World
 world_of sources slots desk = record { state = state_of sources slots desk.review; marks = desk.marks }
+
+-- the world stays
+abbrev pub KeepsWorld : {A P : Type 0} → (A → List Source) → (P → List Slots) → Desk A P → Desk A P → Type 0
+KeepsWorld sources slots old new = world_of sources slots new ≡ world_of sources slots old
+
+-- a session marks the present table, and nothing else changes
+abbrev pub Marks : {A P : Type 0} → (A → List Source) → (P → List Slots) → ℕ → Desk A P → Desk A P → Type 0
+Marks sources slots session old new = world_of sources slots new ≡ marked (world_of sources slots old) session
+
+-- a report of the present state is what its definition says, or memory is wanting
+abbrev pub Reports : {A P B : Type 0} → (A → List Source) → (P → List Slots) → (State → Result B ReportFault) → Desk A P → Result B ReportFault → Type 0
+Reports sources slots report desk result = IsReported (report (world_of sources slots desk).state) result
+
+-- a session is told what changed since its mark
+abbrev pub IsNoticedIn : World → ℕ → Result (List Notice) NoticeFault → Type 0
+IsNoticedIn w session result = IsNoticed (mark_of w session) w.state result
 
 -- each mark was a fresh table
 abbrev pub AreKept : List (Option Kept) → Type 0

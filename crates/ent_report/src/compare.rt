@@ -5,8 +5,7 @@ ghost use Rattle.std.specs.List.{All};
 ghost use Rattle.ent_table.specs.Difference.{same_optional};
 ghost use Rattle.ent_table.specs.Names.{all_triples, texts, with_actions, with_resources};
 ghost use Rattle.ent_table.specs.Review.{IsFresh, state_of};
-ghost use Rattle.std.specs.List.{flat_map};
-ghost use Rattle.ent_report.specs.Compare.{IsReadyToCompare, told};
+ghost use Rattle.ent_report.specs.Compare.{IsReadyToCompare, all_told, told};
 ghost use Rattle.ent_report.specs.Notices.{decision_in, notices};
 ghost use Rattle.ent_report.specs.Order.{IsPlacedIn, text_of, triple_in};
 ghost use Rattle.ent_report.specs.Table.{IsKept};
@@ -63,7 +62,8 @@ impl<A: Attributes, P: Policies> Comparison<'_, A, P> {
         requires person { IsPlacedIn self.now.kept.now.people person.now }
         requires action { IsPlacedIn self.now.kept.now.actions action.now }
         requires resource { IsPlacedIn self.now.kept.now.resources resource.now }
-        ensures { OnOk result (found.new.items ≡ found.old.items ++ told A.sources P.slots self.now (triple_in person.now action.now resource.now)) }
+        ensures { OnOk result (found.new.items
+            ≡ found.old.items ++ told A.sources P.slots self.now (triple_in person.now action.now resource.now)) }
     {
         let before = self.kept.answer(person, action, resource);
         let after = self.review.cell(
@@ -96,7 +96,9 @@ impl<A: Attributes, P: Policies> Comparison<'_, A, P> {
         requires person { IsPlacedIn self.now.kept.now.people person.now }
         requires action { IsPlacedIn self.now.kept.now.actions action.now }
         requires resources { All (IsPlacedIn self.now.kept.now.resources) resources.now }
-        ensures { OnOk result (found.new.items ≡ found.old.items ++ flat_map (told A.sources P.slots self.now) (with_resources person.now.name action.now.name (map text_of resources.now))) }
+        ensures { OnOk result (found.new.items ≡ found.old.items
+            ++ all_told A.sources P.slots self.now
+            (with_resources person.now.name action.now.name (map text_of resources.now))) }
     {
         for resource in resources {
             self.add_one(person, action, resource, found)?;
@@ -116,7 +118,9 @@ impl<A: Attributes, P: Policies> Comparison<'_, A, P> {
         requires person { IsPlacedIn self.now.kept.now.people person.now }
         requires actions { All (IsPlacedIn self.now.kept.now.actions) actions.now }
         requires resources { All (IsPlacedIn self.now.kept.now.resources) resources.now }
-        ensures { OnOk result (found.new.items ≡ found.old.items ++ flat_map (told A.sources P.slots self.now) (with_actions person.now.name (map text_of actions.now) (map text_of resources.now))) }
+        ensures { OnOk result (found.new.items ≡ found.old.items
+            ++ all_told A.sources P.slots self.now
+            (with_actions person.now.name (map text_of actions.now) (map text_of resources.now))) }
     {
         for action in actions {
             self.add_resources(person, action, resources, found)?;
@@ -135,7 +139,9 @@ impl<A: Attributes, P: Policies> Comparison<'_, A, P> {
         requires people { All (IsPlacedIn self.now.kept.now.people) people.now }
         requires actions { All (IsPlacedIn self.now.kept.now.actions) actions.now }
         requires resources { All (IsPlacedIn self.now.kept.now.resources) resources.now }
-        ensures { IfOk result (λ ns. ns ≡ flat_map (told A.sources P.slots self.now) (all_triples (map text_of people.now) (map text_of actions.now) (map text_of resources.now))) }
+        ensures { IfOk result (λ ns. ns
+            ≡ all_told A.sources P.slots self.now
+            (all_triples (map text_of people.now) (map text_of actions.now) (map text_of resources.now))) }
     {
         let mut found = Vec::new(self.alloc);
         for person in people {

@@ -2,11 +2,11 @@
 
 ghost use Rattle.std.specs.Prelude.{◌≡◌, ◌+◌, ◌-◌, ◌<◌, ◌^◌, min, IfOk, OnErr, OnOk, Some, option_copied};
 ghost use Rattle.ent_table.specs.Ask.{answer_in};
+ghost use Rattle.ent_table.specs.Change.{Edits, IsSure};
 ghost use Rattle.ent_table.specs.Review.{IsFresh, IsIdle, OnlyEvaluates, state_of};
-ghost use Rattle.ent_table.specs.Step.{IsAnswered, IsSure, step};
-ghost use Rattle.ent_report.specs.Notices.{IsNoticed};
-ghost use Rattle.ent_report.specs.Reports.{IsReported, by_rule, can, counts, who};
-ghost use Rattle.ent_report.specs.World.{IsReady, mark_of, marked, unmarked, world_of};
+ghost use Rattle.ent_table.specs.Step.{step};
+ghost use Rattle.ent_report.specs.Reports.{by_rule, can, counts, who};
+ghost use Rattle.ent_report.specs.World.{IsNoticedIn, IsReady, KeepsWorld, Marks, Reports, unmarked, world_of};
 
 use crate::compare::Comparison;
 use crate::counts::{Counts, counted};
@@ -23,8 +23,8 @@ use std::alloc::{AllocError, Global};
 /// How many sessions there are. They are numbered from 0 on.
 pub const SESSIONS: u8 = 16;
 
-/// A review, and for each of sixteen sessions the table that it marked last, if it did. Counts of the table may be kept until the next
-/// edit.
+/// A review, and for each of sixteen sessions the table that it marked last, if it did. Counts of the table may be kept
+/// until the next edit.
 #[derive(Drop)]
 pub struct Desk<A = AttributeFinder, P = PolicyFinder> {
     pub(crate) alloc: Global,
@@ -39,7 +39,8 @@ impl<A: Attributes, P: Policies> Desk<A, P> {
     pub fn new(alloc: Global, review: Review<A, P>) -> Desk<A, P>
         requires { IsFresh A.sources P.slots review }
         ensures ready { IsReady A.sources P.slots result }
-        ensures world { world_of A.sources P.slots result ≡ record { state = state_of A.sources P.slots review; marks = unmarked } }
+        ensures world { world_of A.sources P.slots result
+            ≡ record { state = state_of A.sources P.slots review; marks = unmarked } }
     {
         Desk {
             alloc,
@@ -65,8 +66,8 @@ impl<A: Attributes, P: Policies> Desk<A, P> {
     pub fn edit(&mut self, edit: Edit) -> Result<Accepted, EditFault>
         requires { IsReady A.sources P.slots self.old }
         ensures ready { IsReady A.sources P.slots self.new }
-        ensures step { IsAnswered (step (state_of A.sources P.slots self.old.review) edit) (state_of A.sources P.slots self.old.review) (state_of A.sources P.slots self.new.review) result }
-        ensures sure { IsSure (step (state_of A.sources P.slots self.old.review) edit) edit result }
+        ensures step { Edits A.sources P.slots (λ s. step s edit) self.old.review self.new.review result }
+        ensures sure { IsSure A.sources P.slots edit self.old.review result }
         ensures idle { IsIdle edit self.old.review.pdp.evaluations self.new.review.pdp.evaluations }
         ensures marks { self.new.marks ≡ self.old.marks }
     {
@@ -74,10 +75,11 @@ impl<A: Attributes, P: Policies> Desk<A, P> {
         self.review.edit(edit)
     }
 
-    /// The answer to any request, listed or not, by what is held alone (section 7): neither the table nor a mark has a part in it.
+    /// The answer to any request, listed or not, by what is held alone (section 7): neither the table nor a mark has a
+    /// part in it.
     ///
-    /// Each call counts as one evaluation, also one that is refused for want of memory. It changes nothing but the count, which
-    /// stays at its greatest value.
+    /// Each call counts as one evaluation, also one that is refused for want of memory. It changes nothing but the
+    /// count, which stays at its greatest value.
     ///
     /// # Errors
     ///
@@ -88,32 +90,32 @@ impl<A: Attributes, P: Policies> Desk<A, P> {
         ensures answer { IfOk result (λ a. a ≡ answer_in (world_of A.sources P.slots self.old).state request.now) }
         ensures counted { self.new.review.pdp.evaluations ≡ min (self.old.review.pdp.evaluations + 1) (2 ^ 128 - 1) }
         ensures rest { OnlyEvaluates self.old.review self.new.review }
-        ensures world { world_of A.sources P.slots self.new ≡ world_of A.sources P.slots self.old }
+        ensures world { KeepsWorld A.sources P.slots self.old self.new }
     {
         self.review.ask(request)
     }
 
-    /// Marks the present table for a session in place of its last mark, and gives the number of edits so far. After a refusal the
-    /// last mark is still there.
+    /// Marks the present table for a session in place of its last mark, and gives the number of edits so far. After a
+    /// refusal the last mark is still there.
     pub fn mark(&mut self, session: u8) -> Result<u64, AllocError>
         requires ready { IsReady A.sources P.slots self.old }
         requires session { session < 16 }
         ensures ready { IsReady A.sources P.slots self.new }
         ensures serial { IfOk result (λ serial. serial ≡ (world_of A.sources P.slots self.old).state.serial) }
-        ensures ok { OnOk result (world_of A.sources P.slots self.new ≡ marked (world_of A.sources P.slots self.old) session) }
-        ensures err { OnErr result (world_of A.sources P.slots self.new ≡ world_of A.sources P.slots self.old) }
+        ensures ok { OnOk result (Marks A.sources P.slots session self.old self.new) }
+        ensures err { OnErr result (KeepsWorld A.sources P.slots self.old self.new) }
     {
         let kept = Kept::of(self.alloc, &self.review)?;
         self.marks[session as usize] = Some(kept);
         Ok(self.review.serial())
     }
 
-    /// The requests whose answers differ between the session's mark and now, in byte order of person, then action, then resource.
-    /// The mark stays.
+    /// The requests whose answers differ between the session's mark and now, in byte order of person, then action, then
+    /// resource. The mark stays.
     pub fn notices(&self, session: u8) -> Result<Items<Notice>, NoticeFault>
         requires ready { IsReady A.sources P.slots self.now }
         requires session { session < 16 }
-        ensures { IsNoticed (mark_of (world_of A.sources P.slots self.now) session) (world_of A.sources P.slots self.now).state result }
+        ensures { IsNoticedIn (world_of A.sources P.slots self.now) session result }
     {
         let Some(kept) = &self.marks[session as usize] else {
             return Err(NoticeFault::NoMark);
@@ -136,7 +138,8 @@ impl<A: Attributes, P: Policies> Desk<A, P> {
         counted(self.review.cells())
     }
 
-    /// How many cells have each decision. It takes no memory, and visits no cell where `keep_counts` was called since the last edit.
+    /// How many cells have each decision. It takes no memory, and visits no cell where `keep_counts` was called since
+    /// the last edit.
     pub fn counts(&self) -> Counts
         requires { IsReady A.sources P.slots self.now }
         ensures { result ≡ counts (world_of A.sources P.slots self.now).state }
@@ -147,14 +150,14 @@ impl<A: Attributes, P: Policies> Desk<A, P> {
         }
     }
 
-    /// Counts the cells of each decision if that wasn't done since the last edit, and keeps the counts until the next one. It takes no
-    /// memory.
+    /// Counts the cells of each decision if that wasn't done since the last edit, and keeps the counts until the next
+    /// one. It takes no memory.
     pub fn keep_counts(&mut self)
         requires { IsReady A.sources P.slots self.old }
         ensures ready { IsReady A.sources P.slots self.new }
         ensures kept { self.new.counts ≡ Some (counts (world_of A.sources P.slots self.old).state) }
         ensures rest { self.new ≡ record self.old { counts = self.new.counts } }
-        ensures world { world_of A.sources P.slots self.new ≡ world_of A.sources P.slots self.old }
+        ensures world { KeepsWorld A.sources P.slots self.old self.new }
     {
         self.counts = Some(self.counts());
     }
@@ -162,7 +165,7 @@ impl<A: Attributes, P: Policies> Desk<A, P> {
     /// What a person may do: the actions and resources of the person's Permit cells, in list order.
     pub fn can(&self, person: &str) -> Result<Items<(Text, Text)>, ReportFault>
         requires { IsReady A.sources P.slots self.now }
-        ensures { IsReported (can (world_of A.sources P.slots self.now).state person.now) result }
+        ensures { Reports A.sources P.slots (λ s. can s person.now) self.now result }
     {
         if !self.review.listed(List::People, person) {
             return Err(ReportFault::NotThere);
@@ -173,7 +176,7 @@ impl<A: Attributes, P: Policies> Desk<A, P> {
     /// Who may do an action to a resource: the people of the Permit cells, in list order.
     pub fn who(&self, action: &str, resource: &str) -> Result<Items<Text>, ReportFault>
         requires { IsReady A.sources P.slots self.now }
-        ensures { IsReported (who (world_of A.sources P.slots self.now).state action.now resource.now) result }
+        ensures { Reports A.sources P.slots (λ s. who s action.now resource.now) self.now result }
     {
         if !self.review.listed(List::Actions, action)
             || !self.review.listed(List::Resources, resource)
@@ -183,8 +186,8 @@ impl<A: Attributes, P: Policies> Desk<A, P> {
         Ok(who_in(self.alloc, self.review.answers_to(action, resource))?)
     }
 
-    /// The requests whose decision was given by that rule of a policy, or without a rule by the default of a policy or policy set,
-    /// in list order. Of the path to it only the last id counts. A rule that gave nothing has no requests.
+    /// The requests whose decision was given by that rule of a policy, or without a rule by the default of a policy or
+    /// policy set, in list order. Of the path to it only the last id counts. A rule that gave nothing has no requests.
     ///
     /// # Errors
     ///
@@ -195,7 +198,8 @@ impl<A: Attributes, P: Policies> Desk<A, P> {
         rule: Option<&str>,
     ) -> Result<Items<(Text, Text, Text)>, ReportFault>
         requires { IsReady A.sources P.slots self.now }
-        ensures { IsReported (Ok (by_rule (world_of A.sources P.slots self.now).state policy.now (option_copied rule.entry))) result }
+        ensures { Reports A.sources P.slots
+            (λ s. Ok (by_rule s policy.now (option_copied rule.entry))) self.now result }
     {
         Ok(by_rule_in(self.alloc, policy, rule, self.review.cells())?)
     }

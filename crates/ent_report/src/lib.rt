@@ -1,4 +1,5 @@
-//! The desk: a review with a mark for each of sixteen sessions, notices of what changed since a mark, and reports of the present table.
+//! The desk: a review with a mark for each of sixteen sessions, notices of what changed since a mark, and reports of
+//! the present table.
 #![tactic(auto)]
 
 mod compare;

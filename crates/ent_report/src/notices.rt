@@ -3,8 +3,8 @@
 use ent_combine::Outcome;
 use ent_values::Text;
 
-/// A request to which two tables give different answers, with their decisions. These may be the same where only a rule, an
-/// obligation, an advice or a status differs.
+/// A request to which two tables give different answers, with their decisions. These may be the same where only a rule,
+/// an obligation, an advice or a status differs.
 #[derive(Drop)]
 pub struct Notice {
     /// The person of the request.

@@ -49,7 +49,8 @@ fn places(alloc: Global, names: &[Text]) -> Result<BTreeMap<Text, usize>, AllocE
 
 /// Where a name stands.
 fn place_of(places: &BTreeMap<Text, usize>, name: &Text) -> Option<usize>
-    ensures { (names : List (List ℕ)) → ArePlaces names places.now → IsPlacedIn names (record { name = name.now; place = result }) }
+    ensures { (names : List (List ℕ))
+        → ArePlaces names places.now → IsPlacedIn names (record { name = name.now; place = result }) }
 {
     places.get(name).copied()
 }
