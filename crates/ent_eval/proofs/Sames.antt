@@ -14,7 +14,7 @@ use Rattle.ent_combine.specs.contracts.outcome.OutcomePartialEq.TheImpl as outco
 use Rattle.ent_policy.specs.declared.key.DocKey.{DocKey}
 use Rattle.ent_policy.specs.Same as documents
 use Rattle.ent_policy.proofs.Same.{same_key-Decides, same_reference-Decides}
-use Rattle.ent_policy.proofs.Telling.{Tells, decided, decides, enum, last, list, maybe, more, struct}
+use Rattle.ent_values.proofs.Telling.{Tells, decided, decides, enum, last, list, maybe, more, struct}
 use Rattle.ent_values.proofs.Values.{same_type-Decides, same_value-Decides}
 use Rattle.ent_finder.specs.declared.row.AttrKey.{AttrKey}
 use Rattle.ent_finder.specs.contracts.row.AttrKey as attribute
