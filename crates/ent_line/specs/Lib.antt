@@ -8,6 +8,7 @@ pub mod LongLines
 pub mod Pieces
 pub mod Refusals
 pub mod Replies
+pub mod Replying
 pub mod Reports
 pub mod Runs
 pub mod Serving

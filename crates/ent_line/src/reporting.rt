@@ -1,10 +1,10 @@
 //! What the service answers by reports of decisions, and by the marks of sessions.
 
-ghost use Rattle.std.specs.Prelude.{◌≡◌, ◌<◌, IfOk, OnErr};
+ghost use Rattle.std.specs.Prelude.{◌<◌};
 ghost use Rattle.std.specs.Option.{option_copied};
-ghost use Rattle.ent_line.specs.Replies.{reply_view};
+ghost use Rattle.ent_line.specs.Replying.{Replies, Tells};
 ghost use Rattle.ent_line.specs.Step.{by_rule_told, can_told, changes_told, counts_told, table_marked, who_told};
-ghost use Rattle.ent_line.specs.World.{IsReady, world_of};
+ghost use Rattle.ent_line.specs.World.{IsReady};
 
 use crate::refusal::{NO_MARK, NOT_THERE};
 use crate::reply::Reply;
@@ -20,8 +20,7 @@ impl<A: Attributes, P: Policies> Service<A, P> {
     pub(crate) fn counts(&mut self) -> Result<Reply, AllocError>
         requires { IsReady A.sources P.slots self.old }
         ensures ready { IsReady A.sources P.slots self.new }
-        ensures ok { IfOk result (λ r. reply_view r ≡ counts_told (world_of A.sources P.slots self.old).state) }
-        ensures world { world_of A.sources P.slots self.new ≡ world_of A.sources P.slots self.old }
+        ensures reply { Replies A.sources P.slots (λ w. (counts_told w.state, w)) self.old self.new result }
     {
         self.desk.keep_counts();
         let text = counts_text(self.alloc, self.desk.counts())?;
@@ -32,7 +31,7 @@ impl<A: Attributes, P: Policies> Service<A, P> {
     #[tactic(auto, unfolding(crate::specs::Step::can_told))]
     pub(crate) fn can(&self, person: &str) -> Result<Reply, AllocError>
         requires { IsReady A.sources P.slots self.now }
-        ensures { IfOk result (λ r. reply_view r ≡ can_told (world_of A.sources P.slots self.now).state person.now) }
+        ensures { Tells A.sources P.slots (λ w. can_told w.state person.now) self.now result }
     {
         match self.desk.can(person) {
             Ok(found) => {
@@ -48,7 +47,7 @@ impl<A: Attributes, P: Policies> Service<A, P> {
     #[tactic(auto, unfolding(crate::specs::Step::who_told))]
     pub(crate) fn who(&self, action: &str, resource: &str) -> Result<Reply, AllocError>
         requires { IsReady A.sources P.slots self.now }
-        ensures { IfOk result (λ r. reply_view r ≡ who_told (world_of A.sources P.slots self.now).state action.now resource.now) }
+        ensures { Tells A.sources P.slots (λ w. who_told w.state action.now resource.now) self.now result }
     {
         match self.desk.who(action, resource) {
             Ok(people) => {
@@ -64,7 +63,8 @@ impl<A: Attributes, P: Policies> Service<A, P> {
     #[tactic(auto, unfolding(crate::specs::Step::by_rule_told))]
     pub(crate) fn by_rule(&self, policy: &str, rule: Option<&str>) -> Result<Reply, AllocError>
         requires { IsReady A.sources P.slots self.now }
-        ensures { IfOk result (λ r. reply_view r ≡ by_rule_told (world_of A.sources P.slots self.now).state policy.now (option_copied rule.entry)) }
+        ensures { Tells A.sources P.slots (λ w. by_rule_told w.state policy.now (option_copied rule.entry))
+            self.now result }
     {
         match self.desk.by_rule(policy, rule) {
             Ok(found) => {
@@ -82,8 +82,7 @@ impl<A: Attributes, P: Policies> Service<A, P> {
         requires ready { IsReady A.sources P.slots self.old }
         requires session { session < 16 }
         ensures ready { IsReady A.sources P.slots self.new }
-        ensures ok { IfOk result (λ r. (reply_view r, world_of A.sources P.slots self.new) ≡ table_marked (world_of A.sources P.slots self.old) session) }
-        ensures err { OnErr result (world_of A.sources P.slots self.new ≡ world_of A.sources P.slots self.old) }
+        ensures reply { Replies A.sources P.slots (λ w. table_marked w session) self.old self.new result }
     {
         let serial = self.desk.mark(session)?;
         Ok(Reply::Marked(serial))
@@ -94,7 +93,7 @@ impl<A: Attributes, P: Policies> Service<A, P> {
     pub(crate) fn notices(&self, session: u8) -> Result<Reply, AllocError>
         requires ready { IsReady A.sources P.slots self.now }
         requires session { session < 16 }
-        ensures { IfOk result (λ r. reply_view r ≡ changes_told (world_of A.sources P.slots self.now) session) }
+        ensures { Tells A.sources P.slots (λ w. changes_told w session) self.now result }
     {
         match self.desk.notices(session) {
             Ok(notices) => {

@@ -1,14 +1,15 @@
 //! The service: a desk that answers lines.
 
-ghost use Rattle.std.specs.Prelude.{◌≡◌, ◌<◌, IfOk, OnErr, option_map};
+ghost use Rattle.std.specs.Prelude.{◌≡◌, ◌<◌};
 ghost use Rattle.std.specs.Option.{option_copied};
 ghost use Rattle.ent_table.specs.Names.{triple_of};
 ghost use Rattle.ent_report.specs.World as held;
 ghost use Rattle.ent_line.specs.Asked.{request_of};
 ghost use Rattle.ent_line.specs.CommandView.{command_view, row_view};
-ghost use Rattle.ent_line.specs.Replies.{reply_view};
-ghost use Rattle.ent_line.specs.Step.{attribute_set, cell_told, data_of, day_set, edited, name_added, name_dropped, policy_added, policy_replaced};
-ghost use Rattle.ent_line.specs.Step.{policy_withdrawn, request_answered, requested, root_set, run, table_told, told, unread, unread_row};
+ghost use Rattle.ent_line.specs.Replying.{Replies, Tells};
+ghost use Rattle.ent_line.specs.Step.{attribute_set, day_set, edited, name_added, name_dropped, root_set};
+ghost use Rattle.ent_line.specs.Step.{policy_added, policy_replaced, policy_withdrawn, unread, unread_row};
+ghost use Rattle.ent_line.specs.Step.{cell_told, data_of, request_answered, requested, run, table_told, told};
 ghost use Rattle.ent_line.specs.World.{IsReady, world_of};
 
 use crate::answering::Answering;
@@ -35,13 +36,14 @@ use std::alloc::{AllocError, Global};
 
 /// A desk whose edits, reports and marks are asked for by lines of JSON.
 ///
-/// A line is a JSON object with `do`, the name of a command, with the command's own keys, and with an optional `session`, a
-/// whole number from 0 to 15. The commands are `person.add`, `action.add` and `resource.add`, and the same with `drop`, with `name`;
-/// `policy.add` and `policy.replace` with `document`, and `policy.withdraw` with `kind`, `id` and `version`, each with an optional
-/// `module`, a whole number; `attr.set` with `category`, `entity`, `attribute`, `type`, an optional `issuer`, `values` and an optional
-/// `module`; `root.set` with `reference` and `day.set` with `day`, or null for none; `table`; `cell` with `person`, `action` and
-/// `resource`; `ask` with `request`; `counts`; `can` with `person`, and `who` with `action` and `resource`; `by_rule` with `policy` and
-/// `rule`, or null for a default; `mark` and `notices`, each of the line's session. A line that isn't refused is an edit, a mark, or a
+/// A line is a JSON object with `do`, the name of a command, with the command's own keys, and with an optional
+/// `session`, a whole number from 0 to 15. The commands are `person.add`, `action.add` and `resource.add`, and the same
+/// with `drop`, with `name`; `policy.add` and `policy.replace` with `document`, and `policy.withdraw` with `kind`, `id`
+/// and `version`, each with an optional `module`, a whole number; `attr.set` with `category`, `entity`, `attribute`,
+/// `type`, an optional `issuer`, `values` and an optional `module`; `root.set` with `reference` and `day.set` with
+/// `day`, or null for none; `table`; `cell` with `person`, `action` and `resource`; `ask` with `request`; `counts`;
+/// `can` with `person`, and `who` with `action` and `resource`; `by_rule` with `policy` and `rule`, or null for a
+/// default; `mark` and `notices`, each of the line's session. A line that isn't refused is an edit, a mark, or a
 /// question, which changes nothing but the count of evaluations; a refused line changes nothing.
 #[derive(Drop)]
 pub struct Service<A = AttributeFinder, P = PolicyFinder> {
@@ -63,8 +65,7 @@ impl<A: Attributes, P: Policies> Service<A, P> {
     fn edit(&mut self, edit: Edit) -> Result<Reply, AllocError>
         requires { IsReady A.sources P.slots self.old }
         ensures ready { IsReady A.sources P.slots self.new }
-        ensures ok { IfOk result (λ r. (reply_view r, world_of A.sources P.slots self.new) ≡ edited (world_of A.sources P.slots self.old) edit) }
-        ensures err { OnErr result (world_of A.sources P.slots self.new ≡ world_of A.sources P.slots self.old) }
+        ensures reply { Replies A.sources P.slots (λ w. edited w edit) self.old self.new result }
     {
         match self.desk.edit(edit) {
             Ok(accepted) => Ok(Reply::Accepted(accepted)),
@@ -77,8 +78,7 @@ impl<A: Attributes, P: Policies> Service<A, P> {
     fn add_name(&mut self, list: List, name: &str) -> Result<Reply, AllocError>
         requires { IsReady A.sources P.slots self.old }
         ensures ready { IsReady A.sources P.slots self.new }
-        ensures ok { IfOk result (λ r. (reply_view r, world_of A.sources P.slots self.new) ≡ name_added (world_of A.sources P.slots self.old) list name.now) }
-        ensures err { OnErr result (world_of A.sources P.slots self.new ≡ world_of A.sources P.slots self.old) }
+        ensures reply { Replies A.sources P.slots (λ w. name_added w list name.now) self.old self.new result }
     {
         let name = Text::from_str(self.alloc, name)?;
         self.edit(Edit::AddName(list, name))
@@ -89,8 +89,7 @@ impl<A: Attributes, P: Policies> Service<A, P> {
     fn drop_name(&mut self, list: List, name: &str) -> Result<Reply, AllocError>
         requires { IsReady A.sources P.slots self.old }
         ensures ready { IsReady A.sources P.slots self.new }
-        ensures ok { IfOk result (λ r. (reply_view r, world_of A.sources P.slots self.new) ≡ name_dropped (world_of A.sources P.slots self.old) list name.now) }
-        ensures err { OnErr result (world_of A.sources P.slots self.new ≡ world_of A.sources P.slots self.old) }
+        ensures reply { Replies A.sources P.slots (λ w. name_dropped w list name.now) self.old self.new result }
     {
         let name = Text::from_str(self.alloc, name)?;
         self.edit(Edit::DropName(list, name))
@@ -101,8 +100,8 @@ impl<A: Attributes, P: Policies> Service<A, P> {
     fn add_policy<J: JsonTree>(&mut self, number: usize, document: &J) -> Result<Reply, AllocError>
         requires { IsReady A.sources P.slots self.old }
         ensures ready { IsReady A.sources P.slots self.new }
-        ensures ok { IfOk result (λ r. (reply_view r, world_of A.sources P.slots self.new) ≡ policy_added (world_of A.sources P.slots self.old) number (J.content document.now)) }
-        ensures err { OnErr result (world_of A.sources P.slots self.new ≡ world_of A.sources P.slots self.old) }
+        ensures reply { Replies A.sources P.slots (λ w. policy_added w number (J.content document.now))
+            self.old self.new result }
     {
         match read_document(self.alloc, document) {
             Ok(document) => self.edit(Edit::AddPolicy(number, document)),
@@ -119,8 +118,8 @@ impl<A: Attributes, P: Policies> Service<A, P> {
     ) -> Result<Reply, AllocError>
         requires { IsReady A.sources P.slots self.old }
         ensures ready { IsReady A.sources P.slots self.new }
-        ensures ok { IfOk result (λ r. (reply_view r, world_of A.sources P.slots self.new) ≡ policy_replaced (world_of A.sources P.slots self.old) number (J.content document.now)) }
-        ensures err { OnErr result (world_of A.sources P.slots self.new ≡ world_of A.sources P.slots self.old) }
+        ensures reply { Replies A.sources P.slots (λ w. policy_replaced w number (J.content document.now))
+            self.old self.new result }
     {
         match read_document(self.alloc, document) {
             Ok(document) => self.edit(Edit::ReplacePolicy(number, document)),
@@ -150,8 +149,8 @@ impl<A: Attributes, P: Policies> Service<A, P> {
     ) -> Result<Reply, AllocError>
         requires { IsReady A.sources P.slots self.old }
         ensures ready { IsReady A.sources P.slots self.new }
-        ensures ok { IfOk result (λ r. (reply_view r, world_of A.sources P.slots self.new) ≡ policy_withdrawn (world_of A.sources P.slots self.old) number kind id.now version.now) }
-        ensures err { OnErr result (world_of A.sources P.slots self.new ≡ world_of A.sources P.slots self.old) }
+        ensures reply { Replies A.sources P.slots (λ w. policy_withdrawn w number kind id.now version.now)
+            self.old self.new result }
     {
         let Some(version) = Version::parse(version) else {
             return Ok(Reply::Refused(self.unread(), None));
@@ -183,8 +182,8 @@ impl<A: Attributes, P: Policies> Service<A, P> {
     ) -> Result<Reply, AllocError>
         requires { IsReady A.sources P.slots self.old }
         ensures ready { IsReady A.sources P.slots self.new }
-        ensures ok { IfOk result (λ r. (reply_view r, world_of A.sources P.slots self.new) ≡ attribute_set (world_of A.sources P.slots self.old) number (row_view J.content row.entry)) }
-        ensures err { OnErr result (world_of A.sources P.slots self.new ≡ world_of A.sources P.slots self.old) }
+        ensures reply { Replies A.sources P.slots (λ w. attribute_set w number (row_view J.content row.entry))
+            self.old self.new result }
     {
         match read_row(self.alloc, &row)? {
             Some((key, values)) => self.edit(Edit::SetAttribute(number, key, values)),
@@ -197,8 +196,7 @@ impl<A: Attributes, P: Policies> Service<A, P> {
     fn set_day(&mut self, day: Option<&str>) -> Result<Reply, AllocError>
         requires { IsReady A.sources P.slots self.old }
         ensures ready { IsReady A.sources P.slots self.new }
-        ensures ok { IfOk result (λ r. (reply_view r, world_of A.sources P.slots self.new) ≡ day_set (world_of A.sources P.slots self.old) (option_copied day.entry)) }
-        ensures err { OnErr result (world_of A.sources P.slots self.new ≡ world_of A.sources P.slots self.old) }
+        ensures reply { Replies A.sources P.slots (λ w. day_set w (option_copied day.entry)) self.old self.new result }
     {
         let Some(text) = day else {
             return self.edit(Edit::SetDay(None));
@@ -214,8 +212,7 @@ impl<A: Attributes, P: Policies> Service<A, P> {
     fn set_root<J: JsonTree>(&mut self, reference: &J) -> Result<Reply, AllocError>
         requires { IsReady A.sources P.slots self.old }
         ensures ready { IsReady A.sources P.slots self.new }
-        ensures ok { IfOk result (λ r. (reply_view r, world_of A.sources P.slots self.new) ≡ root_set (world_of A.sources P.slots self.old) (J.content reference.now)) }
-        ensures err { OnErr result (world_of A.sources P.slots self.new ≡ world_of A.sources P.slots self.old) }
+        ensures reply { Replies A.sources P.slots (λ w. root_set w (J.content reference.now)) self.old self.new result }
     {
         match read_root(self.alloc, reference) {
             Ok(root) => self.edit(Edit::SetRoot(root)),
@@ -227,7 +224,7 @@ impl<A: Attributes, P: Policies> Service<A, P> {
     #[tactic(auto, unfolding(crate::specs::Step::table_told))]
     fn table(&self) -> Result<Reply, AllocError>
         requires { IsReady A.sources P.slots self.now }
-        ensures { IfOk result (λ r. reply_view r ≡ table_told (world_of A.sources P.slots self.now).state) }
+        ensures { Tells A.sources P.slots (λ w. table_told w.state) self.now result }
     {
         let text = table_text(self.alloc, self.desk.review().cells())?;
         Ok(Reply::Text(text))
@@ -237,7 +234,8 @@ impl<A: Attributes, P: Policies> Service<A, P> {
     #[tactic(auto, unfolding(crate::specs::Step::cell_told))]
     fn cell(&self, person: &str, action: &str, resource: &str) -> Result<Reply, AllocError>
         requires { IsReady A.sources P.slots self.now }
-        ensures { IfOk result (λ r. reply_view r ≡ cell_told (world_of A.sources P.slots self.now).state (triple_of person.now action.now resource.now)) }
+        ensures { Tells A.sources P.slots (λ w. cell_told w.state (triple_of person.now action.now resource.now))
+            self.now result }
     {
         match self.desk.review().cell(person, action, resource) {
             None => Ok(Reply::Refused(NOT_THERE, None)),
@@ -253,8 +251,8 @@ impl<A: Attributes, P: Policies> Service<A, P> {
     fn ask<J: JsonTree>(&mut self, json: &J) -> Result<Reply, AllocError>
         requires { IsReady A.sources P.slots self.old }
         ensures ready { IsReady A.sources P.slots self.new }
-        ensures ok { IfOk result (λ r. reply_view r ≡ request_answered (world_of A.sources P.slots self.old).state (J.content json.now)) }
-        ensures world { world_of A.sources P.slots self.new ≡ world_of A.sources P.slots self.old }
+        ensures reply { Replies A.sources P.slots (λ w. (request_answered w.state (J.content json.now), w))
+            self.old self.new result }
     {
         match read_request(self.alloc, json) {
             Ok(request) => {
@@ -277,8 +275,8 @@ impl<A: Attributes, P: Policies> Service<A, P> {
         requires ready { IsReady A.sources P.slots self.old }
         requires session { session < 16 }
         ensures ready { IsReady A.sources P.slots self.new }
-        ensures ok { IfOk result (λ r. (reply_view r, world_of A.sources P.slots self.new) ≡ run (world_of A.sources P.slots self.old) session (command_view J.content command.entry)) }
-        ensures err { OnErr result (world_of A.sources P.slots self.new ≡ world_of A.sources P.slots self.old) }
+        ensures reply { Replies A.sources P.slots (λ w. run w session (command_view J.content command.entry))
+            self.old self.new result }
     {
         match command {
             Command::AddName(list, name) => self.add_name(list, name),
@@ -307,8 +305,8 @@ impl<A: Attributes, P: Policies> Service<A, P> {
     fn answer<J: JsonTree>(&mut self, value: &J) -> Result<Reply, AllocError>
         requires { IsReady A.sources P.slots self.old }
         ensures ready { IsReady A.sources P.slots self.new }
-        ensures ok { IfOk result (λ r. (reply_view r, world_of A.sources P.slots self.new) ≡ requested (world_of A.sources P.slots self.old) (request_of (J.content value.now))) }
-        ensures err { OnErr result (world_of A.sources P.slots self.new ≡ world_of A.sources P.slots self.old) }
+        ensures reply { Replies A.sources P.slots (λ w. requested w (request_of (J.content value.now)))
+            self.old self.new result }
     {
         match request(value) {
             Ok((session, command)) => self.run(session, command),
@@ -320,8 +318,7 @@ impl<A: Attributes, P: Policies> Service<A, P> {
     fn respond(&mut self, line: &[u8]) -> Result<Reply, AllocError>
         requires { IsReady A.sources P.slots self.old }
         ensures ready { IsReady A.sources P.slots self.new }
-        ensures ok { IfOk result (λ r. (reply_view r, world_of A.sources P.slots self.new) ≡ told (world_of A.sources P.slots self.old) (data_of line.now)) }
-        ensures err { OnErr result (world_of A.sources P.slots self.new ≡ world_of A.sources P.slots self.old) }
+        ensures reply { Replies A.sources P.slots (λ w. told w (data_of line.now)) self.old self.new result }
     {
         let mut scratch = Scratch::new(self.alloc);
         match read_json(self.alloc, line, &mut scratch)? {
@@ -346,7 +343,8 @@ impl<A: Attributes, P: Policies> Answering for Service<A, P> {
 
     ghost long_lines_alike = { long_lines_alike };
 
-    /// Answers a line by one step of the service, or by refusal 15 where memory is wanting, after which everything is as before.
+    /// Answers a line by one step of the service, or by refusal 15 where memory is wanting, after which everything is
+    /// as before.
     #[tactic(auto, unfolding(crate::specs::Step::step))]
     fn handle(&mut self, line: &[u8]) -> Reply {
         if line.len() > LINE_LIMIT {
