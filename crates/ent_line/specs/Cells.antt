@@ -37,6 +37,10 @@ status_text status.ProcessingError = codes "processing-error"
 
 -- ---- values
 
+-- a list, each member of which is written in the same way
+abbrev pub list_data : {A : Type 0} → (A → Data) → List A → Data
+list_data written xs = json.array (items_of (map written xs))
+
 -- a document on the path to a rule: its kind, id and version
 abbrev pub key_data : DocKey → Data
 key_data key = json.array (items_of (json.string (kind_word key.kind) ∷ json.string key.id ∷ json.string (version_text key.version) ∷ []))
@@ -49,7 +53,7 @@ rule_data (Some id) = json.string id
 -- a rule that gave the decision, with the path to it
 abbrev pub entry_data : WhyEntry → Data
 entry_data entry = json.object (
-    json.member (codes "path") (json.array (items_of (map key_data entry.path)))
+    json.member (codes "path") (list_data key_data entry.path)
     (json.member (codes "rule") (rule_data entry.rule)
     json.no_members))
 
@@ -57,13 +61,13 @@ entry_data entry = json.object (
 abbrev pub cell_data : Triple × Answer → Data
 cell_data c = json.object (
     json.member (codes "action") (json.string c.0.action)
-    (json.member (codes "advice") (json.array (items_of (map given_written c.1.advice)))
+    (json.member (codes "advice") (list_data given_written c.1.advice)
     (json.member (codes "decision") (json.string (decision_text c.1.decision))
-    (json.member (codes "obligations") (json.array (items_of (map given_written c.1.obligations)))
+    (json.member (codes "obligations") (list_data given_written c.1.obligations)
     (json.member (codes "person") (json.string c.0.person)
     (json.member (codes "resource") (json.string c.0.resource)
     (json.member (codes "status") (json.string (status_text c.1.status))
-    (json.member (codes "why") (json.array (items_of (map entry_data c.1.why)))
+    (json.member (codes "why") (list_data entry_data c.1.why)
     json.no_members))))))))
 
 -- the reply to `cell`
@@ -72,7 +76,7 @@ one_cell_data c = json.object (json.member (codes "cell") (cell_data c) json.no_
 
 -- the reply to `table`
 abbrev pub table_data : List (Triple × Answer) → Data
-table_data cells = json.object (json.member (codes "table") (json.array (items_of (map cell_data cells))) json.no_members)
+table_data cells = json.object (json.member (codes "table") (list_data cell_data cells) json.no_members)
 
 -- ---- texts
 

@@ -19,3 +19,7 @@ pub record Splits (text : List ℕ) (lines : List (List ℕ)) (rest : List ℕ) 
   pub whole : text ≡ flat_map ended lines ++ rest
   pub each : All NoNewline lines
   pub open_end : NoNewline rest
+
+-- a text is lines and a rest in one way
+abbrev pub HasOneSplit : Type 0
+HasOneSplit = (text : List ℕ) (ls ms : List (List ℕ)) (r s : List ℕ) → Splits text ls r → Splits text ms s → (ls ≡ ms) × (r ≡ s)

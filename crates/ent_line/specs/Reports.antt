@@ -1,11 +1,10 @@
 -- The JSON of reports and notices.
-use Rattle.std.specs.Prelude.{ℕ, List, map, Option, Some, None, codes}
+use Rattle.std.specs.Prelude.{ℕ, List, Option, Some, None, codes}
 use Rattle.serde_json.specs.Data as json
 use Rattle.serde_json.specs.Data.{Data}
-use Rattle.serde_json.specs.View.{items_of}
 use Rattle.serde_json.specs.Written.{compact_text}
 use Rattle.ent_combine.specs.declared.outcome.Outcome.{Outcome}
-use Rattle.ent_line.specs.Cells.{decision_text}
+use Rattle.ent_line.specs.Cells.{decision_text, list_data}
 use Rattle.ent_report.specs.declared.counts.Counts.{Counts}
 use Rattle.ent_report.specs.declared.notices.Notice.{Notice}
 
@@ -58,24 +57,44 @@ notice_data n = json.object (
 abbrev pub reply_data : List ℕ → Data → Data
 reply_data name d = json.object (json.member name d json.no_members)
 
+-- the reply to `counts`
+abbrev pub counts_reply : Counts → Data
+counts_reply c = reply_data (codes "counts") (counts_data c)
+
+-- the reply to `can`
+abbrev pub can_reply : List (List ℕ × List ℕ) → Data
+can_reply found = reply_data (codes "can") (list_data pair_data found)
+
+-- the reply to `who`
+abbrev pub who_reply : List (List ℕ) → Data
+who_reply people = reply_data (codes "who") (list_data json.string people)
+
+-- the reply to `by_rule`
+abbrev pub by_rule_reply : List (List ℕ × List ℕ × List ℕ) → Data
+by_rule_reply found = reply_data (codes "by_rule") (list_data triple_data found)
+
+-- the reply to `notices`
+abbrev pub notices_reply : List Notice → Data
+notices_reply notices = reply_data (codes "notices") (list_data notice_data notices)
+
 -- ---- texts
 
 -- the text of the reply to `counts`
 unfoldable pub counts_text : Counts → List ℕ
-counts_text c = compact_text (reply_data (codes "counts") (counts_data c))
+counts_text c = compact_text (counts_reply c)
 
 -- the text of the reply to `can`
 unfoldable pub can_text : List (List ℕ × List ℕ) → List ℕ
-can_text found = compact_text (reply_data (codes "can") (json.array (items_of (map pair_data found))))
+can_text found = compact_text (can_reply found)
 
 -- the text of the reply to `who`
 unfoldable pub who_text : List (List ℕ) → List ℕ
-who_text people = compact_text (reply_data (codes "who") (json.array (items_of (map json.string people))))
+who_text people = compact_text (who_reply people)
 
 -- the text of the reply to `by_rule`
 unfoldable pub by_rule_text : List (List ℕ × List ℕ × List ℕ) → List ℕ
-by_rule_text found = compact_text (reply_data (codes "by_rule") (json.array (items_of (map triple_data found))))
+by_rule_text found = compact_text (by_rule_reply found)
 
 -- the text of the reply to `notices`
 unfoldable pub notices_text : List Notice → List ℕ
-notices_text notices = compact_text (reply_data (codes "notices") (json.array (items_of (map notice_data notices))))
+notices_text notices = compact_text (notices_reply notices)

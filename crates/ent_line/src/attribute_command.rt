@@ -40,7 +40,8 @@ fn category_named(word: &str) -> Option<&str>
 
 /// The array at the key `values`.
 fn values_at<J: JsonTree>(object: &J) -> Option<&[J]>
-    ensures { option_map (λ s. items_of (map J.content s.now)) result ≡ option_and_then as_array (get (codes "values") (J.content object.now)) }
+    ensures { option_map (λ s. items_of (map J.content s.now)) result
+        ≡ option_and_then as_array (get (codes "values") (J.content object.now)) }
 {
     object.get("values")?.as_array()
 }

@@ -2,13 +2,13 @@
 
 ghost use Rattle.std.specs.Prelude.{◌≡◌, [], ◌∷◌, ◌++◌, IfOk, OnOk, codes, map, string_bytes};
 ghost use Rattle.json.specs.Token as token;
-ghost use Rattle.serde_json.specs.Data as json;
-ghost use Rattle.serde_json.specs.View.{items_of};
-ghost use Rattle.ent_json.specs.Text.{items_tokens_of, tokens_of};
+ghost use Rattle.ent_polform.specs.Text.{items_tokens_of, tokens_of};
 ghost use Rattle.ent_profile.specs.Response.{given_written};
 ghost use Rattle.ent_table.specs.Left.{cells_left};
 ghost use Rattle.ent_table.specs.Names.{triple_of};
-ghost use Rattle.ent_line.specs.Cells.{cell_data, decision_text, entry_data, key_data, one_cell_data, one_cell_text, response_text, rule_data, status_text, table_data, table_text};
+ghost use Rattle.ent_line.specs.Cells.{cell_data, entry_data, key_data, list_data, one_cell_data, rule_data};
+ghost use Rattle.ent_line.specs.Cells.{decision_text, one_cell_text, response_text, status_text};
+ghost use Rattle.ent_line.specs.Cells.{table_data, table_text};
 
 use ent_combine::{IndKind, Outcome};
 use ent_eval::{Answer, Given, Request, Status, WhyEntry};
@@ -68,7 +68,7 @@ fn write_keys(alloc: Global, out: &mut JsonText, keys: &[DocKey]) -> Result<(), 
 
 /// Writes a path.
 fn write_path(alloc: Global, out: &mut JsonText, keys: &[DocKey]) -> Result<(), AllocError>
-    ensures { OnOk result (out.new ≡ out.old ++ tokens_of (json.array (items_of (map key_data keys.now)))) }
+    ensures { OnOk result (out.new ≡ out.old ++ tokens_of (list_data key_data keys.now)) }
 {
     out.begin_array()?;
     write_keys(alloc, out, keys)
@@ -108,7 +108,7 @@ fn write_entries(alloc: Global, out: &mut JsonText, entries: &[WhyEntry]) -> Res
 
 /// Writes the list of the rules that gave a decision.
 fn write_why(alloc: Global, out: &mut JsonText, why: &[WhyEntry]) -> Result<(), AllocError>
-    ensures { OnOk result (out.new ≡ out.old ++ tokens_of (json.array (items_of (map entry_data why.now)))) }
+    ensures { OnOk result (out.new ≡ out.old ++ tokens_of (list_data entry_data why.now)) }
 {
     out.begin_array()?;
     write_entries(alloc, out, why)
@@ -124,14 +124,16 @@ pub(crate) fn write_text(out: &mut JsonText, key: &str, text: &str) -> Result<()
 
 /// Writes a decision at its key.
 fn write_decision(out: &mut JsonText, decision: Outcome) -> Result<(), AllocError>
-    ensures { OnOk result (out.new ≡ out.old ++ token.key (codes "decision") ∷ token.string (decision_text decision) ∷ []) }
+    ensures { OnOk result (out.new ≡ out.old
+        ++ token.key (codes "decision") ∷ token.string (decision_text decision) ∷ []) }
 {
     write_text(out, "decision", decision_text(decision))
 }
 
 /// Writes a status at its key.
 fn write_status(out: &mut JsonText, status: Status) -> Result<(), AllocError>
-    ensures { OnOk result (out.new ≡ out.old ++ token.key (codes "status") ∷ token.string (status_text status) ∷ []) }
+    ensures { OnOk result (out.new ≡ out.old
+        ++ token.key (codes "status") ∷ token.string (status_text status) ∷ []) }
 {
     write_text(out, "status", status_text(status))
 }
@@ -143,8 +145,9 @@ fn write_action(
     action: &str,
     advice: &[Given],
 ) -> Result<(), AllocError>
-    ensures { OnOk result (out.new ≡ out.old ++ token.begin_object ∷ token.key (codes "action") ∷ token.string action.now
-        ∷ token.key (codes "advice") ∷ tokens_of (json.array (items_of (map given_written advice.now)))) }
+    ensures { OnOk result (out.new ≡ out.old ++ token.begin_object
+        ∷ token.key (codes "action") ∷ token.string action.now
+        ∷ token.key (codes "advice") ∷ tokens_of (list_data given_written advice.now)) }
 {
     out.begin_object()?;
     write_text(out, "action", action)?;
@@ -159,8 +162,9 @@ fn write_decided(
     decision: Outcome,
     obligations: &[Given],
 ) -> Result<(), AllocError>
-    ensures { OnOk result (out.new ≡ out.old ++ token.key (codes "decision") ∷ token.string (decision_text decision)
-        ∷ token.key (codes "obligations") ∷ tokens_of (json.array (items_of (map given_written obligations.now)))) }
+    ensures { OnOk result (out.new ≡ out.old
+        ++ token.key (codes "decision") ∷ token.string (decision_text decision)
+        ∷ token.key (codes "obligations") ∷ tokens_of (list_data given_written obligations.now)) }
 {
     write_decision(out, decision)?;
     out.key("obligations")?;
@@ -169,7 +173,9 @@ fn write_decided(
 
 /// Goes on with the person and the resource of a cell.
 fn write_names(out: &mut JsonText, person: &str, resource: &str) -> Result<(), AllocError>
-    ensures { OnOk result (out.new ≡ out.old ++ token.key (codes "person") ∷ token.string person.now ∷ token.key (codes "resource") ∷ token.string resource.now ∷ []) }
+    ensures { OnOk result (out.new ≡ out.old
+        ++ token.key (codes "person") ∷ token.string person.now
+        ∷ token.key (codes "resource") ∷ token.string resource.now ∷ []) }
 {
     write_text(out, "person", person)?;
     out.key("resource")?;
@@ -183,8 +189,9 @@ fn write_reason(
     status: Status,
     why: &[WhyEntry],
 ) -> Result<(), AllocError>
-    ensures { OnOk result (out.new ≡ out.old ++ token.key (codes "status") ∷ token.string (status_text status)
-        ∷ token.key (codes "why") ∷ (tokens_of (json.array (items_of (map entry_data why.now))) ++ token.end_object ∷ [])) }
+    ensures { OnOk result (out.new ≡ out.old
+        ++ token.key (codes "status") ∷ token.string (status_text status)
+        ∷ token.key (codes "why") ∷ (tokens_of (list_data entry_data why.now) ++ token.end_object ∷ [])) }
 {
     write_status(out, status)?;
     out.key("why")?;
@@ -201,7 +208,8 @@ fn write_cell(
     resource: &str,
     answer: &Answer,
 ) -> Result<(), AllocError>
-    ensures { OnOk result (out.new ≡ out.old ++ tokens_of (cell_data (triple_of person.now action.now resource.now, answer.now))) }
+    ensures { OnOk result (out.new ≡ out.old
+        ++ tokens_of (cell_data (triple_of person.now action.now resource.now, answer.now))) }
 {
     write_action(alloc, out, action, answer.advice.as_slice())?;
     write_decided(alloc, out, answer.decision, answer.obligations.as_slice())?;
@@ -221,7 +229,7 @@ fn write_cells(alloc: Global, out: &mut JsonText, cells: Cells<'_>) -> Result<()
 
 /// Writes the list of the cells that are left.
 fn write_list(alloc: Global, out: &mut JsonText, cells: Cells<'_>) -> Result<(), AllocError>
-    ensures { OnOk result (out.new ≡ out.old ++ tokens_of (json.array (items_of (map cell_data (cells_left cells.entry))))) }
+    ensures { OnOk result (out.new ≡ out.old ++ tokens_of (list_data cell_data (cells_left cells.entry))) }
 {
     out.begin_array()?;
     write_cells(alloc, out, cells)
@@ -246,7 +254,8 @@ fn write_one_cell(
     resource: &str,
     answer: &Answer,
 ) -> Result<(), AllocError>
-    ensures { OnOk result (out.new ≡ out.old ++ tokens_of (one_cell_data (triple_of person.now action.now resource.now, answer.now))) }
+    ensures { OnOk result (out.new ≡ out.old
+        ++ tokens_of (one_cell_data (triple_of person.now action.now resource.now, answer.now))) }
 {
     out.begin_object()?;
     out.key("cell")?;
@@ -271,7 +280,8 @@ pub(crate) fn one_cell_text(
     resource: &str,
     answer: &Answer,
 ) -> Result<String, AllocError>
-    ensures { IfOk result (λ s. string_bytes s ≡ one_cell_text (triple_of person.now action.now resource.now, answer.now)) }
+    ensures { IfOk result (λ s. string_bytes s
+        ≡ one_cell_text (triple_of person.now action.now resource.now, answer.now)) }
 {
     let mut out = JsonText::with_room(alloc)?;
     write_one_cell(alloc, &mut out, person, action, resource, answer)?;

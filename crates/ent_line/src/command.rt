@@ -2,9 +2,11 @@
 
 ghost use Rattle.std.specs.Prelude.{◌≡◌, ◌<◌, IfOk, codes, option_map};
 ghost use Rattle.serde_json.specs.Find.{get};
-ghost use Rattle.ent_line.specs.Asked.{add_command, add_name_command, adding_named, ask_command, cell_command, command_of, desk_named, document_for};
-ghost use Rattle.ent_line.specs.Asked.{drop_name_command, dropping_named, edit_named, kind_named, module_of, name_for, policy_named, replace_command};
-ghost use Rattle.ent_line.specs.Asked.{report_named, request_of, root_command, session_of, setting_named, table_command, withdraw_command};
+ghost use Rattle.ent_line.specs.Asked.{add_command, add_name_command, ask_command, cell_command, drop_name_command};
+ghost use Rattle.ent_line.specs.Asked.{replace_command, root_command, table_command, withdraw_command};
+ghost use Rattle.ent_line.specs.Asked.{adding_named, dropping_named, setting_named, edit_named, policy_named};
+ghost use Rattle.ent_line.specs.Asked.{report_named, desk_named, kind_named, command_of, document_for, name_for};
+ghost use Rattle.ent_line.specs.Asked.{module_of, request_of, session_of};
 ghost use Rattle.ent_line.specs.CommandView.{asked_view, document_view, name_view, session_view};
 
 use crate::attribute_command::{AskedRow, attribute_command, day_command};
@@ -74,8 +76,8 @@ fn session_number<J: JsonTree>(object: &J) -> Option<u64>
     }
 }
 
-/// The number of the module, 0 if the key is absent. `None` if it is no whole number. A negative number is no module's, and
-/// neither is the greatest number, which stands for it.
+/// The number of the module, 0 if the key is absent. `None` if it is no whole number. A negative number is no module's,
+/// and neither is the greatest number, which stands for it.
 pub(crate) fn module_number<J: JsonTree>(object: &J) -> Option<usize>
     ensures { result ≡ module_of (get (codes "module") (J.content object.now)) }
 {
@@ -362,8 +364,8 @@ fn command_named<'a, J: JsonTree>(name: &str, object: &'a J) -> Result<Command<'
     Err(UNKNOWN_COMMAND)
 }
 
-/// The session of a line and what it asks for, or the number of its refusal: its shape is wrong, no command has the name, or the session isn't one
-/// of the sixteen, the first of them that stands.
+/// The session of a line and what it asks for, or the number of its refusal: its shape is wrong, no command has the
+/// name, or the session isn't one of the sixteen, the first of them that stands.
 #[tactic(auto, unfolding(crate::specs::Asked::request_of))]
 pub(crate) fn request<J: JsonTree>(object: &J) -> Result<(u8, Command<'_, J>), u8>
     ensures asked { session_view J.content result ≡ request_of (J.content object.now) }

@@ -1,7 +1,7 @@
 //! Lines out of a reader, a piece at a time.
 
-ghost use Rattle.std.specs.Prelude.{◌≡◌, ◌≢◌, ◌+◌, ◌<◌, ◌≤◌, length, take, slice_index, vec_len, vec_capacity, Result, List, ℕ};
-ghost use Rattle.ent_line.specs.Lines.{NoNewline, Splits, line_limit};
+ghost use Rattle.std.specs.Prelude.{◌≡◌, ◌+◌, ◌<◌, ◌≤◌, length, take, slice_index, vec_len, vec_capacity, Result};
+ghost use Rattle.ent_line.specs.Lines.{HasOneSplit, NoNewline, line_limit};
 ghost use Rattle.ent_line.specs.Pieces.{TakesPiece};
 
 use crate::fault::ServeFault;
@@ -68,7 +68,7 @@ pub(crate) fn take_piece<R: BufRead>(
     }
 }
 
-/// A text has one way to be lines and a rest.
+/// Law: a text has one way to be lines and a rest.
 pub fn one_split()
-    ensures { (text : List ℕ) (ls ms : List (List ℕ)) (r s : List ℕ) → Splits text ls r → Splits text ms s → (ls ≡ ms) × (r ≡ s) }
+    ensures { HasOneSplit }
 {}

@@ -3,16 +3,18 @@
 ghost use Rattle.ent_line.specs.Headline.{IsHeadline};
 ghost use Rattle.ent_line.specs.Sessions.{SessionsAreSeparate};
 
-/// Law: each reply to a line is what the headline says: a line has its refusal or asks for a command of a session; an edit is told by the
-/// state that its step leads to, or by its refusal; the table, its cells and its reports are those of every listed request evaluated afresh
-/// (section 7), notices are the difference of two such tables, and a refused line changes nothing.
+/// Law: each reply to a line is what the headline says: a line has its refusal or asks for a command of a session; an
+/// edit is told by the state that its step leads to, or by its refusal; the table, its cells and its reports are those
+/// of every listed request evaluated afresh (section 7), notices are the difference of two such tables, and a refused
+/// line changes nothing.
 pub fn replies_are_fresh()
     ensures { IsHeadline }
 {}
 
-/// Law: what a session is told by `notices` rests on the accepted edits and on its own marks alone. Two runs from the same state and the
-/// same mark of a session, with the same accepted edits and with the session's own accepted marks at the same places among them, give the
-/// session the same notices, and the same reply to a line that asks for them unless memory is wanting, whatever other sessions mark or ask.
+/// Law: what a session is told by `notices` rests on the accepted edits and on its own marks alone. Two runs from the
+/// same state and the same mark of a session, with the same accepted edits and with the session's own accepted marks at
+/// the same places among them, give the session the same notices, and the same reply to a line that asks for them
+/// unless memory is wanting, whatever other sessions mark or ask.
 pub fn sessions_are_separate()
     ensures { SessionsAreSeparate }
 {}

@@ -1,7 +1,8 @@
 //! What a line asks for that is a report of decisions, a mark or notices.
 
 ghost use Rattle.std.specs.Prelude.{◌≡◌, option_map};
-ghost use Rattle.ent_line.specs.Asked.{by_rule_command, can_command, counts_command, decided_named, mark_command, marking_named, notices_command, who_command};
+ghost use Rattle.ent_line.specs.Asked.{by_rule_command, can_command, counts_command, decided_named};
+ghost use Rattle.ent_line.specs.Asked.{mark_command, marking_named, notices_command, who_command};
 ghost use Rattle.ent_line.specs.CommandView.{asked_view};
 
 use crate::attribute_command::text_or_null;

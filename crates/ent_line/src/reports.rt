@@ -3,9 +3,10 @@
 ghost use Rattle.std.specs.Prelude.{◌≡◌, [], ◌∷◌, ◌++◌, IfOk, OnOk, codes, decimal, map, string_bytes};
 ghost use Rattle.json.specs.Token as token;
 ghost use Rattle.serde_json.specs.Data as json;
-ghost use Rattle.serde_json.specs.View.{items_of};
-ghost use Rattle.ent_json.specs.Text.{items_tokens_of, tokens_of};
-ghost use Rattle.ent_line.specs.Reports.{by_rule_text, can_text, count_data, counts_data, counts_text, decision_data, notice_data, notices_text, pair_data, reply_data, triple_data, who_text};
+ghost use Rattle.ent_polform.specs.Text.{items_tokens_of, tokens_of};
+ghost use Rattle.ent_line.specs.Reports.{counts_data, decision_data, notice_data, pair_data, triple_data};
+ghost use Rattle.ent_line.specs.Reports.{by_rule_reply, can_reply, counts_reply, notices_reply, who_reply};
+ghost use Rattle.ent_line.specs.Reports.{by_rule_text, can_text, counts_text, notices_text, who_text};
 
 use crate::cell::{decision_text, write_text};
 use ent_combine::Outcome;
@@ -77,7 +78,8 @@ fn write_optional(
 
 /// Begins a notice: its action and its decisions.
 fn write_decisions(out: &mut JsonText, notice: &Notice) -> Result<(), AllocError>
-    ensures { OnOk result (out.new ≡ out.old ++ token.begin_object ∷ token.key (codes "action") ∷ token.string notice.now.action
+    ensures { OnOk result (out.new ≡ out.old ++ token.begin_object
+        ∷ token.key (codes "action") ∷ token.string notice.now.action
         ∷ token.key (codes "after") ∷ (tokens_of (decision_data notice.now.after)
         ++ token.key (codes "before") ∷ tokens_of (decision_data notice.now.before))) }
 {
@@ -139,7 +141,7 @@ fn write_notices(out: &mut JsonText, notices: &[Notice]) -> Result<(), AllocErro
 
 /// Writes the reply to `counts`.
 fn write_counts_reply(out: &mut JsonText, counts: Counts) -> Result<(), AllocError>
-    ensures { OnOk result (out.new ≡ out.old ++ tokens_of (reply_data (codes "counts") (counts_data counts))) }
+    ensures { OnOk result (out.new ≡ out.old ++ tokens_of (counts_reply counts)) }
 {
     out.begin_object()?;
     out.key("counts")?;
@@ -158,7 +160,7 @@ fn begin_list(out: &mut JsonText, name: &str) -> Result<(), AllocError>
 
 /// Writes the reply to `can`.
 fn write_can_reply(out: &mut JsonText, found: &[(Text, Text)]) -> Result<(), AllocError>
-    ensures { OnOk result (out.new ≡ out.old ++ tokens_of (reply_data (codes "can") (json.array (items_of (map pair_data found.now))))) }
+    ensures { OnOk result (out.new ≡ out.old ++ tokens_of (can_reply found.now)) }
 {
     begin_list(out, "can")?;
     write_pairs(out, found)?;
@@ -167,7 +169,7 @@ fn write_can_reply(out: &mut JsonText, found: &[(Text, Text)]) -> Result<(), All
 
 /// Writes the reply to `who`.
 fn write_who_reply(out: &mut JsonText, people: &[Text]) -> Result<(), AllocError>
-    ensures { OnOk result (out.new ≡ out.old ++ tokens_of (reply_data (codes "who") (json.array (items_of (map json.string people.now))))) }
+    ensures { OnOk result (out.new ≡ out.old ++ tokens_of (who_reply people.now)) }
 {
     begin_list(out, "who")?;
     write_people(out, people)?;
@@ -176,7 +178,7 @@ fn write_who_reply(out: &mut JsonText, people: &[Text]) -> Result<(), AllocError
 
 /// Writes the reply to `by_rule`.
 fn write_by_rule_reply(out: &mut JsonText, found: &[(Text, Text, Text)]) -> Result<(), AllocError>
-    ensures { OnOk result (out.new ≡ out.old ++ tokens_of (reply_data (codes "by_rule") (json.array (items_of (map triple_data found.now))))) }
+    ensures { OnOk result (out.new ≡ out.old ++ tokens_of (by_rule_reply found.now)) }
 {
     begin_list(out, "by_rule")?;
     write_triples(out, found)?;
@@ -185,7 +187,7 @@ fn write_by_rule_reply(out: &mut JsonText, found: &[(Text, Text, Text)]) -> Resu
 
 /// Writes the reply to `notices`.
 fn write_notices_reply(out: &mut JsonText, notices: &[Notice]) -> Result<(), AllocError>
-    ensures { OnOk result (out.new ≡ out.old ++ tokens_of (reply_data (codes "notices") (json.array (items_of (map notice_data notices.now))))) }
+    ensures { OnOk result (out.new ≡ out.old ++ tokens_of (notices_reply notices.now)) }
 {
     begin_list(out, "notices")?;
     write_notices(out, notices)?;

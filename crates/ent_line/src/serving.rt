@@ -23,7 +23,8 @@ fn answer_line<S: Answering, W: Write>(
 ) -> Result<(), ServeFault>
     requires { S.is_ready service.old }
     ensures ready { S.is_ready service.new }
-    ensures line { AnswersLine S.answers (S.world service.old) (S.world service.new) line.now (W.contents writer.old) (W.contents writer.new) result }
+    ensures line { AnswersLine S.answers (S.world service.old) (S.world service.new) line.now
+        (W.contents writer.old) (W.contents writer.new) result }
 {
     let reply = service.handle(line);
     send_reply(writer, &reply)?;
@@ -81,8 +82,8 @@ pub fn serve<S: Answering, R: BufRead, W: Write>(
     Err(ServeFault::Read)
 }
 
-/// Serves a review: each line of the reader has its reply in the writer, as `serve` does it, and each reply is what evaluating every request
-/// afresh gives on what the accepted edits leave (section 7).
+/// Serves a review: each line of the reader has its reply in the writer, as `serve` does it, and each reply is what
+/// evaluating every request afresh gives on what the accepted edits leave (section 7).
 pub fn serve_review<A: Attributes, P: Policies, R: BufRead, W: Write>(
     alloc: Global,
     service: &mut Service<A, P>,
