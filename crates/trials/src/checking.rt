@@ -9,12 +9,13 @@ use std::io::{ErrorKind, Read};
 use std::test::Fail;
 
 /// A policy of one rule.
-const POLICY: &str =
-    r#"{"Policy":{"PolicyId":"p3","Version":"1","RuleCombiningAlgId":"urn:oasis:names:tc:xacml:3.0:rule-combining-algorithm:deny-overrides","Rule":[{"RuleId":"ok","Effect":"Permit"}]}}"#;
+const POLICY: &str = r#"{"Policy":{"PolicyId":"p3","Version":"1",
+       "RuleCombiningAlgId":"urn:oasis:names:tc:xacml:3.0:rule-combining-algorithm:deny-overrides",
+       "Rule":[{"RuleId":"ok","Effect":"Permit"}]}}"#;
 
 /// A policy set without children, whose version is written with a zero in front.
-const SET: &str =
-    r#"{"PolicySet":{"PolicySetId":"all of them","Version":"01.2","PolicyCombiningAlgId":"urn:oasis:names:tc:xacml:3.0:policy-combining-algorithm:permit-overrides"}}"#;
+const SET: &str = r#"{"PolicySet":{"PolicySetId":"all of them","Version":"01.2",
+       "PolicyCombiningAlgId":"urn:oasis:names:tc:xacml:3.0:policy-combining-algorithm:permit-overrides"}}"#;
 
 /// A policy with an algorithm that no one knows.
 const UNKNOWN_ALGORITHM: &str =

@@ -20,16 +20,16 @@ use std::test::Fail;
 
 /// A policy `p1` that permits reading, in its version 1.0.
 const PERMITTING: &str = r#"{"Policy":{"PolicyId":"p1","Version":"1.0",
-       "RuleCombiningAlgId":"urn:oasis:names:tc:xacml:3.0:rule-combining-algorithm:deny-overrides","Rule":[{"RuleId":"r1",
-       "Effect":"Permit","Target":{"AnyOf":[{"AllOf":[{"Match":[{"MatchId":"urn:oasis:names:tc:xacml:1.0:function:string-equal",
-       "AttributeValue":{"Value":"read"},"AttributeDesignator":{
-       "Category":"urn:oasis:names:tc:xacml:3.0:attribute-category:action",
+       "RuleCombiningAlgId":"urn:oasis:names:tc:xacml:3.0:rule-combining-algorithm:deny-overrides",
+       "Rule":[{"RuleId":"r1","Effect":"Permit","Target":{"AnyOf":[{"AllOf":[{"Match":[{
+       "MatchId":"urn:oasis:names:tc:xacml:1.0:function:string-equal","AttributeValue":{"Value":"read"},
+       "AttributeDesignator":{"Category":"urn:oasis:names:tc:xacml:3.0:attribute-category:action",
        "AttributeId":"urn:oasis:names:tc:xacml:1.0:action:action-id","DataType":"string"}}]}]}]}}]}}"#;
 
 /// A later version of it, which denies everything.
 const DENYING: &str = r#"{"Policy":{"PolicyId":"p1","Version":"1.10",
-       "RuleCombiningAlgId":"urn:oasis:names:tc:xacml:3.0:rule-combining-algorithm:permit-unless-deny","Rule":[{"RuleId":"r1",
-       "Effect":"Deny"}]}}"#;
+       "RuleCombiningAlgId":"urn:oasis:names:tc:xacml:3.0:rule-combining-algorithm:permit-unless-deny",
+       "Rule":[{"RuleId":"r1","Effect":"Deny"}]}}"#;
 
 /// A version between the two.
 const BETWEEN: &str = r#"{"Policy":{"PolicyId":"p1","Version":"1.9",

@@ -1,4 +1,5 @@
-//! The functions of expressions: their faults by name, of which a line tells only that there is one, and their identifiers.
+//! The functions of expressions: their faults by name, of which a line tells only that there is one, and their
+//! identifiers.
 
 ghost use Rattle.std.specs.Prelude.{◌≡◌, IfOk, map};
 ghost use Rattle.ent_functions.specs.Arguments.{type_of_arg};

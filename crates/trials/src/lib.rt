@@ -1,5 +1,5 @@
-//! The tests of this repository: what no contract says and no line of the conformance run shows. A crate whose tests stand in it is
-//! proved twice, and so they stand here, above all that they call.
+//! The tests of this repository: what no contract says and no line of the conformance run shows. A crate whose tests
+//! stand in it is proved twice, and so they stand here, above all that they call.
 #![tactic(auto)]
 
 #[cfg(test)]
@@ -16,6 +16,8 @@ mod functions;
 mod policies;
 #[cfg(test)]
 mod responses;
+#[cfg(test)]
+mod rows;
 #[cfg(test)]
 mod serving;
 #[cfg(test)]

@@ -140,13 +140,14 @@ fn references(rt: HostRuntime) -> Result<(), Fail> {
 
 /// A set without a fault, with a policy that has every part.
 const SET: &str = r#"{"PolicySet":{"PolicySetId":"s","Version":"2",
-       "PolicyCombiningAlgId":"urn:oasis:names:tc:xacml:1.0:policy-combining-algorithm:only-one-applicable","Children":[{
-       "Policy":{"PolicyId":"p","Version":"1.0",
-       "RuleCombiningAlgId":"urn:oasis:names:tc:xacml:3.0:rule-combining-algorithm:deny-overrides","Target":{"AnyOf":[{"AllOf":[{
-       "Match":[{"MatchId":"urn:oasis:names:tc:xacml:1.0:function:string-equal","AttributeValue":{"Value":"ann"},
-       "AttributeDesignator":{"Category":"subject","AttributeId":"name","DataType":"string"}}]}]}]},"VariableDefinition":[{
-       "VariableId":"known","Expression":{"AttributeValue":{"Value":true}}}],"Rule":[{"RuleId":"r","Effect":"Permit",
-       "Condition":{"VariableReference":{"VariableId":"known"}}}]}}]}}"#;
+       "PolicyCombiningAlgId":"urn:oasis:names:tc:xacml:1.0:policy-combining-algorithm:only-one-applicable",
+       "Children":[{"Policy":{"PolicyId":"p","Version":"1.0",
+       "RuleCombiningAlgId":"urn:oasis:names:tc:xacml:3.0:rule-combining-algorithm:deny-overrides",
+       "Target":{"AnyOf":[{"AllOf":[{"Match":[{"MatchId":"urn:oasis:names:tc:xacml:1.0:function:string-equal",
+       "AttributeValue":{"Value":"ann"},"AttributeDesignator":{"Category":"subject","AttributeId":"name",
+       "DataType":"string"}}]}]}]},"VariableDefinition":[{"VariableId":"known","Expression":{"AttributeValue":{
+       "Value":true}}}],"Rule":[{"RuleId":"r","Effect":"Permit","Condition":{"VariableReference":{
+       "VariableId":"known"}}}]}}]}}"#;
 
 /// Whether a key is that one, and its copy too.
 fn is_key(

@@ -15,52 +15,57 @@ use serde_json::Value as Json;
 use std::alloc::{AllocError, Global};
 use std::test::Fail;
 
-/// A policy `p1` that permits reading, denies dropping, and permits writing to those who are cleared, which must be known. With a
-/// Permit go two obligations, one of them with values of four types, and an advice; with a Deny goes an advice.
+/// A policy `p1` that permits reading, denies dropping, and permits writing to those who are cleared, which must be
+/// known. With a Permit go two obligations, one of them with values of four types, and an advice; with a Deny goes an
+/// advice.
 const OBLIGING: &str = r#"{"Policy":{"PolicyId":"p1","Version":"1",
-       "RuleCombiningAlgId":"urn:oasis:names:tc:xacml:1.0:rule-combining-algorithm:first-applicable","Rule":[{"RuleId":"r1",
-       "Effect":"Permit","Target":{"AnyOf":[{"AllOf":[{"Match":[{"MatchId":"urn:oasis:names:tc:xacml:1.0:function:string-equal",
-       "AttributeValue":{"Value":"read"},"AttributeDesignator":{
-       "Category":"urn:oasis:names:tc:xacml:3.0:attribute-category:action",
-       "AttributeId":"urn:oasis:names:tc:xacml:1.0:action:action-id","DataType":"string"}}]}]}]}},{"RuleId":"r2","Effect":"Deny",
-       "Target":{"AnyOf":[{"AllOf":[{"Match":[{"MatchId":"urn:oasis:names:tc:xacml:1.0:function:string-equal","AttributeValue":{
-       "Value":"drop"},"AttributeDesignator":{"Category":"urn:oasis:names:tc:xacml:3.0:attribute-category:action",
+       "RuleCombiningAlgId":"urn:oasis:names:tc:xacml:1.0:rule-combining-algorithm:first-applicable",
+       "Rule":[{"RuleId":"r1","Effect":"Permit","Target":{"AnyOf":[{"AllOf":[{"Match":[{
+       "MatchId":"urn:oasis:names:tc:xacml:1.0:function:string-equal","AttributeValue":{"Value":"read"},
+       "AttributeDesignator":{"Category":"urn:oasis:names:tc:xacml:3.0:attribute-category:action",
+       "AttributeId":"urn:oasis:names:tc:xacml:1.0:action:action-id","DataType":"string"}}]}]}]}},{"RuleId":"r2",
+       "Effect":"Deny","Target":{"AnyOf":[{"AllOf":[{"Match":[{
+       "MatchId":"urn:oasis:names:tc:xacml:1.0:function:string-equal","AttributeValue":{"Value":"drop"},
+       "AttributeDesignator":{"Category":"urn:oasis:names:tc:xacml:3.0:attribute-category:action",
        "AttributeId":"urn:oasis:names:tc:xacml:1.0:action:action-id","DataType":"string"}}]}]}]}},{"RuleId":"r3",
-       "Effect":"Permit","Target":{"AnyOf":[{"AllOf":[{"Match":[{"MatchId":"urn:oasis:names:tc:xacml:1.0:function:string-equal",
-       "AttributeValue":{"Value":"write"},"AttributeDesignator":{
-       "Category":"urn:oasis:names:tc:xacml:3.0:attribute-category:action",
-       "AttributeId":"urn:oasis:names:tc:xacml:1.0:action:action-id","DataType":"string"}}]}]}]},"Condition":{"Apply":{
-       "FunctionId":"urn:oasis:names:tc:xacml:1.0:function:boolean-one-and-only","Arguments":[{"AttributeDesignator":{
-       "Category":"urn:oasis:names:tc:xacml:1.0:subject-category:access-subject","AttributeId":"cleared","DataType":"boolean",
-       "MustBePresent":true}}]}}}],"ObligationExpressions":[{"ObligationId":"log","FulfillOn":"Permit",
-       "AttributeAssignmentExpression":[{"AttributeId":"a \"name\"","Category":"c","Issuer":"desk","Expression":{
-       "AttributeValue":{"Value":"plan"}}},{"AttributeId":"level","Expression":{"AttributeValue":{"Value":-7}}},{
-       "AttributeId":"cleared","Expression":{"AttributeValue":{"Value":false}}},{"AttributeId":"day","Expression":{
-       "AttributeValue":{"DataType":"date","Value":"2025-02-28"}}}]},{"ObligationId":"tell","FulfillOn":"Permit"}],
-       "AdviceExpressions":[{"AdviceId":"note","AppliesTo":"Permit"},{"AdviceId":"why","AppliesTo":"Deny",
-       "AttributeAssignmentExpression":[{"AttributeId":"text","Issuer":"desk","Expression":{"AttributeValue":{"Value":""}}}]}]}}"#;
+       "Effect":"Permit","Target":{"AnyOf":[{"AllOf":[{"Match":[{
+       "MatchId":"urn:oasis:names:tc:xacml:1.0:function:string-equal","AttributeValue":{"Value":"write"},
+       "AttributeDesignator":{"Category":"urn:oasis:names:tc:xacml:3.0:attribute-category:action",
+       "AttributeId":"urn:oasis:names:tc:xacml:1.0:action:action-id","DataType":"string"}}]}]}]},
+       "Condition":{"Apply":{"FunctionId":"urn:oasis:names:tc:xacml:1.0:function:boolean-one-and-only",
+       "Arguments":[{"AttributeDesignator":{"Category":"urn:oasis:names:tc:xacml:1.0:subject-category:access-subject",
+       "AttributeId":"cleared","DataType":"boolean","MustBePresent":true}}]}}}],"ObligationExpressions":[{
+       "ObligationId":"log","FulfillOn":"Permit","AttributeAssignmentExpression":[{"AttributeId":"a \"name\"",
+       "Category":"c","Issuer":"desk","Expression":{"AttributeValue":{"Value":"plan"}}},{"AttributeId":"level",
+       "Expression":{"AttributeValue":{"Value":-7}}},{"AttributeId":"cleared","Expression":{"AttributeValue":{
+       "Value":false}}},{"AttributeId":"day","Expression":{"AttributeValue":{"DataType":"date",
+       "Value":"2025-02-28"}}}]},{"ObligationId":"tell","FulfillOn":"Permit"}],"AdviceExpressions":[{"AdviceId":"note",
+       "AppliesTo":"Permit"},{"AdviceId":"why","AppliesTo":"Deny","AttributeAssignmentExpression":[{
+       "AttributeId":"text","Issuer":"desk","Expression":{"AttributeValue":{"Value":""}}}]}]}}"#;
 
 /// Requests, with the decision of that policy, and how many obligations and how much advice go with it.
 const ASKED: &[(&str, Outcome, usize, usize)] = &[
     // Of the attributes, those of no value, of one and of two are included.
     (
-        r#"{"Request":{"Action":{"Attribute":[{"AttributeId":"urn:oasis:names:tc:xacml:1.0:action:action-id","Value":"read"},{
-           "AttributeId":"none","Value":[],"IncludeInResult":true},{"AttributeId":"one","Issuer":"desk","Value":true,
-           "IncludeInResult":true},{"AttributeId":"two","Value":[1,2],"IncludeInResult":true}]},"Category":[{"CategoryId":"c",
-           "Attribute":{"AttributeId":"a","Value":"x"}},{"CategoryId":"d","Attribute":{"AttributeId":"a","Value":"x",
-           "IncludeInResult":true}}]}}"#,
+        r#"{"Request":{"Action":{"Attribute":[{"AttributeId":"urn:oasis:names:tc:xacml:1.0:action:action-id",
+           "Value":"read"},{"AttributeId":"none","Value":[],"IncludeInResult":true},{"AttributeId":"one",
+           "Issuer":"desk","Value":true,"IncludeInResult":true},{"AttributeId":"two","Value":[1,2],
+           "IncludeInResult":true}]},"Category":[{"CategoryId":"c","Attribute":{"AttributeId":"a","Value":"x"}},
+           {"CategoryId":"d","Attribute":{"AttributeId":"a","Value":"x","IncludeInResult":true}}]}}"#,
         Outcome::Permit,
         2,
         1,
     ),
     (
-        r#"{"Request":{"Action":{"Attribute":{"AttributeId":"urn:oasis:names:tc:xacml:1.0:action:action-id","Value":"drop"}}}}"#,
+        r#"{"Request":{"Action":{"Attribute":{"AttributeId":"urn:oasis:names:tc:xacml:1.0:action:action-id",
+           "Value":"drop"}}}}"#,
         Outcome::Deny,
         0,
         1,
     ),
     (
-        r#"{"Request":{"Action":{"Attribute":{"AttributeId":"urn:oasis:names:tc:xacml:1.0:action:action-id","Value":"write"}}}}"#,
+        r#"{"Request":{"Action":{"Attribute":{"AttributeId":"urn:oasis:names:tc:xacml:1.0:action:action-id",
+           "Value":"write"}}}}"#,
         Outcome::Ind(IndKind::P),
         0,
         0,
@@ -146,8 +151,8 @@ fn are_alike(alloc: Global, answer: &Answer, request: &Request) -> Result<bool, 
     Ok(is_response && are_obligations && is_advice)
 }
 
-/// Whether the answer to the request that the text spells has that decision, so many obligations and so much advice, and is written
-/// alike in both ways.
+/// Whether the answer to the request that the text spells has that decision, so many obligations and so much advice,
+/// and is written alike in both ways.
 fn is_written_alike(
     alloc: Global,
     text: &str,

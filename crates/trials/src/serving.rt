@@ -217,8 +217,8 @@ fn stops_at_a_read_fault(rt: HostRuntime) {
     assert!(rt; out.as_slice() == "{\"changes\":2,\"serial\":1}\n".as_bytes());
 }
 
-/// What is written of the replies to a text, the number of lines, and the number of lines that were handled, where the writer takes
-/// so many bytes.
+/// What is written of the replies to a text, the number of lines, and the number of lines that were handled, where
+/// the writer takes so many bytes.
 fn narrowed(
     alloc: Global,
     text: &str,
@@ -236,7 +236,8 @@ fn narrowed(
     (narrow.taken, lines, tally.lines)
 }
 
-/// How many bytes a writer takes and whether it can be flushed, with how many it holds in the end, and how many lines were handled.
+/// How many bytes a writer takes and whether it can be flushed, with how many it holds in the end, and how many lines
+/// were handled.
 const ROOMS: &[(usize, bool, usize, u64)] = &[
     (24, true, 24, 1),
     (25, true, 25, 2),

@@ -15,8 +15,8 @@ use std::alloc::Global;
 use std::test::Fail;
 
 /// A policy `p` that permits every request.
-const PERMITTING: &str =
-    r#"{"Policy":{"PolicyId":"p","Version":"1","RuleCombiningAlgId":"urn:oasis:names:tc:xacml:3.0:rule-combining-algorithm:permit-unless-deny"}}"#;
+const PERMITTING: &str = r#"{"Policy":{"PolicyId":"p","Version":"1",
+       "RuleCombiningAlgId":"urn:oasis:names:tc:xacml:3.0:rule-combining-algorithm:permit-unless-deny"}}"#;
 
 /// The serial and the changes that an edit is answered, or its refusal.
 type Told = Result<(u64, u64), EditFault>;
@@ -65,8 +65,8 @@ fn listed(review: &Review, name: &str) -> (bool, bool) {
     )
 }
 
-/// Whether bob is among the people and the actions of a review of those names, how many requests were evaluated for it, and its
-/// serial.
+/// Whether bob is among the people and the actions of a review of those names, how many requests were evaluated for
+/// it, and its serial.
 fn of_bob(alloc: Global) -> Result<((bool, bool), u128, u64), Fail> {
     let mut modules: Vec<Box<dyn PolicyFinderModule>> = Vec::new(alloc);
     modules.push(Box::new(alloc, MapDocs::new(alloc))?)?;
@@ -136,7 +136,8 @@ fn one_document(alloc: Global, module: usize) -> Result<Told, Fail> {
     add_policy(alloc, &mut review, module)
 }
 
-/// Where people and documents are as many as they may be, no more is the first refusal, also for a module that isn't there.
+/// Where people and documents are as many as they may be, no more is the first refusal, also for a module that isn't
+/// there.
 #[test]
 fn limits(rt: HostRuntime) -> Result<(), Fail> {
     assert!(rt; one_more_person(rt.alloc())? == Err(EditFault::Limit));

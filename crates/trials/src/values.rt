@@ -29,7 +29,8 @@ fn type_names(rt: HostRuntime) {
     assert_eq!(rt; DataType::from_name("time"), None);
 }
 
-/// Texts with what the value that each spells is written as, in the order of the values, which come after the empty string.
+/// Texts with what the value that each spells is written as, in the order of the values, which come after the empty
+/// string.
 const WRITTEN: &[(DataType, &str, &str)] = &[
     (DataType::Text, " a\"b ", " a\"b "),
     (DataType::Text, "Z", "Z"),
