@@ -14,10 +14,10 @@ ghost use Rattle.ent_table.specs.Review.{IsFresh, OnlyAttributes, row_at, state_
 ghost use Rattle.ent_table.specs.Step.{attribute_set, is_bad_row, is_reserved, is_source, values_next, with_values};
 
 use crate::edit::{Accepted, EditFault};
-use crate::lists::is_bad_name;
 use crate::review::{LAST_SERIAL, Review};
 use ent_eval::id_attribute;
 use ent_finder::{Attributes, Policies, RowKey};
+use ent_policy::is_bad_name;
 use ent_values::{DataType, Items, Text, Value};
 use std::alloc::AllocError;
 

@@ -3,7 +3,6 @@
 ghost use Rattle.std.specs.Prelude.{◌≡◌, ◌*◌, ◌<◌, ◌≤◌, false, length, nat_eq, string_bytes, IfSome, OnErr, OnOk};
 ghost use Rattle.std.specs.Cmp.Lexicographic.{pointwise};
 ghost use Rattle.std.specs.List.{IsDistinct};
-ghost use Rattle.ent_policy.specs.Names.{is_bad_name};
 ghost use Rattle.ent_table.specs.Names.{CountsWith, IsPlace, TakesLast, cell_count, has_name, list_of, no_names};
 ghost use Rattle.ent_table.specs.Names.{texts, triple_of, with_list, with_name};
 ghost use Rattle.ent_table.specs.Place.{IsTaken, blocks_of, most_places, names_in};
@@ -14,13 +13,6 @@ use crate::edit::List;
 use indexmap::IndexSet;
 use std::alloc::{AllocError, Global};
 use std::marker::Model;
-
-/// Whether a name has no byte, or more than 256.
-pub(crate) fn is_bad_name(name: &str) -> bool
-    ensures { result ≡ is_bad_name name.now }
-{
-    name.is_empty() || name.len() > 256
-}
 
 /// The names of three lists, which together make requests.
 #[derive(Clone, Copy)]

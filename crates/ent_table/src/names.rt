@@ -8,10 +8,10 @@ ghost use Rattle.ent_table.specs.Step.{Exceeds, name_added, name_dropped};
 
 use crate::edit::{Accepted, EditFault, List};
 use crate::fill::{Nearby, evaluate_all};
-use crate::lists::is_bad_name;
 use crate::review::{LAST_SERIAL, Review};
 use ent_eval::Answer;
 use ent_finder::{Attributes, Policies};
+use ent_policy::is_bad_name;
 use ent_values::{Items, Shared, Text};
 use std::alloc::AllocError;
 use std::slice;

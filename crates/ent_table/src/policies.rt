@@ -11,10 +11,9 @@ ghost use Rattle.ent_table.specs.Step.{is_module, module_holds, module_lacks, po
 ghost use Rattle.ent_table.specs.Step.{policy_replaced, policy_withdrawn, with_policy};
 
 use crate::edit::{Accepted, EditFault};
-use crate::lists::is_bad_name;
 use crate::review::{LAST_SERIAL, Review};
 use ent_finder::{Attributes, Policies};
-use ent_policy::{DocKey, Document};
+use ent_policy::{DocKey, Document, is_bad_name};
 use std::alloc::AllocError;
 
 impl<A: Attributes, P: Policies> Review<A, P> {
