@@ -1,5 +1,5 @@
-//! Runs the stored sessions of lines: standard input holds them one after another, and to standard output goes each session's
-//! heading with the reply to each of its lines.
+//! Runs the stored sessions of lines: standard input holds them one after another, and to standard output goes each
+//! session's heading with the reply to each of its lines.
 #![tactic(auto)]
 
 ghost use Rattle.std.specs.Prelude.{◌≡◌, ◌≤◌, ◌⊎◌};

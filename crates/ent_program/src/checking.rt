@@ -172,12 +172,12 @@ pub(crate) fn check<R: Read, W: Write>(
     }
 }
 
-/// Reads the JSON of one document, of at most `FILE_LIMIT` bytes, and writes one line of what is said of it. Gives whether it
-/// may be stored.
+/// Reads the JSON of one document, of at most `FILE_LIMIT` bytes, and writes one line of what is said of it. Gives
+/// whether it may be stored.
 ///
-/// The line is `ok KIND ID VERSION`, the id as it stands; `refused 1` for more bytes; `refused 2` for what isn't JSON; or
-/// `refused 6 SUB` with the sub-code of the document's first fault. Faults: the reader's, the writer's, which may have taken
-/// a front of the line, and want of memory. The writer is flushed behind the line.
+/// The line is `ok KIND ID VERSION`, the id as it stands; `refused 1` for more bytes; `refused 2` for what isn't JSON;
+/// or `refused 6 SUB` with the sub-code of the document's first fault. Faults: the reader's, the writer's, which may
+/// have taken a front of the line, and want of memory. The writer is flushed behind the line.
 pub fn check_from<R: Read, W: Write>(
     alloc: Global,
     reader: &mut R,

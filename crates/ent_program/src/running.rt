@@ -42,7 +42,8 @@ fn push_rowless(
     store: Box<dyn AttributeFinderModule>,
 ) -> Result<(), AllocError>
     requires { source store ≡ no_rows }
-    ensures sources { OnOk result (map (λ b. source b) modules.new.items ≡ map (λ b. source b) modules.old.items ++ no_rows ∷ []) }
+    ensures sources { OnOk result (map (λ b. source b) modules.new.items
+        ≡ map (λ b. source b) modules.old.items ++ no_rows ∷ []) }
     ensures len { OnOk result (vec_len modules.new ≡ vec_len modules.old + 1) }
 {
     modules.push(store)?;
@@ -55,7 +56,8 @@ fn push_empty(
     store: Box<dyn PolicyFinderModule>,
 ) -> Result<(), AllocError>
     requires { slots store ≡ empty }
-    ensures slots { OnOk result (map (λ b. slots b) modules.new.items ≡ map (λ b. slots b) modules.old.items ++ empty ∷ []) }
+    ensures slots { OnOk result (map (λ b. slots b) modules.new.items
+        ≡ map (λ b. slots b) modules.old.items ++ empty ∷ []) }
     ensures len { OnOk result (vec_len modules.new ≡ vec_len modules.old + 1) }
 {
     modules.push(store)?;
@@ -69,8 +71,8 @@ struct Modules {
     policies: usize,
 }
 
-/// Answers each line of the reader by one line into the writer, by a service whose modules, of those numbers, hold nothing before
-/// the first of them, and gives their number.
+/// Answers each line of the reader by one line into the writer, by a service whose modules, of those numbers, hold
+/// nothing before the first of them, and gives their number.
 fn serve_from<R: BufRead, W: Write>(
     alloc: Global,
     count: Modules,
@@ -130,8 +132,8 @@ fn tell(rt: &impl Eprint, verdict: &Verdict) {
     }
 }
 
-/// Checks the file of that path: writes to standard output what is said of it, and to standard error why it is refused, if it
-/// is. Gives whether its document may be stored.
+/// Checks the file of that path: writes to standard output what is said of it, and to standard error why it is refused,
+/// if it is. Gives whether its document may be stored.
 fn check_file<R: Files + Print + Eprint + AllocGlobal>(
     rt: &R,
     path: &str,
@@ -176,8 +178,8 @@ fn act<R: Files + Input + Print + Eprint + AllocGlobal>(rt: &R, matches: &ArgMat
     }
 }
 
-/// Runs the program with the words of its command line, and gives its exit status: 0 where all went well, 1 where the command
-/// line can't be used or a file was refused, 2 where reading or writing failed, and 3 for want of memory.
+/// Runs the program with the words of its command line, and gives its exit status: 0 where all went well, 1 where the
+/// command line can't be used or a file was refused, 2 where reading or writing failed, and 3 for want of memory.
 pub fn run<R: Env + Files + Input + Print + Eprint + AllocGlobal>(rt: &R) -> u8 {
     let (Ok(words), Ok(command)) = (words::words(rt), words::command(rt.alloc())) else {
         return status_of(rt, ServeFault::Memory);

@@ -1,5 +1,5 @@
-//! The program: `review serve` serves commands on standard input, one line each, to standard output; `review check FILE` says
-//! whether the policy in a file may be stored.
+//! The program: `review serve` serves commands on standard input, one line each, to standard output, and
+//! `review check FILE` says whether the policy in a file may be stored.
 #![tactic(auto)]
 
 use ent_program::run;
