@@ -10,7 +10,7 @@ use Rattle.ent_policy.specs.Check.{IsChecked, checked, fault_of, tree_fault, who
 use Rattle.ent_policy.specs.Children.{as_child}
 use Rattle.ent_policy.specs.Limits.{limit_fault}
 use Rattle.ent_policy.specs.Reading.{document_read}
-use Rattle.ent_policy.specs.Values.{IsWithin, document_values}
+use Rattle.ent_policy.specs.Values.{document_values}
 use Rattle.ent_policy.specs.declared.document.Tree.{Tree}
 use Rattle.ent_policy.proofs.Wholes.{neither, passed, passes}
 use Rattle.ent_policy.proofs.Within.{passed_within}
@@ -30,18 +30,10 @@ checked_again : (t : Tree) → tree_fault t ≡ None → Back (raw_of (written t
 unfolding document_of checked fault_of
 checked_again t clean back = rw (back.1.0, back.1.1, clean) refl
 
--- a value within its type's bounds is readable, if a duration has few years
-all_readable : (vs : List Value) → AllByRecursion IsWithin vs → AllByRecursion HasFewYears vs → AllByRecursion IsReadable vs
-all_readable [] within few = tt
-all_readable (v ∷ vs) within few = (readable v (real v within.0) few.0, all_readable vs within.1 few.1)
-  where
-    real : (v : Value) → IsWithin v → IsReal v
-    real (values.Text text) h = tt
-    real (values.Boolean boolean) h = tt
-    real (values.Integer integer) h = h
-    real (values.Date date) h = h
-    real (values.AnyUri uri) h = tt
-    real (values.YearMonth months) h = tt
+-- a value that is what its type says is readable, if a duration has few years
+all_readable : (vs : List Value) → AllByRecursion IsReal vs → AllByRecursion HasFewYears vs → AllByRecursion IsReadable vs
+all_readable [] real few = tt
+all_readable (v ∷ vs) real few = (readable v real.0 few.0, all_readable vs real.1 few.1)
 
 pub documents_back : DocumentsReadBack
 documents_back t by_check few =
