@@ -1,0 +1,79 @@
+-- What an index says: which cells read a key, and the number of a key that cells read.
+use Rattle.std.specs.Prelude.{◌≡◌, ℕ, List, [], Bool, false, not, ◌&&◌, ◌||◌, Option, Some, None, refl}
+use Rattle.std.specs.Coded.{Coded, code_by, coded×, coded_ℕ}
+use Rattle.std.specs.FinMap.{FinMap, get}
+use Rattle.std.specs.FinSet.{code}
+use Rattle.std.specs.List.{list_any}
+use Rattle.std.specs.Option.{option_map, option_map_or}
+use Rattle.std.specs.Ordering.{is_eq, nat_cmp}
+use Rattle.ent_eval.specs.Noted.{has_key, read_cmp}
+use Rattle.ent_eval.specs.declared.key.ReadKey.{ReadKey}
+use Rattle.ent_index.specs.Cells.{CellSet, has_cell, in_order}
+
+-- of a key: its number, and the cells that read it
+pub record Readers : Type 0 where
+  pub number : ℕ
+  pub cells : CellSet
+
+-- an index: each key that a cell reads, with its readers
+abbrev pub ReadIndex : Type 0
+ReadIndex = FinMap read_cmp Readers
+
+-- the readers of a key are stored as the pair of both
+abbrev pub readers_code : Coded Readers
+readers_code = code_by (ℕ × CellSet) (coded× coded_ℕ (code coded_ℕ)) (λ r. (r.number, r.cells)) (λ p. record { number = p.0; cells = p.1 }) (λ _. refl)
+
+-- the cell reads the key
+abbrev pub has : ReadIndex → ReadKey → ℕ → Bool
+has index key cell = option_map_or (λ r. has_cell r.cells cell) (get index key) false
+
+-- the cells that read the key, each once, in rising order
+abbrev pub cells_of : ReadIndex → ReadKey → List ℕ
+cells_of index key = option_map_or (λ r. in_order r.cells) (get index key) []
+
+-- the number of the key, if a cell reads it
+abbrev pub number_of : ReadIndex → ReadKey → Option ℕ
+number_of index key = option_map (λ r. r.number) (get index key)
+
+-- that is the key's number
+abbrev pub is_number : ReadIndex → ℕ → ReadKey → Bool
+is_number index number key = option_map_or (λ n. is_eq (nat_cmp n number)) (number_of index key) false
+
+-- one of these is the key's number
+abbrev pub is_numbered : ReadIndex → List ℕ → ReadKey → Bool
+is_numbered index numbers key = list_any (λ n. is_number index n key) numbers
+
+-- ---- pairs of a key and a cell
+
+-- these are the key and the cell
+abbrev pub is_pair : ReadKey → ℕ → ReadKey → ℕ → Bool
+is_pair key cell k c = is_eq (read_cmp k key) && is_eq (nat_cmp c cell)
+
+-- this is one of the keys, and the cell
+abbrev pub is_pair_of : List ReadKey → ℕ → ReadKey → ℕ → Bool
+is_pair_of keys cell k c = has_key keys k && is_eq (nat_cmp c cell)
+
+-- this is the key of one of the numbers, and the cell
+abbrev pub is_numbered_pair : ReadIndex → List ℕ → ℕ → ReadKey → ℕ → Bool
+is_numbered_pair index numbers cell k c = is_numbered index numbers k && is_eq (nat_cmp c cell)
+
+-- ---- changes
+
+-- each key that has a number has the same one afterwards
+abbrev pub KeepsNumbers : ReadIndex → ReadIndex → Type 0
+KeepsNumbers old new = (k : ReadKey) (n : ℕ) → number_of old k ≡ Some n → number_of new k ≡ Some n
+
+-- the pairs of the old index, and these; no number changes
+pub record Adds (pairs : ReadKey → ℕ → Bool) (old new : ReadIndex) : Type 0 where
+  pub has : (k : ReadKey) (c : ℕ) → has new k c ≡ (pairs k c || has old k c)
+  pub numbers : KeepsNumbers old new
+
+-- the pairs of the old index without these; no number changes
+pub record Forgets (pairs : ReadKey → ℕ → Bool) (old new : ReadIndex) : Type 0 where
+  pub has : (k : ReadKey) (c : ℕ) → has new k c ≡ (not (pairs k c) && has old k c)
+  pub numbers : KeepsNumbers new old
+
+-- a number names one key, and a key that no cell reads has none
+pub record IsSound (index : ReadIndex) : Type 0 where
+  pub numbers : (j k : ReadKey) (n : ℕ) → number_of index j ≡ Some n → number_of index k ≡ Some n → j ≡ k
+  pub read : (k : ReadKey) → ((c : ℕ) → has index k c ≡ false) → number_of index k ≡ None

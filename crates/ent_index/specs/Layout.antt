@@ -1,0 +1,40 @@
+-- How an index is laid out: the numbers of its keys, and under each number the key with its cells.
+use Rattle.std.specs.Prelude.{◌≡◌, ℕ, Option, Some, map}
+use Rattle.std.specs.BTreeMap as tree
+use Rattle.std.specs.BTreeMap.{BTreeMap}
+use Rattle.std.specs.FinMap.{from_entries}
+use Rattle.std.specs.Option.{option_map, option_map_or}
+use Rattle.slab.specs.Slab.{Slab, get}
+use Rattle.ent_eval.specs.Noted.{read_cmp}
+use Rattle.ent_eval.specs.declared.key.ReadKey.{ReadKey}
+use Rattle.ent_index.specs.Cells.{CellSet, no_cells}
+use Rattle.ent_index.specs.Index.{ReadIndex, Readers}
+use Rattle.ent_index.specs.declared.entry.Entry.{Entry}
+
+-- the key under a number
+abbrev pub key_at : Slab Entry → ℕ → Option ReadKey
+key_at entries number = option_map (λ e. e.key) (get entries number)
+
+-- the cells under a number
+abbrev pub cells_at : Slab Entry → ℕ → CellSet
+cells_at entries number = option_map_or (λ e. e.cells) (get entries number) no_cells
+
+-- an entry, with other cells
+abbrev pub with_cells : (CellSet → CellSet) → Option Entry → Option Entry
+with_cells change entry = option_map (λ e. record e { cells = change e.cells }) entry
+
+abbrev pub readers_at : Slab Entry → ℕ → Readers
+readers_at entries number = record { number = number; cells = cells_at entries number }
+
+abbrev pub number_at : BTreeMap ReadKey ℕ → ReadKey → Option ℕ
+number_at numbers key = tree.get read_cmp numbers key
+
+-- the index that is laid out so
+abbrev pub index_of : BTreeMap ReadKey ℕ → Slab Entry → ReadIndex
+index_of numbers entries = from_entries (map (λ e. (e.0, readers_at entries e.1)) numbers.entries)
+
+-- a key has a number where it stands under that number, and there it has a cell
+pub record IsIndex (numbers : BTreeMap ReadKey ℕ) (entries : Slab Entry) : Type 0 where
+  pub there : (k : ReadKey) (n : ℕ) → number_at numbers k ≡ Some n → key_at entries n ≡ Some k
+  pub back : (k : ReadKey) (n : ℕ) → key_at entries n ≡ Some k → number_at numbers k ≡ Some n
+  pub read : (k : ReadKey) (n : ℕ) → key_at entries n ≡ Some k → cells_at entries n ≡ no_cells → ⊥
