@@ -1,7 +1,7 @@
 -- Lists of numbers that strictly rise, seen as sets.
-use Rattle.std.proofs.Common.{◌≡◌, ◌↔◌, ℕ, zero, suc, ◌<◌, ◌≤◌, Bool, true, false, cond, not, T, List, [], ◌∷◌, ◌++◌, map, length, take, drop, is_some, Option, Some, None, Result, Ok, Err, IfOk, IfErr, is_ok, refl, sym, ap, subst, ◌∙◌, arith}
+use Rattle.std.proofs.Common.{◌≡◌, ◌↔◌, ℕ, zero, suc, Bool, true, false, cond, not, T, List, [], ◌∷◌, ◌++◌, map, length, take, drop, is_some, Option, Some, None, Result, IfOk, IfErr, is_ok, refl, sym, ap, subst, ◌∙◌, arith}
 use Rattle.std.specs.Cmp.{IsTotalOrder, eq_by_cmp_equiv, nat_cmp_total}
-use Rattle.std.specs.FinMap.{FinMap, IsAntisymmetric, nat_cmp-IsAntisymmetric, empty, entries, entries-from_sorted, entries-insert, find, from_sorted, get, get-from_sorted, get-insert, get-remove, get-retain_keys, insert as map_insert, is_sorted, put, remove as map_remove, retain_keys, same_entries_map, same_map}
+use Rattle.std.specs.FinMap.{nat_cmp-IsAntisymmetric, entries, entries-from_sorted, entries-insert, find, from_sorted, get, get-from_sorted, get-insert, get-remove, get-retain_keys, is_sorted, put, retain_keys, same_entries_map, same_map}
 use Rattle.std.specs.FinMap.Entries.{below_all, find-where_key, is_sorted-put, is_sorted-where_key, where_key}
 use Rattle.std.specs.List.{drop-map, filter, insert, remove, take-map}
 use Rattle.std.specs.List.Sorted.{IsBinarySearchResult, IsSearchInRange}
@@ -9,8 +9,8 @@ use Rattle.std.specs.Ordering.{eq_by_cmp, is_eq, is_lt, nat_cmp, ordering_revers
 use Rattle.std.proofs.lemmas.Cmp.{tied_back}
 use Rattle.std.specs.declared.cmp.Ordering.{Ordering}
 use Rattle.std.specs.declared.cmp.Ordering.TheVariants.{Less, Equal, Greater}
-use Rattle.std.proofs.lemmas.List.{length-map, map-append}
-use Rattle.ent_finder.proofs.Seats.{IsGap, IsThere, found_or_not, gap_within, none_seen, nothing_seen, searched}
+use Rattle.std.proofs.lemmas.List.{map-append}
+use Rattle.ent_finder.proofs.Seats.{IsGap, IsThere, found_or_not, nothing_seen, searched}
 use Rattle.ent_finder.proofs.Sorted.{before_at, equal, first, is_true, less, put_new, second}
 use Rattle.ent_finder.specs.Places.{is_at}
 use Rattle.ent_index.specs.Cells.{CellSet, has_cell, in_order, marked, no_cells, with_cell, without_cell}
@@ -128,13 +128,12 @@ module _ (p : ℕ → Bool) where
   pub retained : (cells left : List ℕ) → Rises cells → marked left ≡ where_key nat_cmp p (marked cells) → Rises left × (set_of left ≡ retain_keys (set_of cells) p)
   retained cells left rises is =
       let sorted = is_sorted-where_key nat_cmp p (marked cells) rises in
-      let left_rises : Rises left = subst (λ es. T (is_sorted nat_cmp es)) (sym is) sorted in
-      (
+      let left_rises : Rises left = subst (λ es. T (is_sorted nat_cmp es)) (sym is) sorted in (
         left_rises,
         same_map nat_cmp_total nat_cmp-IsAntisymmetric _ _ (λ q.
-        get-from_sorted nat_cmp (marked left) q left_rises ∙ ap (find nat_cmp q) is
-        ∙ find-where_key nat_cmp p q (alike q) (marked cells) ∙ ap (λ o. cond (p q) o None) (sym (get-from_sorted nat_cmp (marked cells) q rises))
-        ∙ sym (get-retain_keys (set_of cells) p q (alike q))),
+            get-from_sorted nat_cmp (marked left) q left_rises ∙ ap (find nat_cmp q) is
+            ∙ find-where_key nat_cmp p q (alike q) (marked cells) ∙ ap (λ o. cond (p q) o None) (sym (get-from_sorted nat_cmp (marked cells) q rises))
+            ∙ sym (get-retain_keys (set_of cells) p q (alike q))),
       )
 
   pub filter_seen : (cells : List ℕ) → Rises cells → Rises (filter p cells) × (set_of (filter p cells) ≡ retain_keys (set_of cells) p)

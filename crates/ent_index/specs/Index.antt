@@ -1,5 +1,5 @@
 -- What an index says: which cells read a key, and the number of a key that cells read.
-use Rattle.std.specs.Prelude.{◌≡◌, ℕ, List, [], Bool, false, not, ◌&&◌, ◌||◌, Option, Some, None, refl}
+use Rattle.std.specs.Prelude.{◌≡◌, ℕ, List, [], Bool, false, not, ◌&&◌, ◌||◌, Option, Some, None, is_some, refl, slice_get}
 use Rattle.std.specs.Coded.{Coded, code_by, coded×, coded_ℕ}
 use Rattle.std.specs.FinMap.{FinMap, get}
 use Rattle.std.specs.FinSet.{code}
@@ -35,6 +35,10 @@ cells_of index key = option_map_or (λ r. in_order r.cells) (get index key) []
 abbrev pub number_of : ReadIndex → ReadKey → Option ℕ
 number_of index key = option_map (λ r. r.number) (get index key)
 
+-- a cell reads the key
+abbrev pub is_read : ReadIndex → ReadKey → Bool
+is_read index key = is_some (number_of index key)
+
 -- that is the key's number
 abbrev pub is_number : ReadIndex → ℕ → ReadKey → Bool
 is_number index number key = option_map_or (λ n. is_eq (nat_cmp n number)) (number_of index key) false
@@ -56,6 +60,14 @@ is_pair_of keys cell k c = has_key keys k && is_eq (nat_cmp c cell)
 -- this is the key of one of the numbers, and the cell
 abbrev pub is_numbered_pair : ReadIndex → List ℕ → ℕ → ReadKey → ℕ → Bool
 is_numbered_pair index numbers cell k c = is_numbered index numbers k && is_eq (nat_cmp c cell)
+
+-- the key stands at that place of a list
+abbrev pub is_at : List ReadKey → ℕ → ReadKey → Bool
+is_at keys place k = option_map_or (λ key. is_eq (read_cmp k key)) (slice_get keys place) false
+
+-- this is the key at one of the places, and the cell
+abbrev pub is_pair_at : List ReadKey → List ℕ → ℕ → ReadKey → ℕ → Bool
+is_pair_at keys places cell k c = list_any (λ place. is_at keys place k) places && is_eq (nat_cmp c cell)
 
 -- ---- changes
 

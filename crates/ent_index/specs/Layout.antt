@@ -1,12 +1,17 @@
 -- How an index is laid out: the numbers of its keys, and under each number the key with its cells.
-use Rattle.std.specs.Prelude.{◌≡◌, ℕ, Option, Some, map}
+use Rattle.std.specs.Prelude.{◌≡◌, ℕ, List, Option, None, Some, map}
 use Rattle.std.specs.BTreeMap as tree
 use Rattle.std.specs.BTreeMap.{BTreeMap}
 use Rattle.std.specs.FinMap.{from_entries}
 use Rattle.std.specs.Option.{option_map, option_map_or}
+use Rattle.std.specs.declared.cmp.Ordering.{Ordering}
+use Rattle.std.specs.declared.cmp.Ordering.TheVariants.{Greater, Less}
 use Rattle.slab.specs.Slab.{Slab, get}
+use Rattle.ent_policy.specs.declared.key.Kind.{Kind}
+use Rattle.ent_finder.specs.Order.{name_cmp}
 use Rattle.ent_eval.specs.Noted.{read_cmp}
 use Rattle.ent_eval.specs.declared.key.ReadKey.{ReadKey}
+use Rattle.ent_eval.specs.declared.key.ReadKey.TheVariants.{Attr, Day, Ref, Root}
 use Rattle.ent_index.specs.Cells.{CellSet, no_cells}
 use Rattle.ent_index.specs.Index.{ReadIndex, Readers}
 use Rattle.ent_index.specs.declared.entry.Entry.{Entry}
@@ -21,7 +26,8 @@ cells_at entries number = option_map_or (λ e. e.cells) (get entries number) no_
 
 -- an entry, with other cells
 abbrev pub with_cells : (CellSet → CellSet) → Option Entry → Option Entry
-with_cells change entry = option_map (λ e. record e { cells = change e.cells }) entry
+with_cells change None = None
+with_cells change (Some e) = Some (record e { cells = change e.cells })
 
 abbrev pub readers_at : Slab Entry → ℕ → Readers
 readers_at entries number = record { number = number; cells = cells_at entries number }
@@ -38,3 +44,10 @@ pub record IsIndex (numbers : BTreeMap ReadKey ℕ) (entries : Slab Entry) : Typ
   pub there : (k : ReadKey) (n : ℕ) → number_at numbers k ≡ Some n → key_at entries n ≡ Some k
   pub back : (k : ReadKey) (n : ℕ) → key_at entries n ≡ Some k → number_at numbers k ≡ Some n
   pub read : (k : ReadKey) (n : ℕ) → key_at entries n ≡ Some k → cells_at entries n ≡ no_cells → ⊥
+
+-- how a key stands to the references of a kind and an id
+abbrev pub policy_order : Kind → List ℕ → ReadKey → Ordering
+policy_order kind id Root = Less
+policy_order kind id (Ref reference) = name_cmp (reference.kind, reference.id) (kind, id)
+policy_order kind id (Attr key) = Greater
+policy_order kind id Day = Greater

@@ -1,5 +1,5 @@
 use Rattle.std.proofs.Common.{Err, Ok, ap, not, sym, ◌∙◌}
-use Rattle.ent_index.specs.Cells.{has_cell, with_cell}
+use Rattle.ent_index.specs.Cells.{has_cell}
 use Rattle.ent_index.proofs.Rising.{insert_rises, insert_seen, insert_there, is_found, place}
 use Rattle.ent_index.proofs.cells.Cells.insert.Goals as goal
 

@@ -1,6 +1,5 @@
 use Rattle.std.proofs.Common.{◌≡◌, ◌↔◌, ◌==◌, ℕ, Bool, IsTrue, length, sym, ◌∙◌}
 use Rattle.std.proofs.lemmas.Bool.{eq-eqb, eqb-true}
-use Rattle.ent_index.specs.Cells.{no_cells}
 use Rattle.ent_index.proofs.Rising.{empty_iff}
 use Rattle.ent_index.proofs.cells.Cells.is_empty.Goals as goal
 

@@ -1,0 +1,6 @@
+use Rattle.std.proofs.Common.{take}
+use Rattle.ent_index.specs.Index.{Forgets, is_pair_of}
+use Rattle.ent_index.proofs.index.Index.forget.Given as goal
+
+abbrev pub invariant-loop-key : goal.invariant-loop-key
+invariant-loop-key l = Forgets (is_pair_of (take l.key-index l.keys) l.cell) l.initial.self l.self
