@@ -1,5 +1,6 @@
 -- One change after another.
-use Rattle.std.proofs.Common.{◌≡◌, ℕ, ◌+◌, ◌<◌, Bool, true, false, not, ◌&&◌, ◌||◌, List, [], ◌∷◌, ◌++◌, Option, Some, None, if◌then◌else◌, length, map, take, slice_index_or as get_or, inl, inr, refl, sym, ap, ◌∙◌}
+use Rattle.std.proofs.Common.{◌≡◌, ℕ, ◌+◌, ◌<◌, Bool, true, false, not, ◌&&◌, ◌||◌, List, [], ◌∷◌, ◌++◌, Option, Some, None, if◌then◌else◌, length, map, nat_eq, take, slice_index_or as get_or, inl, inr, refl, sym, ap, ◌∙◌}
+use Rattle.std.specs.Cmp.{nat_eq_equiv, unsigned_tied}
 use Rattle.std.specs.FinMap.{get}
 use Rattle.std.specs.List.{list_any}
 use Rattle.std.specs.Option.{option_map, option_map_or}
@@ -11,7 +12,7 @@ use Rattle.ent_eval.specs.declared.key.ReadKey.{ReadKey}
 use Rattle.std.proofs.lemmas.Bool.{and_parts, cases_eq, true≢false}
 use Rattle.ent_index.proofs.Views.{cell_itself, key_itself, not_cell, not_key, same_cell, same_index, same_key, some_none}
 use Rattle.ent_index.specs.Cells.{has_cell}
-use Rattle.ent_index.specs.Index.{Adds, Forgets, IsSound, ReadIndex, Readers, has, is_at, is_number, is_numbered, is_numbered_pair, is_pair, is_pair_at, is_pair_of, number_of}
+use Rattle.ent_index.specs.Index.{Adds, Forgets, IsSound, ReadIndex, Readers, has, is_at, is_left_pair, is_number, is_numbered, is_numbered_pair, is_pair, is_pair_at, is_pair_of, number_of}
 
 abbrev pub Pairs : Type 0
 Pairs = ReadKey → ℕ → Bool
@@ -203,33 +204,79 @@ last_some true false true o = refl
 last_some true false false o = refl
 last_some false m q o = refl
 
-pub number_more : (a b c : ReadIndex) (numbers : List ℕ) (cell i n : ℕ) → i < length numbers → n ≡ get_or numbers i 0 → Forgets (is_numbered_pair a (take i numbers) cell) a b
-    → Forgets (λ k x. is_number b n k && is_eq (nat_cmp x cell)) b c → Forgets (is_numbered_pair a (take (i + 1) numbers) cell) a c
-number_more a b c numbers cell i n lt is first after = record {
-  has = λ k x.
-      after.has k x ∙ by k x (number_of b k) refl
-      ∙ ap (λ t. not (t && is_eq (nat_cmp x cell)) && has a k x) (sym (list_any_more (λ m. is_number a m k) numbers i 0 lt ∙ ap (λ m. is_numbered a (take i numbers) k || is_number a m k) (sym is)));
+-- one number more
+pub number_after : (a b c : ReadIndex) (p : ReadKey → Bool) (cell n : ℕ) → Forgets (λ k x. p k && is_eq (nat_cmp x cell)) a b → Forgets (λ k x. is_number b n k && is_eq (nat_cmp x cell)) b c
+    → Forgets (λ k x. (p k || is_number a n k) && is_eq (nat_cmp x cell)) a c
+number_after a b c p cell n first after = record {
+  has = λ k x. after.has k x ∙ by k x (number_of b k) refl;
   numbers = λ k m e. first.numbers k m (after.numbers k m e);
 }
   where
     by : (k : ReadKey) (x : ℕ) (o : Option ℕ) → number_of b k ≡ o
-        → (not (is_number b n k && is_eq (nat_cmp x cell)) && has b k x) ≡ (not ((is_numbered a (take i numbers) k || is_number a n k) && is_eq (nat_cmp x cell)) && has a k x)
+        → (not (is_number b n k && is_eq (nat_cmp x cell)) && has b k x) ≡ (not ((p k || is_number a n k) && is_eq (nat_cmp x cell)) && has a k x)
     by k x None e =
         let none = unnumbered b k x e in
         and_none (not (is_number b n k && is_eq (nat_cmp x cell))) (has b k x) none
-        ∙ sym (last_none (is_numbered a (take i numbers) k) (is_number a n k) (is_eq (nat_cmp x cell)) (has a k x) (sym (first.has k x) ∙ none))
+        ∙ sym (last_none (p k) (is_number a n k) (is_eq (nat_cmp x cell)) (has a k x) (sym (first.has k x) ∙ none))
     by k x (Some m) e =
         let same : number_of b k ≡ number_of a k = e ∙ sym (first.numbers k m e) in
         (λ j. not (option_map_or (λ z. is_eq (nat_cmp z n)) (same j) false && is_eq (nat_cmp x cell)) && first.has k x j)
-        ∙ last_some (is_numbered a (take i numbers) k) (is_number a n k) (is_eq (nat_cmp x cell)) (has a k x)
-
--- ---- the pairs of one key
+        ∙ last_some (p k) (is_number a n k) (is_eq (nat_cmp x cell)) (has a k x)
 
 pub forgets_same : (p q : Pairs) (a b : ReadIndex) → Forgets p a b → ((k : ReadKey) (x : ℕ) → q k x ≡ p k x) → Forgets q a b
 forgets_same p q a b forgets is = record {
   has = λ k x. forgets.has k x ∙ ap (λ t. not t && has a k x) (sym (is k x));
   numbers = forgets.numbers;
 }
+
+module _ (a b c : ReadIndex) (numbers : List ℕ) (cell i n : ℕ) (lt : i < length numbers) (is : n ≡ get_or numbers i 0) where
+  -- the numbers up to that one
+  up_to : (k : ReadKey) → is_numbered a (take (i + 1) numbers) k ≡ (is_numbered a (take i numbers) k || is_number a n k)
+  up_to k = list_any_more (λ m. is_number a m k) numbers i 0 lt ∙ ap (λ m. is_numbered a (take i numbers) k || is_number a m k) (sym is)
+
+  pub number_more : Forgets (is_numbered_pair a (take i numbers) cell) a b → Forgets (λ k x. is_number b n k && is_eq (nat_cmp x cell)) b c → Forgets (is_numbered_pair a (take (i + 1) numbers) cell) a c
+  number_more first after =
+      forgets_same (λ k x. (is_numbered a (take i numbers) k || is_number a n k) && is_eq (nat_cmp x cell)) (is_numbered_pair a (take (i + 1) numbers) cell) a c
+      (number_after a b c (λ k. is_numbered a (take i numbers) k) cell n first after) (λ k x. ap (λ t. t && is_eq (nat_cmp x cell)) (up_to k))
+
+  module _ (kept : List ℕ) where
+    in_kept : (k : ReadKey) → number_of a k ≡ Some n → (ns : List ℕ) → is_numbered a ns k ≡ list_any (λ y. nat_eq y n) ns
+    in_kept k at [] = refl
+    in_kept k at (y ∷ ns) = (λ j. option_map_or (λ m. is_eq (nat_cmp m y)) (at j) false || in_kept k at ns j) ∙ ap (λ t. t || list_any (λ z. nat_eq z n) ns) (unsigned_tied n y ∙ nat_eq_equiv.symm n y)
+
+    at_number : (k : ReadKey) (o : Option ℕ) → number_of a k ≡ o → option_map_or (λ m. is_eq (nat_cmp m n)) o false ≡ true → number_of a k ≡ Some n
+    at_number k None e h = cc
+    at_number k (Some m) e h = e ∙ ap Some (same_cell m n h)
+
+    -- whether the key of that number is kept
+    kept_is : (t : Bool) → list_any (λ y. nat_eq y n) kept ≡ t → (k : ReadKey) → is_number a n k ≡ true → is_numbered a kept k ≡ t
+    kept_is t e k h = in_kept k (at_number k (number_of a k) refl h) kept ∙ e
+
+    stays_out : (x m y : Bool) → (m ≡ true → y ≡ true) → ((x || m) && not y) ≡ (x && not y)
+    stays_out true m y h = refl
+    stays_out false true y h = ap not (h refl)
+    stays_out false false y h = refl
+
+    comes_in : (x m y : Bool) → (m ≡ true → y ≡ false) → ((x || m) && not y) ≡ ((x && not y) || m)
+    comes_in true true y h = ap not (h refl) ∙ (λ j. not (sym (h refl) j) || true)
+    comes_in true false true h = refl
+    comes_in true false false h = refl
+    comes_in false true y h = ap not (h refl)
+    comes_in false false y h = refl
+
+    pub left_kept : list_any (λ y. nat_eq y n) kept ≡ true → Forgets (is_left_pair a (take i numbers) kept cell) a b → Forgets (is_left_pair a (take (i + 1) numbers) kept cell) a b
+    left_kept there first =
+        forgets_same (is_left_pair a (take i numbers) kept cell) (is_left_pair a (take (i + 1) numbers) kept cell) a b first
+        (λ k x. ap (λ t. t && is_eq (nat_cmp x cell)) (ap (λ t. t && not (is_numbered a kept k)) (up_to k) ∙ stays_out (is_numbered a (take i numbers) k) (is_number a n k) (is_numbered a kept k) (kept_is true there k)))
+
+    pub left_more : list_any (λ y. nat_eq y n) kept ≡ false → Forgets (is_left_pair a (take i numbers) kept cell) a b → Forgets (λ k x. is_number b n k && is_eq (nat_cmp x cell)) b c
+        → Forgets (is_left_pair a (take (i + 1) numbers) kept cell) a c
+    left_more absent first after =
+        forgets_same (λ k x. ((is_numbered a (take i numbers) k && not (is_numbered a kept k)) || is_number a n k) && is_eq (nat_cmp x cell)) (is_left_pair a (take (i + 1) numbers) kept cell) a c
+        (number_after a b c (λ k. is_numbered a (take i numbers) k && not (is_numbered a kept k)) cell n first after)
+        (λ k x. ap (λ t. t && is_eq (nat_cmp x cell)) (ap (λ t. t && not (is_numbered a kept k)) (up_to k) ∙ comes_in (is_numbered a (take i numbers) k) (is_number a n k) (is_numbered a kept k) (kept_is false absent k)))
+
+-- ---- the pairs of one key
 
 -- a number is of the key that has it alone
 pub key_of_number : (a : ReadIndex) (key : ReadKey) (n : ℕ) → IsSound a → number_of a key ≡ Some n → (k : ReadKey) → is_eq (read_cmp k key) ≡ is_number a n k

@@ -3,10 +3,12 @@ use Rattle.std.proofs.Common.{◌≡◌, ℕ, List, [], ◌∷◌, Bool, true, f
 use Rattle.std.specs.BTreeMap as tree
 use Rattle.std.specs.BTreeMap.{BTreeMap}
 use Rattle.std.specs.Cmp.{IsTotalOrder, eq_by_cmp_equiv, nat_cmp_total}
-use Rattle.std.specs.FinMap.{find, get, get-empty, get-from_entries, get-insert, get-remove, nat_cmp-IsAntisymmetric, same_map}
+use Rattle.std.specs.Prelude.{find as find_of}
+use Rattle.std.specs.List.{list_any}
+use Rattle.std.specs.FinMap.{contains_key-keys, find, get, get-empty, get-from_entries, get-insert, get-remove, keys, nat_cmp-IsAntisymmetric, same_map}
 use Rattle.std.specs.Map.{lookup}
 use Rattle.std.specs.Option.{option_map, option_map_or}
-use Rattle.std.specs.Ordering.{is_eq, nat_cmp}
+use Rattle.std.specs.Ordering.{eq_by_cmp, is_eq, nat_cmp}
 use Rattle.std.specs.declared.cmp.Ordering.{Ordering}
 use Rattle.std.specs.declared.cmp.Ordering.TheVariants.{Less, Equal, Greater}
 use Rattle.std.proofs.lemmas.Bool.{cases_eq, true≢false}
@@ -19,8 +21,8 @@ use Rattle.ent_eval.specs.Noted.{read_cmp}
 use Rattle.ent_eval.specs.contracts.key.ReadKeyOrd.TheImpl.Laws.{total-law}
 use Rattle.ent_eval.specs.declared.key.ReadKey.{ReadKey}
 use Rattle.ent_index.specs.Cells.{CellSet, has_cell, in_order, no_cells, with_cell, without_cell}
-use Rattle.ent_index.specs.Index.{Adds, IsSound, ReadIndex, Readers, cells_of, has, is_pair, number_of}
-use Rattle.ent_index.specs.Layout.{IsIndex, cells_at, index_of, key_at, number_at, readers_at, with_cells}
+use Rattle.ent_index.specs.Index.{Adds, IsSound, ReadIndex, Readers, cells_at, cells_of, has, is_number, is_pair, key_of, number_of}
+use Rattle.ent_index.specs.Layout.{IsIndex, entry_cells, index_of, entry_key, number_at, readers_at, with_cells}
 use Rattle.ent_index.specs.declared.entry.Entry.{Entry}
 
 -- ---- keys and numbers that tie
@@ -108,10 +110,10 @@ module _ (numbers : BTreeMap ReadKey ℕ) (entries : Slab Entry) (k : ReadKey) w
       by None = refl
       by (Some n) = refl
 
-  pub has-index_of : (c : ℕ) → has (index_of numbers entries) k c ≡ option_map_or (λ n. has_cell (cells_at entries n) c) (number_at numbers k) false
+  pub has-index_of : (c : ℕ) → has (index_of numbers entries) k c ≡ option_map_or (λ n. has_cell (entry_cells entries n) c) (number_at numbers k) false
   has-index_of c = ap (λ o. option_map_or (λ r. has_cell r.cells c) o false) get-index_of ∙ by (number_at numbers k)
     where
-      by : (o : Option ℕ) → option_map_or (λ r. has_cell r.cells c) (option_map (readers_at entries) o) false ≡ option_map_or (λ n. has_cell (cells_at entries n) c) o false
+      by : (o : Option ℕ) → option_map_or (λ r. has_cell r.cells c) (option_map (readers_at entries) o) false ≡ option_map_or (λ n. has_cell (entry_cells entries n) c) o false
       by None = refl
       by (Some n) = refl
 
@@ -130,12 +132,12 @@ same_index a b numbers cells = same_map read_cmp-total read_cmp-IsAntisymmetric 
 pub same_layout : (m n : BTreeMap ReadKey ℕ) (old new : Slab Entry) → n.entries ≡ m.entries → SameValues old new → index_of n new ≡ index_of m old
 same_layout m n old new numbers values =
     same_index _ _ (λ k. number_of-index_of n new k ∙ at k ∙ sym (number_of-index_of m old k)) (λ k c.
-    has-index_of n new k c ∙ ap (λ o. option_map_or (λ x. has_cell (cells_at new x) c) o false) (at k) ∙ cells (number_at m k) c ∙ sym (has-index_of m old k c))
+    has-index_of n new k c ∙ ap (λ o. option_map_or (λ x. has_cell (entry_cells new x) c) o false) (at k) ∙ cells (number_at m k) c ∙ sym (has-index_of m old k c))
   where
     at : (k : ReadKey) → number_at n k ≡ number_at m k
     at k = ap (lookup (λ q. is_eq (read_cmp k q))) numbers
 
-    cells : (o : Option ℕ) (c : ℕ) → option_map_or (λ x. has_cell (cells_at new x) c) o false ≡ option_map_or (λ x. has_cell (cells_at old x) c) o false
+    cells : (o : Option ℕ) (c : ℕ) → option_map_or (λ x. has_cell (entry_cells new x) c) o false ≡ option_map_or (λ x. has_cell (entry_cells old x) c) o false
     cells None c = refl
     cells (Some x) c = ap (λ e. has_cell (option_map_or (λ (e : Entry). e.cells) e no_cells) c) (values x)
 
@@ -143,13 +145,13 @@ pub same_layout_kept : (m n : BTreeMap ReadKey ℕ) (old new : Slab Entry) → n
 same_layout_kept m n old new numbers values is = record {
   there = λ k x e. keys x ∙ is.there k x (sym (at k) ∙ e);
   back = λ k x e. at k ∙ is.back k x (sym (keys x) ∙ e);
-  read = λ k x e none. is.read k x (sym (keys x) ∙ e) (sym (ap (λ o. option_map_or (λ (e : Entry). e.cells) o no_cells) (values x)) ∙ none);
+  read = λ x k e none. is.read x k (sym (keys x) ∙ e) (sym (ap (λ o. option_map_or (λ (e : Entry). e.cells) o no_cells) (values x)) ∙ none);
 }
   where
     at : (k : ReadKey) → number_at n k ≡ number_at m k
     at k = ap (lookup (λ q. is_eq (read_cmp k q))) numbers
 
-    keys : (x : ℕ) → key_at new x ≡ key_at old x
+    keys : (x : ℕ) → entry_key new x ≡ entry_key old x
     keys x = ap (option_map (λ (e : Entry). e.key)) (values x)
 
 -- ---- what the layout says of the index
@@ -163,7 +165,7 @@ sound numbers entries is = record {
     by : (k : ReadKey) → ((c : ℕ) → has (index_of numbers entries) k c ≡ false) → (o : Option ℕ) → number_at numbers k ≡ o → number_at numbers k ≡ None
     by k none None e = e
     by k none (Some n) e =
-        absurd (is.read k n (is.there k n e) (same_cells _ _ (λ c. sym (ap (λ o. option_map_or (λ x. has_cell (cells_at entries x) c) o false) e) ∙ sym (has-index_of numbers entries k c) ∙ none c ∙ sym (has_cell-none c))))
+        absurd (is.read n k (is.there k n e) (same_cells _ _ (λ c. sym (ap (λ o. option_map_or (λ x. has_cell (entry_cells entries x) c) o false) e) ∙ sym (has-index_of numbers entries k c) ∙ none c ∙ sym (has_cell-none c))))
 
 -- ---- other cells under one number
 
@@ -176,16 +178,16 @@ celled f k None h = cc
 celled f k (Some e) h = refl
 
 module _ (old new : Slab Entry) (n : ℕ) (f : CellSet → CellSet) (up : Updates old new n (with_cells f (slab.get old n))) where
-  pub key_stays : (m : ℕ) → key_at new m ≡ key_at old m
+  pub key_stays : (m : ℕ) → entry_key new m ≡ entry_key old m
   key_stays m = elim (cases_eq m n) [
-    | inl e ↦ ap (key_at new) e ∙ ap (option_map (λ (e : Entry). e.key)) up.changed ∙ keyed f (slab.get old n) ∙ sym (ap (key_at old) e)
+    | inl e ↦ ap (entry_key new) e ∙ ap (option_map (λ (e : Entry). e.key)) up.changed ∙ keyed f (slab.get old n) ∙ sym (ap (entry_key old) e)
     | inr apart ↦ ap (option_map (λ (e : Entry). e.key)) (up.others m apart)
   ]
 
-  pub cells_there : (k : ReadKey) → key_at old n ≡ Some k → cells_at new n ≡ f (cells_at old n)
+  pub cells_there : (k : ReadKey) → entry_key old n ≡ Some k → entry_cells new n ≡ f (entry_cells old n)
   cells_there k h = ap (λ o. option_map_or (λ (e : Entry). e.cells) o no_cells) up.changed ∙ celled f k (slab.get old n) h
 
-  pub cells_elsewhere : (m : ℕ) → (m ≡ n → ⊥) → cells_at new m ≡ cells_at old m
+  pub cells_elsewhere : (m : ℕ) → (m ≡ n → ⊥) → entry_cells new m ≡ entry_cells old m
   cells_elsewhere m apart = ap (λ o. option_map_or (λ (e : Entry). e.cells) o no_cells) (up.others m apart)
 
 pub not_key : (a b : ReadKey) → (a ≡ b → ⊥) → is_eq (read_cmp a b) ≡ false
@@ -197,7 +199,7 @@ not_key a b apart = by (is_eq (read_cmp a b)) refl
 
 -- whether a cell is under a number, if there is one
 abbrev pub under : Slab Entry → ℕ → Option ℕ → Bool
-under entries c number = option_map_or (λ x. has_cell (cells_at entries x) c) number false
+under entries c number = option_map_or (λ x. has_cell (entry_cells entries x) c) number false
 
 pub some_none : {A : Type 0} (x : A) → Some x ≡ None → ⊥
 some_none x e = cc
@@ -206,22 +208,22 @@ some_none x e = cc
 
 module _ (numbers : BTreeMap ReadKey ℕ) (old new : Slab Entry) (n : ℕ) (key : ReadKey) (cell : ℕ) (is : IsIndex numbers old) (at : number_at numbers key ≡ Some n)
     (up : Updates old new n (with_cells (λ cells. with_cell cells cell) (slab.get old n))) where
-  put_stays : (m : ℕ) → key_at new m ≡ key_at old m
+  put_stays : (m : ℕ) → entry_key new m ≡ entry_key old m
   put_stays = key_stays old new n (λ cells. with_cell cells cell) up
 
-  put_here : cells_at new n ≡ with_cell (cells_at old n) cell
+  put_here : entry_cells new n ≡ with_cell (entry_cells old n) cell
   put_here = cells_there old new n (λ cells. with_cell cells cell) up key (is.there key n at)
 
-  put_elsewhere : (m : ℕ) → (m ≡ n → ⊥) → cells_at new m ≡ cells_at old m
+  put_elsewhere : (m : ℕ) → (m ≡ n → ⊥) → entry_cells new m ≡ entry_cells old m
   put_elsewhere = cells_elsewhere old new n (λ cells. with_cell cells cell) up
 
   pub put_kept : IsIndex numbers new
   put_kept = record {
     there = λ k m e. put_stays m ∙ is.there k m e;
     back = λ k m e. is.back k m (sym (put_stays m) ∙ e);
-    read = λ k m e none. elim (cases_eq m n) [
-      | inl same ↦ with_cell-filled (cells_at old n) cell (sym put_here ∙ ap (cells_at new) (sym same) ∙ none)
-      | inr apart ↦ is.read k m (sym (put_stays m) ∙ e) (sym (put_elsewhere m apart) ∙ none)
+    read = λ m k e none. elim (cases_eq m n) [
+      | inl same ↦ with_cell-filled (entry_cells old n) cell (sym put_here ∙ ap (entry_cells new) (sym same) ∙ none)
+      | inr apart ↦ is.read m k (sym (put_stays m) ∙ e) (sym (put_elsewhere m apart) ∙ none)
     ];
   }
 
@@ -230,10 +232,10 @@ module _ (numbers : BTreeMap ReadKey ℕ) (old new : Slab Entry) (n : ℕ) (key 
   put_under k c None e false tie = refl
   put_under k c (Some m) e true tie =
       let same : m ≡ n = same_Some m n (sym e ∙ ap (number_at numbers) (same_key k key tie) ∙ at) in
-      ap (λ x. has_cell (cells_at new x) c) same ∙ ap (λ s. has_cell s c) put_here ∙ has_cell-with (cells_at old n) cell c
-      ∙ ap (λ x. is_eq (nat_cmp c cell) || has_cell (cells_at old x) c) (sym same)
+      ap (λ x. has_cell (entry_cells new x) c) same ∙ ap (λ s. has_cell s c) put_here ∙ has_cell-with (entry_cells old n) cell c
+      ∙ ap (λ x. is_eq (nat_cmp c cell) || has_cell (entry_cells old x) c) (sym same)
   put_under k c (Some m) e false tie =
-      ap (λ s. has_cell s c) (put_elsewhere m (λ same. true≢false (sym (key_itself k key (same_Some k key (sym (is.there k m e) ∙ ap (key_at old) same ∙ is.there key n at))) ∙ tie)))
+      ap (λ s. has_cell s c) (put_elsewhere m (λ same. true≢false (sym (key_itself k key (same_Some k key (sym (is.there k m e) ∙ ap (entry_key old) same ∙ is.there key n at))) ∙ tie)))
 
   pub put_adds : Adds (is_pair key cell) (index_of numbers old) (index_of numbers new)
   put_adds = record {
@@ -244,7 +246,7 @@ module _ (numbers : BTreeMap ReadKey ℕ) (old new : Slab Entry) (n : ℕ) (key 
   pub put_number : number_of (index_of numbers new) key ≡ Some n
   put_number = number_of-index_of numbers new key ∙ at
 
-  pub put_was : has_cell (cells_at old n) cell ≡ has (index_of numbers old) key cell
+  pub put_was : has_cell (entry_cells old n) cell ≡ has (index_of numbers old) key cell
   put_was = sym (has-index_of numbers old key cell ∙ ap (under old cell) at)
 
 -- ---- a key that had none, with one cell
@@ -254,23 +256,23 @@ module _ (numbers changed : BTreeMap ReadKey ℕ) (old new : Slab Entry) (n : �
   make_at : (k : ReadKey) → number_at changed k ≡ cond (is_eq (read_cmp k key)) (Some n) (number_at numbers k)
   make_at k = numbered.0 k ∙ ap (λ b. cond b (Some n) (number_at numbers k)) (key_turned key k)
 
-  make_key : key_at new n ≡ Some key
+  make_key : entry_key new n ≡ Some key
   make_key = ap (option_map (λ (e : Entry). e.key)) up.changed
 
-  make_cells : cells_at new n ≡ with_cell no_cells cell
+  make_cells : entry_cells new n ≡ with_cell no_cells cell
   make_cells = ap (λ o. option_map_or (λ (e : Entry). e.cells) o no_cells) up.changed
 
-  make_keys : (m : ℕ) → (m ≡ n → ⊥) → key_at new m ≡ key_at old m
+  make_keys : (m : ℕ) → (m ≡ n → ⊥) → entry_key new m ≡ entry_key old m
   make_keys m apart = ap (option_map (λ (e : Entry). e.key)) (up.others m apart)
 
-  make_elsewhere : (m : ℕ) → (m ≡ n → ⊥) → cells_at new m ≡ cells_at old m
+  make_elsewhere : (m : ℕ) → (m ≡ n → ⊥) → entry_cells new m ≡ entry_cells old m
   make_elsewhere m apart = ap (λ o. option_map_or (λ (e : Entry). e.cells) o no_cells) (up.others m apart)
 
-  make_apart : (k : ReadKey) (m : ℕ) → key_at old m ≡ Some k → m ≡ n → ⊥
-  make_apart k m h same = some_none k (sym h ∙ ap (key_at old) same ∙ ap (option_map (λ (e : Entry). e.key)) free)
+  make_apart : (k : ReadKey) (m : ℕ) → entry_key old m ≡ Some k → m ≡ n → ⊥
+  make_apart k m h same = some_none k (sym h ∙ ap (entry_key old) same ∙ ap (option_map (λ (e : Entry). e.key)) free)
 
-  make_there : (k : ReadKey) (m : ℕ) (t : Bool) → is_eq (read_cmp k key) ≡ t → cond t (Some n) (number_at numbers k) ≡ Some m → key_at new m ≡ Some k
-  make_there k m true tie e = ap (key_at new) (sym (same_Some n m e)) ∙ make_key ∙ ap Some (sym (same_key k key tie))
+  make_there : (k : ReadKey) (m : ℕ) (t : Bool) → is_eq (read_cmp k key) ≡ t → cond t (Some n) (number_at numbers k) ≡ Some m → entry_key new m ≡ Some k
+  make_there k m true tie e = ap (entry_key new) (sym (same_Some n m e)) ∙ make_key ∙ ap Some (sym (same_key k key tie))
   make_there k m false tie e = let h = is.there k m e in make_keys m (make_apart k m h) ∙ h
 
   pub make_kept : IsIndex changed new
@@ -278,14 +280,14 @@ module _ (numbers changed : BTreeMap ReadKey ℕ) (old new : Slab Entry) (n : �
     there = λ k m e. make_there k m (is_eq (read_cmp k key)) refl (sym (make_at k) ∙ e);
     back = λ k m e. elim (cases_eq m n) [
       | inl same ↦
-          make_at k ∙ ap (λ b. cond b (Some n) (number_at numbers k)) (key_itself k key (same_Some k key (sym e ∙ ap (key_at new) same ∙ make_key))) ∙ ap Some (sym same)
+          make_at k ∙ ap (λ b. cond b (Some n) (number_at numbers k)) (key_itself k key (same_Some k key (sym e ∙ ap (entry_key new) same ∙ make_key))) ∙ ap Some (sym same)
       | inr apart ↦
           let h = is.back k m (sym (make_keys m apart) ∙ e) in
           make_at k ∙ ap (λ b. cond b (Some n) (number_at numbers k)) (not_key k key (λ same. some_none m (sym h ∙ ap (number_at numbers) same ∙ none))) ∙ h
     ];
-    read = λ k m e bare. elim (cases_eq m n) [
-      | inl same ↦ with_cell-filled no_cells cell (sym make_cells ∙ ap (cells_at new) (sym same) ∙ bare)
-      | inr apart ↦ is.read k m (sym (make_keys m apart) ∙ e) (sym (make_elsewhere m apart) ∙ bare)
+    read = λ m k e bare. elim (cases_eq m n) [
+      | inl same ↦ with_cell-filled no_cells cell (sym make_cells ∙ ap (entry_cells new) (sym same) ∙ bare)
+      | inr apart ↦ is.read m k (sym (make_keys m apart) ∙ e) (sym (make_elsewhere m apart) ∙ bare)
     ];
   }
 
@@ -313,9 +315,60 @@ module _ (numbers changed : BTreeMap ReadKey ℕ) (old new : Slab Entry) (n : �
   pub make_was : has (index_of numbers old) key cell ≡ false
   make_was = has-index_of numbers old key cell ∙ ap (under old cell) none
 
-pub cells_of-index_of : (numbers : BTreeMap ReadKey ℕ) (entries : Slab Entry) (k : ReadKey) → cells_of (index_of numbers entries) k ≡ option_map_or (λ n. in_order (cells_at entries n)) (number_at numbers k) []
+pub cells_of-index_of : (numbers : BTreeMap ReadKey ℕ) (entries : Slab Entry) (k : ReadKey) → cells_of (index_of numbers entries) k ≡ option_map_or (λ n. in_order (entry_cells entries n)) (number_at numbers k) []
 cells_of-index_of numbers entries k = ap (λ o. option_map_or (λ r. in_order r.cells) o []) (get-index_of numbers entries k) ∙ by (number_at numbers k)
   where
-    by : (o : Option ℕ) → option_map_or (λ r. in_order r.cells) (option_map (readers_at entries) o) [] ≡ option_map_or (λ n. in_order (cells_at entries n)) o []
+    by : (o : Option ℕ) → option_map_or (λ r. in_order r.cells) (option_map (readers_at entries) o) [] ≡ option_map_or (λ n. in_order (entry_cells entries n)) o []
     by None = refl
     by (Some n) = refl
+
+-- ---- by number
+
+find_none : (p : ReadKey → Bool) (ks : List ReadKey) → ((k : ReadKey) → p k ≡ false) → find_of p ks ≡ None
+find_none p [] none = refl
+find_none p (k ∷ ks) none = ap (λ b. cond b (Some k) (find_of p ks)) (none k) ∙ find_none p ks none
+
+find_only : (p : ReadKey → Bool) (key : ReadKey) → p key ≡ true → ((k : ReadKey) → p k ≡ true → k ≡ key) → (ks : List ReadKey) → list_any (eq_by_cmp read_cmp key) ks ≡ true → find_of p ks ≡ Some key
+find_only p key is only [] h = cc
+find_only p key is only (k ∷ ks) h = by (p k) (is_eq (read_cmp key k)) refl refl (find_only p key is only ks)
+  where
+    by : (b t : Bool) → p k ≡ b → is_eq (read_cmp key k) ≡ t → (list_any (eq_by_cmp read_cmp key) ks ≡ true → find_of p ks ≡ Some key) → cond (p k) (Some k) (find_of p ks) ≡ Some key
+    by true t e f rest = ap (λ b. cond b (Some k) (find_of p ks)) e ∙ ap Some (only k e)
+    by false true e f rest = absurd (true≢false (sym is ∙ ap p (same_key key k f) ∙ e))
+    by false false e f rest = ap (λ b. cond b (Some k) (find_of p ks)) e ∙ rest (ap (λ b. b || list_any (eq_by_cmp read_cmp key) ks) (sym f) ∙ h)
+
+module _ (numbers : BTreeMap ReadKey ℕ) (entries : Slab Entry) (is : IsIndex numbers entries) (n : ℕ) where
+  numbered : (k : ReadKey) → is_number (index_of numbers entries) n k ≡ option_map_or (λ m. is_eq (nat_cmp m n)) (number_at numbers k) false
+  numbered k = ap (λ o. option_map_or (λ m. is_eq (nat_cmp m n)) o false) (number_of-index_of numbers entries k)
+
+  pub key_of-index_of : key_of (index_of numbers entries) n ≡ entry_key entries n
+  key_of-index_of = by (entry_key entries n) refl
+    where
+      numbered_at : (k : ReadKey) (o : Option ℕ) → number_at numbers k ≡ o → option_map_or (λ m. is_eq (nat_cmp m n)) o false ≡ true → entry_key entries n ≡ Some k
+      numbered_at k None e h = cc
+      numbered_at k (Some m) e h = ap (entry_key entries) (sym (same_cell m n h)) ∙ is.there k m e
+
+      nowhere : (k : ReadKey) → entry_key entries n ≡ None → (b : Bool) → is_number (index_of numbers entries) n k ≡ b → is_number (index_of numbers entries) n k ≡ false
+      nowhere k e true h = absurd (some_none k (sym (numbered_at k (number_at numbers k) refl (sym (numbered k) ∙ h)) ∙ e))
+      nowhere k e false h = h
+
+      by : (o : Option ReadKey) → entry_key entries n ≡ o → key_of (index_of numbers entries) n ≡ entry_key entries n
+      by None e = find_none (is_number (index_of numbers entries) n) (keys (index_of numbers entries)) (λ k. nowhere k e (is_number (index_of numbers entries) n k) refl) ∙ sym e
+      by (Some key) e =
+          let at : number_at numbers key ≡ Some n = is.back key n e in
+          find_only (is_number (index_of numbers entries) n) key (numbered key ∙ ap (λ o. option_map_or (λ m. is_eq (nat_cmp m n)) o false) at ∙ cell_itself n n refl)
+          (λ k h. same_Some k key (sym (numbered_at k (number_at numbers k) refl (sym (numbered k) ∙ h)) ∙ e)) (keys (index_of numbers entries))
+          (sym (contains_key-keys (index_of numbers entries) key) ∙ ap is_some (get-index_of numbers entries key ∙ ap (option_map (readers_at entries)) at)) ∙ sym e
+
+  pub cells_at-index_of : cells_at (index_of numbers entries) n ≡ option_map_or (λ (e : Entry). in_order e.cells) (slab.get entries n) []
+  cells_at-index_of = ap (λ o. option_map_or (cells_of (index_of numbers entries)) o []) key_of-index_of ∙ by (slab.get entries n) refl
+    where
+      by : (o : Option Entry) → slab.get entries n ≡ o
+          → option_map_or (cells_of (index_of numbers entries)) (option_map (λ (e : Entry). e.key) (slab.get entries n)) [] ≡ option_map_or (λ (e : Entry). in_order e.cells) (slab.get entries n) []
+      by None e = ap (λ o. option_map_or (cells_of (index_of numbers entries)) (option_map (λ (e : Entry). e.key) o) []) e ∙ ap (λ o. option_map_or (λ (e : Entry). in_order e.cells) o []) (sym e)
+      by (Some entry) e =
+          ap (λ o. option_map_or (cells_of (index_of numbers entries)) (option_map (λ (e : Entry). e.key) o) []) e
+          ∙ cells_of-index_of numbers entries entry.key
+          ∙ ap (λ o. option_map_or (λ m. in_order (entry_cells entries m)) o []) (is.back entry.key n (ap (option_map (λ (e : Entry). e.key)) e))
+          ∙ ap (λ o. in_order (option_map_or (λ (e : Entry). e.cells) o no_cells)) e
+          ∙ ap (λ o. option_map_or (λ (e : Entry). in_order e.cells) o []) (sym e)

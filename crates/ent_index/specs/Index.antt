@@ -1,7 +1,7 @@
 -- What an index says: which cells read a key, and the number of a key that cells read.
-use Rattle.std.specs.Prelude.{◌≡◌, ℕ, List, [], Bool, false, not, ◌&&◌, ◌||◌, Option, Some, None, is_some, refl, slice_get}
+use Rattle.std.specs.Prelude.{◌≡◌, ℕ, List, [], Bool, false, true, not, ◌&&◌, ◌||◌, Option, Some, None, find, is_some, refl, slice_get}
 use Rattle.std.specs.Coded.{Coded, code_by, coded×, coded_ℕ}
-use Rattle.std.specs.FinMap.{FinMap, get}
+use Rattle.std.specs.FinMap.{FinMap, get, keys}
 use Rattle.std.specs.FinSet.{code}
 use Rattle.std.specs.List.{list_any}
 use Rattle.std.specs.Option.{option_map, option_map_or}
@@ -43,6 +43,14 @@ is_read index key = is_some (number_of index key)
 abbrev pub is_number : ReadIndex → ℕ → ReadKey → Bool
 is_number index number key = option_map_or (λ n. is_eq (nat_cmp n number)) (number_of index key) false
 
+-- the key of a number, if it is one's
+abbrev pub key_of : ReadIndex → ℕ → Option ReadKey
+key_of index number = find (is_number index number) (keys index)
+
+-- the cells that read the key of a number, none if it is no key's
+abbrev pub cells_at : ReadIndex → ℕ → List ℕ
+cells_at index number = option_map_or (cells_of index) (key_of index number) []
+
 -- one of these is the key's number
 abbrev pub is_numbered : ReadIndex → List ℕ → ReadKey → Bool
 is_numbered index numbers key = list_any (λ n. is_number index n key) numbers
@@ -61,6 +69,10 @@ is_pair_of keys cell k c = has_key keys k && is_eq (nat_cmp c cell)
 abbrev pub is_numbered_pair : ReadIndex → List ℕ → ℕ → ReadKey → ℕ → Bool
 is_numbered_pair index numbers cell k c = is_numbered index numbers k && is_eq (nat_cmp c cell)
 
+-- this is the key of one of the numbers, but of none of those that are kept, and the cell
+abbrev pub is_left_pair : ReadIndex → List ℕ → List ℕ → ℕ → ReadKey → ℕ → Bool
+is_left_pair index numbers kept cell k c = (is_numbered index numbers k && not (is_numbered index kept k)) && is_eq (nat_cmp c cell)
+
 -- the key stands at that place of a list
 abbrev pub is_at : List ReadKey → ℕ → ReadKey → Bool
 is_at keys place k = option_map_or (λ key. is_eq (read_cmp k key)) (slice_get keys place) false
@@ -68,6 +80,10 @@ is_at keys place k = option_map_or (λ key. is_eq (read_cmp k key)) (slice_get k
 -- this is the key at one of the places, and the cell
 abbrev pub is_pair_at : List ReadKey → List ℕ → ℕ → ReadKey → ℕ → Bool
 is_pair_at keys places cell k c = list_any (λ place. is_at keys place k) places && is_eq (nat_cmp c cell)
+
+-- a test of pairs that is true of none that the index has
+abbrev pub AreNew : ReadIndex → (ReadKey → ℕ → Bool) → Type 0
+AreNew index pairs = (k : ReadKey) (c : ℕ) → pairs k c ≡ true → has index k c ≡ false
 
 -- ---- changes
 

@@ -6,31 +6,43 @@ use Rattle.std.specs.FinMap.{from_entries}
 use Rattle.std.specs.Option.{option_map, option_map_or}
 use Rattle.std.specs.declared.cmp.Ordering.{Ordering}
 use Rattle.std.specs.declared.cmp.Ordering.TheVariants.{Greater, Less}
-use Rattle.slab.specs.Slab.{Slab, get}
+use Rattle.slab.specs.Slab.{Slab, Updates, get}
 use Rattle.ent_policy.specs.declared.key.Kind.{Kind}
 use Rattle.ent_finder.specs.Order.{name_cmp}
 use Rattle.ent_eval.specs.Noted.{read_cmp}
 use Rattle.ent_eval.specs.declared.key.ReadKey.{ReadKey}
 use Rattle.ent_eval.specs.declared.key.ReadKey.TheVariants.{Attr, Day, Ref, Root}
-use Rattle.ent_index.specs.Cells.{CellSet, no_cells}
+use Rattle.ent_index.specs.Cells.{CellSet, no_cells, with_cell}
 use Rattle.ent_index.specs.Index.{ReadIndex, Readers}
 use Rattle.ent_index.specs.declared.entry.Entry.{Entry}
 
 -- the key under a number
-abbrev pub key_at : Slab Entry → ℕ → Option ReadKey
-key_at entries number = option_map (λ e. e.key) (get entries number)
+abbrev pub entry_key : Slab Entry → ℕ → Option ReadKey
+entry_key entries number = option_map (λ e. e.key) (get entries number)
 
 -- the cells under a number
-abbrev pub cells_at : Slab Entry → ℕ → CellSet
-cells_at entries number = option_map_or (λ e. e.cells) (get entries number) no_cells
+abbrev pub entry_cells : Slab Entry → ℕ → CellSet
+entry_cells entries number = option_map_or (λ e. e.cells) (get entries number) no_cells
 
 -- an entry, with other cells
 abbrev pub with_cells : (CellSet → CellSet) → Option Entry → Option Entry
 with_cells change None = None
 with_cells change (Some e) = Some (record e { cells = change e.cells })
 
+-- the entries with other cells under that number
+abbrev pub ChangesCells : (CellSet → CellSet) → Slab Entry → Slab Entry → ℕ → Type 0
+ChangesCells change old new number = Updates old new number (with_cells change (get old number))
+
+-- the entries with one more, of a key that one cell reads
+abbrev pub AddsEntry : ReadKey → ℕ → Slab Entry → Slab Entry → ℕ → Type 0
+AddsEntry key cell old new number = Updates old new number (Some (record { key = key; cells = with_cell no_cells cell }))
+
+-- if there is a key under that number, a cell reads it
+abbrev pub IsRead : Slab Entry → ℕ → Type 0
+IsRead entries number = (k : ReadKey) → entry_key entries number ≡ Some k → entry_cells entries number ≡ no_cells → ⊥
+
 abbrev pub readers_at : Slab Entry → ℕ → Readers
-readers_at entries number = record { number = number; cells = cells_at entries number }
+readers_at entries number = record { number = number; cells = entry_cells entries number }
 
 abbrev pub number_at : BTreeMap ReadKey ℕ → ReadKey → Option ℕ
 number_at numbers key = tree.get read_cmp numbers key
@@ -41,9 +53,9 @@ index_of numbers entries = from_entries (map (λ e. (e.0, readers_at entries e.1
 
 -- a key has a number where it stands under that number, and there it has a cell
 pub record IsIndex (numbers : BTreeMap ReadKey ℕ) (entries : Slab Entry) : Type 0 where
-  pub there : (k : ReadKey) (n : ℕ) → number_at numbers k ≡ Some n → key_at entries n ≡ Some k
-  pub back : (k : ReadKey) (n : ℕ) → key_at entries n ≡ Some k → number_at numbers k ≡ Some n
-  pub read : (k : ReadKey) (n : ℕ) → key_at entries n ≡ Some k → cells_at entries n ≡ no_cells → ⊥
+  pub there : (k : ReadKey) (n : ℕ) → number_at numbers k ≡ Some n → entry_key entries n ≡ Some k
+  pub back : (k : ReadKey) (n : ℕ) → entry_key entries n ≡ Some k → number_at numbers k ≡ Some n
+  pub read : (n : ℕ) → IsRead entries n
 
 -- how a key stands to the references of a kind and an id
 abbrev pub policy_order : Kind → List ℕ → ReadKey → Ordering

@@ -1,4 +1,5 @@
 pub mod Asked
 pub mod Cells
 pub mod Index
+pub mod Law
 pub mod Layout

@@ -1,14 +1,11 @@
 //! The keys that look at a row, or at documents of a kind and an id.
 
-ghost use Rattle.std.specs.Prelude.{◌≡◌, ◌++◌, ◌∷◌, [], IfOk, OnOk, T, true};
+ghost use Rattle.std.specs.Prelude.{◌≡◌, IfOk, T};
 ghost use Rattle.std.specs.FinMap.{is_sorted};
 ghost use Rattle.std.specs.List.{filter};
 ghost use Rattle.std.specs.Map.{keys_of};
-ghost use Rattle.std.specs.Ordering.{is_le};
 ghost use Rattle.ent_eval.specs.Noted.{read_cmp};
-ghost use Rattle.ent_eval.specs.declared.key.ReadKey.{ReadKey};
-ghost use Rattle.ent_eval.specs.declared.key.ReadKey.TheVariants.{Attr};
-ghost use Rattle.ent_index.specs.Asked.{asks_policy};
+ghost use Rattle.ent_index.specs.Asked.{IsFirst, asks_policy, key_of_row};
 ghost use Rattle.ent_index.specs.Layout.{policy_order};
 
 use ent_eval::ReadKey;
@@ -25,7 +22,7 @@ pub(crate) fn key_of_row(
     row: &RowKey,
     issuer: Option<Text>,
 ) -> Result<ReadKey, AllocError>
-    ensures { IfOk result (λ k. k ≡ Attr (record { category = row.now.category; entity = row.now.entity; attribute = row.now.attribute; datatype = row.now.datatype; issuer = issuer })) }
+    ensures { IfOk result (λ k. k ≡ key_of_row row.now issuer) }
 {
     Ok(ReadKey::Attr(AttrKey {
         category: row.category.copy(alloc)?,
@@ -52,7 +49,7 @@ fn order(key: &ReadKey, kind: Kind, id: &str) -> Ordering
 
 /// A key that no reference of a kind and an id comes before: the first such reference, if the id is a name.
 pub(crate) fn first_key(alloc: Global, kind: Kind, id: &str) -> Result<ReadKey, AllocError>
-    ensures { IfOk result (λ first. (k : ReadKey) → asks_policy kind id.now k ≡ true → is_le (read_cmp first k) ≡ true) }
+    ensures { IfOk result (IsFirst kind id.now) }
 {
     match Name::new(Text::from_str(alloc, id)?) {
         Some(id) => Ok(ReadKey::Ref(Reference {

@@ -5,9 +5,8 @@ ghost use Rattle.std.specs.BTreeMap as tree;
 ghost use Rattle.std.specs.Bool.{OnFalse, OnTrue};
 ghost use Rattle.slab.specs.Slab.{SameValues, Updates, get};
 ghost use Rattle.ent_eval.specs.Noted.{read_cmp};
-ghost use Rattle.ent_eval.specs.declared.key.ReadKey.{ReadKey};
 ghost use Rattle.ent_index.specs.Cells.{has_cell, no_cells, with_cell, without_cell};
-ghost use Rattle.ent_index.specs.Layout.{cells_at, key_at, number_at, with_cells};
+ghost use Rattle.ent_index.specs.Layout.{AddsEntry, ChangesCells, IsRead, entry_cells, number_at};
 
 use crate::cells::Cells;
 use ent_eval::ReadKey;
@@ -22,15 +21,16 @@ pub(crate) struct Entry {
     pub(crate) cells: Cells,
 }
 
-/// Puts a cell in under a number that has an entry, and says whether it wasn't there. After a refusal the entries are as before.
+/// Puts a cell in under a number that has an entry, and says whether it wasn't there. After a refusal the entries are
+/// as before.
 pub(crate) fn put_cell(
     entries: &mut Slab<Entry>,
     number: usize,
     cell: usize,
 ) -> Result<bool, AllocError>
     requires { IsSome (get entries.old number) }
-    ensures added { IfOk result (λ added. added ≡ not (has_cell (cells_at entries.old number) cell)) }
-    ensures ok { OnOk result (Updates entries.old entries.new number (with_cells (λ cells. with_cell cells cell) (get entries.old number))) }
+    ensures added { IfOk result (λ added. added ≡ not (has_cell (entry_cells entries.old number) cell)) }
+    ensures ok { OnOk result (ChangesCells (λ cells. with_cell cells cell) entries.old entries.new number) }
     ensures err { OnErr result (SameValues entries.old entries.new) }
 {
     match entries.get_mut(number) {
@@ -39,11 +39,12 @@ pub(crate) fn put_cell(
     }
 }
 
-/// Takes a cell out under a number, and says whether the number has an entry that is left with no cell. It takes no memory.
+/// Takes a cell out under a number, and says whether the number has an entry that is left with no cell. It takes no
+/// memory.
 pub(crate) fn take_cell(entries: &mut Slab<Entry>, number: usize, cell: usize) -> bool
-    ensures updates { Updates entries.old entries.new number (with_cells (λ cells. without_cell cells cell) (get entries.old number)) }
-    ensures last { OnTrue result (IsSome (get entries.new number) × (cells_at entries.new number ≡ no_cells)) }
-    ensures read { OnFalse result ((k : ReadKey) → key_at entries.new number ≡ Some k → cells_at entries.new number ≡ no_cells → ⊥) }
+    ensures updates { ChangesCells (λ cells. without_cell cells cell) entries.old entries.new number }
+    ensures last { OnTrue result (IsSome (get entries.new number) × (entry_cells entries.new number ≡ no_cells)) }
+    ensures read { OnFalse result (IsRead entries.new number) }
 {
     match entries.get_mut(number) {
         Some(entry) => {
@@ -54,7 +55,8 @@ pub(crate) fn take_cell(entries: &mut Slab<Entry>, number: usize, cell: usize) -
     }
 }
 
-/// Makes the entry of a key that has none, with one cell, under a number that is free. After a refusal all is as before.
+/// Makes the entry of a key that has none, with one cell, under a number that is free. After a refusal all is as
+/// before.
 pub(crate) fn make_entry(
     alloc: Global,
     numbers: &mut BTreeMap<ReadKey, u32>,
@@ -65,7 +67,7 @@ pub(crate) fn make_entry(
     requires { number_at numbers.old key.now ≡ None }
     ensures free { IfOk result (λ n. get entries.old n ≡ None) }
     ensures numbers { IfOk result (λ n. tree.Updates read_cmp numbers.old numbers.new key.now (Some n)) }
-    ensures entries { IfOk result (λ n. Updates entries.old entries.new n (Some (record { key = key.now; cells = with_cell no_cells cell }))) }
+    ensures entries { IfOk result (AddsEntry key.now cell entries.old entries.new) }
     ensures numbers_stay { OnErr result (numbers.new.entries ≡ numbers.old.entries) }
     ensures entries_stay { OnErr result (SameValues entries.old entries.new) }
 {

@@ -1,12 +1,16 @@
 //! Which cells read which keys.
 
-ghost use Rattle.std.specs.Prelude.{◌≡◌, ◌&&◌, ◌++◌, [], ◌∷◌, ℕ, IfOk, OnErr, OnOk, Some, false, if◌then◌else◌, map, not, true};
+ghost use Rattle.std.specs.Prelude.{◌≡◌, ◌&&◌, ◌++◌, [], ◌∷◌, IfOk, OnErr, OnOk, Some};
+ghost use Rattle.std.specs.Prelude.{if◌then◌else◌, map, not};
 ghost use Rattle.std.specs.FinMap.{empty, keys};
 ghost use Rattle.std.specs.List.{filter};
+ghost use Rattle.std.specs.Option.{option_copied};
 ghost use Rattle.std.specs.Ordering.{is_eq, nat_cmp};
-ghost use Rattle.ent_eval.specs.declared.key.ReadKey.{ReadKey};
 ghost use Rattle.ent_index.specs.Asked.{asks_policy, asks_row};
-ghost use Rattle.ent_index.specs.Index.{Adds, Forgets, IsSound, cells_of, has, is_at, is_number, is_numbered_pair, is_pair, is_pair_at, is_pair_of, is_read, number_of};
+ghost use Rattle.ent_index.specs.Index.{Adds, AreNew, Forgets, IsSound};
+ghost use Rattle.ent_index.specs.Index.{cells_at, cells_of, has, is_read, key_of, number_of};
+ghost use Rattle.ent_index.specs.Index.{is_at, is_left_pair, is_number, is_numbered_pair};
+ghost use Rattle.ent_index.specs.Index.{is_pair, is_pair_at, is_pair_of};
 
 use crate::asked::{first_key, key_of_row, references};
 use crate::entry::{Entry, make_entry, put_cell, take_cell};
@@ -83,6 +87,24 @@ impl Index {
         }
     }
 
+    /// The key of a number, if it is one's.
+    pub fn key_of(&self, number: u32) -> Option<&ReadKey>
+        ensures { option_copied result ≡ key_of self.now number }
+    {
+        let entry = self.entries.get(number as usize)?;
+        Some(&entry.key)
+    }
+
+    /// The cells that read the key of a number, each once, in rising order. There is none if it is no key's.
+    pub fn cells_at(&self, number: u32) -> &[usize]
+        ensures { result.now ≡ cells_at self.now number }
+    {
+        match self.entries.get(number as usize) {
+            Some(entry) => entry.cells.as_slice(),
+            None => &[],
+        }
+    }
+
     // Puts a pair in. After a refusal all is as before.
     fn put(&mut self, key: &ReadKey, cell: usize) -> Result<Put, AllocError>
         ensures number { IfOk result (λ p. number_of self.new key.now ≡ Some p.number) }
@@ -113,7 +135,8 @@ impl Index {
         };
         self.numbers.remove(&entry.key);
     }
-    // Puts the next pair in, and notes its number, and its place if it is new. After a refusal the pairs and places are as before.
+    // Puts the next pair in, and notes its number, and its place if it is new. After a refusal the pairs and places are
+    // as before.
     fn put_next(
         &mut self,
         cell: usize,
@@ -123,8 +146,12 @@ impl Index {
         added: &mut Vec<usize>,
     ) -> Result<(), AllocError>
         ensures ok { OnOk result (Adds (is_pair key.now cell) self.old self.new) }
-        ensures numbers { OnOk result (map Some numbers.new.items ≡ map Some numbers.old.items ++ number_of self.new key.now ∷ []) }
-        ensures added { OnOk result (added.new.items ≡ (if has self.old key.now cell then added.old.items else added.old.items ++ place ∷ [])) }
+        ensures numbers { OnOk result (
+            map Some numbers.new.items ≡ map Some numbers.old.items ++ number_of self.new key.now ∷ []
+            ) }
+        ensures added { OnOk result (
+            added.new.items ≡ (if has self.old key.now cell then added.old.items else added.old.items ++ place ∷ [])
+            ) }
         ensures err { OnErr result (self.new ≡ self.old) }
         ensures stay { OnErr result (added.new.items ≡ added.old.items) }
     {
@@ -138,8 +165,8 @@ impl Index {
         Ok(())
     }
 
-    // Puts a cell in under some keys, and notes their numbers, and the places of those under which it wasn't. After a refusal it
-    // may stand under some of them.
+    // Puts a cell in under some keys, and notes their numbers, and the places of those under which it wasn't. After a
+    // refusal it may stand under some of them.
     fn put_all(
         &mut self,
         cell: usize,
@@ -152,7 +179,7 @@ impl Index {
         ensures ok { OnOk result (Adds (is_pair_of keys.now cell) self.old self.new) }
         ensures numbers { OnOk result (map (number_of self.new) keys.now ≡ map Some numbers.new.items) }
         ensures err { OnErr result (Adds (is_pair_at keys.now added.new.items cell) self.old self.new) }
-        ensures fresh { OnErr result ((k : ReadKey) (c : ℕ) → is_pair_at keys.now added.new.items cell k c ≡ true → has self.old k c ≡ false) }
+        ensures fresh { OnErr result (AreNew self.old (is_pair_at keys.now added.new.items cell)) }
     {
         for (place, key) in keys.iter().enumerate() {
             self.put_next(cell, key, place, numbers, added)?;
@@ -231,6 +258,18 @@ impl Index {
             self.take(*number, cell);
         }
     }
+    /// Takes a cell out under the keys of some numbers, but for those that it keeps. It takes no memory.
+    pub fn forget_left(&mut self, cell: usize, numbers: &[u32], kept: &[u32])
+        ensures { Forgets (is_left_pair self.old numbers.now kept.now cell) self.old self.new }
+    {
+        for number in numbers {
+            if kept.contains(number) {
+                continue;
+            }
+            self.take(*number, cell);
+        }
+    }
+
     // Puts a key last, if a cell reads it.
     fn push_read(&self, keys: &mut Items<ReadKey>, key: ReadKey) -> Result<(), AllocError>
         ensures { OnOk result (keys.new ≡ keys.old ++ (if is_read self.now key then key ∷ [] else [])) }
@@ -241,8 +280,8 @@ impl Index {
         Ok(())
     }
 
-    /// The keys that a cell reads and whose values the row may change, in their order: those of an attribute that name the row, with
-    /// no issuer or with the row's.
+    /// The keys that a cell reads and whose values the row may change, in their order: those of an attribute that name
+    /// the row, with no issuer or with the row's.
     pub fn keys_of_row(&self, row: &RowKey) -> Result<Items<ReadKey>, AllocError>
         ensures { IfOk result (λ ks. ks ≡ filter (asks_row row.now) (keys self.now)) }
     {

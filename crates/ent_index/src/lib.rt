@@ -5,5 +5,7 @@ mod asked;
 mod cells;
 mod entry;
 mod index;
+mod law;
 
 pub use index::Index;
+pub use law::{the_cells_of_a_key_read_it, the_cells_of_a_key_rise};

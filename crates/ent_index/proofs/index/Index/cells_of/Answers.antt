@@ -3,13 +3,13 @@ use Rattle.std.specs.Option.{option_map, option_map_or}
 use Rattle.ent_index.proofs.Views.{cells_of-index_of, some_none}
 use Rattle.ent_index.specs.Cells.{in_order, no_cells}
 use Rattle.ent_index.specs.Index.{cells_of}
-use Rattle.ent_index.specs.Layout.{cells_at}
+use Rattle.ent_index.specs.Layout.{entry_cells}
 use Rattle.ent_index.specs.declared.entry.Entry.{Entry}
 use Rattle.ent_index.proofs.index.Index.cells_of.Goals as goal
 
 pub returns-in_default : goal.returns-in_default
 returns-in_default c =
-    ap (λ o. option_map_or (λ n. in_order (cells_at c.self.inside.entries n)) o []) c.in_default.ensures.value
+    ap (λ o. option_map_or (λ n. in_order (entry_cells c.self.inside.entries n)) o []) c.in_default.ensures.value
     ∙ sym (cells_of-index_of c.self.inside.numbers c.self.inside.entries c.args.key.now) ∙ ap (λ i. cells_of i c.args.key.now) c.self.view_is
 
 pub unreachable-requires : goal.unreachable-requires
@@ -19,5 +19,5 @@ unreachable-requires c =
 pub returns : goal.returns
 returns c =
     c.as_slice.ensures ∙ ap (λ o. in_order (option_map_or (λ (e : Entry). e.cells) o no_cells)) c.in-Some-get.ensures
-    ∙ ap (λ o. option_map_or (λ n. in_order (cells_at c.self.inside.entries n)) o []) c.in-Some.ensures.value
+    ∙ ap (λ o. option_map_or (λ n. in_order (entry_cells c.self.inside.entries n)) o []) c.in-Some.ensures.value
     ∙ sym (cells_of-index_of c.self.inside.numbers c.self.inside.entries c.args.key.now) ∙ ap (λ i. cells_of i c.args.key.now) c.self.view_is
