@@ -6,6 +6,7 @@ ghost use Rattle.std.specs.FinMap.{empty, keys};
 ghost use Rattle.std.specs.List.{filter};
 ghost use Rattle.std.specs.Option.{option_copied};
 ghost use Rattle.std.specs.Ordering.{is_eq, nat_cmp};
+ghost use Rattle.std.specs.declared.cmp.Ordering.TheVariants.{Equal};
 ghost use Rattle.ent_index.specs.Asked.{asks_policy, asks_row};
 ghost use Rattle.ent_index.specs.Index.{Adds, AreNew, Forgets, IsSound};
 ghost use Rattle.ent_index.specs.Index.{cells_at, cells_of, has, is_read, key_of, number_of};
@@ -20,6 +21,7 @@ use ent_policy::Kind;
 use ent_values::Items;
 use slab::Slab;
 use std::alloc::{AllocError, Global};
+use std::cmp::Ordering;
 use std::collections::BTreeMap;
 use std::marker::Model;
 
@@ -105,14 +107,41 @@ impl Index {
         }
     }
 
-    // Puts a pair in. After a refusal all is as before.
-    fn put(&mut self, key: &ReadKey, cell: usize) -> Result<Put, AllocError>
+    // How the key of a number stands to a key. A number of no key stands before all.
+    fn order(&self, number: u32, key: &ReadKey) -> Ordering
+        ensures { result ≡ Equal → number_of self.now key.now ≡ Some number }
+    {
+        match self.entries.get(number as usize) {
+            Some(entry) => entry.key.cmp(key),
+            None => Ordering::Less,
+        }
+    }
+
+    // The number of a key, and what is left of some numbers whose keys rise. The key is searched for only where it isn't
+    // the next of theirs.
+    fn number_near<'n>(&self, key: &ReadKey, near: &'n [u32]) -> (Option<u32>, &'n [u32])
+        ensures { result.0 ≡ number_of self.now key.now }
+    {
+        let mut near = near;
+        while let Some((number, rest)) = near.split_first() {
+            match self.order(*number, key) {
+                Ordering::Less => near = rest,
+                Ordering::Equal => return (Some(*number), rest),
+                Ordering::Greater => break,
+            }
+        }
+        (self.number_of(key), near)
+    }
+
+    // Puts a pair in, of a key that has this number, or none. After a refusal all is as before.
+    fn put(&mut self, key: &ReadKey, number: Option<u32>, cell: usize) -> Result<Put, AllocError>
+        requires { number ≡ number_of self.old key.now }
         ensures number { IfOk result (λ p. number_of self.new key.now ≡ Some p.number) }
         ensures is_new { IfOk result (λ p. p.is_new ≡ not (has self.old key.now cell)) }
         ensures ok { OnOk result (Adds (is_pair key.now cell) self.old self.new) }
         ensures err { OnErr result (self.new ≡ self.old) }
     {
-        if let Some(number) = self.numbers.get(key).copied() {
+        if let Some(number) = number {
             let is_new = put_cell(&mut self.entries, number as usize, cell)?;
             return Ok(Put { number, is_new });
         }
@@ -135,16 +164,19 @@ impl Index {
         };
         self.numbers.remove(&entry.key);
     }
+
     // Puts the next pair in, and notes its number, and its place if it is new. After a refusal the pairs and places are
     // as before.
     fn put_next(
         &mut self,
         cell: usize,
         key: &ReadKey,
+        number: Option<u32>,
         place: usize,
         numbers: &mut Vec<u32>,
         added: &mut Vec<usize>,
     ) -> Result<(), AllocError>
+        requires { number ≡ number_of self.old key.now }
         ensures ok { OnOk result (Adds (is_pair key.now cell) self.old self.new) }
         ensures numbers { OnOk result (
             map Some numbers.new.items ≡ map Some numbers.old.items ++ number_of self.new key.now ∷ []
@@ -157,7 +189,7 @@ impl Index {
     {
         numbers.reserve(1)?;
         added.reserve(1)?;
-        let put = self.put(key, cell)?;
+        let put = self.put(key, number, cell)?;
         numbers.push(put.number)?;
         if put.is_new {
             added.push(place)?;
@@ -171,6 +203,7 @@ impl Index {
         &mut self,
         cell: usize,
         keys: &[ReadKey],
+        near: &[u32],
         numbers: &mut Vec<u32>,
         added: &mut Vec<usize>,
     ) -> Result<(), AllocError>
@@ -181,8 +214,11 @@ impl Index {
         ensures err { OnErr result (Adds (is_pair_at keys.now added.new.items cell) self.old self.new) }
         ensures fresh { OnErr result (AreNew self.old (is_pair_at keys.now added.new.items cell)) }
     {
+        let mut near = near;
         for (place, key) in keys.iter().enumerate() {
-            self.put_next(cell, key, place, numbers, added)?;
+            let (number, rest) = self.number_near(key, near);
+            near = rest;
+            self.put_next(cell, key, number, place, numbers, added)?;
         }
         Ok(())
     }
@@ -222,19 +258,25 @@ impl Index {
         ensures ok { OnOk result (Adds (is_pair_of keys.now cell) self.old self.new) }
         ensures err { OnErr result (self.new ≡ self.old) }
     {
-        self.add_numbered(cell, keys)?;
+        self.add_numbered(cell, keys, &[])?;
         Ok(())
     }
 
-    /// Puts a cell in under some keys, and gives their numbers. After a refusal all is as before.
-    pub fn add_numbered(&mut self, cell: usize, keys: &[ReadKey]) -> Result<Items<u32>, AllocError>
+    /// Puts a cell in under some keys, and gives their numbers. After a refusal all is as before. Where the keys rise, and
+    /// so do those of the numbers `near`, a key of both lists isn't searched for.
+    pub fn add_numbered(
+        &mut self,
+        cell: usize,
+        keys: &[ReadKey],
+        near: &[u32],
+    ) -> Result<Items<u32>, AllocError>
         ensures numbers { IfOk result (λ numbers. map (number_of self.new) keys.now ≡ map Some numbers) }
         ensures ok { OnOk result (Adds (is_pair_of keys.now cell) self.old self.new) }
         ensures err { OnErr result (self.new ≡ self.old) }
     {
         let mut numbers = Vec::with_capacity(self.alloc, keys.len())?;
         let mut added = Vec::with_capacity(self.alloc, keys.len())?;
-        if let Err(error) = self.put_all(cell, keys, &mut numbers, &mut added) {
+        if let Err(error) = self.put_all(cell, keys, near, &mut numbers, &mut added) {
             self.forget_at(cell, keys, &added);
             return Err(error);
         }
@@ -258,6 +300,7 @@ impl Index {
             self.take(*number, cell);
         }
     }
+
     /// Takes a cell out under the keys of some numbers, but for those that it keeps. It takes no memory.
     pub fn forget_left(&mut self, cell: usize, numbers: &[u32], kept: &[u32])
         ensures { Forgets (is_left_pair self.old numbers.now kept.now cell) self.old self.new }
