@@ -17,7 +17,7 @@ loop-key-preserved c =
     record {
       sorted = sorted_rest c.args.kind c.args.id.now e c.loop-key.key-iterator c.next.new.self c.in-Some.ensures.steps c.loop-key.invariant.sorted;
       rest = one_of_them c.args.kind c.args.id.now c.loop-key.keys c.push.new.self e c.loop-key.key-iterator c.next.new.self c.args.range c.in-Some.ensures.steps (sym c.in-Equal.ensures)
-          (c.in_ok-push-in-Equal.ensures.ok ∙ ap (λ k. c.loop-key.keys ++ k ∷ []) c.in_ok-copy-in-Equal.ensures) c.loop-key.invariant.rest;
+          (c.in_ok-push-in-Equal.ensures.ok ∙ ap (λ k. c.loop-key.keys ++ k ∷ []) c.in_ok-copy-in-Equal.ensures.value) c.loop-key.invariant.rest;
     }
 
 pub returns-in-Greater : goal.returns-in-Greater
