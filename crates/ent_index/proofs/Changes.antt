@@ -12,7 +12,7 @@ use Rattle.ent_eval.specs.declared.key.ReadKey.{ReadKey}
 use Rattle.std.proofs.lemmas.Bool.{and_parts, cases_eq, true≢false}
 use Rattle.ent_index.proofs.Views.{cell_itself, key_itself, not_cell, not_key, same_cell, same_index, same_key, some_none}
 use Rattle.ent_index.specs.Cells.{has_cell}
-use Rattle.ent_index.specs.Index.{Adds, Forgets, IsSound, ReadIndex, Readers, has, is_at, is_left_pair, is_number, is_numbered, is_numbered_pair, is_pair, is_pair_at, is_pair_of, number_of}
+use Rattle.ent_index.specs.Index.{Adds, Forgets, IsSound, KeepsNumbers, ReadIndex, Readers, has, is_at, is_left_pair, is_number, is_numbered, is_numbered_pair, is_pair, is_pair_at, is_pair_of, number_of}
 
 abbrev pub Pairs : Type 0
 Pairs = ReadKey → ℕ → Bool
@@ -295,3 +295,23 @@ forgets_key a b key cell n sound at forgets = forgets_same (λ k x. is_number a 
 pub forgets_none : (a : ReadIndex) (key : ReadKey) (cell : ℕ) → number_of a key ≡ None → Forgets (is_pair key cell) a a
 forgets_none a key cell none =
     forgets_nothing (is_pair key cell) a (λ k x h. unnumbered a k x (ap (number_of a) (same_key k key (and_parts (is_eq (read_cmp k key)) (is_eq (nat_cmp x cell)) h).0) ∙ none))
+
+-- ---- lists of keys and their numbers
+
+-- the numbers of some keys are of these keys
+pub keys_of_numbers : (a : ReadIndex) → IsSound a → (keys : List ReadKey) (numbers : List ℕ) → map (number_of a) keys ≡ map Some numbers → (k : ReadKey) → is_numbered a numbers k ≡ has_key keys k
+keys_of_numbers a sound [] [] e k = refl
+keys_of_numbers a sound [] (n ∷ numbers) e k = cc
+keys_of_numbers a sound (x ∷ keys) [] e k = cc
+keys_of_numbers a sound (x ∷ keys) (n ∷ numbers) e k =
+    let first : number_of a x ≡ Some n = cc in
+    let rest : map (number_of a) keys ≡ map Some numbers = cc in
+    (λ i. sym (key_of_number a x n sound first k) i || keys_of_numbers a sound keys numbers rest k i)
+
+-- a key that a cell still reads has the number that it had
+pub still_numbered : (old new : ReadIndex) → KeepsNumbers new old → (k : ReadKey) (c n : ℕ) → has new k c ≡ true → number_of old k ≡ Some n → number_of new k ≡ Some n
+still_numbered old new keeps k c n read e = by (number_of new k) refl
+  where
+    by : (o : Option ℕ) → number_of new k ≡ o → number_of new k ≡ Some n
+    by None f = absurd (true≢false (sym read ∙ unnumbered new k c f))
+    by (Some m) f = f ∙ sym (keeps k m f) ∙ e
