@@ -117,8 +117,8 @@ impl Index {
         }
     }
 
-    // The number of a key, and what is left of some numbers whose keys rise. The key is searched for only where it isn't
-    // the next of theirs.
+    // The number of a key, and what is left of some numbers whose keys rise. The key is searched for only where it
+    // isn't the next of theirs.
     fn number_near<'n>(&self, key: &ReadKey, near: &'n [u32]) -> (Option<u32>, &'n [u32])
         ensures { result.0 ≡ number_of self.now key.now }
     {
@@ -262,8 +262,8 @@ impl Index {
         Ok(())
     }
 
-    /// Puts a cell in under some keys, and gives their numbers. After a refusal all is as before. Where the keys rise, and
-    /// so do those of the numbers `near`, a key of both lists isn't searched for.
+    /// Puts a cell in under some keys, and gives their numbers. After a refusal all is as before. Where the keys rise,
+    /// and so do those of the numbers `near`, a key of both lists isn't searched for.
     pub fn add_numbered(
         &mut self,
         cell: usize,
