@@ -167,6 +167,8 @@ fn look_ups_of_reading(rt: HostRuntime) -> Result<(), Fail> {
     assert!(rt; reads.len() == 2 && reads.contains(&ReadKey::Root));
     assert!(rt; looked_up(rt.alloc(), &reads, "p1")?);
     assert!(rt; !looked_up(rt.alloc(), &reads, "p2")?);
+    let keys = reads.into_items(rt.alloc())?;
+    assert!(rt; keys.len() == 2 && keys.as_slice().first() == Some(&ReadKey::Root));
     Ok(())
 }
 
