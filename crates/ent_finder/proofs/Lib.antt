@@ -1,6 +1,7 @@
 pub mod Behind
 pub mod BlockRows
 pub mod Boxes
+pub mod Elsewhere
 pub mod Filled
 pub mod Fronts
 pub mod Gathered

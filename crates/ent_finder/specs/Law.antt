@@ -4,8 +4,8 @@ use Rattle.std.specs.FinMap.{get, insert}
 use Rattle.ent_policy.specs.declared.document.Tree.{Tree}
 use Rattle.ent_policy.specs.declared.key.DocKey.{DocKey}
 use Rattle.ent_policy.specs.declared.key.Reference.{Reference}
-use Rattle.ent_finder.specs.Finding.{has_document, is_earlier, most_recent, names, resolved}
-use Rattle.ent_finder.specs.Slots.{Docs, Slots, document_at, held, module_at, with_document}
+use Rattle.ent_finder.specs.Finding.{has_document, is_earlier, is_of, most_recent, names, resolved}
+use Rattle.ent_finder.specs.Slots.{Docs, Slots, document_at, held, module_at, with_document, with_document_in}
 
 -- ---- swaps
 
@@ -54,3 +54,8 @@ FirstModuleAnswers = (reference : Reference) (modules : List Docs) (number : ℕ
 -- where none is resolved, no module has any
 abbrev pub NoModuleAnswers : Type 0
 NoModuleAnswers = (reference : Reference) (modules : List Docs) → resolved reference modules ≡ None → (number : ℕ) → number < length modules → most_recent reference (module_at modules number) ≡ None
+
+-- a reference of another kind or id finds what it found, whatever is put under a key or taken away
+abbrev pub SwapLeavesOtherReferences : Type 0
+SwapLeavesOtherReferences =
+    (reference : Reference) (modules : List Docs) (number : ℕ) (key : DocKey) (document : Option Tree) → is_of reference key ≡ false → resolved reference (with_document_in modules number key document) ≡ resolved reference modules

@@ -1,5 +1,5 @@
 -- What a module of documents has: slots by key, and the documents in them.
-use Rattle.std.specs.Prelude.{ℕ, List, Option, Some, None, slice_index_or}
+use Rattle.std.specs.Prelude.{ℕ, List, Option, Some, None, slice_index_or, slice_set}
 use Rattle.std.specs.Cmp.{IsTotalOrder}
 use Rattle.std.specs.FinMap.{FinMap, empty, entries, from_entries, get, insert, len, remove}
 use Rattle.std.specs.List.{filter_map, sum_by}
@@ -45,6 +45,10 @@ with_document docs key (Some document) = insert docs key document
 -- the module of that number, counted from 0
 abbrev pub module_at : {X : Type 0} → List (FinMap key_cmp X) → ℕ → FinMap key_cmp X
 module_at modules number = slice_index_or modules number empty
+
+-- the modules with that document under the key in one of them, or with none under it
+abbrev pub with_document_in : List Docs → ℕ → DocKey → Option Tree → List Docs
+with_document_in modules number key document = slice_set modules number (with_document (module_at modules number) key document)
 
 -- how many documents several modules hold
 abbrev pub document_count : List Docs → ℕ

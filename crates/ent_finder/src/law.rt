@@ -2,7 +2,7 @@
 
 ghost use Rattle.ent_finder.specs.Law.{FirstModuleAnswers, MostRecentIsLatest, NoModuleAnswers, NoneIsNamed};
 ghost use Rattle.ent_finder.specs.Law.{SecondSwapRestoresDocuments, SecondSwapRestoresSlots};
-ghost use Rattle.ent_finder.specs.Law.{SwapChangesOneDocument, SwapLeavesSlot};
+ghost use Rattle.ent_finder.specs.Law.{SwapChangesOneDocument, SwapLeavesOtherReferences, SwapLeavesSlot};
 
 /// A law, with nothing to run: a swap changes one document, and the slot is there afterwards.
 pub fn swap_changes_one_document()
@@ -26,4 +26,9 @@ pub fn most_recent_is_latest()
 pub fn first_module_answers()
     ensures found { FirstModuleAnswers }
     ensures none { NoModuleAnswers }
+{}
+
+/// A law, with nothing to run: a swap under a key leaves what every reference of another kind or id finds.
+pub fn swap_leaves_other_references()
+    ensures { SwapLeavesOtherReferences }
 {}

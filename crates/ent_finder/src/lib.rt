@@ -29,7 +29,7 @@ pub use attributes::Attributes;
 pub use finder::PolicyFinder;
 pub use law::{
     first_module_answers, most_recent_is_latest, second_swap_undoes_first,
-    swap_changes_one_document,
+    swap_changes_one_document, swap_leaves_other_references,
 };
 pub use law_of_keys::{keys_order_by_field, same_is_equal};
 pub use law_of_rows::{
