@@ -1,22 +1,29 @@
 -- A swap under one key leaves what is found by those that don't name it.
-use Rattle.std.proofs.Common.{◌≡◌, ℕ, zero, suc, ◌+◌, ◌&&◌, Bool, true, false, cond, find, List, [], ◌∷◌, Option, Some, None, slice_get, refl, sym, ap, ◌∙◌}
+use Rattle.std.proofs.Common.{◌≡◌, ℕ, zero, suc, ◌+◌, ◌&&◌, Bool, true, false, cond, find, List, [], ◌∷◌, map, Option, Some, None, slice_get, unwrap_or, refl, sym, ap, ◌∙◌}
 use Rattle.std.specs.Cmp.{IsTotalOrder}
 use Rattle.std.specs.FinMap.{FinMap, IsAntisymmetric, entries, entries-insert, get, get-insert, get-remove, get_tied, insert, remove, same_map}
 use Rattle.std.specs.FinMap.Entries.{by_order, put}
-use Rattle.std.specs.List.{cons_option, enumerate_from, filter, filter_map}
+use Rattle.std.specs.List.{cons_option, enumerate_from, filter, filter_map, flat_map}
 use Rattle.std.specs.Option.{option_map}
 use Rattle.std.specs.Ordering.{eq_by_cmp}
 use Rattle.std.specs.declared.cmp.Ordering.{Ordering}
 use Rattle.std.specs.declared.cmp.Ordering.TheVariants.{Less, Equal, Greater}
+use Rattle.ent_values.specs.declared.value.Value.{Value}
 use Rattle.ent_policy.specs.Constraints.{meets}
 use Rattle.ent_policy.specs.declared.document.Tree.{Tree}
 use Rattle.ent_policy.specs.declared.key.DocKey.{DocKey}
 use Rattle.ent_policy.specs.declared.key.Reference.{Reference}
 use Rattle.ent_finder.proofs.Keys.{key_cmp_antisymmetric}
+use Rattle.ent_finder.proofs.RowKeys.{row_cmp_antisymmetric}
 use Rattle.ent_finder.proofs.Sorted.{equal}
 use Rattle.ent_finder.specs.Finding.{is_latest, is_of, most_recent, named, names}
 use Rattle.ent_finder.specs.Law.{SwapLeavesOtherReferences}
+use Rattle.ent_finder.specs.LawOfRows.{SwapLeavesOtherKeys}
+use Rattle.ent_finder.specs.Looking.{names_row, values_of, values_of_each}
+use Rattle.ent_finder.specs.Rows.{Rows, Source, is_filled, row_cmp_total, supports, with_row, with_values_in}
 use Rattle.ent_finder.specs.Slots.{Docs, key_cmp_total, with_document, with_document_in}
+use Rattle.ent_finder.specs.declared.row.AttrKey.{AttrKey}
+use Rattle.ent_finder.specs.declared.row.RowKey.{RowKey}
 
 twice : {A : Type 0} (b : Bool) (x y z : A) → cond b x (cond b y z) ≡ cond b x z
 twice true x y z = refl
@@ -85,3 +92,33 @@ module _ (r : Reference) (k : DocKey) (document : Option Tree) (off : is_of r k 
 
 pub same_resolved : SwapLeavesOtherReferences
 same_resolved r modules number k document off = ap (λ answers. slice_get answers 0) (same_answers r k document off 0 modules number)
+
+-- ---- values
+
+module _ (key : AttrKey) (k : RowKey) (vs : List Value) (off : names_row key k ≡ false) where
+  rows_elsewhere : (vs : List Value) (rows : Rows) → values_of key (with_row rows k vs) ≡ values_of key rows
+  rows_elsewhere [] rows = ap (flat_map (λ e. e.1)) (removed_elsewhere row_cmp_total row_cmp_antisymmetric (names_row key) k off rows)
+  rows_elsewhere (v ∷ vs) rows = ap (flat_map (λ e. e.1)) (inserted_elsewhere row_cmp_total row_cmp_antisymmetric (names_row key) k off rows (v ∷ vs))
+
+  abbrev values_in : List Source → List (List Value)
+  values_in ss = map (λ (s : Source). values_of key s.rows) ss
+
+  -- the modules with the other values in one of them
+  abbrev changed : List Source → ℕ → List Source
+  changed ss n = with_values_in ss n k vs
+
+  same_each : (ss : List Source) (n : ℕ) → values_of_each key (changed ss n) ≡ values_of_each key ss
+  same_each [] n = refl
+  same_each (s ∷ ss) zero = by (supports key.category s) where
+    by : (b : Bool) → values_in (cond b (record s { rows = with_row s.rows k vs } ∷ filter (supports key.category) ss) (filter (supports key.category) ss)) ≡ values_in (cond b (s ∷ filter (supports key.category) ss) (filter (supports key.category) ss))
+    by true = ap (λ v. v ∷ values_of_each key ss) (rows_elsewhere vs s.rows)
+    by false = refl
+  same_each (s ∷ ss) (suc n) = by (supports key.category s) (same_each ss n) where
+    by : (b : Bool) → values_of_each key (changed ss n) ≡ values_of_each key ss
+        → values_in (cond b (s ∷ filter (supports key.category) (changed ss n)) (filter (supports key.category) (changed ss n)))
+        ≡ values_in (cond b (s ∷ filter (supports key.category) ss) (filter (supports key.category) ss))
+    by true rest = ap (λ l. values_of key s.rows ∷ l) rest
+    by false rest = rest
+
+pub same_looked : SwapLeavesOtherKeys
+same_looked key ss n k vs off = ap (λ vss. unwrap_or (find is_filled vss) []) (same_each key k vs off ss n)

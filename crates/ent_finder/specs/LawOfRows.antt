@@ -5,7 +5,7 @@ use Rattle.ent_values.specs.declared.value.Value.{Value}
 use Rattle.ent_finder.specs.declared.row.AttrKey.{AttrKey}
 use Rattle.ent_finder.specs.declared.row.RowKey.{RowKey}
 use Rattle.ent_finder.specs.Looking.{looked, names_row, values_of}
-use Rattle.ent_finder.specs.Rows.{Rows, Source, filled, source_at, supports, values_at, with_row}
+use Rattle.ent_finder.specs.Rows.{Rows, Source, filled, source_at, supports, values_at, with_row, with_values_in}
 
 -- ---- swaps
 
@@ -50,3 +50,7 @@ FirstSourceAnswers = (key : AttrKey) (sources : List Source) → looked key sour
 abbrev pub NoSourceAnswers : Type 0
 NoSourceAnswers =
     (key : AttrKey) (sources : List Source) → looked key sources ≡ [] → (number : ℕ) → number < length sources → supports key.category (source_at sources number) ≡ true → values_of key (source_at sources number).rows ≡ []
+
+-- a key that doesn't name a row finds the same values, whatever is put into the row or taken out of it
+abbrev pub SwapLeavesOtherKeys : Type 0
+SwapLeavesOtherKeys = (key : AttrKey) (sources : List Source) (number : ℕ) (row : RowKey) (values : List Value) → names_row key row ≡ false → looked key (with_values_in sources number row values) ≡ looked key sources

@@ -65,6 +65,10 @@ with_row_put source key values = record source { rows = insert source.rows key v
 abbrev pub with_row_in : List Source → ℕ → RowKey → List Value → List Source
 with_row_in sources number key values = slice_set sources number (record (source_at sources number) { rows = insert (source_at sources number).rows key values })
 
+-- the modules with these values in the row of a key in one of them, or without that row where they are none
+abbrev pub with_values_in : List Source → ℕ → RowKey → List Value → List Source
+with_values_in sources number key values = slice_set sources number (record (source_at sources number) { rows = with_row (source_at sources number).rows key values })
+
 -- a module without its empty rows
 abbrev pub filled_source : Source → Source
 filled_source source = record source { rows = filled source.rows }

@@ -2,7 +2,7 @@
 
 ghost use Rattle.ent_finder.specs.LawOfRows.{EmptyRowsDoNotCount, FirstSourceAnswers, IssuerNamesOneRow};
 ghost use Rattle.ent_finder.specs.LawOfRows.{NoSourceAnswers, SwapChangesOneRow, SwapLeavesRow};
-ghost use Rattle.ent_finder.specs.LawOfRows.{SecondSwapRestoresAllRows, SecondSwapRestoresRows};
+ghost use Rattle.ent_finder.specs.LawOfRows.{SecondSwapRestoresAllRows, SecondSwapRestoresRows, SwapLeavesOtherKeys};
 
 /// A law, with nothing to run: a swap changes one row, and the row is there afterwards.
 pub fn swap_changes_one_row()
@@ -31,4 +31,9 @@ pub fn issuer_names_one_row()
 pub fn first_source_answers()
     ensures found { FirstSourceAnswers }
     ensures none { NoSourceAnswers }
+{}
+
+/// A law, with nothing to run: a swap of a row leaves what every key finds that doesn't name the row.
+pub fn swap_leaves_other_keys()
+    ensures { SwapLeavesOtherKeys }
 {}

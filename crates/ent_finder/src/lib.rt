@@ -34,7 +34,7 @@ pub use law::{
 pub use law_of_keys::{keys_order_by_field, same_is_equal};
 pub use law_of_rows::{
     empty_rows_do_not_count, first_source_answers, issuer_names_one_row, second_swap_restores_rows,
-    swap_changes_one_row,
+    swap_changes_one_row, swap_leaves_other_keys,
 };
 pub use map_docs::MapDocs;
 pub use map_rows::MapRows;
