@@ -33,6 +33,12 @@ slot_past es i (Some slot) is = tt
 pub module_seen : {A B : Type 0} (f : A → B) (xs : List A) (i : ℕ) (x : A) (d : B) → i < length (map f xs) → x ≡ get_or xs i x → f x ≡ get_or (map f xs) i d
 module_seen f xs i x d h is = ap f is ∙ sym (get_or-map f xs i x d (simp length-map at h))
 
+-- behind the last module there is none
+pub module_beyond : {A B : Type 0} (f : A → B) (xs : List A) (i : ℕ) (d : B) → length xs ≤ i → get_or (map f xs) i d ≡ d
+module_beyond f [] i d h = refl
+module_beyond f (x ∷ xs) zero d h = absurd (omega (arith, h))
+module_beyond f (x ∷ xs) (suc i) d h = module_beyond f xs i d (omega (arith, h))
+
 -- one element changed: its meaning alone changes, by g
 pub meanings-set : {A B : Type 0} (f : A → B) (g : B → B) (xs : List A) (i : ℕ) (x y : A) (d : B) → i < length xs → x ≡ get_or xs i x → f y ≡ g (f x) → map f (set xs i y) ≡ set (map f xs) i (g (get_or (map f xs) i d))
 meanings-set f g xs i x y d h is e =

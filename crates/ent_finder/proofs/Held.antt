@@ -1,8 +1,9 @@
 -- The documents of the slots that aren't empty.
 use Rattle.std.proofs.Common.{◌≡◌, ℕ, ◌+◌, ◌≤◌, true, false, List, [], ◌∷◌, ◌++◌, length, take, Option, Some, None, is_some, slice_get, unwrap_or, refl, sym, ap, ◌∙◌, arith}
+use Rattle.std.specs.Borrow.{Bor}
 use Rattle.std.specs.FinMap.{entries, entries_sorted, get, get-entries, insert, len, len-entries}
 use Rattle.std.specs.List.{filter_map}
-use Rattle.std.specs.Option.{option_flatten, option_map_or}
+use Rattle.std.specs.Option.{option_copied, option_flatten, option_map_or}
 use Rattle.std.specs.Ordering.{is_eq}
 use Rattle.std.proofs.lemmas.List.{length-append, take_all, take_more}
 use Rattle.std.proofs.lemmas.List.Elements.{filter_map-append}
@@ -40,22 +41,29 @@ pub flatten_is : (d : Option (Option Tree)) → unwrap_or d None ≡ option_flat
 flatten_is None = refl
 flatten_is (Some d) = refl
 
--- whether a document is held, seen at the key's place
-pub held_there : (m : Slots) (k : DocKey) (p : ℕ) (e : DocKey × Option Tree) → IsPlace key_cmp k (entries m) p → slice_get (entries m) p ≡ Some e → is_eq (key_cmp e.0 k) ≡ true → has_document k (held m) ≡ is_some e.1
-held_there m k p e at is t =
-    ap is_some (get-held m k ∙ ap option_flatten (get-entries m k ∙ find_there key_cmp_total k (entries m) p e at is (equal _ t)))
+-- the document under a key, seen at the key's place
+pub document_there : (m : Slots) (k : DocKey) (p : ℕ) (e : DocKey × Option Tree) → IsPlace key_cmp k (entries m) p → slice_get (entries m) p ≡ Some e → is_eq (key_cmp e.0 k) ≡ true → document_at m k ≡ e.1
+document_there m k p e at is t =
+    ap option_flatten (get-entries m k ∙ find_there key_cmp_total k (entries m) p e at is (equal _ t))
 
-held_nowhere : (m : Slots) (k : DocKey) (p : ℕ) → IsPlace key_cmp k (entries m) p → is_at key_cmp k (entries m) p ≡ false → has_document k (held m) ≡ false
-held_nowhere m k p at free =
-    ap is_some (get-held m k ∙ ap option_flatten (get-entries m k ∙ none_there key_cmp_total k (entries m) (entries_sorted m) p at free))
+document_nowhere : (m : Slots) (k : DocKey) (p : ℕ) → IsPlace key_cmp k (entries m) p → is_at key_cmp k (entries m) p ≡ false → document_at m k ≡ None
+document_nowhere m k p at free =
+    ap option_flatten (get-entries m k ∙ none_there key_cmp_total k (entries m) (entries_sorted m) p at free)
 
-pub held_other : (m : Slots) (k : DocKey) (p : ℕ) (e : DocKey × Option Tree) → IsPlace key_cmp k (entries m) p → slice_get (entries m) p ≡ Some e → is_eq (key_cmp e.0 k) ≡ false → has_document k (held m) ≡ false
-held_other m k p e at is t =
-    held_nowhere m k p at (ap (λ o. option_map_or (λ (x : DocKey × Option Tree). is_eq (key_cmp x.0 k)) o false) is ∙ t)
+pub document_other : (m : Slots) (k : DocKey) (p : ℕ) (e : DocKey × Option Tree) → IsPlace key_cmp k (entries m) p → slice_get (entries m) p ≡ Some e → is_eq (key_cmp e.0 k) ≡ false → document_at m k ≡ None
+document_other m k p e at is t =
+    document_nowhere m k p at (ap (λ o. option_map_or (λ (x : DocKey × Option Tree). is_eq (key_cmp x.0 k)) o false) is ∙ t)
 
-pub held_past : (m : Slots) (k : DocKey) (p : ℕ) → IsPlace key_cmp k (entries m) p → slice_get (entries m) p ≡ None → has_document k (held m) ≡ false
-held_past m k p at is =
-    held_nowhere m k p at (ap (λ o. option_map_or (λ (x : DocKey × Option Tree). is_eq (key_cmp x.0 k)) o false) is)
+pub document_past : (m : Slots) (k : DocKey) (p : ℕ) → IsPlace key_cmp k (entries m) p → slice_get (entries m) p ≡ None → document_at m k ≡ None
+document_past m k p at is =
+    document_nowhere m k p at (ap (λ o. option_map_or (λ (x : DocKey × Option Tree). is_eq (key_cmp x.0 k)) o false) is)
+
+-- whether a document is held is whether there is one under the key
+pub held_seen : (m : Slots) (k : DocKey) (r : Option (Bor Tree)) → option_copied r ≡ document_at m k → is_some r ≡ has_document k (held m)
+held_seen m k r is = there r ∙ ap is_some is ∙ sym (ap is_some (get-held m k)) where
+  there : (r : Option (Bor Tree)) → is_some r ≡ is_some (option_copied r)
+  there None = refl
+  there (Some d) = refl
 
 -- one entry more
 filled_more : (es : List (DocKey × Option Tree)) (i : ℕ) (e : DocKey × Option Tree) → slice_get es i ≡ Some e → length (filled (take (i + 1) es)) ≡ length (filled (take i es)) + length (filled (e ∷ []))

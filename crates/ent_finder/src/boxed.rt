@@ -102,12 +102,21 @@ fn place(store: &dyn PolicyFinderModule, key: &DocKey) -> usize
     low
 }
 
+/// The document that the module holds under that key.
+pub fn document_in<'a>(store: &'a dyn PolicyFinderModule, key: &DocKey) -> Option<&'a Document>
+    ensures { option_copied result ≡ document_at (slots store.now) key.now }
+{
+    let slot = slot_in(store, place(store, key))?;
+    if slot.key.cmp(key).is_eq() {
+        slot.document.as_ref()
+    } else {
+        None
+    }
+}
+
 /// Whether the module holds a document with that key.
 pub fn holds_in(store: &dyn PolicyFinderModule, key: &DocKey) -> bool
     ensures { result ≡ has_document key.now (held (slots store.now)) }
 {
-    match slot_in(store, place(store, key)) {
-        None => false,
-        Some(slot) => slot.key.cmp(key).is_eq() && slot.document.is_some(),
-    }
+    document_in(store, key).is_some()
 }

@@ -3,7 +3,7 @@
 ghost use Rattle.std.specs.Prelude.{◌≡◌, ◌<◌, ◌≤◌, length, map, vec_len};
 ghost use Rattle.ent_finder.specs.Slots.{Slots, module_at};
 
-use crate::boxed::{count_in, find_in, holds_in, slot_in, swap_in};
+use crate::boxed::{count_in, document_in, find_in, holds_in, slot_in, swap_in};
 use crate::module::PolicyFinderModule;
 use crate::policies::Policies;
 use crate::slot::DocSlot;
@@ -53,6 +53,11 @@ impl Policies for PolicyFinder {
 
     fn holds(&self, number: usize, key: &DocKey) -> bool {
         holds_in(self.module(number), key)
+    }
+
+    fn document_at(&self, number: usize, key: &DocKey) -> Option<&Document> {
+        let store = self.modules.get(number)?;
+        document_in(store.as_ref(), key)
     }
 
     fn document_count(&self) -> u128 {

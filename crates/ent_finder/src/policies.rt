@@ -31,6 +31,11 @@ pub trait Policies: Drop {
         requires { number < length (slots self.now) }
         ensures { result ≡ has_document key.now (held (module_at (slots self.now) number)) };
 
+    /// The document that the module of that number holds under that key, if there is such a module, and such a
+    /// document in it. It takes no memory.
+    fn document_at(&self, number: usize, key: &DocKey) -> Option<&Document>
+        ensures { option_copied result ≡ document_at (module_at (slots self.now) number) key.now };
+
     /// How many documents all modules hold.
     fn document_count(&self) -> u128
         ensures { result ≡ document_count (map held (slots self.now)) };
