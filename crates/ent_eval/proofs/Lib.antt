@@ -4,6 +4,7 @@ pub mod AnswersRest
 pub mod Apart
 pub mod Arguments
 pub mod Booleans
+pub mod Changes
 pub mod Children
 pub mod Choices
 pub mod Elsewhere

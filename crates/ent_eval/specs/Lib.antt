@@ -1,4 +1,5 @@
 pub mod Answer
+pub mod Change
 pub mod Comes
 pub mod Entities
 pub mod Expression

@@ -4,6 +4,7 @@
 
 mod answer;
 mod assignments;
+mod change;
 mod choose;
 mod evaluated;
 mod expression;
@@ -39,6 +40,9 @@ mod uncopied;
 mod uris;
 
 pub use answer::{Answer, Status, WhyEntry};
+pub use change::{
+    day_leaves_others, document_leaves_others, root_leaves_others, values_leave_others,
+};
 pub use given::{Assignment, Given};
 pub use key::ReadKey;
 pub use law::{

@@ -1,0 +1,86 @@
+-- What is held with one thing changed, and the keys of look-ups that may give another for it.
+use Rattle.std.specs.Prelude.{◌≡◌, ℕ, List, Bool, false, true, Option}
+use Rattle.ent_values.specs.Calendar.{Day}
+use Rattle.ent_values.specs.declared.value.Value.{Value}
+use Rattle.ent_finder.specs.Finding.{is_of}
+use Rattle.ent_finder.specs.Looking.{names_row}
+use Rattle.ent_finder.specs.Rows.{with_values_in}
+use Rattle.ent_finder.specs.Slots.{with_document_in}
+use Rattle.ent_finder.specs.declared.row.RowKey.{RowKey}
+use Rattle.ent_policy.specs.declared.document.Tree.{Tree}
+use Rattle.ent_policy.specs.declared.key.DocKey.{DocKey}
+use Rattle.ent_policy.specs.declared.key.Reference.{Reference}
+use Rattle.ent_eval.specs.declared.key.ReadKey.{ReadKey}
+use Rattle.ent_eval.specs.declared.key.ReadKey.TheVariants as keys
+use Rattle.ent_eval.specs.Held.{Held, looks_in}
+use Rattle.ent_eval.specs.Law.{IsSameLook}
+
+-- ---- one thing changed
+
+-- another root, or none
+abbrev pub other_root : Held → Option Reference → Held
+other_root held root = record held { root = root }
+
+-- another document under a key in one module, or none
+abbrev pub other_document : Held → ℕ → DocKey → Option Tree → Held
+other_document held number key document = record held { modules = with_document_in held.modules number key document }
+
+-- other values in a row of one module, or no row where there are none
+abbrev pub other_values : Held → ℕ → RowKey → List Value → Held
+other_values held number row values = record held { sources = with_values_in held.sources number row values }
+
+-- another day, or none
+abbrev pub other_day : Held → Option Day → Held
+other_day held day = record held { day = day }
+
+-- ---- the keys for which that may matter
+
+-- a key asks for the root
+abbrev pub asks_root : ReadKey → Bool
+asks_root keys.Root = true
+asks_root (keys.Ref reference) = false
+asks_root (keys.Attr key) = false
+asks_root keys.Day = false
+
+-- a key asks for a document of the same kind and id as one with this key
+abbrev pub asks_document : DocKey → ReadKey → Bool
+asks_document key keys.Root = false
+asks_document key (keys.Ref reference) = is_of reference key
+asks_document key (keys.Attr other) = false
+asks_document key keys.Day = false
+
+-- a key asks for values and names this row
+abbrev pub asks_row : RowKey → ReadKey → Bool
+asks_row row keys.Root = false
+asks_row row (keys.Ref reference) = false
+asks_row row (keys.Attr key) = names_row key row
+asks_row row keys.Day = false
+
+-- a key asks for the day
+abbrev pub asks_day : ReadKey → Bool
+asks_day keys.Root = false
+asks_day (keys.Ref reference) = false
+asks_day (keys.Attr key) = false
+asks_day keys.Day = true
+
+-- ---- every other key gives the same
+
+-- with another root, each key but that of the root
+abbrev pub RootLeavesOthers : Type 0
+RootLeavesOthers = (held : Held) (root : Option Reference) (key : ReadKey) → asks_root key ≡ false
+    → IsSameLook (looks_in held) (looks_in (other_root held root)) key
+
+-- with another document, each key but references of its kind and id
+abbrev pub DocumentLeavesOthers : Type 0
+DocumentLeavesOthers = (held : Held) (number : ℕ) (document_key : DocKey) (document : Option Tree) (key : ReadKey) → asks_document document_key key ≡ false
+    → IsSameLook (looks_in held) (looks_in (other_document held number document_key document)) key
+
+-- with other values in a row, each key but those that name the row
+abbrev pub ValuesLeaveOthers : Type 0
+ValuesLeaveOthers = (held : Held) (number : ℕ) (row : RowKey) (values : List Value) (key : ReadKey) → asks_row row key ≡ false
+    → IsSameLook (looks_in held) (looks_in (other_values held number row values)) key
+
+-- with another day, each key but that of the day
+abbrev pub DayLeavesOthers : Type 0
+DayLeavesOthers = (held : Held) (day : Option Day) (key : ReadKey) → asks_day key ≡ false
+    → IsSameLook (looks_in held) (looks_in (other_day held day)) key
