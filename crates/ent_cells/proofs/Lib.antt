@@ -1,0 +1,14 @@
+pub mod Among
+pub mod Confirmed
+pub mod Grids
+pub mod KeyNumbers
+pub mod Listed
+pub mod Narrowed
+pub mod Phased
+pub mod Places
+pub mod Seen
+pub mod Settled
+pub mod Shapes
+pub mod StoreSteps
+pub mod Tally
+pub mod Woven

@@ -1,0 +1,14 @@
+use Rattle.std.proofs.Common.{ℕ, slice_index_or}
+use Rattle.ent_cells.specs.Entries.{given_up}
+use Rattle.ent_cells.proofs.Phased.{one_step, still_there}
+use Rattle.ent_cells.proofs.phases.give_up_all.Goals as goal
+
+pub give_up-requires : goal.give_up-requires
+give_up-requires c =
+    let i : ℕ = c.loop-key.key-index in
+    still_there given_up c.args.store.now c.loop-key.store c.args.keys.now i c.loop-key-test.true (c.requires.once (slice_index_or c.args.keys.now i 0)) c.loop-key.invariant (c.requires.there i 0 c.loop-key-test.true)
+
+pub loop-key-preserved : goal.loop-key-preserved
+loop-key-preserved c =
+    let i : ℕ = c.loop-key.key-index in
+    one_step given_up c.args.store.now c.loop-key.store c.args.keys.now i c.loop-key-test.true (c.requires.once (slice_index_or c.args.keys.now i 0)) c.loop-key.invariant c.give_up.new.self (c.requires.there i 0 c.loop-key-test.true) c.give_up.ensures

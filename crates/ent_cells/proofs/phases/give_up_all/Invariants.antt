@@ -1,0 +1,8 @@
+use Rattle.std.proofs.Common.{◌≡◌, ℕ, take}
+use Rattle.slab.specs.Slab.{get}
+use Rattle.ent_cells.specs.Entries.{given_up}
+use Rattle.ent_cells.specs.Phases.{changed_at}
+use Rattle.ent_cells.proofs.phases.give_up_all.Given as goal
+
+abbrev pub invariant-loop-key : goal.invariant-loop-key
+invariant-loop-key l = (c : ℕ) → get l.store c ≡ changed_at given_up (take l.key-index l.keys) c (get l.initial.store c)

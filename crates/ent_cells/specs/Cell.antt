@@ -1,0 +1,69 @@
+-- The cells of a table: of each listed request the answer to it, and the look-ups that the answer rests on.
+use Rattle.std.specs.Prelude.{◌≡◌, ℕ, ◌+◌, List, [], ◌∷◌, Bool, false, true, if◌then◌else◌, map, refl}
+use Rattle.std.specs.Coded.{Coded, code_by, coded×, coded_list}
+use Rattle.std.specs.List.{list_any}
+use Rattle.ent_eval.specs.declared.answer.Answer.{Answer}
+use Rattle.ent_eval.specs.declared.key.ReadKey.{ReadKey}
+use Rattle.ent_eval.specs.Answer.{answer, recorded}
+use Rattle.ent_eval.specs.Listed.{listed}
+use Rattle.ent_eval.specs.Looks.{Looks}
+use Rattle.ent_eval.specs.Noted.{has_key}
+use Rattle.ent_eval.specs.Same.{same_answer}
+use Rattle.ent_cells.specs.declared.who.Who.{Who}
+
+-- what a request is answered, and the keys of the look-ups that this rests on
+pub record Said : Type 0 where
+  pub answer : Answer
+  pub reads : List ReadKey
+
+-- a request, and what it is answered
+pub record Kept : Type 0 where
+  pub who : Who
+  pub said : Said
+
+-- what a request of the table is answered, by what is looked up
+abbrev pub says : Looks → Who → Said
+says looks x = record { answer = answer looks (listed x.person x.action x.resource); reads = recorded looks (listed x.person x.action x.resource) }
+
+-- the cell of a request, by what is looked up
+abbrev pub cell_of : Looks → Who → Kept
+cell_of looks x = record { who = x; said = says looks x }
+
+-- the cell of the same request, evaluated afresh
+abbrev pub renewed : Looks → Kept → Kept
+renewed looks e = cell_of looks e.who
+
+-- the answers of cells, in their order
+abbrev pub answers_in : List Kept → List Answer
+answers_in es = map (λ e. e.said.answer) es
+
+-- the requests of cells, in their order
+abbrev pub requests_in : List Kept → List Who
+requests_in es = map (λ e. e.who) es
+
+-- whether a cell reads one of some keys
+abbrev pub reads_any : List ReadKey → Kept → Bool
+reads_any keys e = list_any (λ k. has_key e.said.reads k) keys
+
+-- a cell that reads none of some keys is right
+abbrev pub IsRightBut : List ReadKey → Looks → Kept → Type 0
+IsRightBut keys looks e = reads_any keys e ≡ false → e ≡ renewed looks e
+
+-- each key that a cell reads, and that passes a test, is among these
+abbrev pub HasReadKeys : (ReadKey → Bool) → List Kept → List ReadKey → Type 0
+HasReadKeys asks cells keys = (k : ReadKey) → asks k ≡ true → list_any (λ e. has_key e.said.reads k) cells ≡ true → has_key keys k ≡ true
+
+-- at how many places two lists have different answers
+abbrev pub unlike_count : List Answer → List Answer → ℕ
+unlike_count [] bs = 0
+unlike_count (a ∷ as_) [] = 0
+unlike_count (a ∷ as_) (b ∷ bs) = (if same_answer a b then 0 else 1) + unlike_count as_ bs
+
+-- ---- how they are stored
+
+-- what is said is stored as the pair of answer and keys, a cell as the pair of request and that
+abbrev pub said_code : Coded Answer → Coded ReadKey → Coded Said
+said_code answers keys = code_by (Answer × List ReadKey) (coded× answers (coded_list keys)) (λ s. (s.answer, s.reads)) (λ p. record { answer = p.0; reads = p.1 }) (λ _. refl)
+
+abbrev pub kept_code : Coded Who → Coded Answer → Coded ReadKey → Coded Kept
+kept_code whos answers keys = code_by (Who × Said) (coded× whos (said_code answers keys)) (λ e. (e.who, e.said)) (λ p. record { who = p.0; said = p.1 }) (λ _. refl)

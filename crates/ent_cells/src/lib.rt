@@ -1,0 +1,18 @@
+//! The cells of a table in list order, each with its request, its answer and what the answer rests on, and an index of
+//! what they read: so that an edit evaluates exactly the cells that read what it changes.
+#![tactic(auto)]
+
+mod blocks;
+mod cell;
+mod confirm;
+mod evaluate;
+mod live;
+mod phases;
+mod sharing;
+mod steps;
+mod store;
+mod who;
+
+pub use blocks::Blocks;
+pub use live::Live;
+pub use who::Who;

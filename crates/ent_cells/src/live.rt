@@ -1,0 +1,259 @@
+//! The live table: cells in list order, and an index of what they read.
+
+ghost use Rattle.std.specs.Prelude.{◌≡◌, ◌<◌, ◌≤◌, ◌++◌, ◌∷◌, [], count_by, drop, length, map, slice_get, take};
+ghost use Rattle.std.specs.Prelude.{IfOk, IfSome, MatchOption, OnErr, OnOk, option_copied, vec_capacity};
+ghost use Rattle.std.specs.List.{AllByRecursion};
+ghost use Rattle.ent_eval.specs.LooksOf.{looks_of};
+ghost use Rattle.ent_index.specs.Asked.{asks_policy, asks_row};
+ghost use Rattle.ent_cells.specs.Cell.{HasReadKeys, IsRightBut, answers_in, cell_of, reads_any, renewed, unlike_count};
+ghost use Rattle.ent_cells.specs.Count.{Counts, CountsAtMost};
+ghost use Rattle.ent_cells.specs.Shape.{without, woven};
+
+use crate::blocks::{Blocks, keep_present, remove_blocks, weave};
+use crate::evaluate::evaluate;
+use crate::phases::{commit_all, give_up_all, prepare_all};
+use crate::store::Store;
+use crate::who::Who;
+use ent_eval::{Answer, Pdp, ReadKey};
+use ent_finder::{Attributes, Policies, RowKey};
+use ent_policy::Kind;
+use ent_values::{Items, Shared};
+use std::alloc::{AllocError, Global};
+use std::marker::Model;
+
+/// The cells of a table in list order. An edit of what is held evaluates exactly those that read what it changes.
+#[derive(Drop)]
+pub struct Live {
+    alloc: Global,
+    store: Store,
+    keys: Vec<usize>,
+}
+
+impl Model for Live {
+    ghost use Rattle.std.specs.Prelude.{List};
+    ghost use Rattle.std.specs.Coded.{coded_list};
+    ghost use Rattle.ent_eval.specs.contracts.answer.Answer as answer;
+    ghost use Rattle.ent_eval.specs.contracts.key.ReadKey as key;
+    ghost use Rattle.ent_cells.specs.contracts.who.Who as whose;
+    ghost use Rattle.ent_cells.specs.Cell.{Kept, kept_code};
+
+    ghost Value = { List Kept };
+
+    ghost coded = { coded_list (kept_code whose.the_row.coded answer.the_row.coded key.the_row.coded) };
+
+    ghost use Rattle.ent_cells.specs.Entries.{IsLive, kept_of};
+
+    ghost view = { λ l. kept_of l.store l.keys.items };
+
+    ghost invariant = { λ l. IsLive l.store l.keys.items };
+}
+
+/// Keys of cells that likely say the same as the next one: the last of these, and one so many places back.
+fn near(keys: &[usize], apart: usize) -> [usize; 2] {
+    let last = keys.last().copied().unwrap_or(0);
+    let before = match keys.len().checked_sub(apart) {
+        Some(place) => keys.get(place).copied().unwrap_or(0),
+        None => 0,
+    };
+    [last, before]
+}
+
+impl Live {
+    /// No cells, for which nothing is allocated.
+    pub fn new(alloc: Global) -> Live
+        ensures { result ≡ [] }
+    {
+        Live {
+            alloc,
+            store: Store::new(alloc),
+            keys: Vec::new(alloc),
+        }
+    }
+
+    /// How many cells there are.
+    pub fn len(&self) -> usize
+        ensures { result ≡ length self.now }
+    {
+        self.keys.len()
+    }
+
+    /// The answer at a place in list order.
+    pub fn answer(&self, place: usize) -> Option<&Answer>
+        ensures answer { option_copied result ≡ slice_get (answers_in self.now) place }
+        ensures within { IfSome result (λ _. place < usize.MAX) }
+    {
+        let key = self.keys.get(place)?;
+        let cell = self.store.under(*key)?;
+        Some(cell.said.answer.get())
+    }
+
+    /// The answer at a place in list order, and the place behind it.
+    pub fn next_from(&self, place: usize) -> Option<(&Answer, usize)>
+        ensures { MatchOption result
+            (drop place (answers_in self.now) ≡ [])
+            (λ next. drop place (answers_in self.now) ≡ next.0.now ∷ drop next.1 (answers_in self.now)) }
+    {
+        let answer = self.answer(place)?;
+        Some((answer, place + 1))
+    }
+
+    /// Makes each cell right again, where those that read none of the changed keys are, and tells how many get another
+    /// answer. It evaluates the cells whose own reads have one, each once and no other. After a refusal the cells are
+    /// as before.
+    pub fn settle<A: Attributes, P: Policies>(
+        &mut self,
+        pdp: &mut Pdp<A, P>,
+        changed: &[ReadKey],
+    ) -> Result<usize, AllocError>
+        requires { AllByRecursion (IsRightBut changed.now (looks_of A.sources P.slots pdp.old)) self.old }
+        ensures ok { OnOk result (self.new ≡ map (renewed (looks_of A.sources P.slots pdp.old)) self.old) }
+        ensures changes { IfOk result (λ n. n ≡ unlike_count (answers_in self.old) (answers_in self.new)) }
+        ensures err { OnErr result (self.new ≡ self.old) }
+        ensures counted { OnOk result
+            (Counts pdp.old.evaluations pdp.new.evaluations (count_by (reads_any changed.now) self.old)) }
+        ensures bound { CountsAtMost pdp.old.evaluations pdp.new.evaluations
+            (count_by (reads_any changed.now) self.old) }
+        ensures rest { pdp.new ≡ record pdp.old { evaluations = pdp.new.evaluations } }
+    {
+        let touched = self.store.touched(changed)?;
+        let keys = touched.as_slice();
+        match prepare_all(self.alloc, &mut self.store, pdp, keys) {
+            Ok(()) => Ok(commit_all(&mut self.store, keys)),
+            Err(error) => {
+                give_up_all(&mut self.store, keys);
+                Err(error)
+            }
+        }
+    }
+
+    /// Adds the cells of a new name behind those that each of the blocks has, or last where there are no blocks, and
+    /// evaluates each of them once and no other. After a refusal the cells are as before.
+    pub fn add<A: Attributes, P: Policies>(
+        &mut self,
+        pdp: &mut Pdp<A, P>,
+        blocks: Blocks,
+        requests: Items<Shared<Who>>,
+    ) -> Result<(), AllocError>
+        ensures ok { OnOk result (self.new ≡ woven blocks.count blocks.width blocks.each self.old
+            (map (cell_of (looks_of A.sources P.slots pdp.old)) requests)) }
+        ensures err { OnErr result (self.new ≡ self.old) }
+        ensures counted { OnOk result (Counts pdp.old.evaluations pdp.new.evaluations (length requests)) }
+        ensures bound { CountsAtMost pdp.old.evaluations pdp.new.evaluations (length requests) }
+        ensures rest { pdp.new ≡ record pdp.old { evaluations = pdp.new.evaluations } }
+    {
+        let start = self.len();
+        self.append(pdp, blocks.each, requests)?;
+        if blocks.count == 0 {
+            return Ok(());
+        }
+        match Vec::with_capacity(self.alloc, self.len()) {
+            Ok(room) => {
+                self.arrange(room, start, blocks);
+                Ok(())
+            }
+            Err(error) => {
+                self.truncate(start);
+                Err(error)
+            }
+        }
+    }
+
+    /// Drops the cells of a name, which stand from place `from` on in each of the blocks. It takes no memory.
+    pub fn narrow(&mut self, blocks: Blocks, from: usize)
+        ensures { self.new ≡ without blocks.count blocks.width from blocks.each self.old }
+    {
+        remove_blocks(&mut self.store, &self.keys, blocks, from);
+        keep_present(&mut self.keys, &self.store);
+    }
+
+    /// The keys that a cell reads and whose values the row may change.
+    pub fn keys_of_row(&self, row: &RowKey) -> Result<Items<ReadKey>, AllocError>
+        ensures { IfOk result (HasReadKeys (asks_row row.now) self.now) }
+    {
+        self.store.keys_of_row(row)
+    }
+
+    /// The keys that a cell reads and that are references of a kind and an id.
+    pub fn keys_of_policy(&self, kind: Kind, id: &str) -> Result<Items<ReadKey>, AllocError>
+        ensures { IfOk result (HasReadKeys (asks_policy kind id.now) self.now) }
+    {
+        self.store.keys_of_policy(kind, id)
+    }
+
+    /// Keeps the first cells. It takes no memory.
+    fn truncate(&mut self, len: usize)
+        ensures { self.new ≡ take len self.old }
+    {
+        let all = self.len();
+        let blocks = Blocks {
+            count: 1,
+            width: all,
+            each: all,
+        };
+        self.narrow(blocks, len);
+    }
+
+    /// Moves the cells from place `start` on behind the blocks before it. It takes no memory but the room that it is
+    /// given.
+    fn arrange(&mut self, mut room: Vec<usize>, start: usize, blocks: Blocks)
+        requires start { start ≤ length self.old }
+        requires empty { room.items ≡ [] }
+        requires room { length self.old ≤ vec_capacity room }
+        ensures { self.new ≡ woven blocks.count blocks.width blocks.each (take start self.old) (drop start self.old) }
+    {
+        let (keys, added) = self.keys.split_at(start);
+        weave(
+            &mut room,
+            keys,
+            added,
+            blocks.count,
+            blocks.width,
+            blocks.each,
+        );
+        self.keys = room;
+    }
+
+    /// Evaluates a request that has no cell, and puts its cell last. After a refusal the cells are as before.
+    fn push<A: Attributes, P: Policies>(
+        &mut self,
+        pdp: &mut Pdp<A, P>,
+        apart: usize,
+        who: Shared<Who>,
+    ) -> Result<(), AllocError>
+        ensures ok { OnOk result (self.new ≡ self.old ++ cell_of (looks_of A.sources P.slots pdp.old) who ∷ []) }
+        ensures err { OnErr result (self.new ≡ self.old) }
+        ensures counted { OnOk result (Counts pdp.old.evaluations pdp.new.evaluations 1) }
+        ensures bound { CountsAtMost pdp.old.evaluations pdp.new.evaluations 1 }
+        ensures rest { pdp.new ≡ record pdp.old { evaluations = pdp.new.evaluations } }
+    {
+        self.keys.reserve(1)?;
+        let evaluation = evaluate(self.alloc, pdp, who.get())?;
+        let near = near(&self.keys, apart);
+        let key = self.store.insert(who, evaluation, &near)?;
+        self.keys.push(key)?;
+        Ok(())
+    }
+
+    /// Evaluates requests that have no cells, and puts their cells last. After a refusal the cells are as before.
+    fn append<A: Attributes, P: Policies>(
+        &mut self,
+        pdp: &mut Pdp<A, P>,
+        apart: usize,
+        requests: Items<Shared<Who>>,
+    ) -> Result<(), AllocError>
+        ensures ok { OnOk result (self.new ≡ self.old ++ map (cell_of (looks_of A.sources P.slots pdp.old)) requests) }
+        ensures err { OnErr result (self.new ≡ self.old) }
+        ensures counted { OnOk result (Counts pdp.old.evaluations pdp.new.evaluations (length requests)) }
+        ensures bound { CountsAtMost pdp.old.evaluations pdp.new.evaluations (length requests) }
+        ensures rest { pdp.new ≡ record pdp.old { evaluations = pdp.new.evaluations } }
+    {
+        let start = self.len();
+        for who in requests.into_vec() {
+            if let Err(error) = self.push(pdp, apart, who) {
+                self.truncate(start);
+                return Err(error);
+            }
+        }
+        Ok(())
+    }
+}

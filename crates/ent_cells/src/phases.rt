@@ -1,0 +1,94 @@
+//! The phases of an edit: what is to be said of cells is made ready, which may be refused, and then said, which takes
+//! no memory.
+
+ghost use Rattle.std.specs.Prelude.{◌≡◌, ◌≤◌, ℕ, IsSome, OnErr, OnOk, length};
+ghost use Rattle.std.specs.List.{All};
+ghost use Rattle.slab.specs.Slab.{get};
+ghost use Rattle.ent_eval.specs.LooksOf.{looks_of};
+ghost use Rattle.ent_cells.specs.Count.{Counts, CountsAtMost};
+ghost use Rattle.ent_cells.specs.Entries.{AreFree, Becomes, IsFree, given_up, settled};
+ghost use Rattle.ent_cells.specs.Grid.{times};
+ghost use Rattle.ent_cells.specs.Phases.{IsPrepared, KeepsCells, changed_at, changed_count, made_ready};
+
+use crate::evaluate::evaluate;
+use crate::store::Store;
+use ent_eval::Pdp;
+use ent_finder::{Attributes, Policies};
+use std::alloc::{AllocError, Global};
+use std::slice;
+
+/// Evaluates the cell under a key, and makes ready what that says. After a refusal the cells are as before.
+fn prepare_one<A: Attributes, P: Policies>(
+    alloc: Global,
+    store: &mut Store,
+    pdp: &mut Pdp<A, P>,
+    key: usize,
+    beside: &[usize],
+) -> Result<(), AllocError>
+    requires { IsFree (get store.old key) }
+    ensures ok { OnOk result (Becomes (made_ready (looks_of A.sources P.slots pdp.old)) key store.old store.new) }
+    ensures err { OnErr result (store.new ≡ store.old) }
+    ensures counted { OnOk result (Counts pdp.old.evaluations pdp.new.evaluations 1) }
+    ensures bound { CountsAtMost pdp.old.evaluations pdp.new.evaluations 1 }
+    ensures rest { pdp.new ≡ record pdp.old { evaluations = pdp.new.evaluations } }
+{
+    match store.under(key) {
+        Some(cell) => {
+            let evaluation = evaluate(alloc, pdp, cell.who.get())?;
+            store.prepare(key, evaluation, beside)?;
+            Ok(())
+        }
+        None => unreachable!(),
+    }
+}
+
+/// Evaluates the cells under some keys, each once, and makes ready what that says. After a refusal some may be ready.
+pub(crate) fn prepare_all<A: Attributes, P: Policies>(
+    alloc: Global,
+    store: &mut Store,
+    pdp: &mut Pdp<A, P>,
+    keys: &[usize],
+) -> Result<(), AllocError>
+    requires free { AreFree store.old }
+    requires there { All (λ c. IsSome (get store.old c)) keys.now }
+    requires once { (c : ℕ) → times c keys.now ≤ 1 }
+    ensures ok { OnOk result (IsPrepared (looks_of A.sources P.slots pdp.old) keys.now store.old store.new) }
+    ensures err { OnErr result (KeepsCells keys.now store.old store.new) }
+    ensures counted { OnOk result (Counts pdp.old.evaluations pdp.new.evaluations (length keys.now)) }
+    ensures bound { CountsAtMost pdp.old.evaluations pdp.new.evaluations (length keys.now) }
+    ensures rest { pdp.new ≡ record pdp.old { evaluations = pdp.new.evaluations } }
+{
+    let mut beside: &[usize] = &[];
+    for key in keys {
+        prepare_one(alloc, store, pdp, *key, beside)?;
+        beside = slice::from_ref(key);
+    }
+    Ok(())
+}
+
+/// Gives up what is ready of the cells under some keys. It takes no memory.
+pub(crate) fn give_up_all(store: &mut Store, keys: &[usize])
+    requires there { All (λ c. IsSome (get store.old c)) keys.now }
+    requires once { (c : ℕ) → times c keys.now ≤ 1 }
+    ensures { (c : ℕ) → get store.new c ≡ changed_at given_up keys.now c (get store.old c) }
+{
+    for key in keys {
+        store.give_up(*key);
+    }
+}
+
+/// Says of the cells under some keys what is ready of them, and tells how many get another answer. It takes no memory.
+pub(crate) fn commit_all(store: &mut Store, keys: &[usize]) -> usize
+    requires there { All (λ c. IsSome (get store.old c)) keys.now }
+    requires once { (c : ℕ) → times c keys.now ≤ 1 }
+    ensures new { (c : ℕ) → get store.new c ≡ changed_at settled keys.now c (get store.old c) }
+    ensures count { result ≡ changed_count store.old keys.now }
+{
+    let mut changes = 0;
+    for key in keys {
+        if store.commit(*key) {
+            changes += 1;
+        }
+    }
+    changes
+}
