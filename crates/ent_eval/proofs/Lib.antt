@@ -7,7 +7,6 @@ pub mod Booleans
 pub mod Changes
 pub mod Children
 pub mod Choices
-pub mod Elsewhere
 pub mod Fit
 pub mod Gathered
 pub mod Giving
@@ -20,7 +19,6 @@ pub mod Noting
 pub mod Once
 pub mod Parts
 pub mod PathKeys
-pub mod Reached
 pub mod Recorded
 pub mod Rests
 pub mod SameLooks

@@ -1,7 +1,6 @@
 pub mod Answer
 pub mod Change
 pub mod Comes
-pub mod Entities
 pub mod Expression
 pub mod Gathered
 pub mod Given

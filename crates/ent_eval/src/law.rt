@@ -1,6 +1,5 @@
 //! Laws of the look-ups that answers rest on.
 
-ghost use Rattle.ent_eval.specs.Entities.{ListedNamesThree, ValuesAreOfTheRequest};
 ghost use Rattle.ent_eval.specs.Law.{EachKeyIsRecordedOnce, EqualLookUpsGiveEqualAnswers, WhatIsLookedUpIsRecorded};
 
 /// Law: where each look-up that is recorded for an answer gives the same, the answer is the same, and so are the
@@ -17,15 +16,4 @@ pub fn each_key_is_recorded_once()
 /// Law: the keys that are recorded for an answer are those that are looked up for it.
 pub fn what_is_looked_up_is_recorded()
     ensures { WhatIsLookedUpIsRecorded }
-{}
-
-/// Law: an answer rests on values of those entities alone that the request names, each in its category (section 7.3.5).
-/// Look-ups that differ in values of other entities give the same answer.
-pub fn values_are_of_the_request()
-    ensures { ValuesAreOfTheRequest }
-{}
-
-/// Law: a listed request names three entities: the person, the resource and the action (appendix B.4 to B.6).
-pub fn a_listed_request_names_three()
-    ensures { ListedNamesThree }
 {}

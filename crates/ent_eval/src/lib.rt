@@ -46,8 +46,7 @@ pub use change::{
 pub use given::{Assignment, Given};
 pub use key::ReadKey;
 pub use law::{
-    a_listed_request_names_three, each_key_is_recorded_once, equal_look_ups_give_equal_answers,
-    values_are_of_the_request, what_is_looked_up_is_recorded,
+    each_key_is_recorded_once, equal_look_ups_give_equal_answers, what_is_looked_up_is_recorded,
 };
 pub use look_ups::LookUps;
 pub use pdp::{Evaluation, Pdp};

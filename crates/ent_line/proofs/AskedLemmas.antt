@@ -138,6 +138,10 @@ notices_named : (d : Data) → IsNamed (asked.notices_command d)
 unfolding asked.notices_command
 notices_named d = must_named _ _ (ok_named _)
 
+work_named : (d : Data) → IsNamed (asked.work_command d)
+unfolding asked.work_command
+work_named d = must_named _ _ (ok_named _)
+
 -- ---- of a name
 
 abbrev AreNamed : Option (Result Command ℕ) → Type 0
@@ -198,7 +202,7 @@ decided_found name d = or_found _ _ _ (counts_named d) (or_found _ _ _ (can_name
 
 marking_found : (name : List ℕ) (d : Data) → IsFound (asked.marking_named name d)
 unfolding asked.marking_named
-marking_found name d = or_found _ _ _ (mark_named d) (or_found _ _ _ (notices_named d) none_found)
+marking_found name d = or_found _ _ _ (mark_named d) (or_found _ _ _ (notices_named d) (or_found _ _ _ (work_named d) none_found))
 
 desk_found : (name : List ℕ) (d : Data) → IsFound (asked.desk_named name d)
 unfolding asked.desk_named

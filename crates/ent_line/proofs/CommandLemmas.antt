@@ -71,31 +71,32 @@ read_day_made : (w : World) (other : Answer × World) (day : Option Day) → day
 read_day_made w other None = refl
 read_day_made w other (Some day) = refl
 
-day_made : (w : World) (session : ℕ) (other : Answer × World) (day : Option (List ℕ)) → run w session (asked.set_day day) ≡ made w other (edit_of (asked.set_day day))
+day_made : (n : ℕ) (w : World) (session : ℕ) (other : Answer × World) (day : Option (List ℕ)) → run n w session (asked.set_day day) ≡ made w other (edit_of (asked.set_day day))
 unfolding run day_set
-day_made w session other None = refl
-day_made w session other (Some written) = read_day_made w other (date_of written)
+day_made n w session other None = refl
+day_made n w session other (Some written) = read_day_made w other (date_of written)
 
 -- a command is answered as the edit that it makes, or the lack of one; what is no edit is answered by what is said beside
-pub run_made : (w : World) (session : ℕ) (other : Answer × World) (c : Command) → (IsNoEdit c → run w session c ≡ other) → run w session c ≡ made w other (edit_of c)
+pub run_made : (n : ℕ) (w : World) (session : ℕ) (other : Answer × World) (c : Command) → (IsNoEdit c → run n w session c ≡ other) → run n w session c ≡ made w other (edit_of c)
 unfolding run name_added name_dropped policy_added policy_replaced policy_withdrawn attribute_set root_set
-run_made w session other (asked.add_name list name) h = refl
-run_made w session other (asked.drop_name list name) h = refl
-run_made w session other (asked.add_policy number d) h = document_made w other (AddPolicy number) (document_of d)
-run_made w session other (asked.replace_policy number d) h = document_made w other (ReplacePolicy number) (document_of d)
-run_made w session other (asked.withdraw_policy number kind id version) h = withdrawn_made w other number kind id (version_of version)
-run_made w session other (asked.set_attribute number row) h = row_made w other number row (row_read row)
-run_made w session other (asked.set_root d) h = document_made w other SetRoot (root_of d)
-run_made w session other (asked.set_day day) h = day_made w session other day
-run_made w session other asked.table h = h tt
-run_made w session other (asked.cell x) h = h tt
-run_made w session other (asked.ask d) h = h tt
-run_made w session other asked.counts h = h tt
-run_made w session other (asked.can person) h = h tt
-run_made w session other (asked.who action resource) h = h tt
-run_made w session other (asked.by_rule policy rule) h = h tt
-run_made w session other asked.mark h = h tt
-run_made w session other asked.notices h = h tt
+run_made n w session other (asked.add_name list name) h = refl
+run_made n w session other (asked.drop_name list name) h = refl
+run_made n w session other (asked.add_policy number d) h = document_made w other (AddPolicy number) (document_of d)
+run_made n w session other (asked.replace_policy number d) h = document_made w other (ReplacePolicy number) (document_of d)
+run_made n w session other (asked.withdraw_policy number kind id version) h = withdrawn_made w other number kind id (version_of version)
+run_made n w session other (asked.set_attribute number row) h = row_made w other number row (row_read row)
+run_made n w session other (asked.set_root d) h = document_made w other SetRoot (root_of d)
+run_made n w session other (asked.set_day day) h = day_made n w session other day
+run_made n w session other asked.table h = h tt
+run_made n w session other (asked.cell x) h = h tt
+run_made n w session other (asked.ask d) h = h tt
+run_made n w session other asked.counts h = h tt
+run_made n w session other (asked.can person) h = h tt
+run_made n w session other (asked.who action resource) h = h tt
+run_made n w session other (asked.by_rule policy rule) h = h tt
+run_made n w session other asked.mark h = h tt
+run_made n w session other asked.notices h = h tt
+run_made n w session other asked.work h = h tt
 
 -- ---- a refused line
 
@@ -121,48 +122,50 @@ made_keeps w (Err (faulty fault)) = λ n sub e. refl
 made_keeps w (Err unreadable) = λ n sub e. refl
 made_keeps w (Err (unreadable_row row)) = λ n sub e. refl
 
-edit_keeps : (w : World) (x : ℕ) (c : Command) → (IsNoEdit c → ⊥) → Keeps w (run w x c)
-edit_keeps w x c is = subst (Keeps w) (sym (run_made w x (nothing w) c (λ h. absurd (is h)))) (made_keeps w (edit_of c))
+edit_keeps : (n : ℕ) (w : World) (x : ℕ) (c : Command) → (IsNoEdit c → ⊥) → Keeps w (run n w x c)
+edit_keeps n w x c is = subst (Keeps w) (sym (run_made n w x (nothing w) c (λ h. absurd (is h)))) (made_keeps w (edit_of c))
 
-run_keeps : (w : World) (x : ℕ) (c : Command) → Keeps w (run w x c)
+run_keeps : (n : ℕ) (w : World) (x : ℕ) (c : Command) → Keeps w (run n w x c)
 unfolding run table_marked
-run_keeps w x (asked.add_name list name) = edit_keeps w x (asked.add_name list name) (λ h. h)
-run_keeps w x (asked.drop_name list name) = edit_keeps w x (asked.drop_name list name) (λ h. h)
-run_keeps w x (asked.add_policy number d) = edit_keeps w x (asked.add_policy number d) (λ h. h)
-run_keeps w x (asked.replace_policy number d) = edit_keeps w x (asked.replace_policy number d) (λ h. h)
-run_keeps w x (asked.withdraw_policy number kind id version) = edit_keeps w x (asked.withdraw_policy number kind id version) (λ h. h)
-run_keeps w x (asked.set_attribute number row) = edit_keeps w x (asked.set_attribute number row) (λ h. h)
-run_keeps w x (asked.set_root d) = edit_keeps w x (asked.set_root d) (λ h. h)
-run_keeps w x (asked.set_day day) = edit_keeps w x (asked.set_day day) (λ h. h)
-run_keeps w x asked.table = λ n sub e. refl
-run_keeps w x (asked.cell t) = λ n sub e. refl
-run_keeps w x (asked.ask d) = λ n sub e. refl
-run_keeps w x asked.counts = λ n sub e. refl
-run_keeps w x (asked.can person) = λ n sub e. refl
-run_keeps w x (asked.who action resource) = λ n sub e. refl
-run_keeps w x (asked.by_rule policy rule) = λ n sub e. refl
-run_keeps w x asked.mark = λ n sub e. absurd (subst IsQuiet (sym e) tt)
-run_keeps w x asked.notices = λ n sub e. refl
+run_keeps k w x (asked.add_name list name) = edit_keeps k w x (asked.add_name list name) (λ h. h)
+run_keeps k w x (asked.drop_name list name) = edit_keeps k w x (asked.drop_name list name) (λ h. h)
+run_keeps k w x (asked.add_policy number d) = edit_keeps k w x (asked.add_policy number d) (λ h. h)
+run_keeps k w x (asked.replace_policy number d) = edit_keeps k w x (asked.replace_policy number d) (λ h. h)
+run_keeps k w x (asked.withdraw_policy number kind id version) = edit_keeps k w x (asked.withdraw_policy number kind id version) (λ h. h)
+run_keeps k w x (asked.set_attribute number row) = edit_keeps k w x (asked.set_attribute number row) (λ h. h)
+run_keeps k w x (asked.set_root d) = edit_keeps k w x (asked.set_root d) (λ h. h)
+run_keeps k w x (asked.set_day day) = edit_keeps k w x (asked.set_day day) (λ h. h)
+run_keeps k w x asked.table = λ n sub e. refl
+run_keeps k w x (asked.cell t) = λ n sub e. refl
+run_keeps k w x (asked.ask d) = λ n sub e. refl
+run_keeps k w x asked.counts = λ n sub e. refl
+run_keeps k w x (asked.can person) = λ n sub e. refl
+run_keeps k w x (asked.who action resource) = λ n sub e. refl
+run_keeps k w x (asked.by_rule policy rule) = λ n sub e. refl
+run_keeps k w x asked.mark = λ n sub e. absurd (subst IsQuiet (sym e) tt)
+run_keeps k w x asked.notices = λ n sub e. refl
+run_keeps k w x asked.work = λ n sub e. refl
 
-requested_keeps : (w : World) (r : Result (ℕ × Command) ℕ) → Keeps w (requested w r)
-requested_keeps w (Ok x) = run_keeps w x.0 x.1
-requested_keeps w (Err refusal) = λ n sub e. refl
+requested_keeps : (k : ℕ) (w : World) (r : Result (ℕ × Command) ℕ) → Keeps w (requested k w r)
+requested_keeps k w (Ok x) = run_keeps k w x.0 x.1
+requested_keeps k w (Err refusal) = λ n sub e. refl
 
-told_keeps : (w : World) (o : Option Data) → Keeps w (told w o)
-told_keeps w None = λ n sub e. refl
-told_keeps w (Some d) = requested_keeps w (request_of d)
+told_keeps : (k : ℕ) (w : World) (o : Option Data) → Keeps w (told k w o)
+told_keeps k w None = λ n sub e. refl
+told_keeps k w (Some d) = requested_keeps k w (request_of d)
 
-chosen_keeps : (w : World) (long : Bool) (o : Option Data) → Keeps w (if long then (refused 1 None, w) else told w o)
-chosen_keeps w true o = λ n sub e. refl
-chosen_keeps w false o = told_keeps w o
+chosen_keeps : (k : ℕ) (w : World) (long : Bool) (o : Option Data) → Keeps w (if long then (refused 1 None, w) else told k w o)
+chosen_keeps k w true o = λ n sub e. refl
+chosen_keeps k w false o = told_keeps k w o
 
 -- a refused line leaves the world
 pub refusal_keeps : (w v : World) (line : List ℕ) (number : ℕ) (sub : Option ℕ) → Answers w line (refused number sub) v → v ≡ w
 unfolding step
-refusal_keeps w v line number sub (inl is) = ap (λ y. y.1) is ∙ chosen_keeps w (nat_lt line_limit (length line)) (data_of line) number sub (sym (ap (λ y. y.0) is))
-refusal_keeps w v line number sub (inr (refusal, same, short)) = same
+refusal_keeps w v line number sub (n, inl is) =
+    ap (λ y. y.1) is ∙ chosen_keeps n w (nat_lt line_limit (length line)) (data_of line) number sub (sym (ap (λ y. y.0) is))
+refusal_keeps w v line number sub (n, inr (refusal, same, short)) = same
 
 -- a line that isn't too long is answered by what was read of it
-pub short_told : (w : World) (line : List ℕ) → length line ≤ line_limit → step w line ≡ told w (data_of line)
+pub short_told : (n : ℕ) (w : World) (line : List ℕ) → length line ≤ line_limit → step n w line ≡ told n w (data_of line)
 unfolding step
-short_told w line short = ap (λ (b : Bool). if b then (refused 1 None, w) else told w (data_of line)) (le-ltb line_limit (length line) short)
+short_told n w line short = ap (λ (b : Bool). if b then (refused 1 None, w) else told n w (data_of line)) (le-ltb line_limit (length line) short)

@@ -14,43 +14,43 @@ use Rattle.ent_line.specs.Lines.{line_limit}
 use Rattle.ent_line.specs.Replies.{refused}
 use Rattle.ent_line.specs.Reports.{can_text, who_text}
 use Rattle.ent_line.specs.Step.{by_rule_told, can_told, cell_or_refusal, cell_told, changes_told, counts_told, data_of, notices_or_refusal}
-use Rattle.ent_line.specs.Step.{report_or_refusal, request_answered, requested, response_or_refusal, run, settled, step, table_marked, table_told, told, who_told}
+use Rattle.ent_line.specs.Step.{report_or_refusal, request_answered, requested, response_or_refusal, run, settled, step, table_marked, table_told, told, who_told, work_told}
 use Rattle.ent_line.proofs.AskedLemmas.{refusal_is}
 use Rattle.ent_line.proofs.CommandLemmas.{made, refusal_keeps, run_made, short_told}
 use Rattle.ent_line.proofs.SessionLemmas.{separate}
 
-long_refused : (w : World) (line : List ℕ) → line_limit < length line → step w line ≡ (refused 1 None, w)
+long_refused : (n : ℕ) (w : World) (line : List ℕ) → line_limit < length line → step n w line ≡ (refused 1 None, w)
 unfolding step
-long_refused w line long = ap (λ (b : Bool). if b then (refused 1 None, w) else told w (data_of line)) (lt-ltb line_limit (length line) long)
+long_refused n w line long = ap (λ (b : Bool). if b then (refused 1 None, w) else told n w (data_of line)) (lt-ltb line_limit (length line) long)
 
 heard : (w : World) (line : List ℕ) → IsHeard w line
 heard w line = record {
   answer = λ v a is. is;
-  too_long = long_refused w line;
-  no_json = λ short none. short_told w line short ∙ ap (told w) none;
-  no_command = λ d number short reads asks.
+  too_long = λ n long. long_refused n w line long;
+  no_json = λ n short none. short_told n w line short ∙ ap (told n w) none;
+  no_command = λ n d number short reads asks.
       let between = refusal_is d number asks in
-      (between.0, between.1, short_told w line short ∙ ap (told w) reads ∙ ap (requested w) asks);
-  command = λ d session c short reads asks. short_told w line short ∙ ap (told w) reads ∙ ap (requested w) asks;
+      (between.0, between.1, short_told n w line short ∙ ap (told n w) reads ∙ ap (requested n w) asks);
+  command = λ n d session c short reads asks. short_told n w line short ∙ ap (told n w) reads ∙ ap (requested n w) asks;
   refusal = λ v number sub is. refusal_keeps w v line number sub is;
 }
 
 -- a command is answered as what it makes
-makes : (w : World) (session : ℕ) (c : Command) (r : Result Edit NoEdit) → edit_of c ≡ r → run w session c ≡ made w (run w session c) r
-makes w session c r is = run_made w session (run w session c) c (λ h. refl) ∙ ap (made w (run w session c)) is
+makes : (n : ℕ) (w : World) (session : ℕ) (c : Command) (r : Result Edit NoEdit) → edit_of c ≡ r → run n w session c ≡ made w (run n w session c) r
+makes n w session c r is = run_made n w session (run n w session c) c (λ h. refl) ∙ ap (made w (run n w session c)) is
 
-edited : (w : World) (session : ℕ) (c : Command) → IsEdited w session c
-edited w session c = record {
-  edit = λ edit t is leads. makes w session c _ is ∙ ap (settled w) leads;
-  no_step = λ edit fault is leads. makes w session c _ is ∙ ap (settled w) leads;
-  fault = λ sub is. makes w session c _ is;
-  no_value = λ is. makes w session c _ is;
-  no_row = λ row is. makes w session c _ is;
+edited : (n : ℕ) (w : World) (session : ℕ) (c : Command) → IsEdited n w session c
+edited n w session c = record {
+  edit = λ edit t is leads. makes n w session c _ is ∙ ap (settled w) leads;
+  no_step = λ edit fault is leads. makes n w session c _ is ∙ ap (settled w) leads;
+  fault = λ sub is. makes n w session c _ is;
+  no_value = λ is. makes n w session c _ is;
+  no_row = λ row is. makes n w session c _ is;
 }
 
-answered : (w : World) (session : ℕ) → IsAnswered w session
-unfolding run table_told cell_told counts_told can_told who_told by_rule_told table_marked changes_told request_answered
-answered w session = record {
+answered : (n : ℕ) (w : World) (session : ℕ) → IsAnswered n w session
+unfolding run table_told cell_told counts_told can_told who_told by_rule_told table_marked changes_told request_answered work_told
+answered n w session = record {
   table = refl;
   cell = λ x a e i. (cell_or_refusal x (e i), w);
   unlisted = λ x e i. (cell_or_refusal x (e i), w);
@@ -65,6 +65,7 @@ answered w session = record {
   mark = refl;
   notices = λ kept e i. (notices_or_refusal w.state (e i), w);
   no_mark = λ e i. (notices_or_refusal w.state (e i), w);
+  work = refl;
 }
 
 pub headline : IsHeadline

@@ -30,7 +30,7 @@ use Rattle.ent_line.specs.Runs.{Run}
 use Rattle.ent_line.specs.Sessions as session
 use Rattle.ent_line.specs.Sessions.{AsksNotices, Matter, SessionsAreSeparate, asked_by, history, matter, matter_of}
 use Rattle.ent_line.specs.Step.{Answers, by_rule_told, can_told, cell_or_refusal, cell_told, changes_told, counts_told, data_of, notices_or_refusal, refusal_of}
-use Rattle.ent_line.specs.Step.{report_or_refusal, request_answered, requested, response_or_refusal, run, settled, step, table_marked, table_told, told, unread}
+use Rattle.ent_line.specs.Step.{report_or_refusal, request_answered, requested, response_or_refusal, run, settled, step, table_marked, table_told, told, unread, work_told}
 use Rattle.ent_line.specs.Step.{unread_row, who_told}
 use Rattle.ent_line.proofs.CommandLemmas.{IsNoEdit, IsQuiet, made, nothing, run_made, short_told}
 
@@ -105,8 +105,8 @@ made_follows i w x c (Err unreadable) makes = quiet_follows i w (Some (x, c)) (r
 made_follows i w x c (Err (unreadable_row row)) makes = quiet_follows i w (Some (x, c)) (refused (unread_row w.state row) None) tt
 
 -- an edit is followed
-edit_follows : (i : ℕ) (w : World) (x : ℕ) (c : Command) → (IsNoEdit c → ⊥) → Follows i w (Some (x, c)) (run w x c)
-edit_follows i w x c is = subst (Follows i w (Some (x, c))) (sym (run_made w x (nothing w) c (λ h. absurd (is h)))) (made_follows i w x c (edit_of c) refl)
+edit_follows : (i n : ℕ) (w : World) (x : ℕ) (c : Command) → (IsNoEdit c → ⊥) → Follows i w (Some (x, c)) (run n w x c)
+edit_follows i n w x c is = subst (Follows i w (Some (x, c))) (sym (run_made n w x (nothing w) c (λ h. absurd (is h)))) (made_follows i w x c (edit_of c) refl)
 
 -- ---- marks
 
@@ -130,44 +130,45 @@ mark_follows i w x at = by (eqb_tells x i)
 
 -- ---- commands, lines and runs
 
-run_follows : (i : ℕ) (w : World) (x : ℕ) (c : Command) → i < length w.marks → Follows i w (Some (x, c)) (run w x c)
-unfolding run cell_told counts_told can_told who_told by_rule_told changes_told table_told request_answered
-run_follows i w x (asked.add_name list name) at = edit_follows i w x (asked.add_name list name) (λ h. h)
-run_follows i w x (asked.drop_name list name) at = edit_follows i w x (asked.drop_name list name) (λ h. h)
-run_follows i w x (asked.add_policy number d) at = edit_follows i w x (asked.add_policy number d) (λ h. h)
-run_follows i w x (asked.replace_policy number d) at = edit_follows i w x (asked.replace_policy number d) (λ h. h)
-run_follows i w x (asked.withdraw_policy number kind id version) at = edit_follows i w x (asked.withdraw_policy number kind id version) (λ h. h)
-run_follows i w x (asked.set_attribute number row) at = edit_follows i w x (asked.set_attribute number row) (λ h. h)
-run_follows i w x (asked.set_root d) at = edit_follows i w x (asked.set_root d) (λ h. h)
-run_follows i w x (asked.set_day day) at = edit_follows i w x (asked.set_day day) (λ h. h)
-run_follows i w x asked.table at = quiet_follows i w (Some (x, asked.table)) (table_told w.state) tt
-run_follows i w x (asked.cell t) at = quiet_follows i w (Some (x, asked.cell t)) (cell_told w.state t) (cell_quiet t (answer_at w.state t))
-run_follows i w x (asked.ask d) at = quiet_follows i w (Some (x, asked.ask d)) (request_answered w.state d) (response_quiet w.state (asks d))
-run_follows i w x asked.counts at = quiet_follows i w (Some (x, asked.counts)) (counts_told w.state) tt
-run_follows i w x (asked.can person) at = quiet_follows i w (Some (x, asked.can person)) (can_told w.state person) (report_quiet can_text (report.can w.state person))
-run_follows i w x (asked.who action resource) at =
+run_follows : (i n : ℕ) (w : World) (x : ℕ) (c : Command) → i < length w.marks → Follows i w (Some (x, c)) (run n w x c)
+unfolding run cell_told counts_told can_told who_told by_rule_told changes_told table_told request_answered work_told
+run_follows i n w x (asked.add_name list name) at = edit_follows i n w x (asked.add_name list name) (λ h. h)
+run_follows i n w x (asked.drop_name list name) at = edit_follows i n w x (asked.drop_name list name) (λ h. h)
+run_follows i n w x (asked.add_policy number d) at = edit_follows i n w x (asked.add_policy number d) (λ h. h)
+run_follows i n w x (asked.replace_policy number d) at = edit_follows i n w x (asked.replace_policy number d) (λ h. h)
+run_follows i n w x (asked.withdraw_policy number kind id version) at = edit_follows i n w x (asked.withdraw_policy number kind id version) (λ h. h)
+run_follows i n w x (asked.set_attribute number row) at = edit_follows i n w x (asked.set_attribute number row) (λ h. h)
+run_follows i n w x (asked.set_root d) at = edit_follows i n w x (asked.set_root d) (λ h. h)
+run_follows i n w x (asked.set_day day) at = edit_follows i n w x (asked.set_day day) (λ h. h)
+run_follows i n w x asked.table at = quiet_follows i w (Some (x, asked.table)) (table_told w.state) tt
+run_follows i n w x (asked.cell t) at = quiet_follows i w (Some (x, asked.cell t)) (cell_told w.state t) (cell_quiet t (answer_at w.state t))
+run_follows i n w x (asked.ask d) at = quiet_follows i w (Some (x, asked.ask d)) (request_answered w.state d) (response_quiet w.state (asks d))
+run_follows i n w x asked.counts at = quiet_follows i w (Some (x, asked.counts)) (counts_told w.state) tt
+run_follows i n w x (asked.can person) at = quiet_follows i w (Some (x, asked.can person)) (can_told w.state person) (report_quiet can_text (report.can w.state person))
+run_follows i n w x (asked.who action resource) at =
     quiet_follows i w (Some (x, asked.who action resource)) (who_told w.state action resource) (report_quiet who_text (report.who w.state action resource))
-run_follows i w x (asked.by_rule policy rule) at = quiet_follows i w (Some (x, asked.by_rule policy rule)) (by_rule_told w.state policy rule) tt
-run_follows i w x asked.mark at = mark_follows i w x at
-run_follows i w x asked.notices at = quiet_follows i w (Some (x, asked.notices)) (changes_told w x) (notices_quiet w.state (mark_of w x))
+run_follows i n w x (asked.by_rule policy rule) at = quiet_follows i w (Some (x, asked.by_rule policy rule)) (by_rule_told w.state policy rule) tt
+run_follows i n w x asked.mark at = mark_follows i w x at
+run_follows i n w x asked.notices at = quiet_follows i w (Some (x, asked.notices)) (changes_told w x) (notices_quiet w.state (mark_of w x))
+run_follows i n w x asked.work at = quiet_follows i w (Some (x, asked.work)) (work_told n) tt
 
-requested_follows : (i : ℕ) (w : World) (r : Result (ℕ × Command) ℕ) → i < length w.marks → Follows i w (result_ok r) (requested w r)
-requested_follows i w (Ok x) at = run_follows i w x.0 x.1 at
-requested_follows i w (Err refusal) at = (refl, refl)
+requested_follows : (i n : ℕ) (w : World) (r : Result (ℕ × Command) ℕ) → i < length w.marks → Follows i w (result_ok r) (requested n w r)
+requested_follows i n w (Ok x) at = run_follows i n w x.0 x.1 at
+requested_follows i n w (Err refusal) at = (refl, refl)
 
-told_follows : (i : ℕ) (w : World) (o : Option Data) → i < length w.marks → Follows i w (option_and_then (λ d. result_ok (request_of d)) o) (told w o)
-told_follows i w None at = (refl, refl)
-told_follows i w (Some d) at = requested_follows i w (request_of d) at
+told_follows : (i n : ℕ) (w : World) (o : Option Data) → i < length w.marks → Follows i w (option_and_then (λ d. result_ok (request_of d)) o) (told n w o)
+told_follows i n w None at = (refl, refl)
+told_follows i n w (Some d) at = requested_follows i n w (request_of d) at
 
-chosen_follows : (i : ℕ) (w : World) (long : Bool) (o : Option Data) → i < length w.marks
-    → Follows i w (option_and_then (λ d. result_ok (request_of d)) o) (if long then (refused 1 None, w) else told w o)
-chosen_follows i w true o at = quiet_follows i w (option_and_then (λ d. result_ok (request_of d)) o) (refused 1 None) tt
-chosen_follows i w false o at = told_follows i w o at
+chosen_follows : (i n : ℕ) (w : World) (long : Bool) (o : Option Data) → i < length w.marks
+    → Follows i w (option_and_then (λ d. result_ok (request_of d)) o) (if long then (refused 1 None, w) else told n w o)
+chosen_follows i n w true o at = quiet_follows i w (option_and_then (λ d. result_ok (request_of d)) o) (refused 1 None) tt
+chosen_follows i n w false o at = told_follows i n w o at
 
 line_follows : (i : ℕ) (w v : World) (line : List ℕ) (a : Answer) → i < length w.marks → Answers w line a v → Follows i w (asked_by line) (a, v)
 unfolding step
-line_follows i w v line a at (inl is) = subst (Follows i w (asked_by line)) (sym is) (chosen_follows i w (nat_lt line_limit (length line)) (data_of line) at)
-line_follows i w v line a at (inr (refusal, same, short)) =
+line_follows i w v line a at (n, inl is) = subst (Follows i w (asked_by line)) (sym is) (chosen_follows i n w (nat_lt line_limit (length line)) (data_of line) at)
+line_follows i w v line a at (n, inr (refusal, same, short)) =
     subst (Follows i w (asked_by line)) (λ j. (sym refusal j, sym same j)) (quiet_follows i w (asked_by line) (refused 15 None) tt)
 
 fold_option : (s : Seen) (o : Option Matter) (xs : List Matter) → fold next s (cons_option o xs) ≡ fold next (after s o) xs
@@ -188,29 +189,30 @@ run_seen i w v (line ∷ lines) [] at r = absurd r
 -- ---- replies to a line that asks for notices
 
 -- what is answered where a command is there
-abbrev run_of : World → Option (ℕ × Command) → Answer × World
-run_of w None = nothing w
-run_of w (Some x) = run w x.0 x.1
+abbrev run_of : ℕ → World → Option (ℕ × Command) → Answer × World
+run_of n w None = nothing w
+run_of n w (Some x) = run n w x.0 x.1
 
 -- a command is there
 abbrev IsAsked : Option (ℕ × Command) → Type 0
 IsAsked None = ⊥
 IsAsked (Some x) = Unit {0}
 
-requested_run : (w : World) (r : Result (ℕ × Command) ℕ) → IsAsked (result_ok r) → requested w r ≡ run_of w (result_ok r)
-requested_run w (Ok x) is = refl
-requested_run w (Err refusal) is = absurd is
+requested_run : (n : ℕ) (w : World) (r : Result (ℕ × Command) ℕ) → IsAsked (result_ok r) → requested n w r ≡ run_of n w (result_ok r)
+requested_run n w (Ok x) is = refl
+requested_run n w (Err refusal) is = absurd is
 
-told_run : (w : World) (o : Option Data) → IsAsked (option_and_then (λ d. result_ok (request_of d)) o) → told w o ≡ run_of w (option_and_then (λ d. result_ok (request_of d)) o)
-told_run w None is = absurd is
-told_run w (Some d) is = requested_run w (request_of d) is
+told_run : (n : ℕ) (w : World) (o : Option Data) → IsAsked (option_and_then (λ d. result_ok (request_of d)) o)
+    → told n w o ≡ run_of n w (option_and_then (λ d. result_ok (request_of d)) o)
+told_run n w None is = absurd is
+told_run n w (Some d) is = requested_run n w (request_of d) is
 
 notices_told : (i : ℕ) (w v : World) (line : List ℕ) (a : Answer) → AsksNotices i line → Answers w line a v → (a ≡ changes_told w i) ⊎ (a ≡ refused 15 None)
 unfolding run
-notices_told i w v line a asks (inl is) =
+notices_told i w v line a asks (n, inl is) =
     let there : IsAsked (asked_by line) = subst IsAsked (sym asks.command) tt in
-    inl (ap (λ y. y.0) (is ∙ short_told w line asks.short ∙ told_run w (data_of line) there ∙ ap (run_of w) asks.command))
-notices_told i w v line a asks (inr (refusal, same, short)) = inr refusal
+    inl (ap (λ y. y.0) (is ∙ short_told n w line asks.short ∙ told_run n w (data_of line) there ∙ ap (run_of n w) asks.command))
+notices_told i w v line a asks (n, inr (refusal, same, short)) = inr refusal
 
 same_replies : (a b c d : Answer) → c ≡ d → (a ≡ c) ⊎ (a ≡ refused 15 None) → (b ≡ d) ⊎ (b ≡ refused 15 None) → (a ≡ b) ⊎ ((a ≡ refused 15 None) ⊎ (b ≡ refused 15 None))
 same_replies a b c d same (inl is) (inl other_is) = inl (is ∙ same ∙ sym other_is)

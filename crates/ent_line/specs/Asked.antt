@@ -56,6 +56,8 @@ pub data Command : Type 0 where
   mark : Command
   -- asks what changed since the mark
   notices : Command
+  -- asks how many times a request was evaluated
+  work : Command
 
 -- ---- keys and their values
 
@@ -235,6 +237,10 @@ mark_command d = keyed (codes "do" ∷ codes "session" ∷ []) d (Ok mark)
 unfoldable pub notices_command : Data → Result Command ℕ
 notices_command d = keyed (codes "do" ∷ codes "session" ∷ []) d (Ok notices)
 
+-- no more than the command itself
+unfoldable pub work_command : Data → Result Command ℕ
+work_command d = keyed (codes "do" ∷ codes "session" ∷ []) d (Ok work)
+
 -- what the edit of that name asks for, which adds a name
 unfoldable pub adding_named : List ℕ → Data → Option (Result Command ℕ)
 adding_named name d =
@@ -288,12 +294,13 @@ decided_named name d =
     else (if bytes_eq name (codes "by_rule") then Some (by_rule_command d)
     else None)))
 
--- what the command of that name asks for, which is about a session's mark
+-- what the command of that name asks for, which is about a session's mark, or about the work that was done
 unfoldable pub marking_named : List ℕ → Data → Option (Result Command ℕ)
 marking_named name d =
     if bytes_eq name (codes "mark") then Some (mark_command d)
     else (if bytes_eq name (codes "notices") then Some (notices_command d)
-    else None)
+    else (if bytes_eq name (codes "work") then Some (work_command d)
+    else None))
 
 -- what the command of that name asks for, which changes nothing but a mark
 unfoldable pub desk_named : List ℕ → Data → Option (Result Command ℕ)

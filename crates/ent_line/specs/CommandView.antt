@@ -7,7 +7,7 @@ use Rattle.ent_line.specs.Asked as asked
 use Rattle.ent_line.specs.declared.attribute_command.AskedRow.{AskedRow}
 use Rattle.ent_line.specs.declared.command.Command.{Command}
 use Rattle.ent_line.specs.declared.command.Command.TheVariants.{AddName, DropName, AddPolicy, ReplacePolicy, WithdrawPolicy, SetAttribute, SetRoot, SetDay}
-use Rattle.ent_line.specs.declared.command.Command.TheVariants.{Table, Cell, Ask, Counts, Can, Who, ByRule, Mark, Notices}
+use Rattle.ent_line.specs.declared.command.Command.TheVariants.{Table, Cell, Ask, Counts, Can, Who, ByRule, Mark, Notices, Work}
 use Rattle.ent_table.specs.Names.{triple_of}
 
 -- a row without where its parts lie in memory
@@ -40,6 +40,7 @@ command_view content (Who action resource) = asked.who action.now resource.now
 command_view content (ByRule policy rule) = asked.by_rule policy.now (option_copied rule)
 command_view content Mark = asked.mark
 command_view content Notices = asked.notices
+command_view content Work = asked.work
 
 -- the same, or a refusal
 abbrev pub asked_view : {J : Type 0} → (J → Data) → Result (Command J) ℕ → Result asked.Command ℕ

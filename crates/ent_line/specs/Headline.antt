@@ -2,8 +2,9 @@
 --
 -- A line asks for one command in one of sixteen sessions. Its reply rests on the world that the accepted edits and marks of the lines before it
 -- left: a state, which is what is held, the three lists and the number of edits, and for each session an optional mark. No reply rests on a
--- kept cell: each is said by evaluating requests afresh (section 7 of XACML 3.0 core). The last words on the page, `Headline`, are what the call
--- `serve_review`, which the program makes, ensures of the bytes that are read and written.
+-- kept cell: each is said by evaluating requests afresh (section 7 of XACML 3.0 core). Only `work` tells how many evaluations were made so far,
+-- which is no part of the world: the run leaves open which number that is, and `Service::handle` says it. The last words on the page, `Headline`,
+-- are what the call `serve_review`, which the program makes, ensures of the bytes that are read and written.
 use Rattle.std.specs.Prelude.{◌≡◌, ◌⊎◌, ℕ, ◌<◌, ◌≤◌, ◌&&◌, false, List, length, Option, Some, None, Result, Ok, Err}
 use Rattle.serde_json.specs.Data.{Data}
 use Rattle.ent_eval.specs.declared.answer.Answer.{Answer as Evaluated}
@@ -26,7 +27,7 @@ use Rattle.ent_line.specs.Edits.{edit_of, faulty, unreadable, unreadable_row}
 use Rattle.ent_line.specs.Lines.{line_limit}
 use Rattle.ent_line.specs.Replies as replies
 use Rattle.ent_line.specs.Replies.{Answer, accepted, refused, text}
-use Rattle.ent_line.specs.Reports.{by_rule_text, can_text, counts_text, notices_text, who_text}
+use Rattle.ent_line.specs.Reports.{by_rule_text, can_text, counts_text, notices_text, who_text, work_text}
 use Rattle.ent_line.specs.Serving.{Ends, ServesUntil}
 use Rattle.ent_line.specs.Sessions.{SessionsAreSeparate}
 use Rattle.ent_line.specs.Step.{Answers, data_of, refusal_of, run, step, unread, unread_row}
@@ -34,61 +35,64 @@ use Rattle.ent_line.specs.declared.fault.ServeFault.{ServeFault}
 
 -- what a line is answered in a world
 pub record IsHeard (w : World) (line : List ℕ) : Type 0 where
-  -- its step is told, or want of memory, which changes nothing and never stands in place of refusal 1
-  pub answer : (v : World) (a : Answer) → Answers w line a v → ((a, v) ≡ step w line) ⊎ ((a ≡ refused 15 None) × (v ≡ w) × (length line ≤ line_limit))
+  -- its step after some number of evaluations is told, or want of memory, which changes nothing and never stands in place of refusal 1
+  pub answer : (v : World) (a : Answer) → Answers w line a v → (n : ℕ) × (((a, v) ≡ step n w line) ⊎ ((a ≡ refused 15 None) × (v ≡ w) × (length line ≤ line_limit)))
   -- it is too long
-  pub too_long : line_limit < length line → step w line ≡ (refused 1 None, w)
+  pub too_long : (n : ℕ) → line_limit < length line → step n w line ≡ (refused 1 None, w)
   -- it is no JSON
-  pub no_json : length line ≤ line_limit → data_of line ≡ None → step w line ≡ (refused 2 None, w)
+  pub no_json : (n : ℕ) → length line ≤ line_limit → data_of line ≡ None → step n w line ≡ (refused 2 None, w)
   -- its shape is wrong (3), or its command (4) or its session (5) is unknown: the first of these refusals that stands
-  pub no_command : (d : Data) (number : ℕ) → length line ≤ line_limit → data_of line ≡ Some d → asked.request_of d ≡ Err number
-      → (3 ≤ number) × (number ≤ 5) × (step w line ≡ (refused number None, w))
+  pub no_command : (n : ℕ) (d : Data) (number : ℕ) → length line ≤ line_limit → data_of line ≡ Some d → asked.request_of d ≡ Err number
+      → (3 ≤ number) × (number ≤ 5) × (step n w line ≡ (refused number None, w))
   -- it asks for a command of a session: what that is answered
-  pub command : (d : Data) (session : ℕ) (c : asked.Command) → length line ≤ line_limit → data_of line ≡ Some d → asked.request_of d ≡ Ok (session, c) → step w line ≡ run w session c
+  pub command : (n : ℕ) (d : Data) (session : ℕ) (c : asked.Command) → length line ≤ line_limit → data_of line ≡ Some d → asked.request_of d ≡ Ok (session, c)
+      → step n w line ≡ run n w session c
   -- a refused line changes nothing
   pub refusal : (v : World) (number : ℕ) (sub : Option ℕ) → Answers w line (refused number sub) v → v ≡ w
 
--- what a command that makes an edit (`edit_of`, in `Edits`) is answered in a world
-pub record IsEdited (w : World) (session : ℕ) (c : asked.Command) : Type 0 where
+-- what a command that makes an edit (`edit_of`, in `Edits`) is answered in a world, after n evaluations
+pub record IsEdited (n : ℕ) (w : World) (session : ℕ) (c : asked.Command) : Type 0 where
   -- an accepted edit: the state that its step leads to, told by how many answers of the two fresh tables differ
-  pub edit : (edit : Edit) (t : State) → edit_of c ≡ Ok edit → edits.step w.state edit ≡ Ok t → run w session c ≡ (accepted (changes w.state t) t.serial, record w { state = t })
+  pub edit : (edit : Edit) (t : State) → edit_of c ≡ Ok edit → edits.step w.state edit ≡ Ok t → run n w session c ≡ (accepted (changes w.state t) t.serial, record w { state = t })
   -- a refused edit: the number of its step's refusal
-  pub no_step : (edit : Edit) (fault : EditFault) → edit_of c ≡ Ok edit → edits.step w.state edit ≡ Err fault → run w session c ≡ (refused (refusal_of fault) None, w)
+  pub no_step : (edit : Edit) (fault : EditFault) → edit_of c ≡ Ok edit → edits.step w.state edit ≡ Err fault → run n w session c ≡ (refused (refusal_of fault) None, w)
   -- a document or a reference with a fault: the sub-code of the first one
-  pub fault : (sub : ℕ) → edit_of c ≡ Err (faulty sub) → run w session c ≡ (refused 6 (Some sub), w)
+  pub fault : (sub : ℕ) → edit_of c ≡ Err (faulty sub) → run n w session c ≡ (refused 6 (Some sub), w)
   -- a version, a day or a row that can't be read: a bad value, unless a refusal that comes before it stands
-  pub no_value : edit_of c ≡ Err unreadable → run w session c ≡ (refused (unread w.state) None, w)
-  pub no_row : (row : asked.AskedRow) → edit_of c ≡ Err (unreadable_row row) → run w session c ≡ (refused (unread_row w.state row) None, w)
+  pub no_value : edit_of c ≡ Err unreadable → run n w session c ≡ (refused (unread w.state) None, w)
+  pub no_row : (row : asked.AskedRow) → edit_of c ≡ Err (unreadable_row row) → run n w session c ≡ (refused (unread_row w.state row) None, w)
 
--- what a question or a mark of a session is answered in a world
-pub record IsAnswered (w : World) (session : ℕ) : Type 0 where
+-- what a question or a mark of a session is answered in a world, after n evaluations
+pub record IsAnswered (n : ℕ) (w : World) (session : ℕ) : Type 0 where
   -- the table: each listed request with its fresh answer, in list order
-  pub table : run w session asked.table ≡ (text (table_text (table_of w.state)), w)
+  pub table : run n w session asked.table ≡ (text (table_text (table_of w.state)), w)
   -- a cell: the fresh answer to a listed request
-  pub cell : (x : Triple) (a : Evaluated) → answer_at w.state x ≡ Some a → run w session (asked.cell x) ≡ (text (one_cell_text (x, a)), w)
-  pub unlisted : (x : Triple) → answer_at w.state x ≡ None → run w session (asked.cell x) ≡ (refused 7 None, w)
+  pub cell : (x : Triple) (a : Evaluated) → answer_at w.state x ≡ Some a → run n w session (asked.cell x) ≡ (text (one_cell_text (x, a)), w)
+  pub unlisted : (x : Triple) → answer_at w.state x ≡ None → run n w session (asked.cell x) ≡ (refused 7 None, w)
   -- a request of the JSON Profile, listed or not: the response with its fresh answer
-  pub ask : (d : Data) (request : Request) → asks d ≡ Some request → run w session (asked.ask d) ≡ (text (response_text (answer_in w.state request) request), w)
-  pub no_request : (d : Data) → asks d ≡ None → run w session (asked.ask d) ≡ (refused 14 None, w)
+  pub ask : (d : Data) (request : Request) → asks d ≡ Some request → run n w session (asked.ask d) ≡ (text (response_text (answer_in w.state request) request), w)
+  pub no_request : (d : Data) → asks d ≡ None → run n w session (asked.ask d) ≡ (refused 14 None, w)
   -- the reports: their definitions over the fresh table, of names that are listed
-  pub counts : run w session asked.counts ≡ (text (counts_text (report.counts w.state)), w)
-  pub can : (person : List ℕ) (found : List (List ℕ × List ℕ)) → report.can w.state person ≡ Ok found → run w session (asked.can person) ≡ (text (can_text found), w)
-  pub can_unlisted : (person : List ℕ) → has_name person w.state.names.people ≡ false → run w session (asked.can person) ≡ (refused 7 None, w)
-  pub who : (action resource : List ℕ) (people : List (List ℕ)) → report.who w.state action resource ≡ Ok people → run w session (asked.who action resource) ≡ (text (who_text people), w)
+  pub counts : run n w session asked.counts ≡ (text (counts_text (report.counts w.state)), w)
+  pub can : (person : List ℕ) (found : List (List ℕ × List ℕ)) → report.can w.state person ≡ Ok found → run n w session (asked.can person) ≡ (text (can_text found), w)
+  pub can_unlisted : (person : List ℕ) → has_name person w.state.names.people ≡ false → run n w session (asked.can person) ≡ (refused 7 None, w)
+  pub who : (action resource : List ℕ) (people : List (List ℕ)) → report.who w.state action resource ≡ Ok people → run n w session (asked.who action resource) ≡ (text (who_text people), w)
   pub who_unlisted : (action resource : List ℕ) → (has_name action w.state.names.actions && has_name resource w.state.names.resources) ≡ false
-      → run w session (asked.who action resource) ≡ (refused 7 None, w)
-  pub by_rule : (policy : List ℕ) (rule : Option (List ℕ)) → run w session (asked.by_rule policy rule) ≡ (text (by_rule_text (report.by_rule w.state policy rule)), w)
+      → run n w session (asked.who action resource) ≡ (refused 7 None, w)
+  pub by_rule : (policy : List ℕ) (rule : Option (List ℕ)) → run n w session (asked.by_rule policy rule) ≡ (text (by_rule_text (report.by_rule w.state policy rule)), w)
   -- a mark: the fresh table of that moment is kept for its session alone
-  pub mark : run w session asked.mark ≡ (replies.marked w.state.serial, marked w session)
+  pub mark : run n w session asked.mark ≡ (replies.marked w.state.serial, marked w session)
   -- notices: the requests whose answers differ between the marked table and the fresh one, and the mark stays
-  pub notices : (kept : Kept) → mark_of w session ≡ Some kept → run w session asked.notices ≡ (text (notices_text (notices kept w.state)), w)
-  pub no_mark : mark_of w session ≡ None → run w session asked.notices ≡ (refused 12 None, w)
+  pub notices : (kept : Kept) → mark_of w session ≡ Some kept → run n w session asked.notices ≡ (text (notices_text (notices kept w.state)), w)
+  pub no_mark : mark_of w session ≡ None → run n w session asked.notices ≡ (refused 12 None, w)
+  -- the work: the number of evaluations, and the world stays
+  pub work : run n w session asked.work ≡ (text (work_text n), w)
 
--- each line, edit and question in each world; and what others mark or ask has no part in a session's notices
+-- each line, edit and question in each world, after any number of evaluations; and what others mark or ask has no part in a session's notices
 pub record IsHeadline : Type 0 where
   pub lines : (w : World) (line : List ℕ) → IsHeard w line
-  pub commands : (w : World) (session : ℕ) (c : asked.Command) → IsEdited w session c
-  pub questions : (w : World) (session : ℕ) → IsAnswered w session
+  pub commands : (n : ℕ) (w : World) (session : ℕ) (c : asked.Command) → IsEdited n w session c
+  pub questions : (n : ℕ) (w : World) (session : ℕ) → IsAnswered n w session
   pub sessions : SessionsAreSeparate
 
 -- what a served review promises: its bytes are the replies to the lines of the bytes that it read, in order, each in the world that the

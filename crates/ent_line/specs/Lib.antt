@@ -14,4 +14,5 @@ pub mod Runs
 pub mod Serving
 pub mod Sessions
 pub mod Step
+pub mod Work
 pub mod World

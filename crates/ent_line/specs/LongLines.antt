@@ -7,11 +7,11 @@ use Rattle.ent_line.specs.Replies.{refused}
 use Rattle.ent_line.specs.Runs.{LongLinesAlike}
 use Rattle.ent_line.specs.Step.{step, Answers}
 
-too_long : (w : World) (line : List ℕ) → line_limit < length line → step w line ≡ (refused 1 None, w)
+too_long : (n : ℕ) (w : World) (line : List ℕ) → line_limit < length line → step n w line ≡ (refused 1 None, w)
 unfolding step
-too_long w line lt = rw (lt-ltb line_limit (length line) lt)
+too_long n w line lt = rw (lt-ltb line_limit (length line) lt)
 
 -- all lines that are too long are answered alike
 pub long_lines_alike : LongLinesAlike Answers
-long_lines_alike w v line other a p q (inl e) = inl (e ∙ too_long w line p ∙ sym (too_long w other q))
-long_lines_alike w v line other a p q (inr h) = absurd (omega (arith, h.2))
+long_lines_alike w v line other a p q (n, inl e) = (n, inl (e ∙ too_long n w line p ∙ sym (too_long n w other q)))
+long_lines_alike w v line other a p q (n, inr h) = absurd (omega (arith, h.2))

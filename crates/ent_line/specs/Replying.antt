@@ -1,10 +1,13 @@
 -- What a command does to a service, and what a question tells of it.
-use Rattle.std.specs.Prelude.{◌≡◌, IfOk, List, Result, Ok, Err}
+use Rattle.std.specs.Prelude.{◌≡◌, ℕ, IfOk, List, Option, Some, None, Result, Ok, Err}
 use Rattle.std.specs.declared.alloc.AllocError.{AllocError}
+use Rattle.ent_cells.specs.Count.{CountsAtMost}
 use Rattle.ent_finder.specs.Rows.{Source}
 use Rattle.ent_finder.specs.Slots.{Slots}
 use Rattle.ent_report.specs.World.{World}
+use Rattle.ent_table.specs.State.{State}
 use Rattle.ent_line.specs.Replies.{Answer, reply_view}
+use Rattle.ent_line.specs.Work.{IsWorked, count_of}
 use Rattle.ent_line.specs.World.{world_of}
 use Rattle.ent_line.specs.declared.reply.Reply.{Reply}
 use Rattle.ent_line.specs.declared.service.Service.{Service}
@@ -17,3 +20,17 @@ Replies sources slots command old new (Err e) = world_of sources slots new ≡ w
 -- the reply is what the question is answered in the service's world, or memory is wanting
 abbrev pub Tells : {A P : Type 0} → (A → List Source) → (P → List Slots) → (World → Answer) → Service A P → Result Reply AllocError → Type 0
 Tells sources slots question service result = IfOk result (λ reply. reply_view reply ≡ question (world_of sources slots service))
+
+-- the count of evaluations stays, or rose by what is asked for at most
+abbrev pub IsWorkedAtMost : Option ℕ → ℕ → ℕ → Type 0
+IsWorkedAtMost None before after = after ≡ before
+IsWorkedAtMost (Some n) before after = CountsAtMost before after n
+
+-- it became what the reply says of it, or memory is wanting
+abbrev pub IsWorkedBy : Option ℕ → ℕ → ℕ → Result Reply AllocError → Type 0
+IsWorkedBy work before after (Ok reply) = IsWorked work before after (reply_view reply)
+IsWorkedBy work before after (Err e) = IsWorkedAtMost work before after
+
+-- the count of a service became what is asked for in its state
+abbrev pub Works : {A P : Type 0} → (A → List Source) → (P → List Slots) → (State → Option ℕ) → Service A P → Service A P → Result Reply AllocError → Type 0
+Works sources slots work old new result = IsWorkedBy (work (world_of sources slots old).state) (count_of old) (count_of new) result

@@ -1,5 +1,5 @@
 -- The JSON of reports and notices.
-use Rattle.std.specs.Prelude.{ℕ, List, Option, Some, None, codes}
+use Rattle.std.specs.Prelude.{ℕ, List, ◌++◌, Option, Some, None, codes, decimal}
 use Rattle.serde_json.specs.Data as json
 use Rattle.serde_json.specs.Data.{Data}
 use Rattle.serde_json.specs.Written.{compact_text}
@@ -98,3 +98,7 @@ by_rule_text found = compact_text (by_rule_reply found)
 -- the text of the reply to `notices`
 unfoldable pub notices_text : List Notice → List ℕ
 notices_text notices = compact_text (notices_reply notices)
+
+-- the text of the reply to `work`: how many times a request was evaluated
+unfoldable pub work_text : ℕ → List ℕ
+work_text n = codes "{\"evaluations\":" ++ (decimal n ++ codes "}")

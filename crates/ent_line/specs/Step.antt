@@ -43,7 +43,7 @@ use Rattle.ent_line.specs.Cells.{one_cell_text, response_text, table_text}
 use Rattle.ent_line.specs.Lines.{line_limit}
 use Rattle.ent_line.specs.Replies as replies
 use Rattle.ent_line.specs.Replies.{Answer, accepted, refused, text}
-use Rattle.ent_line.specs.Reports.{by_rule_text, can_text, counts_text, notices_text, who_text}
+use Rattle.ent_line.specs.Reports.{by_rule_text, can_text, counts_text, notices_text, who_text, work_text}
 
 -- ---- edits
 
@@ -205,42 +205,51 @@ notices_or_refusal s (Some kept) = text (notices_text (notices kept s))
 unfoldable pub changes_told : World → ℕ → Answer
 changes_told w session = notices_or_refusal w.state (mark_of w session)
 
--- what a command of a session is answered, and the world after it
-unfoldable pub run : World → ℕ → Command → Answer × World
-run w session (asked.add_name list name) = name_added w list name
-run w session (asked.drop_name list name) = name_dropped w list name
-run w session (asked.add_policy number d) = policy_added w number d
-run w session (asked.replace_policy number d) = policy_replaced w number d
-run w session (asked.withdraw_policy number kind id version) = policy_withdrawn w number kind id version
-run w session (asked.set_attribute number row) = attribute_set w number row
-run w session (asked.set_root d) = root_set w d
-run w session (asked.set_day day) = day_set w day
-run w session asked.table = (table_told w.state, w)
-run w session (asked.cell x) = (cell_told w.state x, w)
-run w session (asked.ask d) = (request_answered w.state d, w)
-run w session asked.counts = (counts_told w.state, w)
-run w session (asked.can person) = (can_told w.state person, w)
-run w session (asked.who action resource) = (who_told w.state action resource, w)
-run w session (asked.by_rule policy rule) = (by_rule_told w.state policy rule, w)
-run w session asked.mark = table_marked w session
-run w session asked.notices = (changes_told w session, w)
+-- how many times a request was evaluated
+unfoldable pub work_told : ℕ → Answer
+work_told n = text (work_text n)
+
+-- what a command of a session is answered after n evaluations, and the world after it. Only `work` tells n
+unfoldable pub run : ℕ → World → ℕ → Command → Answer × World
+run n w session (asked.add_name list name) = name_added w list name
+run n w session (asked.drop_name list name) = name_dropped w list name
+run n w session (asked.add_policy number d) = policy_added w number d
+run n w session (asked.replace_policy number d) = policy_replaced w number d
+run n w session (asked.withdraw_policy number kind id version) = policy_withdrawn w number kind id version
+run n w session (asked.set_attribute number row) = attribute_set w number row
+run n w session (asked.set_root d) = root_set w d
+run n w session (asked.set_day day) = day_set w day
+run n w session asked.table = (table_told w.state, w)
+run n w session (asked.cell x) = (cell_told w.state x, w)
+run n w session (asked.ask d) = (request_answered w.state d, w)
+run n w session asked.counts = (counts_told w.state, w)
+run n w session (asked.can person) = (can_told w.state person, w)
+run n w session (asked.who action resource) = (who_told w.state action resource, w)
+run n w session (asked.by_rule policy rule) = (by_rule_told w.state policy rule, w)
+run n w session asked.mark = table_marked w session
+run n w session asked.notices = (changes_told w session, w)
+run n w session asked.work = (work_told n, w)
 
 -- ---- lines
 
 -- a command of a session, or the refusal of what isn't one
-abbrev pub requested : World → Result (ℕ × Command) ℕ → Answer × World
-requested w (Ok x) = run w x.0 x.1
-requested w (Err refusal) = (refused refusal None, w)
+abbrev pub requested : ℕ → World → Result (ℕ × Command) ℕ → Answer × World
+requested n w (Ok x) = run n w x.0 x.1
+requested n w (Err refusal) = (refused refusal None, w)
 
 -- what was read, or the refusal of what couldn't be
-abbrev pub told : World → Option Data → Answer × World
-told w None = (refused 2 None, w)
-told w (Some d) = requested w (request_of d)
+abbrev pub told : ℕ → World → Option Data → Answer × World
+told n w None = (refused 2 None, w)
+told n w (Some d) = requested n w (request_of d)
 
--- what a line is answered, and the world after it
-unfoldable pub step : World → List ℕ → Answer × World
-step w line = if nat_lt line_limit (length line) then (refused 1 None, w) else told w (data_of line)
+-- what a line is answered after n evaluations, and the world after it
+unfoldable pub step : ℕ → World → List ℕ → Answer × World
+step n w line = if nat_lt line_limit (length line) then (refused 1 None, w) else told n w (data_of line)
 
--- the step, or want of memory, which changes nothing and is never told of a line that is too long
+-- the step after n evaluations, or want of memory, which changes nothing and is never told of a line that is too long
+abbrev pub AnswersAfter : ℕ → World → List ℕ → Answer → World → Type 0
+AnswersAfter n w line a v = ((a, v) ≡ step n w line) ⊎ ((a ≡ refused 15 None) × (v ≡ w) × (length line ≤ line_limit))
+
+-- the same after some number of evaluations. A run leaves open which; `Service::handle` says it, and what a line does to it
 abbrev pub Answers : World → List ℕ → Answer → World → Type 0
-Answers w line a v = ((a, v) ≡ step w line) ⊎ ((a ≡ refused 15 None) × (v ≡ w) × (length line ≤ line_limit))
+Answers w line a v = (n : ℕ) × AnswersAfter n w line a v

@@ -54,6 +54,8 @@ pub(crate) enum Command<'a, J> {
     Mark,
     /// Asks what changed since the mark.
     Notices,
+    /// Asks how many times a request was evaluated.
+    Work,
 }
 
 /// The number of the session, 0 if the key is absent. `None` if it is no whole number. A negative number is none of the

@@ -2,7 +2,7 @@
 
 ghost use Rattle.std.specs.Prelude.{◌≡◌, option_map};
 ghost use Rattle.ent_line.specs.Asked.{by_rule_command, can_command, counts_command, decided_named};
-ghost use Rattle.ent_line.specs.Asked.{mark_command, marking_named, notices_command, who_command};
+ghost use Rattle.ent_line.specs.Asked.{mark_command, marking_named, notices_command, who_command, work_command};
 ghost use Rattle.ent_line.specs.CommandView.{asked_view};
 
 use crate::attribute_command::text_or_null;
@@ -81,6 +81,17 @@ fn notices_command<J: JsonTree>(object: &J) -> Result<Command<'_, J>, u8>
     Ok(Command::Notices)
 }
 
+/// `work`.
+#[tactic(auto, unfolding(crate::specs::Asked::work_command))]
+fn work_command<J: JsonTree>(object: &J) -> Result<Command<'_, J>, u8>
+    ensures { asked_view J.content result ≡ work_command (J.content object.now) }
+{
+    if !object.has_only(&["do", "session"]) {
+        return Err(SHAPE);
+    }
+    Ok(Command::Work)
+}
+
 /// The report of decisions of that name.
 #[tactic(auto, unfolding(crate::specs::Asked::decided_named))]
 pub(crate) fn decided_named<'a, J: JsonTree>(
@@ -104,7 +115,7 @@ pub(crate) fn decided_named<'a, J: JsonTree>(
     None
 }
 
-/// The command of that name that is about a session's mark.
+/// The command of that name that is about a session's mark, or about the work that was done.
 #[tactic(auto, unfolding(crate::specs::Asked::marking_named))]
 pub(crate) fn marking_named<'a, J: JsonTree>(
     name: &str,
@@ -117,6 +128,9 @@ pub(crate) fn marking_named<'a, J: JsonTree>(
     }
     if name == "notices" {
         return Some(notices_command(object));
+    }
+    if name == "work" {
+        return Some(work_command(object));
     }
     None
 }

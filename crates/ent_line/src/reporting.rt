@@ -1,14 +1,16 @@
 //! What the service answers by reports of decisions, and by the marks of sessions.
 
-ghost use Rattle.std.specs.Prelude.{◌<◌};
+ghost use Rattle.std.specs.Prelude.{◌≡◌, ◌<◌, IfOk};
 ghost use Rattle.std.specs.Option.{option_copied};
+ghost use Rattle.ent_line.specs.Replies.{reply_view};
 ghost use Rattle.ent_line.specs.Replying.{Replies, Tells};
-ghost use Rattle.ent_line.specs.Step.{by_rule_told, can_told, changes_told, counts_told, table_marked, who_told};
+ghost use Rattle.ent_line.specs.Step.{by_rule_told, can_told, changes_told, counts_told, table_marked, who_told, work_told};
+ghost use Rattle.ent_line.specs.Work.{count_of};
 ghost use Rattle.ent_line.specs.World.{IsReady};
 
 use crate::refusal::{NO_MARK, NOT_THERE};
 use crate::reply::Reply;
-use crate::reports::{by_rule_text, can_text, counts_text, notices_text, who_text};
+use crate::reports::{by_rule_text, can_text, counts_text, notices_text, who_text, work_text};
 use crate::service::Service;
 use ent_finder::{Attributes, Policies};
 use ent_report::{NoticeFault, ReportFault};
@@ -21,6 +23,7 @@ impl<A: Attributes, P: Policies> Service<A, P> {
         requires { IsReady A.sources P.slots self.old }
         ensures ready { IsReady A.sources P.slots self.new }
         ensures reply { Replies A.sources P.slots (λ w. (counts_told w.state, w)) self.old self.new result }
+        ensures work { count_of self.new ≡ count_of self.old }
     {
         self.desk.keep_counts();
         let text = counts_text(self.alloc, self.desk.counts())?;
@@ -83,6 +86,7 @@ impl<A: Attributes, P: Policies> Service<A, P> {
         requires session { session < 16 }
         ensures ready { IsReady A.sources P.slots self.new }
         ensures reply { Replies A.sources P.slots (λ w. table_marked w session) self.old self.new result }
+        ensures work { count_of self.new ≡ count_of self.old }
     {
         let serial = self.desk.mark(session)?;
         Ok(Reply::Marked(serial))
@@ -103,5 +107,14 @@ impl<A: Attributes, P: Policies> Service<A, P> {
             Err(NoticeFault::NoMark) => Ok(Reply::Refused(NO_MARK, None)),
             Err(NoticeFault::Memory) => Err(AllocError),
         }
+    }
+
+    /// `work`.
+    #[tactic(auto, unfolding(crate::specs::Step::work_told))]
+    pub(crate) fn work(&self) -> Result<Reply, AllocError>
+        ensures { IfOk result (λ reply. reply_view reply ≡ work_told (count_of self.now)) }
+    {
+        let text = work_text(self.alloc, self.desk.review().evaluations())?;
+        Ok(Reply::Text(text))
     }
 }

@@ -6,13 +6,14 @@ ghost use Rattle.serde_json.specs.Data as json;
 ghost use Rattle.ent_json.specs.Text.{items_tokens_of, tokens_of};
 ghost use Rattle.ent_line.specs.Reports.{counts_data, decision_data, notice_data, pair_data, triple_data};
 ghost use Rattle.ent_line.specs.Reports.{by_rule_reply, can_reply, counts_reply, notices_reply, who_reply};
-ghost use Rattle.ent_line.specs.Reports.{by_rule_text, can_text, counts_text, notices_text, who_text};
+ghost use Rattle.ent_line.specs.Reports.{by_rule_text, can_text, counts_text, notices_text, who_text, work_text};
 
 use crate::cell::{decision_text, write_text};
 use ent_combine::Outcome;
 use ent_json::JsonText;
 use ent_report::{Counts, Notice};
 use ent_values::Text;
+use itoa::Buffer;
 use std::alloc::{AllocError, Global};
 
 /// Writes a number of cells at a key.
@@ -240,4 +241,16 @@ pub(crate) fn notices_text(alloc: Global, notices: &[Notice]) -> Result<String, 
     let mut out = JsonText::with_room(alloc)?;
     write_notices_reply(&mut out, notices)?;
     Ok(out.into_string())
+}
+
+/// The text of the reply to `work`: how many times a request was evaluated.
+#[tactic(auto, unfolding(crate::specs::Reports::work_text))]
+pub(crate) fn work_text(alloc: Global, evaluations: u128) -> Result<String, AllocError>
+    ensures { IfOk result (λ s. string_bytes s ≡ work_text evaluations) }
+{
+    let mut number = Buffer::new();
+    let mut text = String::from_str(alloc, "{\"evaluations\":")?;
+    text.push_str(number.format(evaluations))?;
+    text.push_str("}")?;
+    Ok(text)
 }

@@ -1,15 +1,19 @@
 //! The service: a desk that answers lines.
 
-ghost use Rattle.std.specs.Prelude.{◌≡◌, ◌<◌};
+ghost use Rattle.std.specs.Prelude.{◌≡◌, ◌<◌, Ok};
 ghost use Rattle.std.specs.Option.{option_copied};
+ghost use Rattle.std.specs.Result.{result_ok};
 ghost use Rattle.ent_table.specs.Names.{triple_of};
 ghost use Rattle.ent_report.specs.World as held;
+ghost use Rattle.ent_line.specs.Asked as asked;
 ghost use Rattle.ent_line.specs.Asked.{request_of};
 ghost use Rattle.ent_line.specs.CommandView.{command_view, row_view};
-ghost use Rattle.ent_line.specs.Replying.{Replies, Tells};
+ghost use Rattle.ent_line.specs.Replying.{Replies, Tells, Works};
+ghost use Rattle.ent_line.specs.Sessions.{asked_by};
 ghost use Rattle.ent_line.specs.Step.{attribute_set, day_set, edited, name_added, name_dropped, root_set};
 ghost use Rattle.ent_line.specs.Step.{policy_added, policy_replaced, policy_withdrawn, unread, unread_row};
 ghost use Rattle.ent_line.specs.Step.{cell_told, data_of, request_answered, requested, run, table_told, told};
+ghost use Rattle.ent_line.specs.Work.{asked_work, command_work, count_of, edit_work};
 ghost use Rattle.ent_line.specs.World.{IsReady, world_of};
 
 use crate::answering::Answering;
@@ -43,8 +47,9 @@ use std::alloc::{AllocError, Global};
 /// `type`, an optional `issuer`, `values` and an optional `module`; `root.set` with `reference` and `day.set` with
 /// `day`, or null for none; `table`; `cell` with `person`, `action` and `resource`; `ask` with `request`; `counts`;
 /// `can` with `person`, and `who` with `action` and `resource`; `by_rule` with `policy` and `rule`, or null for a
-/// default; `mark` and `notices`, each of the line's session. A line that isn't refused is an edit, a mark, or a
-/// question, which changes nothing but the count of evaluations; a refused line changes nothing.
+/// default; `mark` and `notices`, each of the line's session; and `work`. A line that isn't refused is an edit, a mark,
+/// or a question, which changes nothing but the count of evaluations; a refused line changes nothing, but where memory
+/// is wanting its evaluations may be counted.
 #[derive(Drop)]
 pub struct Service<A = AttributeFinder, P = PolicyFinder> {
     pub(crate) alloc: Global,
@@ -57,6 +62,7 @@ impl<A: Attributes, P: Policies> Service<A, P> {
         requires { held.IsReady A.sources P.slots desk }
         ensures ready { IsReady A.sources P.slots result }
         ensures world { world_of A.sources P.slots result ≡ held.world_of A.sources P.slots desk }
+        ensures count { count_of result ≡ desk.review.pdp.evaluations }
     {
         Service { alloc, desk }
     }
@@ -66,6 +72,7 @@ impl<A: Attributes, P: Policies> Service<A, P> {
         requires { IsReady A.sources P.slots self.old }
         ensures ready { IsReady A.sources P.slots self.new }
         ensures reply { Replies A.sources P.slots (λ w. edited w edit) self.old self.new result }
+        ensures work { Works A.sources P.slots (λ s. edit_work s (Ok edit)) self.old self.new result }
     {
         match self.desk.edit(edit) {
             Ok(accepted) => Ok(Reply::Accepted(accepted)),
@@ -79,6 +86,8 @@ impl<A: Attributes, P: Policies> Service<A, P> {
         requires { IsReady A.sources P.slots self.old }
         ensures ready { IsReady A.sources P.slots self.new }
         ensures reply { Replies A.sources P.slots (λ w. name_added w list name.now) self.old self.new result }
+        ensures work { Works A.sources P.slots (λ s. command_work s (asked.add_name list name.now))
+            self.old self.new result }
     {
         let name = Text::from_str(self.alloc, name)?;
         self.edit(Edit::AddName(list, name))
@@ -90,6 +99,8 @@ impl<A: Attributes, P: Policies> Service<A, P> {
         requires { IsReady A.sources P.slots self.old }
         ensures ready { IsReady A.sources P.slots self.new }
         ensures reply { Replies A.sources P.slots (λ w. name_dropped w list name.now) self.old self.new result }
+        ensures work { Works A.sources P.slots (λ s. command_work s (asked.drop_name list name.now))
+            self.old self.new result }
     {
         let name = Text::from_str(self.alloc, name)?;
         self.edit(Edit::DropName(list, name))
@@ -101,6 +112,8 @@ impl<A: Attributes, P: Policies> Service<A, P> {
         requires { IsReady A.sources P.slots self.old }
         ensures ready { IsReady A.sources P.slots self.new }
         ensures reply { Replies A.sources P.slots (λ w. policy_added w number (J.content document.now))
+            self.old self.new result }
+        ensures work { Works A.sources P.slots (λ s. command_work s (asked.add_policy number (J.content document.now)))
             self.old self.new result }
     {
         match read_document(self.alloc, document) {
@@ -119,6 +132,8 @@ impl<A: Attributes, P: Policies> Service<A, P> {
         requires { IsReady A.sources P.slots self.old }
         ensures ready { IsReady A.sources P.slots self.new }
         ensures reply { Replies A.sources P.slots (λ w. policy_replaced w number (J.content document.now))
+            self.old self.new result }
+        ensures work { Works A.sources P.slots (λ s. command_work s (asked.replace_policy number (J.content document.now)))
             self.old self.new result }
     {
         match read_document(self.alloc, document) {
@@ -150,6 +165,8 @@ impl<A: Attributes, P: Policies> Service<A, P> {
         requires { IsReady A.sources P.slots self.old }
         ensures ready { IsReady A.sources P.slots self.new }
         ensures reply { Replies A.sources P.slots (λ w. policy_withdrawn w number kind id.now version.now)
+            self.old self.new result }
+        ensures work { Works A.sources P.slots (λ s. command_work s (asked.withdraw_policy number kind id.now version.now))
             self.old self.new result }
     {
         let Some(version) = Version::parse(version) else {
@@ -184,6 +201,8 @@ impl<A: Attributes, P: Policies> Service<A, P> {
         ensures ready { IsReady A.sources P.slots self.new }
         ensures reply { Replies A.sources P.slots (λ w. attribute_set w number (row_view J.content row.entry))
             self.old self.new result }
+        ensures work { Works A.sources P.slots (λ s. command_work s (asked.set_attribute number (row_view J.content row.entry)))
+            self.old self.new result }
     {
         match read_row(self.alloc, &row)? {
             Some((key, values)) => self.edit(Edit::SetAttribute(number, key, values)),
@@ -197,6 +216,8 @@ impl<A: Attributes, P: Policies> Service<A, P> {
         requires { IsReady A.sources P.slots self.old }
         ensures ready { IsReady A.sources P.slots self.new }
         ensures reply { Replies A.sources P.slots (λ w. day_set w (option_copied day.entry)) self.old self.new result }
+        ensures work { Works A.sources P.slots (λ s. command_work s (asked.set_day (option_copied day.entry)))
+            self.old self.new result }
     {
         let Some(text) = day else {
             return self.edit(Edit::SetDay(None));
@@ -213,6 +234,8 @@ impl<A: Attributes, P: Policies> Service<A, P> {
         requires { IsReady A.sources P.slots self.old }
         ensures ready { IsReady A.sources P.slots self.new }
         ensures reply { Replies A.sources P.slots (λ w. root_set w (J.content reference.now)) self.old self.new result }
+        ensures work { Works A.sources P.slots (λ s. command_work s (asked.set_root (J.content reference.now)))
+            self.old self.new result }
     {
         match read_root(self.alloc, reference) {
             Ok(root) => self.edit(Edit::SetRoot(root)),
@@ -253,6 +276,8 @@ impl<A: Attributes, P: Policies> Service<A, P> {
         ensures ready { IsReady A.sources P.slots self.new }
         ensures reply { Replies A.sources P.slots (λ w. (request_answered w.state (J.content json.now), w))
             self.old self.new result }
+        ensures work { Works A.sources P.slots (λ s. command_work s (asked.ask (J.content json.now)))
+            self.old self.new result }
     {
         match read_request(self.alloc, json) {
             Ok(request) => {
@@ -275,7 +300,9 @@ impl<A: Attributes, P: Policies> Service<A, P> {
         requires ready { IsReady A.sources P.slots self.old }
         requires session { session < 16 }
         ensures ready { IsReady A.sources P.slots self.new }
-        ensures reply { Replies A.sources P.slots (λ w. run w session (command_view J.content command.entry))
+        ensures reply { Replies A.sources P.slots
+            (λ w. run (count_of self.old) w session (command_view J.content command.entry)) self.old self.new result }
+        ensures work { Works A.sources P.slots (λ s. command_work s (command_view J.content command.entry))
             self.old self.new result }
     {
         match command {
@@ -298,6 +325,7 @@ impl<A: Attributes, P: Policies> Service<A, P> {
             Command::ByRule(policy, rule) => self.by_rule(policy, rule),
             Command::Mark => self.mark(session),
             Command::Notices => self.notices(session),
+            Command::Work => self.work(),
         }
     }
 
@@ -305,7 +333,9 @@ impl<A: Attributes, P: Policies> Service<A, P> {
     fn answer<J: JsonTree>(&mut self, value: &J) -> Result<Reply, AllocError>
         requires { IsReady A.sources P.slots self.old }
         ensures ready { IsReady A.sources P.slots self.new }
-        ensures reply { Replies A.sources P.slots (λ w. requested w (request_of (J.content value.now)))
+        ensures reply { Replies A.sources P.slots
+            (λ w. requested (count_of self.old) w (request_of (J.content value.now))) self.old self.new result }
+        ensures work { Works A.sources P.slots (λ s. asked_work s (result_ok (request_of (J.content value.now))))
             self.old self.new result }
     {
         match request(value) {
@@ -318,7 +348,9 @@ impl<A: Attributes, P: Policies> Service<A, P> {
     fn respond(&mut self, line: &[u8]) -> Result<Reply, AllocError>
         requires { IsReady A.sources P.slots self.old }
         ensures ready { IsReady A.sources P.slots self.new }
-        ensures reply { Replies A.sources P.slots (λ w. told w (data_of line.now)) self.old self.new result }
+        ensures reply { Replies A.sources P.slots (λ w. told (count_of self.old) w (data_of line.now))
+            self.old self.new result }
+        ensures work { Works A.sources P.slots (λ s. asked_work s (asked_by line.now)) self.old self.new result }
     {
         let mut scratch = Scratch::new(self.alloc);
         match read_json(self.alloc, line, &mut scratch)? {
@@ -330,7 +362,9 @@ impl<A: Attributes, P: Policies> Service<A, P> {
 
 impl<A: Attributes, P: Policies> Answering for Service<A, P> {
     ghost use Rattle.ent_report.specs.World.{World};
-    ghost use Rattle.ent_line.specs.Step.{Answers};
+    ghost use Rattle.ent_line.specs.Replies.{reply_view};
+    ghost use Rattle.ent_line.specs.Step.{Answers, AnswersAfter};
+    ghost use Rattle.ent_line.specs.Work.{IsWorked, line_work};
     ghost use Rattle.ent_line.specs.LongLines.{long_lines_alike};
 
     ghost World = { World };
@@ -343,10 +377,24 @@ impl<A: Attributes, P: Policies> Answering for Service<A, P> {
 
     ghost long_lines_alike = { long_lines_alike };
 
-    /// Answers a line by one step of the service, or by refusal 15 where memory is wanting, after which everything is
-    /// as before.
+    /// Answers a line by one step of the service after the evaluations that it made so far, or by refusal 15 where
+    /// memory is wanting, after which everything is as before but that count.
+    ///
+    /// An accepted edit evaluates each cell that it touches once, and an answered request is evaluated once; where they
+    /// are refused for want of memory, no more than these are. Every other line evaluates nothing.
     #[tactic(auto, unfolding(crate::specs::Step::step))]
-    fn handle(&mut self, line: &[u8]) -> Reply {
+    fn handle(&mut self, line: &[u8]) -> Reply
+        requires { IsReady A.sources P.slots self.old }
+        ensures ready { IsReady A.sources P.slots self.new }
+        ensures answer { Answers (world_of A.sources P.slots self.old) line.now (reply_view result)
+            (world_of A.sources P.slots self.new) }
+        ensures step { AnswersAfter (count_of self.old) (world_of A.sources P.slots self.old) line.now
+            (reply_view result) (world_of A.sources P.slots self.new) }
+        ensures counted { IsWorked (line_work (world_of A.sources P.slots self.old).state line.now)
+            (count_of self.old) (count_of self.new) (reply_view result) }
+    {
+        // The count is a number of the type, so what is raised by nothing stays.
+        let _before = self.desk.review().evaluations();
         if line.len() > LINE_LIMIT {
             return Reply::Refused(TOO_LONG, None);
         }

@@ -3,6 +3,7 @@
 ghost use Rattle.std.specs.Prelude.{◌≡◌, ◌+◌, ◌-◌, ◌<◌, ◌^◌, min, IfOk, OnErr, OnOk, Some, option_copied};
 ghost use Rattle.ent_table.specs.Ask.{answer_in};
 ghost use Rattle.ent_table.specs.Change.{Edits, IsSure};
+ghost use Rattle.ent_table.specs.Counted.{IsCounted};
 ghost use Rattle.ent_table.specs.Review.{IsFresh, IsIdle, OnlyEvaluates, state_of};
 ghost use Rattle.ent_table.specs.Step.{step};
 ghost use Rattle.ent_report.specs.Reports.{by_rule, can, counts, who};
@@ -41,6 +42,7 @@ impl<A: Attributes, P: Policies> Desk<A, P> {
         ensures ready { IsReady A.sources P.slots result }
         ensures world { world_of A.sources P.slots result
             ≡ record { state = state_of A.sources P.slots review; marks = unmarked } }
+        ensures evaluations { result.review.pdp.evaluations ≡ review.pdp.evaluations }
     {
         Desk {
             alloc,
@@ -62,13 +64,17 @@ impl<A: Attributes, P: Policies> Desk<A, P> {
 
     /// Makes an edit of the review. The marks stay, and kept counts are forgotten.
     ///
-    /// Dropping a name evaluates nothing and takes no memory.
+    /// An accepted edit counts one evaluation of each cell that it touches. Dropping a name evaluates nothing and takes
+    /// no memory.
     pub fn edit(&mut self, edit: Edit) -> Result<Accepted, EditFault>
         requires { IsReady A.sources P.slots self.old }
         ensures ready { IsReady A.sources P.slots self.new }
         ensures step { Edits A.sources P.slots (λ s. step s edit) self.old.review self.new.review result }
         ensures sure { IsSure A.sources P.slots edit self.old.review result }
         ensures idle { IsIdle edit self.old.review.pdp.evaluations self.new.review.pdp.evaluations }
+        ensures counted { IsCounted (step (world_of A.sources P.slots self.old).state edit)
+            (world_of A.sources P.slots self.old).state
+            self.old.review.pdp.evaluations self.new.review.pdp.evaluations result }
         ensures marks { self.new.marks ≡ self.old.marks }
     {
         self.counts = None;
@@ -96,7 +102,7 @@ impl<A: Attributes, P: Policies> Desk<A, P> {
     }
 
     /// Marks the present table for a session in place of its last mark, and gives the number of edits so far. After a
-    /// refusal the last mark is still there.
+    /// refusal the last mark is still there. Nothing is evaluated.
     pub fn mark(&mut self, session: u8) -> Result<u64, AllocError>
         requires ready { IsReady A.sources P.slots self.old }
         requires session { session < 16 }
@@ -104,6 +110,7 @@ impl<A: Attributes, P: Policies> Desk<A, P> {
         ensures serial { IfOk result (λ serial. serial ≡ (world_of A.sources P.slots self.old).state.serial) }
         ensures ok { OnOk result (Marks A.sources P.slots session self.old self.new) }
         ensures err { OnErr result (KeepsWorld A.sources P.slots self.old self.new) }
+        ensures rest { self.new ≡ record self.old { marks = self.new.marks } }
     {
         let kept = Kept::of(self.alloc, &self.review)?;
         self.marks[session as usize] = Some(kept);

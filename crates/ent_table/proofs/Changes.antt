@@ -3,15 +3,17 @@ use Rattle.std.proofs.Common.{◌≡◌, ℕ, ◌+◌, List, [], ◌∷◌, ◌+
 use Rattle.std.specs.Prelude.{◌&&◌, not, filter}
 use Rattle.std.specs.Cmp.Lexicographic.{pointwise}
 use Rattle.std.proofs.lemmas.List.{length-map}
+use Rattle.ent_cells.specs.Cell.{unlike_count}
 use Rattle.ent_eval.specs.declared.answer.Answer.{Answer}
 use Rattle.ent_eval.specs.Same.{same_answer}
 use Rattle.ent_eval.proofs.Sames.{answer-Decides}
 use Rattle.ent_table.specs.declared.edit.List.{List as Which}
 use Rattle.ent_table.specs.declared.edit.List.TheVariants as which
-use Rattle.ent_table.specs.Difference.{differs, changes, unlike_count}
+use Rattle.ent_table.specs.Difference.{differs, changes}
 use Rattle.ent_table.specs.Names.{Names, Triple, triples, is_listed, has_name, list_of, others, with_list, with_name, without_name}
-use Rattle.ent_table.specs.State.{State, answer_to, fresh, fresh_with}
+use Rattle.ent_table.specs.State.{State, answer_to, fresh}
 use Rattle.ent_table.specs.Step.{next}
+use Rattle.ent_table.specs.Table.{requests_with}
 use Rattle.ent_table.proofs.Counts.{passing, AllPass, none_left, passing-not, passing-same, all_pass, listed_count, has_others, known-own, known-new, known-more, known-others, own_listed}
 use Rattle.ent_table.proofs.Places.{length-all_triples}
 
@@ -95,14 +97,19 @@ sizes names which.Actions name =
 sizes names which.Resources name =
     rw (length-all_triples names.actions (names.resources ++ name ∷ []) names.people, length-all_triples names.actions names.resources names.people, length-all_triples names.actions (name ∷ []) names.people, length-append names.resources (name ∷ [])) (grind arith)
 
-pub changes-name_added : (s : State) (list : Which) (name : List ℕ) → has_name name (list_of list s.names) ≡ false → changes s (more_names s list name) ≡ length (fresh_with s list (name ∷ []))
+-- those that weren't listed are those of the name
+pub new_among : (s : State) (list : Which) (name : List ℕ) → has_name name (list_of list s.names) ≡ false
+    → passing (λ x. not (is_listed s.names x)) (triples (with_name list name s.names)) ≡ length (requests_with list name s.names)
+new_among s list name h =
+    omega (arith, old_among s list name h, passing-not (is_listed s.names) (triples (with_name list name s.names)), sizes s.names list name)
+
+pub changes-name_added : (s : State) (list : Which) (name : List ℕ) → has_name name (list_of list s.names) ≡ false → changes s (more_names s list name) ≡ length (requests_with list name s.names)
 changes-name_added s list name h =
     let t = more_names s list name in
     let first : passing (differs s t) (triples t.names) ≡ passing (λ x. not (is_listed s.names x)) (triples t.names) =
     passing-same (is_listed t.names) (differs s t) (λ x. not (is_listed s.names x)) (new_alone s list name) (triples t.names) (own_listed t.names) in
     let second : passing (λ x. not (is_listed t.names x)) (triples s.names) ≡ 0 = none_left (is_listed t.names) (triples s.names) (still_listed s.names list name) in
-    parts s t
-    ∙ omega (arith, first, second, old_among s list name h, passing-not (is_listed s.names) (triples t.names), sizes s.names list name, length-map (triples (with_list list (name ∷ []) s.names)) (answer_to s))
+    parts s t ∙ omega (arith, first, second, new_among s list name h)
 
 -- ---- a name less
 
@@ -126,7 +133,7 @@ was_there name x xs h = by (not (pointwise nat_eq name x)) (sym (has_others name
   by false e = cc
 
 -- a request that is left was listed
-was_listed : (names : Names) (list : Which) (name : List ℕ) (x : Triple) → is_listed (without_name list name names) x ≡ true → is_listed names x ≡ true
+pub was_listed : (names : Names) (list : Which) (name : List ℕ) (x : Triple) → is_listed (without_name list name names) x ≡ true → is_listed names x ≡ true
 was_listed names which.People name x =
     first_of_both (has_name x.person (others name names.people)) (has_name x.person names.people) (has_name x.action names.actions && has_name x.resource names.resources) (was_there name x.person names.people)
 was_listed names which.Actions name x =

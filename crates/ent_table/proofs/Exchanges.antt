@@ -1,9 +1,9 @@
 -- Another document, or none, under a key of one module.
 use Rattle.std.proofs.Common.{◌≡◌, ℕ, zero, suc, ◌+◌, ◌-◌, ◌<◌, ◌≤◌, Bool, true, false, cond, List, map, length, Option, Some, None, IsSome, is_some, slice_set as set, refl, sym, ap, ◌∙◌, arith}
-use Rattle.std.specs.FinMap.{empty, empty_of_len, get, get-empty, get-insert, get-remove, insert, len, len-insert, len-remove, same_map}
+use Rattle.std.specs.FinMap.{empty, empty_of_len, get, get-empty, get-insert, insert, len, len-insert, len-remove, same_map}
 use Rattle.std.specs.Ordering.{eq_by_cmp, is_eq}
 use Rattle.std.proofs.lemmas.Cmp.{tied_itself}
-use Rattle.std.proofs.lemmas.List.{get_or-map, get_or-set_same, map-set, set-get_or, set-set}
+use Rattle.std.proofs.lemmas.List.{get_or-map, get_or-set_same, length-map, map-set, set-get_or, set-set}
 use Rattle.std.proofs.lemmas.List.Sums.{sum_by-set}
 use Rattle.ent_policy.specs.declared.document.Tree.{Tree}
 use Rattle.ent_policy.specs.declared.key.DocKey.{DocKey}
@@ -11,9 +11,14 @@ use Rattle.ent_finder.specs.Slots.{Docs, Slots, document_at, document_count, hel
 use Rattle.ent_finder.proofs.Held.{get-held, held-insert}
 use Rattle.ent_finder.proofs.Keys.{key_cmp_antisymmetric}
 use Rattle.ent_finder.proofs.Sorted.{equal}
+use Rattle.ent_table.proofs.Replaced.{get-with}
 use Rattle.ent_table.specs.State.{State}
 use Rattle.ent_table.specs.Review.{policy_at}
 use Rattle.ent_table.specs.Step.{holds, with_policy}
+
+-- as many modules as there are slots
+pub held_within : (ms : List Slots) (n : ℕ) → n < length (map held ms) → n < length ms
+held_within ms n h = omega (arith, h, length-map ms held)
 
 -- what a module holds
 pub held-module : (ms : List Slots) (n : ℕ) → n < length ms → module_at (map held ms) n ≡ held (module_at ms n)
@@ -35,10 +40,6 @@ there ms n k o h =
     ap (λ (m : Slots). is_some (get m k)) (get_or-set_same ms n (insert (module_at ms n) k o) empty h)
     ∙ ap is_some (get-insert key_cmp_total (module_at ms n) k o k)
     ∙ ap (λ r. is_some (cond (is_eq r) (Some o) (get (module_at ms n) k))) (tied_itself key_cmp_total k)
-
-get-with : (m : Docs) (k : DocKey) (o : Option Tree) (q : DocKey) → get (with_document m k o) q ≡ cond (eq_by_cmp key_cmp q k) o (get m q)
-get-with m k None q = get-remove key_cmp_total m k q
-get-with m k (Some d) q = get-insert key_cmp_total m k d q
 
 -- an exchange and then another with what came out
 docs-undone : (m : Docs) (k : DocKey) (o : Option Tree) → with_document (with_document m k o) k (get m k) ≡ m

@@ -4,16 +4,15 @@ use Rattle.std.specs.List.{flat_map}
 use Rattle.std.proofs.lemmas.List.{drop_all, drop_at, length-map, map-append, take_all, take_at}
 use Rattle.std.proofs.lemmas.List.Concat.{flat_map_single}
 use Rattle.std.proofs.lemmas.Grind.{flat_map-append}
-use Rattle.ent_eval.specs.declared.answer.Answer.{Answer}
 use Rattle.ent_table.specs.declared.edit.List.{List as Which}
 use Rattle.ent_table.specs.declared.edit.List.TheVariants as which
 use Rattle.ent_table.specs.Names.{Names, Triple, all_triples, cell_count, list_of, others, triple_of, triples, with_actions, with_list, with_name, with_resources, without_name}
 use Rattle.ent_table.specs.Place.{StandsAt, blocks_of}
-use Rattle.ent_table.specs.Shape.{without, woven}
-use Rattle.ent_table.specs.Table.{grown}
-use Rattle.ent_table.proofs.Narrowed.{without-map}
+use Rattle.ent_cells.specs.Shape.{without, woven}
+use Rattle.ent_table.specs.Table.{behind, requests_with}
+use Rattle.ent_cells.proofs.Narrowed.{without-map}
 use Rattle.ent_table.proofs.Places.{length-all_triples, length-with_actions}
-use Rattle.ent_table.proofs.Woven.{woven-map}
+use Rattle.ent_cells.proofs.Woven.{woven-map}
 
 module _ {A B : Type 0} where
   -- each block without its middle
@@ -122,7 +121,7 @@ triples-without which.Resources names name place s =
     ∙ sym (by_pairs names.people names.actions (others name names.resources))
 
 -- the cells that are left are those of the requests that are left
-pub dropped_cells : (f : Triple → Answer) (list : Which) (names : Names) (name : List ℕ) (place : ℕ) → StandsAt name (list_of list names) place
+pub dropped_cells : {B : Type 0} (f : Triple → B) (list : Which) (names : Names) (name : List ℕ) (place : ℕ) → StandsAt name (list_of list names) place
     → without (blocks_of list names).count (blocks_of list names).width (place * (blocks_of list names).each) (blocks_of list names).each (map f (triples names)) ≡ map f (triples (without_name list name names))
 dropped_cells f list names name place s =
     sym (without-map f (blocks_of list names).count (blocks_of list names).width (place * (blocks_of list names).each) (blocks_of list names).each (triples names))
@@ -131,8 +130,8 @@ dropped_cells f list names name place s =
 -- ---- with a name more
 
 -- the cells with the new ones are those of the requests with the new ones
-pub added_cells : (f : Triple → Answer) (list : Which) (names : Names) (name : List ℕ)
-    → grown list (blocks_of list names) (map f (triples names)) (map f (triples (with_list list (name ∷ []) names))) ≡ map f (triples (with_name list name names))
+pub added_cells : {B : Type 0} (f : Triple → B) (list : Which) (names : Names) (name : List ℕ)
+    → woven (behind list (blocks_of list names)).count (behind list (blocks_of list names)).width (behind list (blocks_of list names)).each (map f (triples names)) (map f (requests_with list name names)) ≡ map f (triples (with_name list name names))
 added_cells f which.People names name =
     sym (map-append f (triples names) (triples (with_list which.People (name ∷ []) names)))
     ∙ ap (map f) (sym (flat_map-append (λ p. with_actions p names.actions names.resources) names.people (name ∷ [])))

@@ -1,5 +1,5 @@
 -- Other values in the row of a key of one module of attributes.
-use Rattle.std.proofs.Common.{◌≡◌, ℕ, ◌<◌, cond, List, [], ◌∷◌, map, length, None, Some, IsSome, is_some, slice_set as set, unwrap_or, sym, ap, subst, ◌∙◌}
+use Rattle.std.proofs.Common.{◌≡◌, ℕ, ◌<◌, cond, List, [], ◌∷◌, map, length, None, Some, IsSome, is_some, slice_set as set, unwrap_or, sym, ap, subst, ◌∙◌, arith}
 use Rattle.std.specs.FinMap.{get, get-insert, get-remove, insert}
 use Rattle.std.specs.Ordering.{is_eq}
 use Rattle.std.proofs.lemmas.Cmp.{tied_itself}
@@ -46,6 +46,9 @@ with_values_in k vs s = record s { rows = with_row s.rows k vs }
 -- the same, with an empty row where there are none
 abbrev pub with_values_put : RowKey → List Value → Source → Source
 with_values_put k vs s = record s { rows = insert s.rows k vs }
+
+pub filled_within : (ss : List Source) (n : ℕ) → n < length (all_filled ss) → n < length ss
+filled_within ss n h = omega (arith, h, length-map ss filled_source)
 
 filled-source : (ss : List Source) (n : ℕ) → n < length ss → source_at (all_filled ss) n ≡ filled_source (source_at ss n)
 filled-source ss n h = get_or-map filled_source ss n _ _ h

@@ -1,20 +1,18 @@
 -- What a test that found nothing says of an edit's step.
-use Rattle.std.proofs.Common.{◌≡◌, ℕ, ◌<◌, ◌^◌, Bool, true, false, List, Option, Result, Ok, refl, ltb-true}
+use Rattle.std.proofs.Common.{◌≡◌, ℕ, ◌<◌, ◌^◌, Bool, true, false, List, Result, Ok, refl, ltb-true}
 use Rattle.std.specs.Prelude.{IsOk, ◌||◌, ◌&&◌, not, nat_le, length}
-use Rattle.ent_values.specs.Calendar.{Day}
 use Rattle.ent_policy.specs.Key.{key_of}
 use Rattle.ent_policy.specs.Names.{is_bad_name}
 use Rattle.ent_policy.specs.declared.document.Tree.{Tree}
 use Rattle.ent_policy.specs.declared.key.DocKey.{DocKey}
 use Rattle.ent_finder.specs.Slots.{document_count}
 use Rattle.ent_table.specs.declared.edit.EditFault.TheVariants.{NotThere, AlreadyThere, Limit, BadValue, UnknownModule}
-use Rattle.std.proofs.lemmas.Bool.{lt-leb, leb-false}
-use Rattle.ent_policy.specs.declared.key.Reference.{Reference}
+use Rattle.std.proofs.lemmas.Bool.{lt-leb}
 use Rattle.ent_table.specs.declared.edit.EditFault.{EditFault}
 use Rattle.ent_table.specs.declared.edit.List.{List as Which}
 use Rattle.ent_table.specs.Names.{has_name, list_of}
 use Rattle.ent_table.specs.State.{State}
-use Rattle.ent_table.specs.Step.{unless, name_added, name_dropped, policy_added, policy_replaced, policy_withdrawn, root_set, day_set, next, holds, is_last, is_module, module_holds, module_lacks, exceeds}
+use Rattle.ent_table.specs.Step.{unless, name_added, name_dropped, policy_added, policy_replaced, policy_withdrawn, holds, is_last, is_module, module_holds, module_lacks, exceeds}
 use Rattle.ent_table.proofs.Changes.{less_names, more_names}
 
 three_pass : (a b c : Bool) (x y z : EditFault) (t : State) → IsOk (unless a x (unless b y (unless c z (Ok t)))) → (a ≡ false) × (unless a x (unless b y (unless c z (Ok t))) ≡ Ok t)
@@ -28,33 +26,9 @@ pub name_passes : (s : State) (list : Which) (name : List ℕ) → IsOk (name_ad
 name_passes s list name h =
     three_pass (has_name name (list_of list s.names)) (is_last s || exceeds s list name) (is_bad_name name) AlreadyThere Limit BadValue (more_names s list name) h
 
--- below the last serial a root is set
-pub root_passes : (s : State) (root : Option Reference) → s.serial < 2 ^ 63 → root_set s root ≡ Ok (next (record s { held = record s.held { root = root } }))
-root_passes s root h = rw (lt-leb (2 ^ 63) s.serial h) refl
-
--- and a day
-pub day_passes : (s : State) (day : Option Day) → s.serial < 2 ^ 63 → day_set s day ≡ Ok (next (record s { held = record s.held { day = day } }))
-day_passes s day h = rw (lt-leb (2 ^ 63) s.serial h) refl
-
 -- below the last serial a name is taken out of its list, if it is there
 pub name_leaves : (s : State) (list : Which) (name : List ℕ) → has_name name (list_of list s.names) ≡ true → s.serial < 2 ^ 63 → name_dropped s list name ≡ Ok (less_names s list name)
 name_leaves s list name has h = rw (has, lt-leb (2 ^ 63) s.serial h) refl
-
-two_pass : (a b : Bool) (x y : EditFault) (r : Result State EditFault) → IsOk (unless a x (unless b y r)) → b ≡ false
-two_pass true b x y r h = cc
-two_pass false true x y r h = cc
-two_pass false false x y r h = refl
-
-first_false : (a b : Bool) → (a || b) ≡ false → a ≡ false
-first_false true b h = h
-first_false false b h = refl
-
--- a name is added below the last serial
-pub name_serial : (s : State) (list : Which) (name : List ℕ) → IsOk (name_added s list name) → s.serial < 2 ^ 63
-name_serial s list name h =
-    leb-false (2 ^ 63) s.serial
-    (first_false (is_last s) (exceeds s list name)
-    (two_pass (has_name name (list_of list s.names)) (is_last s || exceeds s list name) AlreadyThere Limit (unless (is_bad_name name) BadValue (Ok (more_names s list name))) h))
 
 -- ---- documents
 

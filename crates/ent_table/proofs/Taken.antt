@@ -7,7 +7,7 @@ use Rattle.ent_table.specs.Names.{has_name, others}
 use Rattle.ent_table.specs.Place.{StandsAt}
 
 -- a name that stands in a list
-has_at : (name : List ℕ) (xs : List (List ℕ)) (j : ℕ) → slice_get xs j ≡ Some name → has_name name xs ≡ true
+pub has_at : (name : List ℕ) (xs : List (List ℕ)) (j : ℕ) → slice_get xs j ≡ Some name → has_name name xs ≡ true
 has_at name [] j e = cc
 has_at name (x ∷ xs) zero e = let same : x ≡ name = cc in rw ((bytes_decides name x).1 (sym same)) refl
 has_at name (x ∷ xs) (suc j) e = by (pointwise nat_eq name x) (has_at name xs j e) where

@@ -1,17 +1,17 @@
 -- What a call does to a review, in a word each: what becomes of its state, and what an edit of it is answered.
-use Rattle.std.specs.Prelude.{◌≡◌, ℕ, List, Option, Result, Err, IfErr}
-use Rattle.ent_policy.specs.declared.document.Tree.{Tree}
-use Rattle.ent_policy.specs.declared.key.DocKey.{DocKey}
+use Rattle.std.specs.Prelude.{◌≡◌, ◌≤◌, List, Result, Err, IfErr}
+use Rattle.ent_cells.specs.Count.{most}
 use Rattle.ent_finder.specs.Rows.{Source}
-use Rattle.ent_finder.specs.Slots.{Slots, document_count}
+use Rattle.ent_finder.specs.Slots.{Slots}
 use Rattle.ent_table.specs.declared.edit.Accepted.{Accepted}
 use Rattle.ent_table.specs.declared.edit.Edit.{Edit}
 use Rattle.ent_table.specs.declared.edit.Edit.TheVariants.{DropName}
 use Rattle.ent_table.specs.declared.edit.EditFault.{EditFault}
 use Rattle.ent_table.specs.declared.review.Review.{Review}
+use Rattle.ent_table.specs.Counted.{IsCounted}
 use Rattle.ent_table.specs.Review.{state_of}
 use Rattle.ent_table.specs.State.{State}
-use Rattle.ent_table.specs.Step.{IsAnswered, IsTested, name_dropped, with_policy}
+use Rattle.ent_table.specs.Step.{IsAnswered, IsTested, name_dropped}
 
 -- a step of the state is made, one review becomes another, and it is answered as that step is
 abbrev pub Edits : {A P : Type 0} → (A → List Source) → (P → List Slots) → (State → Result State EditFault) → Review A P → Review A P → Result Accepted EditFault → Type 0
@@ -34,6 +34,7 @@ Becomes sources slots change old new = state_of sources slots new ≡ change (st
 abbrev pub Stays : {A P : Type 0} → (A → List Source) → (P → List Slots) → Review A P → Review A P → Type 0
 Stays sources slots old new = state_of sources slots new ≡ state_of sources slots old
 
--- how many documents are held once a module has this one, or none, under a key
-abbrev pub count_with : {A P : Type 0} → (A → List Source) → (P → List Slots) → Review A P → ℕ → DocKey → Option Tree → ℕ
-count_with sources slots v number key document = document_count (with_policy (state_of sources slots v) number key document).held.modules
+-- the count of evaluations rises with an edit as its step says
+abbrev pub Counted : {A P : Type 0} → (A → List Source) → (P → List Slots) → (State → Result State EditFault) → Review A P → Review A P → Result Accepted EditFault → Type 0
+Counted sources slots step old new result =
+    old.pdp.evaluations ≤ most → IsCounted (step (state_of sources slots old)) (state_of sources slots old) old.pdp.evaluations new.pdp.evaluations result

@@ -1,5 +1,5 @@
 -- The difference of two tables.
-use Rattle.std.specs.Prelude.{ℕ, ◌+◌, List, [], ◌∷◌, ◌++◌, Bool, if◌then◌else◌, true, false, not, filter, length, Option, Some, None}
+use Rattle.std.specs.Prelude.{ℕ, List, ◌++◌, Bool, true, false, not, filter, length, Option, Some, None}
 use Rattle.ent_eval.specs.declared.answer.Answer.{Answer}
 use Rattle.ent_eval.specs.Same.{same_answer}
 use Rattle.ent_table.specs.Names.{Triple, triples, is_listed}
@@ -22,9 +22,3 @@ difference s t = filter (differs s t) (triples t.names) ++ filter (λ x. not (is
 -- how many there are
 abbrev pub changes : State → State → ℕ
 changes s t = length (difference s t)
-
--- at how many places two lists have different answers
-abbrev pub unlike_count : List Answer → List Answer → ℕ
-unlike_count [] bs = 0
-unlike_count (a ∷ as_) [] = 0
-unlike_count (a ∷ as_) (b ∷ bs) = (if same_answer a b then 0 else 1) + unlike_count as_ bs

@@ -1,6 +1,7 @@
 -- The cells that an iterator has left.
 use Rattle.std.specs.Prelude.{◌≡◌, ◌⊎◌, ℕ, List, [], ◌∷◌, ◌++◌, drop}
 use Rattle.std.specs.List.{zip}
+use Rattle.ent_cells.specs.Cell.{answers_in}
 use Rattle.ent_eval.specs.declared.answer.Answer.{Answer}
 use Rattle.ent_table.specs.declared.cells.Cells.{Cells}
 use Rattle.std.specs.Borrow.{Bor}
@@ -22,7 +23,7 @@ requests_left c = people_left (texts c.people.now) (texts c.actions.now) (texts 
 
 -- the answers that are left
 abbrev pub answers_left : Cells → List Answer
-answers_left c = drop c.place c.answers.now
+answers_left c = drop c.place (answers_in c.answers.now)
 
 -- the requests that are left, each with its answer
 abbrev pub cells_left : Cells → List (Triple × Answer)

@@ -2,6 +2,7 @@
 use Rattle.std.specs.Prelude.{◌≡◌, ℕ, String, string_bytes, ◌*◌, List, [], ◌∷◌, ◌++◌, Bool, true, false, not, ◌&&◌, filter, length, map, nat_eq, slice_get, Option, Some, None}
 use Rattle.std.specs.Cmp.Lexicographic.{pointwise}
 use Rattle.std.specs.List.{flat_map, list_any}
+use Rattle.ent_cells.specs.declared.who.Who.{Who}
 use Rattle.ent_table.specs.declared.edit.List.{List as Which}
 use Rattle.ent_table.specs.declared.edit.List.TheVariants as which
 
@@ -47,10 +48,8 @@ abbrev pub has_name : List ℕ → List (List ℕ) → Bool
 has_name name names = list_any (pointwise nat_eq name) names
 
 -- a request of the table: who, does what, to what
-pub record Triple : Type 0 where
-  pub person : List ℕ
-  pub action : List ℕ
-  pub resource : List ℕ
+abbrev pub Triple : Type 0
+Triple = Who
 
 abbrev pub triple_of : List ℕ → List ℕ → List ℕ → Triple
 triple_of person action resource = record { person = person; action = action; resource = resource }
@@ -78,6 +77,10 @@ is_listed names t = has_name t.person names.people && (has_name t.action names.a
 -- how many cells the lists make
 abbrev pub cell_count : Names → ℕ
 cell_count names = length names.people * (length names.actions * length names.resources)
+
+-- the last of some names is taken away
+abbrev pub TakesLastName : List (List ℕ) → List (List ℕ) → Type 0
+TakesLastName old new = (before : List (List ℕ)) (name : List ℕ) → old ≡ before ++ name ∷ [] → new ≡ before
 
 -- the last name of a list is taken away
 abbrev pub TakesLast : Which → Names → Names → Type 0

@@ -1,6 +1,7 @@
 -- Parts of a table: the cells of one person, and the answers to one action and one resource.
 use Rattle.std.specs.Prelude.{ℕ, List, [], ◌∷◌, ◌&&◌, bytes_eq, drop, filter, map}
 use Rattle.std.specs.Borrow.{Bor}
+use Rattle.ent_cells.specs.Cell.{answers_in}
 use Rattle.ent_eval.specs.declared.answer.Answer.{Answer}
 use Rattle.ent_table.specs.declared.column.Column.{Column}
 use Rattle.ent_table.specs.Names.{Triple, texts}
@@ -23,7 +24,7 @@ column stride (person ∷ people) (a ∷ answers) = (person, a) ∷ column strid
 
 -- the people that are left, each with its answer
 abbrev pub column_left : Column → List (List ℕ × Answer)
-column_left c = column c.stride (texts c.people.now) (drop c.place c.answers.now)
+column_left c = column c.stride (texts c.people.now) (drop c.place (answers_in c.answers.now))
 
 -- an item as a person with an answer
 abbrev pub answer_of : Bor (List ℕ) × Bor Answer → List ℕ × Answer

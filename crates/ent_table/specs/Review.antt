@@ -1,5 +1,5 @@
 -- The state of a review, and when its cells are right.
-use Rattle.std.specs.Prelude.{◌≡◌, ℕ, ◌≤◌, ◌+◌, ◌^◌, List, length, Option, Result, Ok, Err}
+use Rattle.std.specs.Prelude.{◌≡◌, ℕ, ◌≤◌, ◌^◌, List, Option}
 use Rattle.std.specs.FinMap.{get}
 use Rattle.ent_policy.specs.declared.document.Tree.{Tree}
 use Rattle.ent_policy.specs.declared.key.DocKey.{DocKey}
@@ -8,15 +8,11 @@ use Rattle.ent_finder.specs.Rows.{Source, source_at, values_at}
 use Rattle.ent_finder.specs.Slots.{Slots, document_count, module_at}
 use Rattle.ent_finder.specs.declared.row.RowKey.{RowKey}
 use Rattle.ent_eval.specs.LooksOf.{held_by}
-use Rattle.ent_table.specs.declared.edit.Accepted.{Accepted}
 use Rattle.ent_table.specs.declared.edit.Edit.{Edit}
 use Rattle.ent_table.specs.declared.edit.Edit.TheVariants.{DropName}
-use Rattle.ent_table.specs.declared.edit.EditFault.{EditFault}
-use Rattle.ent_table.specs.declared.edit.EditFault.TheVariants.{Memory}
 use Rattle.ent_table.specs.declared.review.Review.{Review}
-use Rattle.ent_table.specs.Difference.{unlike_count}
 use Rattle.ent_table.specs.Limits.{IsStandardAtMost}
-use Rattle.ent_table.specs.State.{State, fresh}
+use Rattle.ent_table.specs.State.{State, fresh_cells}
 
 -- the state of a review whose attributes have these sources and whose policies these slots
 abbrev pub state_of : {A P : Type 0} → (A → List Source) → (P → List Slots) → Review A P → State
@@ -29,14 +25,10 @@ state_of sources slots v = record {
 
 -- the kept cells are the fresh table, and the kept count is that of the documents
 pub record IsFresh {A P : Type 0} (sources : A → List Source) (slots : P → List Slots) (v : Review A P) : Type 0 where
-  pub cells : v.table.cells ≡ fresh (state_of sources slots v)
+  pub cells : v.table.cells ≡ fresh_cells (state_of sources slots v)
   pub documents : v.documents ≡ document_count (state_of sources slots v).held.modules
   pub serial : v.serial ≤ 2 ^ 63
   pub limits : IsStandardAtMost v.limits
-
--- there are as many cells as listed requests
-abbrev pub HasEachCell : {A P : Type 0} → (A → List Source) → (P → List Slots) → Review A P → Type 0
-HasEachCell sources slots v = length v.table.cells ≡ length (fresh (state_of sources slots v))
 
 -- only the count of evaluations changed
 abbrev pub OnlyEvaluates : {A P : Type 0} → Review A P → Review A P → Type 0
@@ -51,23 +43,6 @@ IsIdle _ before after = Unit {0}
 abbrev pub policy_at : State → ℕ → DocKey → Option Tree
 policy_at s number key = get (module_at s.held.modules number) key
 
--- only where the documents are held changed
-abbrev pub OnlyPolicies : {A P : Type 0} → Review A P → Review A P → Type 0
-OnlyPolicies old new = new ≡ record old { pdp = record old.pdp { policies = new.pdp.policies } }
-
 -- the values that the module of that number has in the row of a key
 abbrev pub row_at : State → ℕ → RowKey → List Value
 row_at s number key = values_at (source_at s.held.sources number).rows key
-
--- only where values of attributes are held changed
-abbrev pub OnlyAttributes : {A P : Type 0} → Review A P → Review A P → Type 0
-OnlyAttributes old new = new ≡ record old { pdp = record old.pdp { attributes = new.pdp.attributes } }
-
--- the fresh answers were put in the cells, one serial later, or memory was wanting and nothing changed
-abbrev pub Settles : {A P : Type 0} → (A → List Source) → (P → List Slots) → Review A P → Review A P → Result Accepted EditFault → Type 0
-Settles sources slots old new (Ok accepted) =
-    (new.table.cells ≡ fresh (state_of sources slots old))
-    × (new ≡ record old { pdp = record old.pdp { evaluations = new.pdp.evaluations }; table = record old.table { cells = new.table.cells }; serial = old.serial + 1 })
-    × (accepted.serial ≡ old.serial + 1)
-    × (accepted.changes ≡ unlike_count old.table.cells new.table.cells)
-Settles sources slots old new (Err fault) = (fault ≡ Memory) × OnlyEvaluates old new

@@ -1,5 +1,6 @@
 -- What a review holds, and the table that it stands for.
 use Rattle.std.specs.Prelude.{ℕ, List, map, Option, Some, None, if◌then◌else◌}
+use Rattle.ent_cells.specs.Cell.{Kept, cell_of}
 use Rattle.ent_eval.specs.declared.answer.Answer.{Answer}
 use Rattle.ent_eval.specs.Answer.{answer}
 use Rattle.ent_eval.specs.Held.{Held, looks_in}
@@ -7,8 +8,7 @@ use Rattle.ent_eval.specs.Listed.{listed}
 use Rattle.ent_eval.specs.Looks.{Looks}
 use Rattle.std.specs.List.{zip}
 use Rattle.ent_table.specs.declared.limits.Limits.{Limits}
-use Rattle.ent_table.specs.declared.edit.List.{List as Which}
-use Rattle.ent_table.specs.Names.{Names, Triple, triples, is_listed, no_names, with_list}
+use Rattle.ent_table.specs.Names.{Names, Triple, triples, is_listed, no_names}
 
 -- what is held, the three lists, how many edits were accepted, and the limits
 pub record State : Type 0 where
@@ -29,9 +29,9 @@ answer_to s t = answer_by (looks_in s.held) t
 abbrev pub fresh : State → List Answer
 fresh s = map (answer_to s) (triples s.names)
 
--- the same for the requests with other names in place of a list
-abbrev pub fresh_with : State → Which → List (List ℕ) → List Answer
-fresh_with s list xs = map (answer_to s) (triples (with_list list xs s.names))
+-- the cells of the fresh table: of every listed request the answer to it and the look-ups that this rests on, in list order
+abbrev pub fresh_cells : State → List Kept
+fresh_cells s = map (cell_of (looks_in s.held)) (triples s.names)
 
 -- the answer that a table has for a request: none where it isn't listed
 abbrev pub answer_at : State → Triple → Option Answer

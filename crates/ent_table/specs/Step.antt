@@ -60,10 +60,6 @@ abbrev pub with_policy : State → ℕ → DocKey → Option Tree → State
 with_policy s number key document =
     record s { held = record s.held { modules = slice_set s.held.modules number (with_document (module_at s.held.modules number) key document) } }
 
--- the state behind that
-abbrev pub policy_next : State → ℕ → DocKey → Option Tree → Result State EditFault
-policy_next s number key document = Ok (next (with_policy s number key document))
-
 -- a document is put under its key, where none is yet
 abbrev pub policy_added : State → ℕ → Tree → Result State EditFault
 policy_added s number d =
@@ -100,10 +96,6 @@ with_values s number key values = record s {
     sources = slice_set s.held.sources number (record (source_at s.held.sources number) { rows = with_row (source_at s.held.sources number).rows key values });
   };
 }
-
--- the state behind that
-abbrev pub values_next : State → ℕ → RowKey → List Value → Result State EditFault
-values_next s number key values = Ok (next (with_values s number key values))
 
 -- whether the attribute is the id of what its category is about, which the name of an entity stands for
 abbrev pub is_reserved : List ℕ → List ℕ → Bool
@@ -149,13 +141,21 @@ name_dropped s list name =
     (unless (is_last s) Limit
     (Ok (next (record s { names = without_name list name s.names }))))
 
+-- another root, or none
+abbrev pub with_root : State → Option Reference → State
+with_root s root = record s { held = record s.held { root = root } }
+
 -- the root is another, or none
 abbrev pub root_set : State → Option Reference → Result State EditFault
-root_set s root = unless (is_last s) Limit (Ok (next (record s { held = record s.held { root = root } })))
+root_set s root = unless (is_last s) Limit (Ok (next (with_root s root)))
+
+-- another day, or none
+abbrev pub with_day : State → Option Day → State
+with_day s day = record s { held = record s.held { day = day } }
 
 -- the day is another, or none
 abbrev pub day_set : State → Option Day → Result State EditFault
-day_set s day = unless (is_last s) Limit (Ok (next (record s { held = record s.held { day = day } })))
+day_set s day = unless (is_last s) Limit (Ok (next (with_day s day)))
 
 -- the first refusal whose condition stands, else the state with one thing changed
 abbrev pub step : State → Edit → Result State EditFault

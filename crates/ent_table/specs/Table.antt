@@ -1,36 +1,40 @@
--- The table as one value: the names, and an answer for each of the requests that they make.
-use Rattle.std.specs.Prelude.{◌≡◌, ℕ, ◌+◌, List, [], ◌∷◌, ◌++◌, length, map, Option, Some, None, true, false}
-use Rattle.ent_eval.specs.declared.answer.Answer.{Answer}
-use Rattle.ent_table.specs.declared.blocks.Blocks.{Blocks}
+-- The table as one value: the names, and a cell for each of the requests that they make.
+use Rattle.std.specs.Prelude.{◌≡◌, ℕ, ◌+◌, List, [], ◌∷◌, length, map, Option, Some, None, true, false}
+use Rattle.ent_cells.specs.Cell.{Kept}
+use Rattle.ent_cells.specs.declared.blocks.Blocks.{Blocks}
 use Rattle.ent_table.specs.declared.edit.List.{List as Which}
 use Rattle.ent_table.specs.declared.edit.List.TheVariants as which
 use Rattle.ent_table.specs.declared.table.Table.{Table}
-use Rattle.ent_table.specs.Names.{Triple, has_name, list_of, no_names, triples, with_list, with_name, without_name}
-use Rattle.ent_table.specs.Shape.{woven}
+use Rattle.ent_table.specs.Names.{Names, Triple, has_name, list_of, no_names, triples, with_list, with_name, without_name}
 
 -- no names, and so no cells
 abbrev pub empty_table : Table
 empty_table = record { names = no_names; cells = [] }
 
--- each cell has what f answers its request
-abbrev pub IsFilled : (Triple → Answer) → Table → Type 0
+-- each cell is what f makes of its request
+abbrev pub IsFilled : (Triple → Kept) → Table → Type 0
 IsFilled f t = t.cells ≡ map f (triples t.names)
 
--- the cells with those of a new name of a list
-abbrev pub grown : Which → Blocks → List Answer → List Answer → List Answer
-grown which.People b cells added = cells ++ added
-grown _ b cells added = woven b.count b.width b.each cells added
+-- the requests of a new name of a list
+abbrev pub requests_with : Which → List ℕ → Names → List Triple
+requests_with list name names = triples (with_list list (name ∷ []) names)
 
--- a name was put last in its list, and the answers to its requests where they belong
-pub record IsAdded (list : Which) (name : List ℕ) (added : List Answer) (old new : Table) : Type 0 where
+-- the blocks behind which its cells belong: those of a new person come last
+abbrev pub behind : Which → Blocks → Blocks
+behind which.People b = record b { count = 0 }
+behind which.Actions b = b
+behind which.Resources b = b
+
+-- a name was put last in its list, and what f makes of its requests where it belongs
+pub record IsAdded (f : Triple → Kept) (list : Which) (name : List ℕ) (old new : Table) : Type 0 where
   pub names : new.names ≡ with_name list name old.names
-  pub cells : (f : Triple → Answer) → IsFilled f old → added ≡ map f (triples (with_list list (name ∷ []) old.names)) → IsFilled f new
+  pub cells : IsFilled f old → IsFilled f new
 
 -- a name was taken out of its list, and that many cells with it: those of its requests
 pub record IsDropped (list : Which) (name : List ℕ) (old new : Table) (count : ℕ) : Type 0 where
   pub there : has_name name (list_of list old.names) ≡ true
   pub names : new.names ≡ without_name list name old.names
-  pub cells : (f : Triple → Answer) → IsFilled f old → IsFilled f new
+  pub cells : (f : Triple → Kept) → IsFilled f old → IsFilled f new
   pub counted : length old.cells ≡ count + length new.cells
 
 -- so many cells were dropped with a name, or the list lacks it and nothing changed

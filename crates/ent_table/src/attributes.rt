@@ -1,6 +1,6 @@
 //! Edits of values of attributes.
 
-ghost use Rattle.std.specs.Prelude.{◌≡◌, ◌<◌, ◌^◌, false, IfOk, IsSome, None, OnErr, OnOk, length};
+ghost use Rattle.std.specs.Prelude.{◌≡◌, ◌<◌, false, IfOk, IsSome, None, OnErr, OnOk, length};
 ghost use Rattle.std.specs.FinMap as finmap;
 ghost use Rattle.std.specs.List.{list_all};
 ghost use Rattle.std.specs.Option.{option_map_or};
@@ -9,10 +9,11 @@ ghost use Rattle.ent_values.specs.Same.{same_type};
 ghost use Rattle.ent_values.specs.Types.{datatype_of};
 ghost use Rattle.ent_policy.specs.Names.{is_bad_name};
 ghost use Rattle.ent_finder.specs.Rows.{source_at};
-ghost use Rattle.ent_table.specs.Change.{Becomes, Edits, Stays, Tries};
-ghost use Rattle.ent_table.specs.Review.{IsFresh, OnlyAttributes, row_at, state_of};
-ghost use Rattle.ent_table.specs.Step.{attribute_set, is_bad_row, is_reserved, is_source, values_next, with_values};
+ghost use Rattle.ent_table.specs.Change.{Becomes, Counted, Edits, Stays, Tries};
+ghost use Rattle.ent_table.specs.Review.{IsFresh, row_at, state_of};
+ghost use Rattle.ent_table.specs.Step.{attribute_set, is_bad_row, is_reserved, is_source, with_values};
 
+use crate::change::Exchange;
 use crate::edit::{Accepted, EditFault};
 use crate::review::{LAST_SERIAL, Review};
 use ent_eval::id_attribute;
@@ -65,21 +66,23 @@ impl<A: Attributes, P: Policies> Review<A, P> {
     pub(crate) fn set_attribute(
         &mut self,
         number: usize,
-        key: &RowKey,
+        key: RowKey,
         values: Items<Value>,
     ) -> Result<Accepted, EditFault>
         requires { IsFresh A.sources P.slots self.old }
         ensures fresh { IsFresh A.sources P.slots self.new }
-        ensures step { Edits A.sources P.slots (λ s. attribute_set s number key.now values) self.old self.new result }
+        ensures step { Edits A.sources P.slots (λ s. attribute_set s number key values) self.old self.new result }
+        ensures counted { Counted A.sources P.slots (λ s. attribute_set s number key values) self.old self.new result }
     {
-        self.row_fault(number, key, values.as_slice())?;
-        self.exchange_values(number, key, values)
+        self.row_fault(number, &key, values.as_slice())?;
+        let documents = self.documents;
+        self.make(Exchange::Row(number, key, values), documents)
     }
 
     /// Why values can't be set in the row of a key, if they can't.
     fn row_fault(&self, number: usize, key: &RowKey, values: &[Value]) -> Result<(), EditFault>
         ensures tested { Tries A.sources P.slots (λ s. attribute_set s number key.now values.now) self.now result }
-        ensures number { OnOk result (number < length (A.sources self.now.pdp.attributes)) }
+        ensures number { OnOk result (number < length (state_of A.sources P.slots self.now).held.sources) }
         ensures types { OnOk result (AllOfType key.now.datatype values.now) }
     {
         if self.serial >= LAST_SERIAL || values.len() > MOST_VALUES {
@@ -105,42 +108,15 @@ impl<A: Attributes, P: Policies> Review<A, P> {
         number < attributes.len() && attributes.supports(number, category)
     }
 
-    /// Gives the row of a key in one module these values, and makes the table right again. After a refusal everything
-    /// is as before.
-    fn exchange_values(
-        &mut self,
-        number: usize,
-        key: &RowKey,
-        mut values: Items<Value>,
-    ) -> Result<Accepted, EditFault>
-        requires fresh { IsFresh A.sources P.slots self.old }
-        requires serial { self.old.serial < 2 ^ 63 }
-        requires number { number < length (A.sources self.old.pdp.attributes) }
-        requires types { AllOfType key.now.datatype values }
-        ensures fresh { IsFresh A.sources P.slots self.new }
-        ensures step { Edits A.sources P.slots (λ s. values_next s number key.now values) self.old self.new result }
-    {
-        let Ok(()) = self.swap_row(number, key, &mut values) else {
-            return Err(EditFault::Memory);
-        };
-        match self.settle_row(key) {
-            Ok(accepted) => Ok(accepted),
-            Err(fault) => {
-                self.put_row_back(number, key, values);
-                Err(fault)
-            }
-        }
-    }
-
     /// Exchanges what a module has in the row of a key with `values`. Once this is done, it can be done again without
     /// memory.
-    fn swap_row(
+    pub(crate) fn exchange_row(
         &mut self,
         number: usize,
         key: &RowKey,
         values: &mut Items<Value>,
     ) -> Result<(), AllocError>
-        requires number { number < length (A.sources self.old.pdp.attributes) }
+        requires number { number < length (state_of A.sources P.slots self.old).held.sources }
         requires types { AllOfType key.now.datatype values.old }
         ensures swapped { OnOk result
             (Becomes A.sources P.slots (λ s. with_values s number key.now values.old) self.old self.new) }
@@ -151,24 +127,11 @@ impl<A: Attributes, P: Policies> Review<A, P> {
         ensures absent { OnErr result
             (finmap.get (source_at (A.sources self.old.pdp.attributes) number).rows key.now ≡ None) }
         ensures kept { OnErr result (Stays A.sources P.slots self.old self.new) }
-        ensures modules { length (A.sources self.new.pdp.attributes) ≡ length (A.sources self.old.pdp.attributes) }
-        ensures rest { OnlyAttributes self.old self.new }
+        ensures modules { length (state_of A.sources P.slots self.new).held.sources
+            ≡ length (state_of A.sources P.slots self.old).held.sources }
+        ensures rest { self.new ≡ record self.old { pdp = record self.old.pdp { attributes = self.new.pdp.attributes } } }
     {
         self.pdp.attributes_mut().swap_row(number, key, values)?;
         Ok(())
-    }
-
-    /// Exchanges once more, where the row is there.
-    fn put_row_back(&mut self, number: usize, key: &RowKey, mut values: Items<Value>)
-        requires number { number < length (A.sources self.old.pdp.attributes) }
-        requires types { AllOfType key.now.datatype values }
-        requires there { IsSome (finmap.get (source_at (A.sources self.old.pdp.attributes) number).rows key.now) }
-        ensures swapped { Becomes A.sources P.slots (λ s. with_values s number key.now values) self.old self.new }
-        ensures rest { OnlyAttributes self.old self.new }
-    {
-        match self.swap_row(number, key, &mut values) {
-            Ok(()) => {}
-            Err(_) => unreachable!(),
-        }
     }
 }

@@ -3,12 +3,12 @@
 ghost use Rattle.std.specs.Prelude.{◌≡◌, drop};
 ghost use Rattle.std.specs.Iterator.{YieldsFirstBy, item_count};
 ghost use Rattle.std.specs.List.{zip};
+ghost use Rattle.ent_cells.specs.Cell.{answers_in};
 ghost use Rattle.ent_table.specs.Left.{HasTurned, HasTurnedAction, answers_left, cell_of, cells_left};
 ghost use Rattle.ent_table.specs.Names.{all_triples, texts};
 
-use crate::grid::Grid;
+use ent_cells::Live;
 use ent_eval::Answer;
-use ent_values::Shared;
 
 /// The listed requests with their answers: person, action, resource and answer, people outermost, then actions, then
 /// resources.
@@ -21,7 +21,7 @@ pub struct Cells<'a> {
     all_actions: &'a [String],
     all_resources: &'a [String],
     // The answers, and the place of the next one.
-    answers: &'a Grid<Shared<Answer>>,
+    answers: &'a Live,
     place: usize,
 }
 
@@ -31,11 +31,12 @@ impl<'a> Cells<'a> {
         people: &'a [String],
         actions: &'a [String],
         resources: &'a [String],
-        answers: &'a Grid<Shared<Answer>>,
+        answers: &'a Live,
         place: usize,
     ) -> Cells<'a>
         ensures { cells_left result
-            ≡ zip (all_triples (texts people.now) (texts actions.now) (texts resources.now)) (drop place answers.now) }
+            ≡ zip (all_triples (texts people.now) (texts actions.now) (texts resources.now))
+            (drop place (answers_in answers.now)) }
     {
         Cells {
             people,
@@ -99,11 +100,6 @@ impl<'a> Iterator for Cells<'a> {
         let (resource, resources) = self.resources.split_first()?;
         self.place = place;
         self.resources = resources;
-        Some((
-            person.as_str(),
-            action.as_str(),
-            resource.as_str(),
-            answer.get(),
-        ))
+        Some((person.as_str(), action.as_str(), resource.as_str(), answer))
     }
 }

@@ -2,12 +2,12 @@
 
 ghost use Rattle.std.specs.Prelude.{◌≡◌, ◌+◌, drop};
 ghost use Rattle.std.specs.Iterator.{YieldsFirstBy, item_count};
+ghost use Rattle.ent_cells.specs.Cell.{answers_in};
 ghost use Rattle.ent_table.specs.Names.{texts};
 ghost use Rattle.ent_table.specs.Parts.{answer_of, column, column_left};
 
-use crate::grid::Grid;
+use ent_cells::Live;
 use ent_eval::Answer;
-use ent_values::Shared;
 use std::cmp::min;
 
 /// The people in list order, each with the answer to the person's request of one action and one resource.
@@ -16,7 +16,7 @@ pub struct Column<'a> {
     // The people that are left.
     people: &'a [String],
     // All answers, the place of the next one, and how many places the next person's is behind it.
-    answers: &'a Grid<Shared<Answer>>,
+    answers: &'a Live,
     place: usize,
     stride: usize,
 }
@@ -25,11 +25,11 @@ impl<'a> Column<'a> {
     /// The answer at a place for the first person, and a stride further for each of the others.
     pub(crate) fn new(
         people: &'a [String],
-        answers: &'a Grid<Shared<Answer>>,
+        answers: &'a Live,
         place: usize,
         stride: usize,
     ) -> Column<'a>
-        ensures { column_left result ≡ column stride (texts people.now) (drop place answers.now) }
+        ensures { column_left result ≡ column stride (texts people.now) (drop place (answers_in answers.now)) }
     {
         Column {
             people,
@@ -41,7 +41,8 @@ impl<'a> Column<'a> {
 
     /// The place of the next person's answer, or one behind all answers.
     fn next_place(&self) -> usize
-        ensures { drop result self.now.answers.now ≡ drop (self.now.place + self.now.stride) self.now.answers.now }
+        ensures { drop result (answers_in self.now.answers.now)
+            ≡ drop (self.now.place + self.now.stride) (answers_in self.now.answers.now) }
     {
         min(self.place.saturating_add(self.stride), self.answers.len())
     }
@@ -59,6 +60,6 @@ impl<'a> Iterator for Column<'a> {
         let (answer, _) = self.answers.next_from(self.place)?;
         self.place = self.next_place();
         self.people = people;
-        Some((person.as_str(), answer.get()))
+        Some((person.as_str(), answer))
     }
 }

@@ -3,29 +3,26 @@
 
 mod ask;
 mod attributes;
-mod blocks;
 mod by_place;
 mod cells;
+mod change;
 mod column;
-mod count;
 mod edit;
-mod fill;
-mod grid;
-mod law;
 mod limits;
 mod lists;
+mod looked;
+mod name_list;
 mod names;
 mod parts;
 mod policies;
-mod reach;
+mod requests;
 mod review;
 mod table;
-mod touched;
 
 pub use attributes::{MOST_VALUES, is_reserved};
 pub use cells::Cells;
 pub use column::Column;
 pub use edit::{Accepted, Edit, EditFault, List};
-pub use law::other_answers_stay;
+pub use ent_cells::Who;
 pub use limits::Limits;
 pub use review::{LAST_SERIAL, Review};

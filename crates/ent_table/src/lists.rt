@@ -1,67 +1,41 @@
 //! The lists of people, actions and resources.
 
-ghost use Rattle.std.specs.Prelude.{◌≡◌, ◌*◌, ◌<◌, ◌≤◌, false, length, nat_eq, string_bytes, IfSome, OnErr, OnOk};
+ghost use Rattle.std.specs.Prelude.{◌≡◌, ◌*◌, ◌<◌, ◌≤◌, false, length, nat_eq, IfSome, OnErr, OnOk};
 ghost use Rattle.std.specs.Cmp.Lexicographic.{pointwise};
 ghost use Rattle.std.specs.List.{IsDistinct};
-ghost use Rattle.ent_table.specs.Names.{CountsWith, IsPlace, TakesLast, cell_count, has_name, list_of, no_names};
+ghost use Rattle.ent_table.specs.Names.{CountsWith, IsPlace, TakesLast, has_name, list_of, no_names};
 ghost use Rattle.ent_table.specs.Names.{texts, triple_of, with_list, with_name};
-ghost use Rattle.ent_table.specs.Place.{IsTaken, blocks_of, most_places, names_in};
-ghost use Rattle.ent_table.specs.Touched.{IsAt};
+ghost use Rattle.ent_table.specs.Place.{IsAt, IsTaken, blocks_of, names_in};
 
-use crate::blocks::Blocks;
 use crate::edit::List;
-use indexmap::IndexSet;
+use crate::name_list::NameList;
+use ent_cells::Blocks;
+use ent_values::Text;
 use std::alloc::{AllocError, Global};
 use std::marker::Model;
 
 /// The names of three lists, which together make requests.
 #[derive(Clone, Copy)]
 pub(crate) struct Requests<'a> {
-    pub(crate) people: &'a [String],
-    pub(crate) actions: &'a [String],
-    pub(crate) resources: &'a [String],
+    pub(crate) people: &'a [Text],
+    pub(crate) actions: &'a [Text],
+    pub(crate) resources: &'a [Text],
 }
 
-/// Takes a name out of a list, and tells where it stood. Those behind it move up. It takes no memory.
-fn take_out(names: &mut IndexSet<String>, name: &str) -> Option<usize>
-    ensures taken { IsTaken name.now (texts names.old.keys) (texts names.new.keys) result }
-    ensures few { length names.new.keys ≤ length names.old.keys }
-    ensures within { IfSome result (λ place. place < length names.old.keys) }
-{
-    let (place, _) = names.shift_remove_full(name)?;
-    Some(place)
-}
-
-/// The place of a name in a list, if it is there.
-fn index_of(names: &IndexSet<String>, name: &str) -> Option<usize>
-    ensures at { IsAt name.now (texts names.now.keys) result }
-    ensures within { IfSome result (λ place. place < length names.now.keys) }
-{
-    names.get_index_of(name)
-}
-
-/// The three lists, each in order of insertion and without doubles. A name is found by a `&str`, without memory.
+/// The three lists.
 #[derive(Drop)]
 pub(crate) struct Lists {
-    people: IndexSet<String>,
-    actions: IndexSet<String>,
-    resources: IndexSet<String>,
+    people: NameList,
+    actions: NameList,
+    resources: NameList,
 }
 
 impl Model for Lists {
-    ghost use Rattle.std.specs.Prelude.{◌≤◌, length};
-    ghost use Rattle.ent_table.specs.Names.{Names, texts};
+    ghost use Rattle.ent_table.specs.Names.{Names};
 
     ghost Value = { Names };
 
-    ghost view = { λ l. record {
-      people = texts l.people.keys;
-      actions = texts l.actions.keys;
-      resources = texts l.resources.keys;
-    } };
-
-    ghost invariant = { λ l.
-        (length l.people.keys ≤ 256) × (length l.actions.keys ≤ 256) × (length l.resources.keys ≤ 256) };
+    ghost view = { λ l. record { people = l.people; actions = l.actions; resources = l.resources } };
 }
 
 impl Lists {
@@ -73,9 +47,9 @@ impl Lists {
         ensures { result ≡ no_names }
     {
         Lists {
-            people: IndexSet::new(alloc),
-            actions: IndexSet::new(alloc),
-            resources: IndexSet::new(alloc),
+            people: NameList::new(alloc),
+            actions: NameList::new(alloc),
+            resources: NameList::new(alloc),
         }
     }
 
@@ -91,20 +65,31 @@ impl Lists {
         }
     }
 
+    /// The names of one list as texts.
+    pub(crate) fn shared(&self, list: List) -> &[Text]
+        ensures { result.now ≡ list_of list self.now }
+    {
+        match list {
+            List::People => self.people.shared(),
+            List::Actions => self.actions.shared(),
+            List::Resources => self.resources.shared(),
+        }
+    }
+
     /// The names of all lists.
     pub(crate) fn requests(&self) -> Requests<'_>
         ensures { names_in result ≡ self.now }
     {
         Requests {
-            people: self.people.as_slice(),
-            actions: self.actions.as_slice(),
-            resources: self.resources.as_slice(),
+            people: self.people.shared(),
+            actions: self.actions.shared(),
+            resources: self.resources.shared(),
         }
     }
 
     /// The names of all lists, with other names in place of one list.
-    pub(crate) fn requests_with<'a>(&'a self, list: List, names: &'a [String]) -> Requests<'a>
-        ensures { names_in result ≡ with_list list (texts names.now) self.now }
+    pub(crate) fn requests_with<'a>(&'a self, list: List, names: &'a [Text]) -> Requests<'a>
+        ensures { names_in result ≡ with_list list names.now self.now }
     {
         let all = self.requests();
         match list {
@@ -128,20 +113,10 @@ impl Lists {
         ensures { result ≡ has_name name.now (list_of list self.now) }
     {
         match list {
-            List::People => self.people.contains(name),
-            List::Actions => self.actions.contains(name),
-            List::Resources => self.resources.contains(name),
+            List::People => self.people.has(name),
+            List::Actions => self.actions.has(name),
+            List::Resources => self.resources.has(name),
         }
-    }
-
-    /// How many cells the lists make.
-    pub(crate) fn cell_count(&self) -> usize
-        ensures { result ≡ cell_count self.now }
-    {
-        let people = self.people.as_slice().len();
-        let actions = self.actions.as_slice().len();
-        let resources = self.resources.as_slice().len();
-        people * (actions * resources)
     }
 
     /// How many cells the lists would make with one name more in one of them.
@@ -163,7 +138,6 @@ impl Lists {
         ensures blocks { result ≡ blocks_of list self.now }
         ensures few { result.each ≤ 65536 }
         ensures fit { result.count * result.each ≤ 65536 }
-        ensures wide { result.count * result.width ≤ most_places }
         ensures distinct { IsDistinct (pointwise nat_eq) (list_of list self.now) }
     {
         let people = self.people.as_slice().len();
@@ -189,25 +163,17 @@ impl Lists {
     }
 
     /// Puts a name last that the list doesn't have. After a refusal the lists are as before.
-    #[tactic(auto, using(crate::proofs::Texts::texts_with))]
-    pub(crate) fn push(&mut self, list: List, name: String) -> Result<(), AllocError>
+    pub(crate) fn push(&mut self, alloc: Global, list: List, name: Text) -> Result<(), AllocError>
         requires room { length (list_of list self.old) < 256 }
-        requires absent { has_name (string_bytes name) (list_of list self.old) ≡ false }
-        ensures ok { OnOk result (self.new ≡ with_name list (string_bytes name) self.old) }
+        requires absent { has_name name (list_of list self.old) ≡ false }
+        ensures ok { OnOk result (self.new ≡ with_name list name self.old) }
         ensures err { OnErr result (self.new ≡ self.old) }
     {
         match list {
-            List::People => {
-                self.people.insert(name)?;
-            }
-            List::Actions => {
-                self.actions.insert(name)?;
-            }
-            List::Resources => {
-                self.resources.insert(name)?;
-            }
+            List::People => self.people.push(alloc, name),
+            List::Actions => self.actions.push(alloc, name),
+            List::Resources => self.resources.push(alloc, name),
         }
-        Ok(())
     }
 
     /// Takes away the name that was put last.
@@ -215,15 +181,9 @@ impl Lists {
         ensures { TakesLast list self.old self.new }
     {
         match list {
-            List::People => {
-                let _ = self.people.pop();
-            }
-            List::Actions => {
-                let _ = self.actions.pop();
-            }
-            List::Resources => {
-                let _ = self.resources.pop();
-            }
+            List::People => self.people.undo_push(),
+            List::Actions => self.actions.undo_push(),
+            List::Resources => self.resources.undo_push(),
         }
     }
 
@@ -234,9 +194,9 @@ impl Lists {
         ensures few { IfSome result (λ place. place < 256) }
     {
         match list {
-            List::People => take_out(&mut self.people, name),
-            List::Actions => take_out(&mut self.actions, name),
-            List::Resources => take_out(&mut self.resources, name),
+            List::People => self.people.remove(name),
+            List::Actions => self.actions.remove(name),
+            List::Resources => self.resources.remove(name),
         }
     }
 
@@ -246,9 +206,9 @@ impl Lists {
         ensures few { IfSome result (λ place. place < 256) }
     {
         match list {
-            List::People => index_of(&self.people, name),
-            List::Actions => index_of(&self.actions, name),
-            List::Resources => index_of(&self.resources, name),
+            List::People => self.people.place(name),
+            List::Actions => self.actions.place(name),
+            List::Resources => self.resources.place(name),
         }
     }
 
@@ -256,9 +216,9 @@ impl Lists {
     pub(crate) fn place(&self, person: &str, action: &str, resource: &str) -> Option<usize>
         ensures { IsPlace self.now (triple_of person.now action.now resource.now) result }
     {
-        let row = self.people.get_index_of(person)?;
-        let column = self.actions.get_index_of(action)?;
-        let depth = self.resources.get_index_of(resource)?;
+        let row = self.people.place(person)?;
+        let column = self.actions.place(action)?;
+        let depth = self.resources.place(resource)?;
         let actions = self.actions.as_slice().len();
         let resources = self.resources.as_slice().len();
         Some((row * actions + column) * resources + depth)

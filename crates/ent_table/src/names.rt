@@ -1,20 +1,15 @@
 //! Edits of names.
 
-ghost use Rattle.std.specs.Prelude.{◌≡◌, ◌∷◌, [], string_bytes, IfErr, IfOk, Err};
-ghost use Rattle.ent_table.specs.Change.{Edits, Tries};
-ghost use Rattle.ent_table.specs.Review.{IsFresh, OnlyEvaluates, state_of};
-ghost use Rattle.ent_table.specs.State.{fresh_with};
+ghost use Rattle.std.specs.Prelude.{◌≡◌, Err, IfErr};
+ghost use Rattle.ent_table.specs.Change.{Counted, Edits, Tries};
+ghost use Rattle.ent_table.specs.Review.{IsFresh, state_of};
 ghost use Rattle.ent_table.specs.Step.{Exceeds, name_added, name_dropped};
 
 use crate::edit::{Accepted, EditFault, List};
-use crate::fill::{Nearby, evaluate_all};
 use crate::review::{LAST_SERIAL, Review};
-use ent_eval::Answer;
 use ent_finder::{Attributes, Policies};
 use ent_policy::is_bad_name;
-use ent_values::{Items, Shared, Text};
-use std::alloc::AllocError;
-use std::slice;
+use ent_values::Text;
 
 impl<A: Attributes, P: Policies> Review<A, P> {
     /// Puts a name last in its list. The other answers stay, so only the requests of the name are evaluated.
@@ -22,19 +17,13 @@ impl<A: Attributes, P: Policies> Review<A, P> {
         requires { IsFresh A.sources P.slots self.old }
         ensures fresh { IsFresh A.sources P.slots self.new }
         ensures step { Edits A.sources P.slots (λ s. name_added s list name) self.old self.new result }
+        ensures counted { Counted A.sources P.slots (λ s. name_added s list name) self.old self.new result }
     {
         self.name_fault(list, &name)?;
-        let Ok(name) = name.into_string(self.alloc) else {
-            return Err(EditFault::Memory);
-        };
-        let Ok(added) = self.evaluated_with(list, &name) else {
-            return Err(EditFault::Memory);
-        };
-        let changes = added.len();
-        let Ok(()) = self.table.add(self.alloc, list, name, added) else {
-            return Err(EditFault::Memory);
-        };
-        Ok(self.next_serial(changes))
+        match self.table.add(self.alloc, &mut self.pdp, list, name) {
+            Ok(changes) => Ok(self.next_serial(changes)),
+            Err(_) => Err(EditFault::Memory),
+        }
     }
 
     /// Takes a name out of its list, and drops the cells of its requests. Nothing is evaluated, and no memory is taken.
@@ -44,6 +33,7 @@ impl<A: Attributes, P: Policies> Review<A, P> {
         ensures step { Edits A.sources P.slots (λ s. name_dropped s list name.now) self.old self.new result }
         ensures sure { IfErr result
             (λ fault. name_dropped (state_of A.sources P.slots self.old) list name.now ≡ Err fault) }
+        ensures counted { Counted A.sources P.slots (λ s. name_dropped s list name.now) self.old self.new result }
         ensures idle { self.new.pdp ≡ self.old.pdp }
     {
         if !self.table.names.has(list, name.as_str()) {
@@ -85,34 +75,5 @@ impl<A: Attributes, P: Policies> Review<A, P> {
         };
         self.table.names.names(list).len() >= most
             || self.table.names.cell_count_with(list) > self.limits.cells
-    }
-
-    /// The answers to the requests of a new name of a list, evaluated aside.
-    fn evaluated_with(
-        &mut self,
-        list: List,
-        name: &String,
-    ) -> Result<Items<Shared<Answer>>, AllocError>
-        ensures cells { IfOk result
-            (λ c. c ≡ fresh_with (state_of A.sources P.slots self.old) list (string_bytes name.now ∷ [])) }
-        ensures rest { OnlyEvaluates self.old self.new }
-    {
-        let blocks = self.table.names.blocks(list);
-        let requests = self.table.names.requests_with(list, slice::from_ref(name));
-        // A new person's cells come last, and are likely those of the person before.
-        let nearby = Nearby {
-            table: &self.table.cells,
-            from: self.table.cells.len().saturating_sub(blocks.each),
-            apart: blocks.each,
-        };
-        evaluate_all(
-            self.alloc,
-            &mut self.pdp,
-            requests.people,
-            requests.actions,
-            requests.resources,
-            blocks.count * blocks.each,
-            &nearby,
-        )
     }
 }

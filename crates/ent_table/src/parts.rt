@@ -21,14 +21,16 @@ impl<A: Attributes, P: Policies> Review<A, P> {
         ensures { cells_left result ≡ cells_of person.now (table_of (state_of A.sources P.slots self.now)) }
     {
         let names = &self.table.names;
-        let all = names.requests();
+        let people = names.names(List::People);
+        let actions = names.names(List::Actions);
+        let resources = names.names(List::Resources);
         let blocks = names.blocks(List::People);
         match names.place_in(List::People, person) {
-            None => Cells::new(&[], all.actions, all.resources, &self.table.cells, 0),
+            None => Cells::new(&[], actions, resources, &self.table.cells, 0),
             Some(row) => Cells::new(
-                slice::from_ref(&all.people[row]),
-                all.actions,
-                all.resources,
+                slice::from_ref(&people[row]),
+                actions,
+                resources,
                 &self.table.cells,
                 row * blocks.each,
             ),

@@ -1,15 +1,16 @@
 //! Edits of documents.
 
-ghost use Rattle.std.specs.Prelude.{◌≡◌, ◌<◌, ◌^◌, IfOk, IsSome, None, OnErr, OnOk, length};
+ghost use Rattle.std.specs.Prelude.{◌≡◌, ◌<◌, IfOk, IsSome, None, OnErr, OnOk, length};
 ghost use Rattle.std.specs.FinMap as finmap;
 ghost use Rattle.std.specs.Option.{ForSome};
 ghost use Rattle.ent_policy.specs.Key.{key_of};
 ghost use Rattle.ent_finder.specs.Slots.{module_at};
-ghost use Rattle.ent_table.specs.Change.{Becomes, Edits, Stays, Tries, count_with};
-ghost use Rattle.ent_table.specs.Review.{IsFresh, OnlyPolicies, policy_at, state_of};
-ghost use Rattle.ent_table.specs.Step.{is_module, module_holds, module_lacks, policy_added, policy_next};
+ghost use Rattle.ent_table.specs.Change.{Becomes, Counted, Edits, Stays, Tries};
+ghost use Rattle.ent_table.specs.Review.{IsFresh, policy_at, state_of};
+ghost use Rattle.ent_table.specs.Step.{is_module, module_holds, module_lacks, policy_added};
 ghost use Rattle.ent_table.specs.Step.{policy_replaced, policy_withdrawn, with_policy};
 
+use crate::change::Exchange;
 use crate::edit::{Accepted, EditFault};
 use crate::review::{LAST_SERIAL, Review};
 use ent_finder::{Attributes, Policies};
@@ -25,10 +26,11 @@ impl<A: Attributes, P: Policies> Review<A, P> {
         requires { IsFresh A.sources P.slots self.old }
         ensures fresh { IsFresh A.sources P.slots self.new }
         ensures step { Edits A.sources P.slots (λ s. policy_added s number document) self.old self.new result }
+        ensures counted { Counted A.sources P.slots (λ s. policy_added s number document) self.old self.new result }
     {
         let key = self.key_to_add(number, &document)?;
         let documents = self.documents + 1;
-        self.exchange(number, &key, Some(document), documents)
+        self.make(Exchange::Document(number, key, Some(document)), documents)
     }
 
     pub(crate) fn replace_policy(
@@ -39,10 +41,11 @@ impl<A: Attributes, P: Policies> Review<A, P> {
         requires { IsFresh A.sources P.slots self.old }
         ensures fresh { IsFresh A.sources P.slots self.new }
         ensures step { Edits A.sources P.slots (λ s. policy_replaced s number document) self.old self.new result }
+        ensures counted { Counted A.sources P.slots (λ s. policy_replaced s number document) self.old self.new result }
     {
         let key = self.key_to_replace(number, &document)?;
         let documents = self.documents;
-        self.exchange(number, &key, Some(document), documents)
+        self.make(Exchange::Document(number, key, Some(document)), documents)
     }
 
     pub(crate) fn withdraw_policy(
@@ -53,10 +56,11 @@ impl<A: Attributes, P: Policies> Review<A, P> {
         requires { IsFresh A.sources P.slots self.old }
         ensures fresh { IsFresh A.sources P.slots self.new }
         ensures step { Edits A.sources P.slots (λ s. policy_withdrawn s number key) self.old self.new result }
+        ensures counted { Counted A.sources P.slots (λ s. policy_withdrawn s number key) self.old self.new result }
     {
         self.withdrawal_fault(number, &key)?;
         let documents = self.documents - 1;
-        self.exchange(number, &key, None, documents)
+        self.make(Exchange::Document(number, key, None), documents)
     }
 
     /// The key under which a document is added, or why it can't be.
@@ -140,47 +144,15 @@ impl<A: Attributes, P: Policies> Review<A, P> {
         self.is_module(number) && !self.pdp.policies().holds(number, key)
     }
 
-    /// Puts a document, or none, under a key of one module, where so many are held afterwards, and makes the table
-    /// right again. After a refusal everything is as before.
-    fn exchange(
-        &mut self,
-        number: usize,
-        key: &DocKey,
-        mut document: Option<Document>,
-        documents: u128,
-    ) -> Result<Accepted, EditFault>
-        requires fresh { IsFresh A.sources P.slots self.old }
-        requires serial { self.old.serial < 2 ^ 63 }
-        requires number { number < length (P.slots self.old.pdp.policies) }
-        requires key { ForSome document (λ d. key_of d ≡ key.now) }
-        requires documents { documents ≡ count_with A.sources P.slots self.old number key.now document }
-        ensures fresh { IsFresh A.sources P.slots self.new }
-        ensures step { Edits A.sources P.slots (λ s. policy_next s number key.now document) self.old self.new result }
-    {
-        let Ok(()) = self.swap(number, key, &mut document) else {
-            return Err(EditFault::Memory);
-        };
-        match self.settle_answers() {
-            Ok(accepted) => {
-                self.documents = documents;
-                Ok(accepted)
-            }
-            Err(fault) => {
-                self.put_back(number, key, document);
-                Err(fault)
-            }
-        }
-    }
-
     /// Exchanges what a module holds under a key with `document`. Once this is done, it can be done again without
     /// memory.
-    fn swap(
+    pub(crate) fn exchange_document(
         &mut self,
         number: usize,
         key: &DocKey,
         document: &mut Option<Document>,
     ) -> Result<(), AllocError>
-        requires number { number < length (P.slots self.old.pdp.policies) }
+        requires number { number < length (state_of A.sources P.slots self.old).held.modules }
         requires key { ForSome document.old (λ d. key_of d ≡ key.now) }
         ensures swapped { OnOk result
             (Becomes A.sources P.slots (λ s. with_policy s number key.now document.old) self.old self.new) }
@@ -189,26 +161,13 @@ impl<A: Attributes, P: Policies> Review<A, P> {
         ensures there { OnOk result (IsSome (finmap.get (module_at (P.slots self.new.pdp.policies) number) key.now)) }
         ensures absent { OnErr result (finmap.get (module_at (P.slots self.old.pdp.policies) number) key.now ≡ None) }
         ensures kept { OnErr result (Stays A.sources P.slots self.old self.new) }
-        ensures modules { length (P.slots self.new.pdp.policies) ≡ length (P.slots self.old.pdp.policies) }
-        ensures rest { OnlyPolicies self.old self.new }
+        ensures modules { length (state_of A.sources P.slots self.new).held.modules
+            ≡ length (state_of A.sources P.slots self.old).held.modules }
+        ensures rest { self.new ≡ record self.old { pdp = record self.old.pdp { policies = self.new.pdp.policies } } }
     {
         self.pdp
             .policies_mut()
             .swap_document(number, key, document)?;
         Ok(())
-    }
-
-    /// Exchanges once more, where the slot is there.
-    fn put_back(&mut self, number: usize, key: &DocKey, mut document: Option<Document>)
-        requires number { number < length (P.slots self.old.pdp.policies) }
-        requires key { ForSome document (λ d. key_of d ≡ key.now) }
-        requires there { IsSome (finmap.get (module_at (P.slots self.old.pdp.policies) number) key.now) }
-        ensures swapped { Becomes A.sources P.slots (λ s. with_policy s number key.now document) self.old self.new }
-        ensures rest { OnlyPolicies self.old self.new }
-    {
-        match self.swap(number, key, &mut document) {
-            Ok(()) => {}
-            Err(_) => unreachable!(),
-        }
     }
 }

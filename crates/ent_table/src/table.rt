@@ -1,41 +1,36 @@
 //! The table: three lists of names, and an answer for each of the requests that they make.
 
-ghost use Rattle.std.specs.Prelude.{◌≡◌, ◌<◌, false, length, string_bytes, OnErr, OnOk};
-ghost use Rattle.ent_table.specs.Difference.{unlike_count};
+ghost use Rattle.std.specs.Prelude.{◌≡◌, ◌<◌, false, length, IfOk, OnErr, OnOk};
+ghost use Rattle.ent_cells.specs.Cell.{cell_of};
+ghost use Rattle.ent_cells.specs.Count.{Counts, CountsAtMost};
+ghost use Rattle.ent_eval.specs.LooksOf.{looks_of};
 ghost use Rattle.ent_table.specs.Names.{has_name, list_of};
-ghost use Rattle.ent_table.specs.Table.{Drops, IsAdded, empty_table, grown};
+ghost use Rattle.ent_table.specs.Table.{Drops, IsAdded, behind, empty_table, requests_with};
 
-use crate::blocks::Blocks;
-use crate::count::unlike;
 use crate::edit::List;
-use crate::grid::Grid;
 use crate::lists::Lists;
-use ent_eval::Answer;
-use ent_values::{Items, Shared};
+use ent_cells::{Blocks, Live};
+use ent_eval::Pdp;
+use ent_finder::{Attributes, Policies};
+use ent_values::Text;
 use std::alloc::{AllocError, Global};
+use std::slice;
 
 /// The names, and a cell for each of the requests that they make, in list order: people outermost, then actions, then
 /// resources.
 #[derive(Drop)]
 pub(crate) struct Table {
     pub(crate) names: Lists,
-    pub(crate) cells: Grid<Shared<Answer>>,
+    pub(crate) cells: Live,
 }
 
-/// Puts the cells of a new name where they belong. After a refusal the cells are as before.
-fn grow(
-    alloc: Global,
-    cells: &mut Grid<Shared<Answer>>,
-    list: List,
-    blocks: Blocks,
-    added: Vec<Shared<Answer>>,
-) -> Result<(), AllocError>
-    ensures ok { OnOk result (cells.new ≡ grown list blocks cells.old added.items) }
-    ensures err { OnErr result (cells.new ≡ cells.old) }
+/// The blocks behind which the cells of a new name belong: the cells of a new person come last.
+fn behind(list: List, blocks: Blocks) -> Blocks
+    ensures { result ≡ behind list blocks }
 {
     match list {
-        List::People => cells.append(added),
-        List::Actions | List::Resources => cells.widen(alloc, blocks, added),
+        List::People => Blocks { count: 0, ..blocks },
+        List::Actions | List::Resources => blocks,
     }
 }
 
@@ -46,28 +41,38 @@ impl Table {
     {
         Table {
             names: Lists::new(alloc),
-            cells: Grid::new(alloc),
+            cells: Live::new(alloc),
         }
     }
 
-    /// Puts a name last in its list, and the answers to its requests where they belong. After a refusal the table is as
-    /// before.
-    pub(crate) fn add(
+    /// Puts a name last in its list, and the cells of its requests where they belong, each evaluated once, and tells how
+    /// many they are. After a refusal the table is as before.
+    pub(crate) fn add<A: Attributes, P: Policies>(
         &mut self,
         alloc: Global,
+        pdp: &mut Pdp<A, P>,
         list: List,
-        name: String,
-        added: Items<Shared<Answer>>,
-    ) -> Result<(), AllocError>
+        name: Text,
+    ) -> Result<usize, AllocError>
         requires room { length (list_of list self.old.names) < 256 }
-        requires absent { has_name (string_bytes name) (list_of list self.old.names) ≡ false }
-        ensures ok { OnOk result (IsAdded list (string_bytes name) added self.old self.new) }
+        requires absent { has_name name (list_of list self.old.names) ≡ false }
+        ensures ok { OnOk result (IsAdded (cell_of (looks_of A.sources P.slots pdp.old)) list name self.old self.new) }
+        ensures count { IfOk result (λ n. n ≡ length (requests_with list name self.old.names)) }
         ensures err { OnErr result (self.new ≡ self.old) }
+        ensures counted { OnOk result
+            (Counts pdp.old.evaluations pdp.new.evaluations (length (requests_with list name self.old.names))) }
+        ensures bound { CountsAtMost pdp.old.evaluations pdp.new.evaluations (length (requests_with list name self.old.names)) }
+        ensures rest { pdp.new ≡ record pdp.old { evaluations = pdp.new.evaluations } }
     {
         let blocks = self.names.blocks(list);
-        self.names.push(list, name)?;
-        match grow(alloc, &mut self.cells, list, blocks, added.into_vec()) {
-            Ok(()) => Ok(()),
+        let requests = self
+            .names
+            .requests_with(list, slice::from_ref(&name))
+            .all(alloc, blocks.count * blocks.each)?;
+        let count = requests.len();
+        self.names.push(alloc, list, name)?;
+        match self.cells.add(pdp, behind(list, blocks), requests) {
+            Ok(()) => Ok(count),
             Err(error) => {
                 self.names.undo_push(list);
                 Err(error)
@@ -85,16 +90,5 @@ impl Table {
         let before = self.cells.len();
         self.cells.narrow(blocks, place * blocks.each);
         Some(before - self.cells.len())
-    }
-
-    /// Puts other answers in the cells, and tells how many differ. It takes no memory.
-    pub(crate) fn replace(&mut self, answers: Items<Shared<Answer>>) -> usize
-        requires { length self.old.cells ≡ length answers }
-        ensures cells { self.new ≡ record self.old { cells = answers } }
-        ensures changes { result ≡ unlike_count self.old.cells answers }
-    {
-        let changes = unlike(&self.cells, answers.as_slice());
-        self.cells.replace_all(answers.into_vec());
-        changes
     }
 }

@@ -13,6 +13,8 @@ mod evaluation;
 #[cfg(test)]
 mod functions;
 #[cfg(test)]
+mod index;
+#[cfg(test)]
 mod policies;
 #[cfg(test)]
 mod responses;

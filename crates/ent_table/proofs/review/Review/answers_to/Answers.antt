@@ -2,6 +2,7 @@ use Rattle.std.proofs.Common.{◌≡◌, ◌+◌, ◌*◌, length, drop, ap, ◌
 use Rattle.ent_table.specs.Parts.{column}
 use Rattle.ent_table.specs.Review.{state_of}
 use Rattle.ent_table.specs.State.{answer_to}
+use Rattle.ent_table.proofs.Kept.{fresh_answers}
 use Rattle.ent_table.proofs.Parted.{answers_by_place, no_answers_action, no_answers_resource}
 use Rattle.ent_table.proofs.review.Review.answers_to.Goals as goal
 
@@ -27,6 +28,6 @@ returns g c =
     let depths : c.blocks-columns.result.each ≡ length names.resources = ap (λ b. b.each) c.blocks-columns.ensures.blocks in
     let one : c.blocks-depths.result.each ≡ 1 = ap (λ b. b.each) c.blocks-depths.ensures.blocks in
     c.new-2.ensures
-    ∙ (λ i. column (stride i) (c.names.ensures.names i) (drop (c.in-Some.column * depths i + c.in-Some-place_in.depth * one i) (c.requires.cells i)))
+    ∙ (λ i. column (stride i) (c.names.ensures.names i) (drop (c.in-Some.column * depths i + c.in-Some-place_in.depth * one i) (fresh_answers (state_of g.A.Attributes.sources g.P.Policies.slots self) self.table.cells c.requires.cells i)))
     ∙ answers_by_place f names.people names.actions names.resources c.args.action.now c.args.resource.now c.in-Some.column c.in-Some-place_in.depth
     c.blocks-columns.ensures.distinct c.blocks-depths.ensures.distinct c.in-Some.ensures.at c.in-Some-place_in.ensures.at

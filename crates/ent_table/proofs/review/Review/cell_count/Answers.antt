@@ -1,6 +1,8 @@
 use Rattle.std.proofs.Common.{◌≡◌, length, ap, ◌∙◌, arith}
 use Rattle.std.proofs.lemmas.List.{length-map}
 use Rattle.std.proofs.lemmas.Slice.Zip.{length-zip}
+use Rattle.ent_cells.specs.Cell.{cell_of}
+use Rattle.ent_eval.specs.Held.{looks_in}
 use Rattle.ent_table.specs.Names.{triples}
 use Rattle.ent_table.specs.Review.{state_of}
 use Rattle.ent_table.specs.State.{State, answer_to, fresh}
@@ -9,5 +11,5 @@ use Rattle.ent_table.proofs.review.Review.cell_count.Goals as goal
 pub returns : goal.returns
 returns g c =
     let s : State = state_of g.A.Attributes.sources g.P.Policies.slots c.args.self.now in
-    let counted : c.len.result ≡ length (fresh s) = c.len.ensures ∙ ap length c.requires.cells in
+    let counted : c.len.result ≡ length (triples s.names) = c.len.ensures ∙ ap length c.requires.cells ∙ length-map (triples s.names) (cell_of (looks_in s.held)) in
     omega (arith, counted, length-zip (triples s.names) (fresh s), length-map (triples s.names) (answer_to s))

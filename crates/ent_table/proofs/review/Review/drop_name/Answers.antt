@@ -3,11 +3,13 @@ use Rattle.ent_table.specs.Difference.{changes}
 use Rattle.ent_table.specs.Names.{Names}
 use Rattle.ent_table.specs.Review.{state_of}
 use Rattle.ent_table.specs.State.{State}
-use Rattle.ent_table.specs.Step.{next}
+use Rattle.ent_table.specs.Step.{name_dropped, next}
 use Rattle.ent_table.specs.Table.{IsDropped}
 use Rattle.ent_table.proofs.Changes.{less_names}
+use Rattle.ent_table.proofs.Counting.{made_counts, raised_none}
 use Rattle.ent_table.proofs.Steps.{name_leaves}
 use Rattle.ent_table.proofs.Tables.{Shows, dropped_changes, shows_less}
+use Rattle.ent_table.proofs.Touched.{touched_less}
 use Rattle.ent_table.proofs.review.Review.drop_name.Goals as goal
 
 pub returns-clause-step : goal.returns-clause-step
@@ -30,3 +32,13 @@ returns-clause-step g c =
       ap (λ a. a.serial) counted.accepted ∙ sym (ap (λ v. v.serial) counted.rest),
       ap (λ a. a.changes) counted.accepted ∙ dropped_changes s list name old.table new count shows dropped ∙ ap (λ (u : State). changes s u) (sym after),
     )
+
+pub returns-clause-counted : goal.returns-clause-counted
+returns-clause-counted g c =
+    let s = state_of g.A.Attributes.sources g.P.Policies.slots c.args.self.now in
+    let old = c.args.self.now in
+    let list = c.args.list in
+    let name = c.args.name.now in
+    let dropped : IsDropped list name old.table c.remove.new.self c.in-Some.changes = subst (λ (k : List ℕ). IsDropped list k old.table c.remove.new.self c.in-Some.changes) c.as_str-2.ensures c.in-Some.ensures in
+    λ h. made_counts (name_dropped s list name) s (less_names s list name) old.pdp.evaluations c.next_serial.new.self.pdp.evaluations 0 c.next_serial.result
+    (name_leaves s list name dropped.there c.if-self-ge-LAST_SERIAL.false) (sym (touched_less s list name)) (ap (λ v. v.pdp.evaluations) c.next_serial.ensures.rest ∙ sym (raised_none old.pdp.evaluations h))

@@ -8,8 +8,8 @@ use Rattle.ent_table.proofs.Exchanges.{count_replaced}
 use Rattle.ent_table.proofs.Steps.{replaced_is_held}
 use Rattle.ent_table.proofs.review.Review.replace_policy.Goals as goal
 
-pub exchange-requires-clause-documents : goal.exchange-requires-clause-documents
-exchange-requires-clause-documents g c =
+pub make-requires-clause-documents : goal.make-requires-clause-documents
+make-requires-clause-documents g c =
     let s = state_of g.A.Attributes.sources g.P.Policies.slots c.args.self.now in
     let old = replaced_is_held s c.args.number c.args.document c.in_ok-key.ensures.tested in
     c.requires.documents

@@ -10,8 +10,8 @@ overflow_sub-documents g c =
     let old = withdrawn_is_held s c.args.number c.args.key c.in_ok-withdrawal_fault.ensures in
     omega (arith, c.requires.documents, count_withdrawn s c.args.number c.args.key old.0 old.1)
 
-pub exchange-requires-clause-documents : goal.exchange-requires-clause-documents
-exchange-requires-clause-documents g c =
+pub make-requires-clause-documents : goal.make-requires-clause-documents
+make-requires-clause-documents g c =
     let s = state_of g.A.Attributes.sources g.P.Policies.slots c.args.self.now in
     let old = withdrawn_is_held s c.args.number c.args.key c.in_ok-withdrawal_fault.ensures in
     omega (arith, c.requires.documents, count_withdrawn s c.args.number c.args.key old.0 old.1)

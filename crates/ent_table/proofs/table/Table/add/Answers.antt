@@ -1,19 +1,27 @@
-use Rattle.std.proofs.Common.{map, string_bytes, sym, ap, ◌∙◌}
-use Rattle.ent_table.specs.Names.{Names, triples}
-use Rattle.ent_table.specs.Table.{grown}
+use Rattle.std.proofs.Common.{◌≡◌, ℕ, List, map, sym, ap, ◌∙◌}
+use Rattle.ent_cells.specs.Cell.{cell_of}
+use Rattle.ent_cells.specs.Shape.{woven}
+use Rattle.ent_eval.specs.LooksOf.{looks_of}
+use Rattle.ent_table.specs.Names.{Names, triples, with_list}
+use Rattle.ent_table.specs.Place.{blocks_of}
+use Rattle.ent_table.specs.Table.{behind, requests_with}
 use Rattle.ent_table.proofs.Named.{added_cells}
 use Rattle.ent_table.proofs.table.Table.add.Goals as goal
 
 pub returns-in-Ok-clause-ok : goal.returns-in-Ok-clause-ok
-returns-in-Ok-clause-ok c =
+returns-in-Ok-clause-ok g c =
     let old = c.args.self.now in
     let list = c.args.list in
+    let f = cell_of (looks_of g.A.Attributes.sources g.P.Policies.slots c.args.pdp.now) in
     let names = c.in_ok-push.ensures.ok in
+    let b : c.behind.result ≡ behind list (blocks_of list old.names) = c.behind.ensures ∙ ap (behind list) c.blocks-blocks.ensures.blocks in
+    let requests : c.in_ok-requests.requests ≡ requests_with list c.args.name old.names =
+    c.in_ok-requests.ensures ∙ ap triples (c.requests_with.ensures ∙ ap (λ (l : List (List ℕ)). with_list list l old.names) c.from_ref.ensures.value) in
     record {
       names = names;
-      cells = λ f is ones.
+      cells = λ is.
           c.in-Ok.ensures.ok
-          ∙ (λ i. grown list (c.blocks-blocks.ensures.blocks i) (is i) ((c.into_vec.ensures ∙ ones) i))
-          ∙ added_cells f list old.names (string_bytes c.args.name)
+          ∙ (λ i. woven (b i).count (b i).width (b i).each (is i) (map f (requests i)))
+          ∙ added_cells f list old.names c.args.name
           ∙ ap (λ (n : Names). map f (triples n)) (sym names);
     }

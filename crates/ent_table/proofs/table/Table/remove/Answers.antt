@@ -1,9 +1,9 @@
 use Rattle.std.proofs.Common.{◌≡◌, ◌≤◌, ◌*◌, length, map, sym, ap, ◌∙◌, arith}
 use Rattle.ent_table.specs.Names.{Names, has_name, triples, with_list, without_name}
-use Rattle.ent_table.specs.Shape.{without}
+use Rattle.ent_cells.specs.Shape.{without}
 use Rattle.ent_table.proofs.Counts.{has_own}
 use Rattle.ent_table.proofs.Named.{dropped_cells}
-use Rattle.ent_table.proofs.Shapes.{length-without}
+use Rattle.ent_cells.proofs.Shapes.{length-without}
 use Rattle.ent_table.proofs.table.Table.remove.Goals as goal
 
 pub overflow_sub-result : goal.overflow_sub-result

@@ -1,0 +1,31 @@
+-- An exchange that is taken back.
+use Rattle.std.proofs.Common.{◌≡◌, ◌<◌, List, length, refl, ap, subst, ◌∙◌}
+use Rattle.ent_finder.specs.Rows.{Source}
+use Rattle.ent_finder.specs.Slots.{Slots}
+use Rattle.ent_table.specs.declared.change.Exchange.{Exchange}
+use Rattle.ent_table.specs.declared.change.Exchange.TheVariants.{Document, Row, Root, Day}
+use Rattle.ent_table.specs.declared.review.Review.{Review}
+use Rattle.ent_table.specs.Exchange.{IsMade, IsWithin, taken, with_exchange}
+use Rattle.ent_table.specs.Review.{state_of}
+use Rattle.ent_table.specs.State.{State}
+use Rattle.ent_table.proofs.Exchanges.{undone}
+use Rattle.ent_table.proofs.Rows.{all_filled, filled_within, values_undone}
+
+pub exchange-undone : (s : State) (ss : List Source) (x : Exchange) → s.held.sources ≡ all_filled ss → IsWithin s x → with_exchange (with_exchange s x) (taken s x) ≡ s
+exchange-undone s ss (Document number key document) are h = undone s number key document h.0
+exchange-undone s ss (Row number key values) are h = values_undone s ss number key values are (filled_within ss number (within h.0)) where
+  within : number < length s.held.sources → number < length (all_filled ss)
+  within l = subst (λ n. number < n) (ap length are) l
+exchange-undone s ss (Root root) are h = refl
+exchange-undone s ss (Day day) are h = refl
+
+module _ {A P : Type 0} (sources : A → List Source) (slots : P → List Slots) where
+  -- where what was exchanged is exchanged with what stood there, the state is as before both
+  pub taken_back : (old between new : Review A P) (x back : Exchange) → IsWithin (state_of sources slots old) x → state_of sources slots between ≡ with_exchange (state_of sources slots old) x → back ≡ taken (state_of sources slots old) x
+      → state_of sources slots new ≡ with_exchange (state_of sources slots between) back → state_of sources slots new ≡ state_of sources slots old
+  taken_back old between new x back h there is again =
+      again ∙ (λ i. with_exchange (there i) (is i)) ∙ exchange-undone (state_of sources slots old) (sources old.pdp.attributes) x refl h
+
+  pub made_back : (before now new : Review A P) (back : Exchange) → IsMade sources slots before now back → state_of sources slots new ≡ with_exchange (state_of sources slots now) back
+      → state_of sources slots new ≡ state_of sources slots before
+  made_back before now new back made again = taken_back before now new made.0 back made.1 made.2 made.3 again

@@ -1,6 +1,0 @@
-use Rattle.std.proofs.Common.{◌∙◌, sym}
-use Rattle.ent_eval.proofs.Sames.{answer-Decides}
-use Rattle.ent_table.proofs.fill.equal.Goals as goal
-
-pub returns-then-eq : goal.returns-then-eq
-returns-then-eq c = sym c.get.ensures ∙ (answer-Decides c.get.result.now c.args.answer.now).0 (sym c.eq.ensures ∙ c.if-eq.true)

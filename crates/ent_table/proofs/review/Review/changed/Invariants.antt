@@ -1,0 +1,6 @@
+use Rattle.ent_table.specs.Review.{state_of}
+use Rattle.ent_table.specs.Seen.{AreChanged}
+use Rattle.ent_table.proofs.review.Review.changed.Given as goal
+
+abbrev pub invariant-loop-seen : goal.invariant-loop-seen
+invariant-loop-seen g l = AreChanged (state_of g.A.Attributes.sources g.P.Policies.slots l.self) l.exchange l.yielded l.changed

@@ -1,0 +1,63 @@
+-- One thing of what is held that is exchanged with what stands there.
+use Rattle.std.specs.Prelude.{◌≡◌, ℕ, ◌<◌, List, length, Some, IsSome, Result, Ok}
+use Rattle.std.specs.FinMap.{get}
+use Rattle.std.specs.Option.{ForSome}
+use Rattle.ent_values.specs.Bags.{AllOfType}
+use Rattle.ent_policy.specs.Key.{key_of}
+use Rattle.ent_finder.specs.Rows.{Source, source_at}
+use Rattle.ent_finder.specs.Slots.{Slots, document_count, module_at}
+use Rattle.ent_table.specs.declared.change.Exchange.{Exchange}
+use Rattle.ent_table.specs.declared.change.Exchange.TheVariants.{Document, Row, Root, Day}
+use Rattle.ent_table.specs.declared.edit.EditFault.{EditFault}
+use Rattle.ent_table.specs.declared.review.Review.{Review}
+use Rattle.ent_table.specs.Review.{policy_at, row_at, state_of}
+use Rattle.ent_table.specs.State.{State}
+use Rattle.ent_table.specs.Step.{next, with_day, with_policy, with_root, with_values}
+
+-- the state after it
+abbrev pub with_exchange : State → Exchange → State
+with_exchange s (Document number key document) = with_policy s number key document
+with_exchange s (Row number key values) = with_values s number key values
+with_exchange s (Root root) = with_root s root
+with_exchange s (Day day) = with_day s day
+
+-- what stands there before it, which exchanged takes it back
+abbrev pub taken : State → Exchange → Exchange
+taken s (Document number key document) = Document number key (policy_at s number key)
+taken s (Row number key values) = Row number key (row_at s number key)
+taken s (Root root) = Root s.held.root
+taken s (Day day) = Day s.held.day
+
+-- the step that it makes, one serial later
+abbrev pub exchanged : State → Exchange → Result State EditFault
+exchanged s x = Ok (next (with_exchange s x))
+
+-- there is a module of that number, and what is to stand in it is of the key
+abbrev pub IsWithin : State → Exchange → Type 0
+IsWithin s (Document number key document) = (number < length s.held.modules) × ForSome document (λ d. key_of d ≡ key)
+IsWithin s (Row number key values) = (number < length s.held.sources) × AllOfType key.datatype values
+IsWithin s (Root root) = Unit {0}
+IsWithin s (Day day) = Unit {0}
+
+-- there is a place for it, so that it takes no memory
+abbrev pub IsThere : {A P : Type 0} → (A → List Source) → (P → List Slots) → Review A P → Exchange → Type 0
+IsThere sources slots v (Document number key document) = IsSome (get (module_at (slots v.pdp.policies) number) key)
+IsThere sources slots v (Row number key values) = IsSome (get (source_at (sources v.pdp.attributes) number).rows key)
+IsThere sources slots v (Root root) = Unit {0}
+IsThere sources slots v (Day day) = Unit {0}
+
+-- how many documents are held after it
+abbrev pub count_with : State → Exchange → ℕ
+count_with s x = document_count (with_exchange s x).held.modules
+
+-- only what is held changed
+abbrev pub OnlyHeld : {A P : Type 0} → Review A P → Review A P → Type 0
+OnlyHeld old new = new ≡ record old {
+  pdp = record old.pdp { attributes = new.pdp.attributes; policies = new.pdp.policies; root = new.pdp.root; day = new.pdp.day };
+}
+
+-- a review became another by an exchange, of which this stood there
+abbrev pub IsMade : {A P : Type 0} → (A → List Source) → (P → List Slots) → Review A P → Review A P → Exchange → Type 0
+IsMade sources slots before now back =
+    (x : Exchange) × IsWithin (state_of sources slots before) x × (state_of sources slots now ≡ with_exchange (state_of sources slots before) x)
+    × (back ≡ taken (state_of sources slots before) x)

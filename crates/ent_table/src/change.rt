@@ -1,0 +1,72 @@
+//! What an edit changes: once it is exchanged, what was there before, so that exchanging it again takes the edit back.
+
+ghost use Rattle.std.specs.Prelude.{◌≡◌, OnErr, OnOk};
+ghost use Rattle.ent_table.specs.Change.{Becomes, Stays};
+ghost use Rattle.ent_table.specs.Exchange.{IsMade, IsThere, IsWithin, OnlyHeld, taken, with_exchange};
+ghost use Rattle.ent_table.specs.Review.{state_of};
+
+use crate::review::Review;
+use ent_finder::{Attributes, Policies, RowKey};
+use ent_policy::{DocKey, Document, Reference};
+use ent_values::{Date, Items, Value};
+use std::alloc::AllocError;
+
+/// One thing of what is held, which is to be exchanged with what stands there.
+#[derive(Drop)]
+pub(crate) enum Exchange {
+    /// The document under a key in the module of that number, or none.
+    Document(usize, DocKey, Option<Document>),
+    /// The values in a row of the module of attributes of that number.
+    Row(usize, RowKey, Items<Value>),
+    /// The root, or none.
+    Root(Option<Reference>),
+    /// The day, or none.
+    Day(Option<Date>),
+}
+
+impl<A: Attributes, P: Policies> Review<A, P> {
+    /// Exchanges one thing of what is held. Once this is done, it can be done again without memory, and then all is as
+    /// before. It evaluates nothing.
+    pub(crate) fn exchange(&mut self, exchange: &mut Exchange) -> Result<(), AllocError>
+        requires { IsWithin (state_of A.sources P.slots self.old) exchange.old }
+        ensures made { OnOk result (Becomes A.sources P.slots (λ s. with_exchange s exchange.old) self.old self.new) }
+        ensures taken { OnOk result (exchange.new ≡ taken (state_of A.sources P.slots self.old) exchange.old) }
+        ensures again { OnOk result (IsWithin (state_of A.sources P.slots self.new) exchange.new) }
+        ensures there { OnOk result (IsThere A.sources P.slots self.new exchange.new) }
+        ensures absent { OnErr result (¬ IsThere A.sources P.slots self.old exchange.old) }
+        ensures kept { OnErr result (Stays A.sources P.slots self.old self.new) }
+        ensures rest { OnlyHeld self.old self.new }
+    {
+        match exchange {
+            Exchange::Document(number, key, document) => {
+                self.exchange_document(*number, key, document)
+            }
+            Exchange::Row(number, key, values) => self.exchange_row(*number, key, values),
+            Exchange::Root(root) => {
+                let before = self.pdp.set_root(root.take());
+                *root = before;
+                Ok(())
+            }
+            Exchange::Day(day) => {
+                let before = self.pdp.set_day(*day);
+                *day = before;
+                Ok(())
+            }
+        }
+    }
+
+    /// Takes an exchange back that was made: the state is the one before it. It takes no memory.
+    #[tactic(auto, using(crate::proofs::Undone::made_back))]
+    pub(crate) fn take_back(&mut self, mut exchange: Exchange)
+        requires within { IsWithin (state_of A.sources P.slots self.old) exchange }
+        requires there { IsThere A.sources P.slots self.old exchange }
+        ensures before { (before : Review A P) → IsMade A.sources P.slots before self.old exchange
+            → Stays A.sources P.slots before self.new }
+        ensures rest { OnlyHeld self.old self.new }
+    {
+        match self.exchange(&mut exchange) {
+            Ok(()) => {}
+            Err(_) => unreachable!(),
+        }
+    }
+}
