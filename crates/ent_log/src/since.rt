@@ -41,6 +41,7 @@ fn changes_of<K: Ord + Drop, A: PartialEq + Drop, P: Present<K, A>>(
     present: &P,
     old_answers: BTreeMap<SharedKey<K>, Option<Shared<A>>>,
 ) -> Result<Items<Change<K, A>>, AllocError>
+    requires { P.can_answer present.now }
     ensures changes { IfOk result (λ cs. cs ≡ changes_among A.eq (P.answers present.now) old_answers.entries) }
     ensures ordered { OnOk result (IsOrdered K.cmp old_answers) }
 {
@@ -98,6 +99,7 @@ impl<K: Ord + Drop, A: Eq + Drop> Log<K, A> {
     ) -> Result<Items<Change<K, A>>, AllocError>
         requires kept { self.now.from ≤ serial }
         requires reached { serial ≤ self.now.serial }
+        requires ready { P.can_answer present.now }
         requires respects { Respects K.cmp (P.answers present.now) }
         ensures { IfOk result (IsDifference K.cmp A.eq
             (table_at K.cmp self.now (P.answers present.now) serial)
