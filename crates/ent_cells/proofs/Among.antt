@@ -68,14 +68,17 @@ among_take ks i c h =
     ∙ or_left (is_among (take i ks) c) (is_among (drop i ks) c) h
 
 -- what stands in a list once doesn't stand before its place
-pub first_time : (ks : List ℕ) (i : ℕ) → i < length ks → times (get_or ks i 0) ks ≤ 1 → is_among (take i ks) (get_or ks i 0) ≡ false
-first_time ks i within once =
+pub first_times : (ks : List ℕ) (i : ℕ) → i < length ks → times (get_or ks i 0) ks ≤ 1 → times (get_or ks i 0) (take i ks) ≡ 0
+first_times ks i within once =
     let k : ℕ = get_or ks i 0 in
     let parts : times k ks ≡ times k (take i ks) + times k (k ∷ drop (i + 1) ks) =
     ap (times k) (sym (take-append-drop i ks))
     ∙ times-append k (take i ks) (drop i ks)
     ∙ ap (λ (xs : List ℕ). times k (take i ks) + times k xs) (drop_more ks i 0 within) in
-    among_none (take i ks) k (omega (arith, parts, once_at_least k (drop (i + 1) ks), once))
+    omega (arith, parts, once_at_least k (drop (i + 1) ks), once)
+
+pub first_time : (ks : List ℕ) (i : ℕ) → i < length ks → times (get_or ks i 0) ks ≤ 1 → is_among (take i ks) (get_or ks i 0) ≡ false
+first_time ks i within once = among_none (take i ks) (get_or ks i 0) (first_times ks i within once)
 
 -- ---- a number among those that pass
 kept_by : (pass same : Bool) (n m : ℕ) → m ≡ cond pass n 0 → cond pass (cond same 1 0 + m) m ≡ cond pass (cond same 1 0 + n) 0

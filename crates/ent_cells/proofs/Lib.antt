@@ -1,9 +1,14 @@
 pub mod Among
 pub mod Confirmed
+pub mod Gone
 pub mod Grids
+pub mod Held
 pub mod KeyNumbers
 pub mod Listed
+pub mod Logging
 pub mod Narrowed
+pub mod Olds
+pub mod Orders
 pub mod Phased
 pub mod Places
 pub mod Seen

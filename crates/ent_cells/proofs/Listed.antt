@@ -1,6 +1,6 @@
 -- The cells of a slab, in the order of a list of their keys.
-use Rattle.std.proofs.Common.{◌≡◌, inl, inr, ℕ, zero, suc, ◌+◌, ◌<◌, ◌≤◌, Bool, true, false, ◌||◌, nat_eq, List, [], ◌∷◌, ◌++◌, map, length, take, drop, Option, Some, None, is_some, option_map, slice_get, slice_index_or as get_or, refl, sym, ap, subst, ◌∙◌, arith}
-use Rattle.std.specs.List.{AllByRecursion, cons_option, list_any}
+use Rattle.std.proofs.Common.{◌≡◌, inl, inr, ℕ, zero, suc, ◌+◌, ◌<◌, ◌≤◌, Bool, true, false, ◌||◌, nat_eq, List, [], ◌∷◌, ◌++◌, map, length, take, drop, Option, Some, None, is_some, option_map, slice_get, slice_index_or as get_or, refl, sym, ap, subst, ◌∙◌, arith, le_refl}
+use Rattle.std.specs.List.{AllByRecursion, cons_option, filter, list_any}
 use Rattle.std.proofs.lemmas.Bool.Decides.{eqb_tells}
 use Rattle.std.proofs.lemmas.List.{length-map, map-append, take-map, drop-map}
 use Rattle.std.proofs.lemmas.Option.{slice_get-map}
@@ -14,7 +14,8 @@ use Rattle.ent_cells.specs.Grid.{IsGrid, entries_of, times, values}
 use Rattle.ent_cells.specs.Shape.{left_after, left_of, taken_out, without, woven}
 use Rattle.ent_cells.proofs.Among.{bit}
 use Rattle.ent_cells.proofs.Grids.{at, at_none, long, more_grid, more_values}
-use Rattle.ent_cells.proofs.Narrowed.{narrow_grid, narrow_values, without-map}
+use Rattle.ent_cells.proofs.Narrowed.{narrow_filter, narrow_grid, narrow_values, without-map}
+use Rattle.ent_cells.proofs.Shapes.{before, behind}
 use Rattle.ent_cells.proofs.Woven.{woven-map, woven_grid, woven_values}
 
 abbrev cell_in : Entry → Kept
@@ -141,6 +142,26 @@ module _ (s t : Slab Entry) (m w o n : ℕ) (ks : List ℕ) (live : IsLive s ks)
       ap (λ (es : List (ℕ × Entry)). map cell_in (values es)) (narrow_values s t m w o n ks live.grid cleared)
       ∙ ap (map cell_in) (without-map (λ p. p.1) m w o n (entries_of s ks))
       ∙ without-map cell_in m w o n (values (entries_of s ks))
+
+-- the first cells are kept
+module _ (s t : Slab Entry) (len : ℕ) (ks : List ℕ) (live : IsLive s ks) (cleared : (q : ℕ) → get t q ≡ left_of s (drop len ks) q) where
+  gone : (q : ℕ) → get t q ≡ left_of s (taken_out 1 (length ks) len (length ks) ks) q
+  gone q = cleared q ∙ ap (λ (xs : List ℕ). left_of s xs q) (sym (behind (length ks) len ks (le_refl (length ks))))
+
+  left : without 1 (length ks) len (length ks) ks ≡ take len ks
+  left = before (length ks) len ks (le_refl (length ks))
+
+  pub front_filter : filter (λ q. is_some (get t q)) ks ≡ take len ks
+  front_filter = narrow_filter s t 1 (length ks) len (length ks) ks live.grid gone ∙ left
+
+  pub front_live : IsLive t (take len ks)
+  front_live = subst (IsLive t) left (narrow_live s t 1 (length ks) len (length ks) ks live gone)
+
+  pub front_kept : kept_of t (take len ks) ≡ take len (kept_of s ks)
+  front_kept =
+      ap (kept_of t) (sym left)
+      ∙ narrow_kept s t 1 (length ks) len (length ks) ks live gone
+      ∙ before (length ks) len (kept_of s ks) (omega (arith, kept_long s ks live.grid))
 
 -- ---- cells change their places
 module _ (s : Slab Entry) (ks : List ℕ) (start m w n : ℕ) (live : IsLive s ks) where

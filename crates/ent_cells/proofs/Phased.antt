@@ -1,13 +1,11 @@
 -- The phases of an edit, one cell after another.
 use Rattle.std.proofs.Common.{◌≡◌, inl, inr, ℕ, ◌+◌, ◌<◌, ◌≤◌, Bool, true, false, cond, List, take, length, Option, Some, None, IsSome, option_map, refl, sym, ap, subst, ◌∙◌, slice_index_or as get_or}
-use Rattle.std.specs.Option.{option_map_or}
 use Rattle.std.proofs.lemmas.Bool.Decides.{eqb_tells}
-use Rattle.std.proofs.lemmas.List.Filters.{length-filter_more}
 use Rattle.slab.specs.Slab.{Slab, Updates, get}
 use Rattle.ent_eval.specs.Looks.{Looks}
-use Rattle.ent_cells.specs.Entries.{AreFree, Becomes, Entry, IsFree, changes, given_up}
+use Rattle.ent_cells.specs.Entries.{AreFree, Becomes, Entry, IsFree, given_up}
 use Rattle.ent_cells.specs.Grid.{times}
-use Rattle.ent_cells.specs.Phases.{KeepsCells, changed_at, changed_count, is_among, made_ready}
+use Rattle.ent_cells.specs.Phases.{KeepsCells, changed_at, is_among, made_ready}
 use Rattle.ent_cells.proofs.Among.{among_here, among_others, among_take, first_time}
 
 pub some_of : {A : Type 0} (o : Option A) → IsSome o → (e : A) × (o ≡ Some e)
@@ -73,7 +71,3 @@ pub keeps_cells : (looks : Looks) (old s : Slab Entry) (ks : List ℕ) (i : ℕ)
 keeps_cells looks old s ks i free so_far c =
     ap (changed_at given_up ks c) (so_far c)
     ∙ kept_by looks (is_among (take i ks) c) (is_among ks c) (get old c) (free c) (among_take ks i c)
-
--- ---- how many get another answer
-pub count_more : (old : Slab Entry) (ks : List ℕ) (i : ℕ) → i < length ks → changed_count old (take (i + 1) ks) ≡ changed_count old (take i ks) + cond (option_map_or changes (get old (get_or ks i 0)) false) 1 0
-count_more old ks i within = length-filter_more (λ c. option_map_or changes (get old c) false) ks i 0 within

@@ -13,13 +13,17 @@ use Rattle.ent_eval.specs.Same.{same_answer}
 use Rattle.ent_cells.specs.Cell.{IsRightBut, Kept, Said, answers_in, reads_any, renewed, says, unlike_count}
 use Rattle.ent_cells.specs.Entries.{Entry, IsLive, changes, entry_of_cell, given_up, kept_of, settled, touched_at}
 use Rattle.ent_cells.specs.Grid.{IsGrid, times}
-use Rattle.ent_cells.specs.Phases.{IsPrepared, KeepsCells, changed_at, changed_count, is_among, made_ready}
+use Rattle.ent_cells.specs.Phases.{IsPrepared, KeepsCells, changed_at, is_among, made_ready}
 use Rattle.ent_cells.proofs.Among.{among_bit, bit, once_at_least, same_length, times_filter}
 use Rattle.ent_cells.proofs.Listed.{each, kept_cons, mapped}
 
 -- a cell that says the fresh evaluation, of which nothing is ready
 abbrev pub fresh : Looks → Entry → Entry
 fresh looks e = entry_of_cell e.kept.who (says looks e.kept.who)
+
+-- how many of the cells under these keys get another answer by what is ready
+abbrev pub changed_count : Slab Entry → List ℕ → ℕ
+changed_count s keys = length (filter (λ c. option_map_or changes (get s c) false) keys)
 
 -- each touched cell stands in a list once, and no other does
 abbrev pub AreTouched : List ReadKey → Slab Entry → List ℕ → Type 0
@@ -79,7 +83,7 @@ next_by looks changed true (Some e) is free right = refl
 next_by looks changed false (Some e) is free right = ap Some (right_again looks e (free e refl) (right e refl (sym is)))
 
 module _ (looks : Looks) (changed : List ReadKey) (s0 s1 : Slab Entry) (ks grid : List ℕ) (touched : AreTouched changed s0 ks) (prepared : IsPrepared looks ks s0 s1) (live : IsLive s0 grid) (all : AllByRecursion (IsRightBut changed looks) (kept_of s0 grid)) where
-  right : (c : ℕ) (e : Entry) → get s0 c ≡ Some e → IsRightBut changed looks e.kept
+  pub right : (c : ℕ) (e : Entry) → get s0 c ≡ Some e → IsRightBut changed looks e.kept
   right c e h = each (IsRightBut changed looks) s0 grid live.grid all c e h
 
   module _ (s2 : Slab Entry) (done : (c : ℕ) → get s2 c ≡ changed_at settled ks c (get s1 c)) where

@@ -1,8 +1,8 @@
 -- Lists in blocks, and slabs of which some keys are cleared.
-use Rattle.std.proofs.Common.{◌≡◌, inl, inr, ℕ, zero, suc, ◌+◌, ◌-◌, ◌<◌, ◌≤◌, List, [], ◌∷◌, ◌++◌, take, drop, length, Option, None, Bool, cond, refl, sym, ap, ◌∙◌, arith, append_assoc}
+use Rattle.std.proofs.Common.{◌≡◌, inl, inr, ℕ, zero, suc, ◌+◌, ◌-◌, ◌<◌, ◌≤◌, List, [], ◌∷◌, ◌++◌, take, drop, length, Option, None, Bool, cond, refl, sym, ap, ◌∙◌, arith, append-nil, append_assoc}
 use Rattle.std.proofs.lemmas.Bool.{eq-eqb}
 use Rattle.std.proofs.lemmas.Bool.Decides.{eqb_tells}
-use Rattle.std.proofs.lemmas.List.{length-append, take-append-drop}
+use Rattle.std.proofs.lemmas.List.{drop_all, length-append, length-drop, take-append-drop, take_all}
 use Rattle.slab.specs.Slab.{Slab, get, Updates}
 use Rattle.ent_cells.specs.Grid.{times}
 use Rattle.ent_cells.specs.Shape.{woven, taken_out, without, left_after, left_of}
@@ -61,6 +61,19 @@ length-without {A} (suc m) w o n xs =
     let d : List A = drop o b in
     let rest : List A = without m w o n (drop w xs) in
     omega (arith, length-append (take o b) (drop n d ++ rest), length-append (drop n d) rest, halves w xs, halves o b, halves n d, length-without m w o n (drop w xs))
+
+-- all that stands behind a place is one block
+pub behind : {A : Type 0} (n len : ℕ) (xs : List A) → length xs ≤ n → taken_out 1 n len n xs ≡ drop len xs
+behind {A} n len xs long =
+    append-nil (take n (drop len (take n xs)))
+    ∙ ap (λ (ys : List A). take n (drop len ys)) (take_all n xs long)
+    ∙ take_all n (drop len xs) (omega (arith, length-drop len xs))
+
+pub before : {A : Type 0} (n len : ℕ) (xs : List A) → length xs ≤ n → without 1 n len n xs ≡ take len xs
+before {A} n len xs long =
+    (λ j. take len (take_all n xs long j) ++ (drop n (drop len (take_all n xs long j)) ++ drop_all n xs long j))
+    ∙ ap (λ (ys : List A). take len xs ++ (ys ++ [])) (drop_all n (drop len xs) (omega (arith, length-drop len xs)))
+    ∙ append-nil (take len xs)
 
 pub block_step : {A : Type 0} (s t u : Slab A) (n i w o count : ℕ) (keys rest gone later : List ℕ) → i < n → gone ≡ take count (drop o (take w rest)) → later ≡ drop w rest → ((q : ℕ) → left_of t (taken_out (n - i) w o count rest) q ≡ left_of s keys q) → ((q : ℕ) → get u q ≡ left_of t gone q) → (q : ℕ) → left_of u (taken_out (n - (i + 1)) w o count later) q ≡ left_of s keys q
 block_step s t u n i w o count keys rest gone later h is_gone is_later so_far cleared q =

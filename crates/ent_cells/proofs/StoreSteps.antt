@@ -1,7 +1,7 @@
 -- What each step of a change makes of the index and of the cells.
-use Rattle.std.proofs.Common.{◌≡◌, ◌≢◌, ℕ, List, [], Bool, true, false, not, ◌&&◌, ◌||◌, Option, Some, None, IsSome, map, option_map, slice_index_or as get_or, refl, sym, ap, subst, ◌∙◌}
+use Rattle.std.proofs.Common.{◌≡◌, ◌≢◌, ℕ, List, [], Bool, true, false, not, ◌&&◌, ◌||◌, Option, Some, None, map, option_map, slice_index_or as get_or, refl, sym, ap, subst, ◌∙◌}
 use Rattle.std.specs.FinMap.{empty, get as find_in, get-empty}
-use Rattle.std.specs.Option.{IfSome, option_map_or}
+use Rattle.std.specs.Option.{option_map_or}
 use Rattle.std.specs.Prelude.{Err, IfOk, Ok, OnErr, OnOk, Result}
 use Rattle.std.specs.Ordering.{is_eq, nat_cmp}
 use Rattle.std.proofs.lemmas.Option.{same_Some}
@@ -19,8 +19,8 @@ use Rattle.ent_cells.specs.declared.cell.Cell.{Cell}
 use Rattle.ent_cells.specs.declared.cell.Numbered.{Numbered}
 use Rattle.ent_cells.specs.declared.who.Who.{Who}
 use Rattle.ent_cells.specs.Cell.{Said}
-use Rattle.ent_cells.specs.Entries.{Becomes, Entry, Inserts, IsFree, changes, changes_by, entry_of_cell, given_up, no_entries, settled, settled_by}
-use Rattle.ent_cells.specs.Numbers.{AreNextNumbers, AreNumbers, AreOfOneKey, ForgetsAt, HasNumbers, IsAsBefore, IsStore, IsUnready, entry_in, is_numbered_only, keys_in, next_only, next_only_by, next_rests, numbers_at, replaced, replaced_by, replaces, replaces_by, rests_at, said_of, said_only, said_only_by, seen, shown, shown_entry, unready}
+use Rattle.ent_cells.specs.Entries.{Becomes, Entry, Inserts, IsFree, entry_of_cell, given_up, no_entries, settled, settled_by}
+use Rattle.ent_cells.specs.Numbers.{AreNextNumbers, AreNumbers, AreOfOneKey, ForgetsAt, HasNumbers, IsAsBefore, IsStore, IsUnready, entry_in, is_numbered_only, keys_in, next_only, next_only_by, next_rests, numbers_at, replaced, replaced_by, rests_at, said_of, said_only, said_only_by, seen, unready}
 
 -- ---- at the cell, and elsewhere
 
@@ -369,52 +369,6 @@ module _ (s t : Slab Cell) (a b : ReadIndex) (key : ℕ) (is : IsStore s a) (o :
 
   pub gone_seen : Updates (seen a s) (seen b t) key None
   gone_seen = updates_seen s t a b key gone_change None up.changed
-
--- ---- a cell that is there
-
-module _ (a : ReadIndex) (s : Slab Cell) (key : ℕ) where
-  pub some_there : IsSome (get (seen a s) key) → IsSome (get s key)
-  some_there h = by (get s key) (subst IsSome (get_seen a s key) h)
-    where
-      by : (o : Option Cell) → IsSome (option_map (entry_in a) o) → IsSome o
-      by None h = h
-      by (Some cell) h = refl
-
-  pub free_there : IsFree (get (seen a s) key) → IsSome (get s key)
-  free_there h = by (get s key) (subst IsFree (get_seen a s key) h)
-    where
-      by : (o : Option Cell) → IsFree (option_map (entry_in a) o) → IsSome o
-      by None h = absurd h
-      by (Some cell) h = refl
-
-  pub free_unready : IsFree (get (seen a s) key) → IsUnready (get s key)
-  free_unready h = by (get s key) (subst IsFree (get_seen a s key) h)
-    where
-      next : (o : Option Numbered) → option_map (said_of a) o ≡ None → o ≡ None
-      next None h = refl
-      next (Some said) h = cc
-
-      by : (o : Option Cell) → IsFree (option_map (entry_in a) o) → IsUnready o
-      by None h = tt
-      by (Some cell) h = next cell.next h
-
-  pub changes_seen : IfSome (get (seen a s) key) (λ e. option_map_or replaces (get s key) false ≡ changes e)
-  changes_seen = subst (λ o. IfSome o (λ e. option_map_or replaces (get s key) false ≡ changes e)) (sym (get_seen a s key)) (by (get s key))
-    where
-      next : (cell : Cell) (o : Option Numbered) → replaces_by cell o ≡ changes_by (entry_in a cell).kept (option_map (said_of a) o)
-      next cell None = refl
-      next cell (Some said) = refl
-
-      by : (o : Option Cell) → IfSome (option_map (entry_in a) o) (λ e. option_map_or replaces o false ≡ changes e)
-      by None = tt
-      by (Some cell) = next cell cell.next
-
-  pub shown_seen : option_map shown (get s key) ≡ option_map shown_entry (get (seen a s) key)
-  shown_seen = by (get s key) ∙ ap (option_map shown_entry) (sym (get_seen a s key))
-    where
-      by : (o : Option Cell) → option_map shown o ≡ option_map shown_entry (option_map (entry_in a) o)
-      by None = refl
-      by (Some cell) = refl
 
 -- ---- results
 

@@ -2,6 +2,9 @@ pub mod Cell
 pub mod Count
 pub mod Entries
 pub mod Grid
+pub mod Logging
 pub mod Numbers
+pub mod Old
+pub mod Order
 pub mod Phases
 pub mod Shape

@@ -1,11 +1,10 @@
 -- What the phases of an edit make of cells.
-use Rattle.std.specs.Prelude.{◌≡◌, ℕ, List, Bool, false, cond, filter, length, nat_eq, option_map, Option, Some}
+use Rattle.std.specs.Prelude.{◌≡◌, ℕ, List, Bool, cond, nat_eq, option_map, Option, Some}
 use Rattle.std.specs.List.{list_any}
-use Rattle.std.specs.Option.{option_map_or}
 use Rattle.slab.specs.Slab.{Slab, get}
 use Rattle.ent_eval.specs.Looks.{Looks}
 use Rattle.ent_cells.specs.Cell.{says}
-use Rattle.ent_cells.specs.Entries.{Entry, changes, given_up}
+use Rattle.ent_cells.specs.Entries.{Entry, given_up}
 
 -- whether a number is one of these
 abbrev pub is_among : List ℕ → ℕ → Bool
@@ -26,7 +25,3 @@ IsPrepared looks keys old new = (c : ℕ) → get new c ≡ changed_at (made_rea
 -- the cells are as before, once what is ready of those under these keys is given up
 abbrev pub KeepsCells : List ℕ → Slab Entry → Slab Entry → Type 0
 KeepsCells keys old new = (c : ℕ) → changed_at given_up keys c (get new c) ≡ get old c
-
--- how many of the cells under these keys get another answer by what is ready
-abbrev pub changed_count : Slab Entry → List ℕ → ℕ
-changed_count s keys = length (filter (λ c. option_map_or changes (get s c) false) keys)

@@ -1,11 +1,18 @@
 //! Keys in blocks of one width.
 
-ghost use Rattle.std.specs.Prelude.{◌≡◌, ◌≤◌, ◌++◌, [], is_some, ◌+◌, ℕ, length, take, drop, vec_capacity, vec_len};
+ghost use Rattle.std.specs.Prelude.{◌≡◌, ◌<◌, ◌≤◌, ◌++◌, ◌∷◌, [], None, is_some, ◌+◌, ℕ, length, take, drop};
+ghost use Rattle.std.specs.Prelude.{vec_capacity, vec_len};
 ghost use Rattle.std.specs.List.{filter};
-ghost use Rattle.slab.specs.Slab.{get};
+ghost use Rattle.slab.specs.Slab.{Updates, get};
+ghost use Rattle.ent_log.specs.Tables.{room_of};
+ghost use Rattle.ent_cells.specs.Grid.{times};
+ghost use Rattle.ent_cells.specs.Logging.{Puts, gone_in};
 ghost use Rattle.ent_cells.specs.Shape.{woven, taken_out, left_of};
 
 use crate::store::Store;
+use crate::who::Who;
+use ent_eval::Answer;
+use ent_log::Log;
 use std::cmp::min;
 
 /// Where the cells of one name stand in list order: `each` of them one after another, in each of `count` blocks of
@@ -35,17 +42,59 @@ fn remove_all(store: &mut Store, keys: &[usize])
     }
 }
 
-/// Takes out the cells of a name, which stand from place `from` on in each of the blocks. It takes no memory.
-pub(crate) fn remove_blocks(store: &mut Store, keys: &[usize], blocks: Blocks, from: usize)
-    ensures { (q : ℕ)
+/// Takes out the cells whose keys stand from place `from` on. It takes no memory.
+pub(crate) fn remove_from(store: &mut Store, keys: &[usize], from: usize)
+    ensures { (q : ℕ) → get store.new q ≡ left_of store.old (drop from keys.now) q }
+{
+    let (_, gone) = split(keys, from);
+    remove_all(store, gone);
+}
+
+/// Takes the cell under a key out, if there is one, and logs its answer. It takes no memory.
+fn remove_one(store: &mut Store, log: &mut Log<Who, Answer>, key: usize)
+    requires { 0 < room_of log.old }
+    ensures cells { Updates store.old store.new key None }
+    ensures logged { Puts (gone_in store.old (key ∷ [])) log.old log.new }
+{
+    if let Some(old) = store.remove(key) {
+        log.put(old);
+    }
+}
+
+/// Takes the cells under some keys out, and logs their answers. It takes no memory.
+fn remove_logged(store: &mut Store, log: &mut Log<Who, Answer>, keys: &[usize])
+    requires once { (c : ℕ) → times c keys.now ≤ 1 }
+    requires room { length keys.now ≤ room_of log.old }
+    ensures cells { (q : ℕ) → get store.new q ≡ left_of store.old keys.now q }
+    ensures logged { Puts (gone_in store.old keys.now) log.old log.new }
+{
+    for key in keys {
+        remove_one(store, log, *key);
+    }
+}
+
+/// Takes out the cells of a name, which stand from place `from` on in each of the blocks, and logs their answers. It
+/// takes no memory.
+pub(crate) fn remove_blocks(
+    store: &mut Store,
+    log: &mut Log<Who, Answer>,
+    keys: &[usize],
+    blocks: Blocks,
+    from: usize,
+)
+    requires once { (c : ℕ) → times c keys.now ≤ 1 }
+    requires room { length keys.now ≤ room_of log.old }
+    ensures cells { (q : ℕ)
         → get store.new q ≡ left_of store.old (taken_out blocks.count blocks.width from blocks.each keys.now) q }
+    ensures logged { Puts (gone_in store.old (taken_out blocks.count blocks.width from blocks.each keys.now))
+        log.old log.new }
 {
     let mut rest = keys;
     for done in 0..blocks.count {
         let (block, later) = split(rest, blocks.width);
         let (_, tail) = split(block, from);
         let (gone, _) = split(tail, blocks.each);
-        remove_all(store, gone);
+        remove_logged(store, log, gone);
         rest = later;
     }
 }

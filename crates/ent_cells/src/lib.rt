@@ -1,5 +1,5 @@
 //! The cells of a table in list order, each with its request, its answer and what the answer rests on, and an index of
-//! what they read: so that an edit evaluates exactly the cells that read what it changes.
+//! what they read: so that an edit evaluates exactly the cells that read what it changes, and tells their old answers.
 #![tactic(auto)]
 
 mod blocks;
@@ -7,6 +7,7 @@ mod cell;
 mod confirm;
 mod evaluate;
 mod live;
+mod old;
 mod phases;
 mod sharing;
 mod steps;

@@ -1,21 +1,24 @@
 //! The live table: cells in list order, and an index of what they read.
 
-ghost use Rattle.std.specs.Prelude.{◌≡◌, ◌<◌, ◌≤◌, ◌++◌, ◌∷◌, [], count_by, drop, length, map, slice_get, take};
+ghost use Rattle.std.specs.Prelude.{◌≡◌, ◌<◌, ◌≤◌, ◌+◌, ◌++◌, ◌∷◌, [], count_by, drop, length, map, slice_get, take};
 ghost use Rattle.std.specs.Prelude.{IfOk, IfSome, MatchOption, OnErr, OnOk, option_copied, vec_capacity};
 ghost use Rattle.std.specs.List.{AllByRecursion};
 ghost use Rattle.ent_eval.specs.LooksOf.{looks_of};
 ghost use Rattle.ent_index.specs.Asked.{asks_policy, asks_row};
+ghost use Rattle.ent_log.specs.Tables.{IsSameLog, room_of};
 ghost use Rattle.ent_cells.specs.Cell.{HasReadKeys, IsRightBut, answers_in, cell_of, reads_any, renewed, unlike_count};
 ghost use Rattle.ent_cells.specs.Count.{Counts, CountsAtMost};
+ghost use Rattle.ent_cells.specs.Old.{AreOld, IsLogged};
 ghost use Rattle.ent_cells.specs.Shape.{without, woven};
 
-use crate::blocks::{Blocks, keep_present, remove_blocks, weave};
+use crate::blocks::{Blocks, keep_present, remove_blocks, remove_from, weave};
 use crate::evaluate::evaluate;
-use crate::phases::{commit_all, give_up_all, prepare_all};
+use crate::phases::{commit_all, give_up_all, prepare};
 use crate::store::Store;
 use crate::who::Who;
 use ent_eval::{Answer, Pdp, ReadKey};
 use ent_finder::{Attributes, Policies, RowKey};
+use ent_log::{Log, OldAnswer};
 use ent_policy::Kind;
 use ent_values::{Items, Shared};
 use std::alloc::{AllocError, Global};
@@ -77,14 +80,23 @@ impl Live {
         self.keys.len()
     }
 
-    /// The answer at a place in list order.
-    pub fn answer(&self, place: usize) -> Option<&Answer>
+    /// The answer at a place in list order, as its owner.
+    pub fn shared_answer(&self, place: usize) -> Option<&Shared<Answer>>
         ensures answer { option_copied result ≡ slice_get (answers_in self.now) place }
         ensures within { IfSome result (λ _. place < usize.MAX) }
     {
         let key = self.keys.get(place)?;
         let cell = self.store.under(*key)?;
-        Some(cell.said.answer.get())
+        Some(&cell.said.answer)
+    }
+
+    /// The answer at a place in list order.
+    pub fn answer(&self, place: usize) -> Option<&Answer>
+        ensures answer { option_copied result ≡ slice_get (answers_in self.now) place }
+        ensures within { IfSome result (λ _. place < usize.MAX) }
+    {
+        let answer = self.shared_answer(place)?;
+        Some(answer.get())
     }
 
     /// The answer at a place in list order, and the place behind it.
@@ -97,17 +109,24 @@ impl Live {
         Some((answer, place + 1))
     }
 
-    /// Makes each cell right again, where those that read none of the changed keys are, and tells how many get another
-    /// answer. It evaluates the cells whose own reads have one, each once and no other. After a refusal the cells are
-    /// as before.
+    /// Makes each cell right again, where those that read none of the changed keys are, and tells the old answers of
+    /// those that get another one. It evaluates the cells whose own reads have a changed key, each once and no other.
+    /// There is room in the log for the old answers then, and for the answer of each cell; nothing is logged. After a
+    /// refusal the cells are as before.
     pub fn settle<A: Attributes, P: Policies>(
         &mut self,
         pdp: &mut Pdp<A, P>,
+        log: &mut Log<Who, Answer>,
         changed: &[ReadKey],
-    ) -> Result<usize, AllocError>
+    ) -> Result<Items<OldAnswer<Who, Answer>>, AllocError>
         requires { AllByRecursion (IsRightBut changed.now (looks_of A.sources P.slots pdp.old)) self.old }
         ensures ok { OnOk result (self.new ≡ map (renewed (looks_of A.sources P.slots pdp.old)) self.old) }
-        ensures changes { IfOk result (λ n. n ≡ unlike_count (answers_in self.old) (answers_in self.new)) }
+        ensures olds { IfOk result (λ olds. AreOld olds self.old self.new) }
+        ensures changes { IfOk result
+            (λ olds. length olds ≡ unlike_count (answers_in self.old) (answers_in self.new)) }
+        ensures room { IfOk result (λ olds. length olds + length self.new ≤ room_of log.new) }
+        ensures log { IsSameLog log.old log.new }
+        ensures grows { room_of log.old ≤ room_of log.new }
         ensures err { OnErr result (self.new ≡ self.old) }
         ensures counted { OnOk result
             (Counts pdp.old.evaluations pdp.new.evaluations (count_by (reads_any changed.now) self.old)) }
@@ -117,8 +136,11 @@ impl Live {
     {
         let touched = self.store.touched(changed)?;
         let keys = touched.as_slice();
-        match prepare_all(self.alloc, &mut self.store, pdp, keys) {
-            Ok(()) => Ok(commit_all(&mut self.store, keys)),
+        match prepare(self.alloc, &mut self.store, pdp, log, keys, self.keys.len()) {
+            Ok(olds) => {
+                commit_all(&mut self.store, keys);
+                Ok(olds)
+            }
             Err(error) => {
                 give_up_all(&mut self.store, keys);
                 Err(error)
@@ -158,11 +180,17 @@ impl Live {
         }
     }
 
-    /// Drops the cells of a name, which stand from place `from` on in each of the blocks. It takes no memory.
-    pub fn narrow(&mut self, blocks: Blocks, from: usize)
-        ensures { self.new ≡ without blocks.count blocks.width from blocks.each self.old }
+    /// Drops the cells of a name, which stand from place `from` on in each of the blocks, and logs their answers. It
+    /// takes no memory.
+    pub fn narrow(&mut self, log: &mut Log<Who, Answer>, blocks: Blocks, from: usize)
+        requires room { length self.old ≤ room_of log.old }
+        ensures cells { self.new ≡ without blocks.count blocks.width from blocks.each self.old }
+        ensures logged { IsLogged self.old self.new log.old log.new }
+        ensures from { log.new.from ≡ log.old.from }
+        ensures serial { log.new.serial ≡ log.old.serial }
+        ensures room { length self.new ≤ room_of log.new }
     {
-        remove_blocks(&mut self.store, &self.keys, blocks, from);
+        remove_blocks(&mut self.store, log, &self.keys, blocks, from);
         keep_present(&mut self.keys, &self.store);
     }
 
@@ -184,13 +212,8 @@ impl Live {
     fn truncate(&mut self, len: usize)
         ensures { self.new ≡ take len self.old }
     {
-        let all = self.len();
-        let blocks = Blocks {
-            count: 1,
-            width: all,
-            each: all,
-        };
-        self.narrow(blocks, len);
+        remove_from(&mut self.store, &self.keys, len);
+        keep_present(&mut self.keys, &self.store);
     }
 
     /// Moves the cells from place `start` on behind the blocks before it. It takes no memory but the room that it is

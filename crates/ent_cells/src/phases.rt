@@ -1,19 +1,24 @@
 //! The phases of an edit: what is to be said of cells is made ready, which may be refused, and then said, which takes
 //! no memory.
 
-ghost use Rattle.std.specs.Prelude.{◌≡◌, ◌≤◌, ℕ, IsSome, OnErr, OnOk, length};
+ghost use Rattle.std.specs.Prelude.{◌≡◌, ◌<◌, ◌≤◌, ◌+◌, ◌^◌, ℕ, IfOk, IsSome, OnErr, OnOk, length};
 ghost use Rattle.std.specs.List.{All};
 ghost use Rattle.slab.specs.Slab.{get};
 ghost use Rattle.ent_eval.specs.LooksOf.{looks_of};
+ghost use Rattle.ent_log.specs.Tables.{IsSameLog, room_of};
 ghost use Rattle.ent_cells.specs.Count.{Counts, CountsAtMost};
 ghost use Rattle.ent_cells.specs.Entries.{AreFree, Becomes, IsFree, given_up, settled};
 ghost use Rattle.ent_cells.specs.Grid.{times};
-ghost use Rattle.ent_cells.specs.Phases.{IsPrepared, KeepsCells, changed_at, changed_count, made_ready};
+ghost use Rattle.ent_cells.specs.Logging.{olds_in};
+ghost use Rattle.ent_cells.specs.Phases.{IsPrepared, KeepsCells, changed_at, made_ready};
 
 use crate::evaluate::evaluate;
 use crate::store::Store;
-use ent_eval::Pdp;
+use crate::who::Who;
+use ent_eval::{Answer, Pdp};
 use ent_finder::{Attributes, Policies};
+use ent_log::{Log, OldAnswer};
+use ent_values::Items;
 use std::alloc::{AllocError, Global};
 use std::slice;
 
@@ -43,7 +48,7 @@ fn prepare_one<A: Attributes, P: Policies>(
 }
 
 /// Evaluates the cells under some keys, each once, and makes ready what that says. After a refusal some may be ready.
-pub(crate) fn prepare_all<A: Attributes, P: Policies>(
+fn prepare_all<A: Attributes, P: Policies>(
     alloc: Global,
     store: &mut Store,
     pdp: &mut Pdp<A, P>,
@@ -66,6 +71,53 @@ pub(crate) fn prepare_all<A: Attributes, P: Policies>(
     Ok(())
 }
 
+/// The old answers of the cells under some keys of which another one is ready.
+fn old_answers(
+    alloc: Global,
+    store: &Store,
+    keys: &[usize],
+) -> Result<Items<OldAnswer<Who, Answer>>, AllocError>
+    ensures { IfOk result (λ olds. olds ≡ olds_in store.now keys.now) }
+{
+    let mut olds = Vec::new(alloc);
+    for key in keys {
+        if let Some(old) = store.old_answer(*key)? {
+            olds.push(old)?;
+        }
+    }
+    Ok(Items::from_vec(olds))
+}
+
+/// Evaluates the cells under some keys, each once, makes ready what that says, and gives the old answers of those that
+/// get another one. There is room in the log for these then, and for so many others. After a refusal some may be ready.
+pub(crate) fn prepare<A: Attributes, P: Policies>(
+    alloc: Global,
+    store: &mut Store,
+    pdp: &mut Pdp<A, P>,
+    log: &mut Log<Who, Answer>,
+    keys: &[usize],
+    others: usize,
+) -> Result<Items<OldAnswer<Who, Answer>>, AllocError>
+    requires free { AreFree store.old }
+    requires there { All (λ c. IsSome (get store.old c)) keys.now }
+    requires once { (c : ℕ) → times c keys.now ≤ 1 }
+    requires fits { length keys.now + others < 2 ^ 64 }
+    ensures ok { OnOk result (IsPrepared (looks_of A.sources P.slots pdp.old) keys.now store.old store.new) }
+    ensures olds { IfOk result (λ olds. olds ≡ olds_in store.new keys.now) }
+    ensures room { IfOk result (λ olds. length olds + others ≤ room_of log.new) }
+    ensures err { OnErr result (KeepsCells keys.now store.old store.new) }
+    ensures log { IsSameLog log.old log.new }
+    ensures grows { room_of log.old ≤ room_of log.new }
+    ensures counted { OnOk result (Counts pdp.old.evaluations pdp.new.evaluations (length keys.now)) }
+    ensures bound { CountsAtMost pdp.old.evaluations pdp.new.evaluations (length keys.now) }
+    ensures rest { pdp.new ≡ record pdp.old { evaluations = pdp.new.evaluations } }
+{
+    prepare_all(alloc, store, pdp, keys)?;
+    let olds = old_answers(alloc, store, keys)?;
+    log.reserve(olds.len() + others)?;
+    Ok(olds)
+}
+
 /// Gives up what is ready of the cells under some keys. It takes no memory.
 pub(crate) fn give_up_all(store: &mut Store, keys: &[usize])
     requires there { All (λ c. IsSome (get store.old c)) keys.now }
@@ -77,18 +129,13 @@ pub(crate) fn give_up_all(store: &mut Store, keys: &[usize])
     }
 }
 
-/// Says of the cells under some keys what is ready of them, and tells how many get another answer. It takes no memory.
-pub(crate) fn commit_all(store: &mut Store, keys: &[usize]) -> usize
+/// Says of the cells under some keys what is ready of them. It takes no memory.
+pub(crate) fn commit_all(store: &mut Store, keys: &[usize])
     requires there { All (λ c. IsSome (get store.old c)) keys.now }
     requires once { (c : ℕ) → times c keys.now ≤ 1 }
-    ensures new { (c : ℕ) → get store.new c ≡ changed_at settled keys.now c (get store.old c) }
-    ensures count { result ≡ changed_count store.old keys.now }
+    ensures { (c : ℕ) → get store.new c ≡ changed_at settled keys.now c (get store.old c) }
 {
-    let mut changes = 0;
     for key in keys {
-        if store.commit(*key) {
-            changes += 1;
-        }
+        store.commit(*key);
     }
-    changes
 }

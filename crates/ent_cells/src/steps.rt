@@ -1,11 +1,10 @@
 //! Steps of a change of one cell, and of the index of what cells read.
 
-ghost use Rattle.std.specs.Prelude.{◌≡◌, false, IfOk, IsSome, None, OnErr, OnOk, Some, map, option_map};
-ghost use Rattle.std.specs.Option.{option_map_or};
+ghost use Rattle.std.specs.Prelude.{◌≡◌, IfOk, IsSome, None, OnErr, OnOk, Some, map, option_map};
 ghost use Rattle.slab.specs.Slab.{Updates, get};
 ghost use Rattle.ent_index.specs.Index.{Adds, is_pair_of, number_of};
 ghost use Rattle.ent_cells.specs.Numbers.{AreOfOneKey, ForgetsAt, IsAsBefore, IsStore, IsUnready, next_only};
-ghost use Rattle.ent_cells.specs.Numbers.{replaced, replaces, said_only, unready};
+ghost use Rattle.ent_cells.specs.Numbers.{replaced, said_only, unready};
 
 use crate::cell::{Cell, Numbered};
 use crate::sharing::{numbers_under, shared_reads};
@@ -75,18 +74,17 @@ pub(crate) fn make_ready(cells: &mut Slab<Cell>, key: usize, said: Numbered)
     }
 }
 
-/// Says of the cell under a key what is ready of it, if it is there, forgets what it no longer reads, and tells whether
-/// that is another answer. It takes no memory.
-pub(crate) fn say_next(cells: &mut Slab<Cell>, index: &mut Index, key: usize) -> bool
+/// Says of the cell under a key what is ready of it, if it is there, and forgets what it no longer reads. It takes no
+/// memory.
+pub(crate) fn say_next(cells: &mut Slab<Cell>, index: &mut Index, key: usize)
     ensures cells { Updates cells.old cells.new key (option_map replaced (get cells.old key)) }
     ensures index { ForgetsAt (said_only index.old (get cells.old key)) key index.old index.new }
-    ensures changed { result ≡ option_map_or replaces (get cells.old key) false }
 {
     let Some(cell) = cells.get_mut(key) else {
-        return false;
+        return;
     };
     let Some(next) = cell.next.take() else {
-        return false;
+        return;
     };
     let old = mem::replace(&mut cell.said, next);
     index.forget_left(
@@ -94,7 +92,6 @@ pub(crate) fn say_next(cells: &mut Slab<Cell>, index: &mut Index, key: usize) ->
         old.reads.get().as_slice(),
         cell.said.reads.get().as_slice(),
     );
-    *old.answer.get() != *cell.said.answer.get()
 }
 
 /// Gives up what is ready of the cell under a key, if it is there, and forgets what that alone reads. It takes no

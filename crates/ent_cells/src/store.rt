@@ -1,21 +1,26 @@
 //! Cells under keys that last, and an index of what they read.
 
-ghost use Rattle.std.specs.Prelude.{◌≡◌, ℕ, cond, IfOk, IsSome, IfSome, None, OnErr, OnOk, option_copied, option_map};
+ghost use Rattle.std.specs.Prelude.{◌≡◌, ℕ, cond, IfOk, IsSome, None, OnErr, OnOk};
+ghost use Rattle.std.specs.Prelude.{option_and_then, option_copied, option_map};
 ghost use Rattle.slab.specs.Slab.{Updates, get};
 ghost use Rattle.ent_index.specs.Asked.{asks_policy, asks_row};
-ghost use Rattle.ent_cells.specs.Entries.{Becomes, HasKeysOf, Inserts, IsFree, changes, entry_of_cell, given_up};
+ghost use Rattle.ent_cells.specs.Entries.{Becomes, HasKeysOf, Inserts, IsFree, entry_of_cell, given_up};
 ghost use Rattle.ent_cells.specs.Entries.{no_entries, said_in, settled, touched_at};
 ghost use Rattle.ent_cells.specs.Grid.{times};
+ghost use Rattle.ent_cells.specs.Logging.{old_at};
 ghost use Rattle.ent_cells.specs.Numbers.{shown, shown_entry};
+ghost use Rattle.ent_cells.specs.Old.{old_of};
 
 use crate::cell::{Cell, Numbered};
 use crate::confirm::{candidates, keep_touched, numbers_of};
+use crate::old::{gone_answer, old_answer_under};
 use crate::sharing::{numbers_under, shared_answer};
 use crate::steps::{add_reads, drop_next, make_ready, say_next};
 use crate::who::Who;
-use ent_eval::{Evaluation, ReadKey};
+use ent_eval::{Answer, Evaluation, ReadKey};
 use ent_finder::RowKey;
 use ent_index::Index;
+use ent_log::OldAnswer;
 use ent_policy::Kind;
 use ent_values::{Items, Shared};
 use slab::Slab;
@@ -101,13 +106,22 @@ impl Store {
         Ok(())
     }
 
-    /// Says of the cell under a key what is ready of it, and tells whether that is another answer. It takes no memory.
-    pub(crate) fn commit(&mut self, key: usize) -> bool
-        requires { IsSome (get self.old key) }
-        ensures new { Becomes settled key self.old self.new }
-        ensures changed { IfSome (get self.old key) (λ e. result ≡ changes e) }
+    /// The old answer of the cell under a key, if another one is ready of it.
+    pub(crate) fn old_answer(
+        &self,
+        key: usize,
+    ) -> Result<Option<OldAnswer<Who, Answer>>, AllocError>
+        ensures { IfOk result (λ old. old ≡ option_and_then old_at (get self.now key)) }
     {
-        say_next(&mut self.slab, &mut self.index, key)
+        old_answer_under(&self.slab, key)
+    }
+
+    /// Says of the cell under a key what is ready of it. It takes no memory.
+    pub(crate) fn commit(&mut self, key: usize)
+        requires { IsSome (get self.old key) }
+        ensures { Becomes settled key self.old self.new }
+    {
+        say_next(&mut self.slab, &mut self.index, key);
     }
 
     /// Gives up what is ready of the cell under a key. It takes no memory.
@@ -148,16 +162,18 @@ impl Store {
         Ok(self.slab.insert_reserved(Cell { who, said, next }))
     }
 
-    /// Takes the cell under a key out, if there is one. It takes no memory.
-    pub(crate) fn remove(&mut self, key: usize)
-        ensures { Updates self.old self.new key None }
+    /// Takes the cell under a key out, if there is one, and gives its answer. It takes no memory.
+    pub(crate) fn remove(&mut self, key: usize) -> Option<OldAnswer<Who, Answer>>
+        ensures cells { Updates self.old self.new key None }
+        ensures gone { result ≡ option_map (λ e. old_of e.kept) (get self.old key) }
     {
         drop_next(&mut self.slab, &mut self.index, key);
         let Some(cell) = self.slab.try_remove(key) else {
-            return;
+            return None;
         };
         self.index
             .forget_numbered(key, cell.said.reads.get().as_slice());
+        Some(gone_answer(cell))
     }
 
     /// The keys of the cells that read one of the changed keys, each once: the index says where to look, and a cell's

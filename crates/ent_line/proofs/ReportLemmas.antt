@@ -1,20 +1,20 @@
 -- What the desk answers is what a line is told.
 use Rattle.std.proofs.Common.{◌≡◌, List, Option, Some, None, Ok, Err, refl, sym, ap}
+use Rattle.ent_table.specs.AnswerMap.{AnswerMap}
 use Rattle.ent_table.specs.State.{State}
 use Rattle.ent_report.specs.Notices.{IsNoticed}
 use Rattle.ent_report.specs.declared.fault.NoticeFault.TheVariants.{NoMark}
-use Rattle.ent_report.specs.declared.kept.Kept.{Kept}
 use Rattle.ent_report.specs.declared.notices.Notice.{Notice}
 use Rattle.ent_line.specs.Replies.{refused, text}
 use Rattle.ent_line.specs.Reports.{notices_text}
 use Rattle.ent_line.specs.Step.{notices_or_refusal}
 
 -- notices of a session that has a mark
-pub noticed : (o : Option Kept) (s : State) (ns : List Notice) → IsNoticed o s (Ok ns) → notices_or_refusal s o ≡ text (notices_text ns)
+pub noticed : (o : Option AnswerMap) (s : State) (ns : List Notice) → IsNoticed o s (Ok ns) → notices_or_refusal s o ≡ text (notices_text ns)
 noticed None s ns h = absurd (cc)
 noticed (Some kept) s ns h = ap (λ (l : List Notice). text (notices_text l)) (sym h)
 
 -- a session without a mark
-pub unmarked : (o : Option Kept) (s : State) → IsNoticed o s (Err NoMark) → notices_or_refusal s o ≡ refused 12 None
+pub unmarked : (o : Option AnswerMap) (s : State) → IsNoticed o s (Err NoMark) → notices_or_refusal s o ≡ refused 12 None
 unmarked None s h = refl
 unmarked (Some kept) s h = absurd (cc)

@@ -9,16 +9,15 @@ use Rattle.serde_json.specs.Data.{Data}
 use Rattle.ent_eval.specs.declared.answer.Answer.{Answer as Evaluated}
 use Rattle.ent_eval.specs.declared.request.Request.{Request}
 use Rattle.ent_profile.specs.Asks.{asks}
+use Rattle.ent_table.specs.AnswerMap.{AnswerMap, answers_of}
 use Rattle.ent_table.specs.Names.{Triple}
 use Rattle.ent_table.specs.State.{State, answer_at}
 use Rattle.ent_table.specs.Step as table
 use Rattle.ent_table.specs.declared.edit.Edit.{Edit}
 use Rattle.ent_table.specs.declared.edit.EditFault.{EditFault}
 use Rattle.ent_report.specs.Reports as report
-use Rattle.ent_report.specs.Table.{kept_of}
 use Rattle.ent_report.specs.World.{World, mark_of, marked}
 use Rattle.ent_report.specs.declared.fault.ReportFault.{ReportFault}
-use Rattle.ent_report.specs.declared.kept.Kept.{Kept}
 use Rattle.ent_line.specs.Asked as asked
 use Rattle.ent_line.specs.Asked.{AskedRow, Command, request_of}
 use Rattle.ent_line.specs.Edits.{NoEdit, edit_of, faulty, no_edit, unreadable, unreadable_row}
@@ -37,7 +36,7 @@ use Rattle.ent_line.proofs.CommandLemmas.{IsNoEdit, IsQuiet, made, nothing, run_
 -- ---- what a session sees of a world, and how what matters changes it
 
 abbrev Seen : Type 0
-Seen = State × Option Kept
+Seen = State × Option AnswerMap
 
 abbrev seen_by : World → ℕ → Seen
 seen_by w session = (w.state, mark_of w session)
@@ -49,7 +48,7 @@ led s (Err fault) = s
 
 abbrev next : Seen → Matter → Seen
 next s (session.edit edit) = (led s.0 (table.step s.0 edit), s.1)
-next s session.own_mark = (s.0, Some (kept_of s.0))
+next s session.own_mark = (s.0, Some (answers_of s.0))
 
 -- the same of a line that may not matter
 abbrev after : Seen → Option Matter → Seen
@@ -85,7 +84,7 @@ report_quiet : {A : Type 0} (written : A → List ℕ) (r : Result A ReportFault
 report_quiet written (Ok x) = tt
 report_quiet written (Err fault) = tt
 
-notices_quiet : (s : State) (o : Option Kept) → IsQuiet (notices_or_refusal s o)
+notices_quiet : (s : State) (o : Option AnswerMap) → IsQuiet (notices_or_refusal s o)
 notices_quiet s None = tt
 notices_quiet s (Some kept) = tt
 
@@ -114,8 +113,8 @@ mark_follows : (i : ℕ) (w : World) (x : ℕ) → i < length w.marks → Follow
 unfolding table_marked
 mark_follows i w x at = by (eqb_tells x i)
   where
-    kept : Option Kept
-    kept = Some (kept_of w.state)
+    kept : Option AnswerMap
+    kept = Some (answers_of w.state)
 
     long : length (slice_set w.marks x kept) ≡ length w.marks
     long = length-set w.marks x kept
@@ -123,10 +122,10 @@ mark_follows i w x at = by (eqb_tells x i)
     by : ((nat_eq x i ≡ true) × (x ≡ i)) ⊎ ((nat_eq x i ≡ false) × (x ≢ i)) → Follows i w (Some (x, asked.mark)) (replies.marked w.state.serial, marked w x)
     by (inl (e, same)) =
         let there : get_or (slice_set w.marks x kept) i None ≡ kept = ap (λ n. get_or (slice_set w.marks n kept) i None) same ∙ get_or-set_same w.marks i kept None at in
-        (ap (λ (o : Option Kept). (w.state, o)) there ∙ sym (ap (λ b. after (seen_by w i) (if b then Some session.own_mark else None)) e), long)
+        (ap (λ (o : Option AnswerMap). (w.state, o)) there ∙ sym (ap (λ b. after (seen_by w i) (if b then Some session.own_mark else None)) e), long)
     by (inr (e, other)) =
         let there : get_or (slice_set w.marks x kept) i None ≡ mark_of w i = get_or-set_other w.marks x i kept None (λ p. other (sym p)) in
-        (ap (λ (o : Option Kept). (w.state, o)) there ∙ sym (ap (λ b. after (seen_by w i) (if b then Some session.own_mark else None)) e), long)
+        (ap (λ (o : Option AnswerMap). (w.state, o)) there ∙ sym (ap (λ b. after (seen_by w i) (if b then Some session.own_mark else None)) e), long)
 
 -- ---- commands, lines and runs
 

@@ -10,6 +10,7 @@ use Rattle.serde_json.specs.Data.{Data}
 use Rattle.ent_eval.specs.declared.answer.Answer.{Answer as Evaluated}
 use Rattle.ent_eval.specs.declared.request.Request.{Request}
 use Rattle.ent_profile.specs.Asks.{asks}
+use Rattle.ent_table.specs.AnswerMap.{AnswerMap}
 use Rattle.ent_table.specs.Ask.{answer_in}
 use Rattle.ent_table.specs.Difference.{changes}
 use Rattle.ent_table.specs.Names.{Triple, has_name}
@@ -20,7 +21,6 @@ use Rattle.ent_table.specs.declared.edit.EditFault.{EditFault}
 use Rattle.ent_report.specs.Notices.{notices}
 use Rattle.ent_report.specs.Reports as report
 use Rattle.ent_report.specs.World.{World, mark_of, marked}
-use Rattle.ent_report.specs.declared.kept.Kept.{Kept}
 use Rattle.ent_line.specs.Asked as asked
 use Rattle.ent_line.specs.Cells.{one_cell_text, response_text, table_text}
 use Rattle.ent_line.specs.Edits.{edit_of, faulty, unreadable, unreadable_row}
@@ -83,7 +83,7 @@ pub record IsAnswered (n : ℕ) (w : World) (session : ℕ) : Type 0 where
   -- a mark: the fresh table of that moment is kept for its session alone
   pub mark : run n w session asked.mark ≡ (replies.marked w.state.serial, marked w session)
   -- notices: the requests whose answers differ between the marked table and the fresh one, and the mark stays
-  pub notices : (kept : Kept) → mark_of w session ≡ Some kept → run n w session asked.notices ≡ (text (notices_text (notices kept w.state)), w)
+  pub notices : (kept : AnswerMap) → mark_of w session ≡ Some kept → run n w session asked.notices ≡ (text (notices_text (notices kept w.state)), w)
   pub no_mark : mark_of w session ≡ None → run n w session asked.notices ≡ (refused 12 None, w)
   -- the work: the number of evaluations, and the world stays
   pub work : run n w session asked.work ≡ (text (work_text n), w)

@@ -27,7 +27,7 @@ use Rattle.ent_report.specs.Notices.{notices}
 use Rattle.ent_report.specs.Reports as report
 use Rattle.ent_report.specs.World.{World, mark_of, marked}
 use Rattle.ent_report.specs.declared.fault.ReportFault.{ReportFault}
-use Rattle.ent_report.specs.declared.kept.Kept.{Kept}
+use Rattle.ent_table.specs.AnswerMap.{AnswerMap}
 use Rattle.ent_table.specs.Difference.{changes}
 use Rattle.ent_table.specs.Names.{Triple}
 use Rattle.ent_table.specs.State.{State, answer_at, table_of}
@@ -197,7 +197,7 @@ unfoldable pub table_marked : World → ℕ → Answer × World
 table_marked w session = (replies.marked w.state.serial, marked w session)
 
 -- what changed since a mark, or the refusal where there is none
-abbrev pub notices_or_refusal : State → Option Kept → Answer
+abbrev pub notices_or_refusal : State → Option AnswerMap → Answer
 notices_or_refusal s None = refused 12 None
 notices_or_refusal s (Some kept) = text (notices_text (notices kept s))
 

@@ -10,6 +10,6 @@ use Rattle.ent_line.specs.declared.service.Service.{Service}
 abbrev pub world_of : {A P : Type 0} → (A → List Source) → (P → List Slots) → Service A P → desk.World
 world_of sources slots service = desk.world_of sources slots service.desk
 
--- its table is the fresh table, each mark was one, and kept counts are those of the table
+-- its table is the fresh table, that of each mark is known, and kept counts are those of the table
 abbrev pub IsReady : {A P : Type 0} → (A → List Source) → (P → List Slots) → Service A P → Type 0
 IsReady sources slots service = desk.IsReady sources slots service.desk

@@ -1,34 +1,34 @@
 -- The notices, and the difference that an edit counts.
-use Rattle.std.proofs.Common.{◌≡◌, List, length, map, nat_eq, nat_cmp, Bool, true, false, refl, sym, ap, subst, ◌∙◌, ⊎_elim}
+use Rattle.std.proofs.Common.{◌≡◌, ℕ, List, length, map, nat_eq, Bool, true, false, refl, sym, ap, subst, ◌∙◌, ⊎_elim}
 use Rattle.std.specs.Prelude.{◌&&◌, not}
-use Rattle.std.specs.Cmp.Lexicographic.{pointwise, slice_cmp}
 use Rattle.std.specs.Cmp.{both_ways}
+use Rattle.std.specs.Cmp.Lexicographic.{pointwise}
+use Rattle.std.specs.FinMap.{get}
 use Rattle.std.specs.List.{AllByRecursion, Contains, IsDistinct, filter, list_any}
-use Rattle.std.specs.Ordering.{is_eq, ordering_then}
-use Rattle.std.specs.declared.cmp.Ordering.TheVariants.{Less, Equal}
+use Rattle.std.specs.Ordering.{is_eq}
+use Rattle.std.specs.declared.cmp.Ordering.TheVariants.{Less}
 use Rattle.std.proofs.lemmas.Bool.{false≢true}
+use Rattle.std.proofs.lemmas.Cmp.{tied_itself}
 use Rattle.std.proofs.lemmas.List.{length-map}
 use Rattle.std.proofs.lemmas.List.Elements.{All-contains_itself, Contains-append_cases, Contains-append_left, Contains-append_right, filter_passes, recursion_from_All}
 use Rattle.std.proofs.lemmas.Map.Made.{length-from_same_keys}
 use Rattle.std.proofs.lemmas.Map.Views.{Contains-from_any, list_any-from_Contains}
+use Rattle.ent_cells.specs.Order.{request_order}
+use Rattle.ent_cells.proofs.Orders.{requests-total}
+use Rattle.ent_table.specs.AnswerMap.{answers_of}
 use Rattle.ent_table.specs.Difference.{changes, difference, differs, same_optional}
-use Rattle.ent_table.specs.Names.{Names, Triple, is_listed, triples}
+use Rattle.ent_table.specs.Names.{Names, Triple, all_triples, is_listed, triple_of, triples, with_actions, with_resources}
 use Rattle.ent_table.specs.State.{State, answer_at}
-use Rattle.ent_report.specs.Differing.{HasNoDoubles, NoticesAreTheDifference, request_of, request_order}
-use Rattle.ent_report.specs.Notices.{notices}
-use Rattle.ent_report.specs.Table.{answer_in, kept_of, same_triple, table_in}
+use Rattle.ent_table.proofs.AnswerMaps.{get-answers_of}
+use Rattle.ent_table.proofs.Listed.{same_request, same_triple}
+use Rattle.ent_report.specs.Differing.{HasNoDoubles, NoticesAreTheDifference, request_of}
+use Rattle.ent_report.specs.Notices.{decision_in, notices}
 use Rattle.ent_report.specs.declared.notices.Notice.{Notice}
-use Rattle.ent_report.proofs.Differing.{IsBelow, contained_listed, difference_told, later_notices, later_triples, level, listed_at, listed_contained}
-use Rattle.ent_report.proofs.Differing.{note, same_none, same_triple_equiv, tells_difference, unlisted_at}
-use Rattle.ent_report.proofs.Lookups.{answer_kept, same_request}
+use Rattle.ent_report.proofs.Differing.{ascend, contained_listed, difference_told, listed_at, listed_contained, not_true}
+use Rattle.ent_report.proofs.Differing.{same_none, same_triple_equiv, tells_difference, unlisted_at}
 use Rattle.ent_report.proofs.Members.{from_mapped, mapped, passed, passes}
-use Rattle.ent_report.proofs.Pairs.{WithLater, all_passed, all_weaker, ascending, distinct, from_distinct, later_joined, later_passed, later_weaker}
-
--- ---- a test that fails
-
-not_true : (b : Bool) → not b ≡ true → b ≡ false
-not_true true e = absurd (false≢true e)
-not_true false e = refl
+use Rattle.ent_report.proofs.Pairs.{WithLater, all_in_each, all_mapped, all_passed, all_weaker, distinct, from_ascending, from_distinct}
+use Rattle.ent_report.proofs.Pairs.{later_flat, later_joined, later_mapped, later_passed, later_weaker}
 
 -- ---- no request is listed twice
 
@@ -45,6 +45,25 @@ and_later false b = refl
 abbrev AreApart : Triple → Triple → Type 0
 AreApart x y = same_triple x y ≡ false
 
+-- the requests of three lists, each with every later one
+module _ (P : List ℕ → List ℕ → Type 0) (Q : Triple → Triple → Type 0)
+    (by_person : (i j : List ℕ) (x y : Triple) → x.person ≡ i → y.person ≡ j → P i j → Q x y)
+    (by_action : (p i j : List ℕ) (x y : Triple) → x.person ≡ p → y.person ≡ p → x.action ≡ i → y.action ≡ j → P i j → Q x y)
+    (by_resource : (p a i j : List ℕ) → P i j → Q (triple_of p a i) (triple_of p a j)) where
+  pub later_triples : (ps as_ rs : List (List ℕ)) → WithLater P ps → WithLater P as_ → WithLater P rs → WithLater Q (all_triples ps as_ rs)
+  later_triples ps as_ rs s t u = later_flat P Q (λ p. with_actions p as_ rs) (λ p x. x.person ≡ p) of actions by_person ps s
+    where
+      actions : (p : List ℕ) → WithLater Q (with_actions p as_ rs)
+      actions p = later_flat P Q (λ a. with_resources p a rs) (λ a x. (x.person ≡ p) × (x.action ≡ a))
+          (λ a. all_mapped (λ (x : Triple). (x.person ≡ p) × (x.action ≡ a)) (triple_of p a) (λ r. (refl, refl)) rs)
+          (λ a. later_mapped P Q (triple_of p a) (by_resource p a) rs u)
+          (λ i j x y o q l. by_action p i j x y o.0 q.0 o.1 q.1 l)
+          as_ t
+
+      of : (p : List ℕ) → AllByRecursion (λ (x : Triple). x.person ≡ p) (with_actions p as_ rs)
+      of p = all_in_each (λ (x : Triple). x.person ≡ p) (λ a. with_resources p a rs)
+          (λ a. all_mapped (λ (x : Triple). x.person ≡ p) (triple_of p a) (λ r. refl) rs) as_
+
 listed_once : (n : Names) → HasNoDoubles n → WithLater AreApart (triples n)
 listed_once n h = later_triples (λ x y. pointwise nat_eq x y ≡ false) AreApart
     (λ i j x y u v l t. ((λ r. pointwise nat_eq (u r) (v r)) ∙ l) t && (pointwise nat_eq x.action y.action && pointwise nat_eq x.resource y.resource))
@@ -54,16 +73,16 @@ listed_once n h = later_triples (λ x y. pointwise nat_eq x y ≡ false) AreApar
     (λ p a i j l. (λ t. pointwise nat_eq p p && (pointwise nat_eq a a && l t)) ∙ and_none (pointwise nat_eq p p) (pointwise nat_eq a a))
     n.people n.actions n.resources (from_distinct (pointwise nat_eq) n.people h.0) (from_distinct (pointwise nat_eq) n.actions h.1) (from_distinct (pointwise nat_eq) n.resources h.2)
 
-level_request : (x : Triple) → request_order x x ≡ Equal
-level_request x = ap (λ o. ordering_then o (ordering_then (slice_cmp nat_cmp x.action x.action) (slice_cmp nat_cmp x.resource x.resource))) (level x.person)
-    ∙ ap (λ o. ordering_then o (slice_cmp nat_cmp x.resource x.resource)) (level x.action) ∙ level x.resource
+-- a request stands before another in byte order
+abbrev IsBelow : Triple → Triple → Type 0
+IsBelow x y = request_order x y ≡ Less
 
 below_apart : (x y : Triple) → request_order x y ≡ Less → same_triple x y ≡ false
 below_apart x y l = by (same_triple x y) refl
   where
     by : (b : Bool) → same_triple x y ≡ b → b ≡ false
     by false e = refl
-    by true e = absurd (false≢true (ap is_eq (sym l ∙ ap (request_order x) (sym (same_request x y e)) ∙ level_request x)))
+    by true e = absurd (false≢true (ap is_eq (sym l ∙ ap (request_order x) (sym (same_request x y e)) ∙ tied_itself requests-total x)))
 
 -- ---- two states
 
@@ -76,7 +95,7 @@ module _ (s t : State) where
   left = filter (λ y. not (is_listed t.names y)) (triples s.names)
 
   abbrev told : List Triple
-  told = map request_of (notices (kept_of s) t)
+  told = map request_of (notices (answers_of s) t)
 
   -- ---- the same requests
 
@@ -99,25 +118,28 @@ module _ (s t : State) where
           let r = passes (λ y. not (is_listed t.names y)) (triples s.names) x l in
           λ i. same_optional (listed_at s x (contained_listed s.names x r.0) i) (unlisted_at t x (not_true (is_listed t.names x) r.1) i)
 
-  kept_answer : (x : Triple) → answer_in (table_in (kept_of s)) x ≡ answer_at s x
-  kept_answer x = answer_kept (kept_of s) s refl x
-
   told_counted : (x : Triple) → Contains told x → Contains (difference s t) x
   told_counted x h =
-      let r = from_mapped request_of (notices (kept_of s) t) x h in
-      let d = subst (λ y. same_optional (answer_in (table_in (kept_of s)) y) (answer_at t y) ≡ false) r.1.1 (tells_difference (kept_of s) t r.0 r.1.0).differ in
-      differ_counted x (ap (λ a. same_optional a (answer_at t x)) (sym (kept_answer x)) ∙ d)
+      let r = from_mapped request_of (notices (answers_of s) t) x h in
+      let d = subst (λ y. same_optional (get (answers_of s) y) (answer_at t y) ≡ false) r.1.1 (tells_difference (answers_of s) t r.0 r.1.0).differ in
+      differ_counted x (ap (λ a. same_optional a (answer_at t x)) (sym (get-answers_of s x)) ∙ d)
 
   counted_told : (x : Triple) → Contains (difference s t) x → Contains told x
   counted_told x h =
-      let n : Notice = note x (answer_in (table_in (kept_of s)) x) (answer_at t x) in
-      let d : same_optional (answer_in (table_in (kept_of s)) x) (answer_at t x) ≡ false = ap (λ a. same_optional a (answer_at t x)) (kept_answer x) ∙ counted_differ x h in
-      mapped request_of (notices (kept_of s) t) n (difference_told (kept_of s) t n (record { differ = d; before = refl; after = refl }))
+      let n : Notice = record {
+        person = x.person;
+        action = x.action;
+        resource = x.resource;
+        before = decision_in (get (answers_of s) x);
+        after = decision_in (answer_at t x);
+      } in
+      let d : same_optional (get (answers_of s) x) (answer_at t x) ≡ false = ap (λ a. same_optional a (answer_at t x)) (get-answers_of s x) ∙ counted_differ x h in
+      mapped request_of (notices (answers_of s) t) n (difference_told (answers_of s) t n (record { differ = d; before = refl; after = refl }))
 
   -- ---- each once
 
   told_once : IsDistinct same_triple told
-  told_once = distinct same_triple told (later_weaker IsBelow AreApart below_apart told (later_notices (kept_of s) t))
+  told_once = distinct same_triple told (later_weaker IsBelow AreApart below_apart told (from_ascending request_order told (ascend (answers_of s) t)))
 
   apart : (x y : Triple) → Contains (triples t.names) x → not (is_listed t.names y) ≡ true → same_triple x y ≡ false
   apart x y c n = by (same_triple x y) refl
@@ -144,8 +166,8 @@ module _ (s t : State) where
         (later_passed AreApart (λ y. not (is_listed t.names y)) (triples s.names) (listed_once s.names before))
         changed_apart)
 
-    as_many : length (notices (kept_of s) t) ≡ changes s t
-    as_many = sym (length-map (notices (kept_of s) t) request_of) ∙ length-from_same_keys same_triple_equiv told (difference s t) told_once counted_once same
+    as_many : length (notices (answers_of s) t) ≡ changes s t
+    as_many = sym (length-map (notices (answers_of s) t) request_of) ∙ length-from_same_keys same_triple_equiv told (difference s t) told_once counted_once same
       where
         same : (x : Triple) → list_any (same_triple x) told ≡ list_any (same_triple x) (difference s t)
         same x = both_ways _ _
@@ -156,6 +178,6 @@ module _ (s t : State) where
 
 pub are_the_difference : NoticesAreTheDifference
 are_the_difference = (
-  λ k s. (λ n. (tells_difference k s n, difference_told k s n), ascending request_order (map request_of (notices k s)) (later_notices k s)),
+  λ m s. (λ n. (tells_difference m s n, difference_told m s n), ascend m s),
   λ s t. (λ x. (told_counted s t x, counted_told s t x), as_many s t),
 )

@@ -1,8 +1,7 @@
-pub mod Ascending
 pub mod Counted
 pub mod Differing
-pub mod Lookups
+pub mod Marks
 pub mod Members
 pub mod Pairs
 pub mod Permits
-pub mod Told
+pub mod Serials

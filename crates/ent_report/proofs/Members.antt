@@ -1,7 +1,7 @@
 -- Members of lists that are made of others.
 use Rattle.std.proofs.Common.{◌≡◌, List, [], ◌∷◌, map, Bool, true, false, cond, refl, sym, ap, subst, ◌∙◌, arith, inl, inr, ⊎_elim}
 use Rattle.std.specs.Prelude.{◌⊎◌}
-use Rattle.std.specs.List.{Contains, flat_map, filter}
+use Rattle.std.specs.List.{Contains, filter}
 use Rattle.std.proofs.lemmas.Bool.{false≢true}
 use Rattle.std.proofs.lemmas.List.Elements.{Contains-append_cases, Contains-append_left, Contains-append_right, Contains-push_cases, Contains-push}
 
@@ -59,19 +59,3 @@ module _ {X Y : Type 0} where
       (λ is. (z, (first_contained z xs, is)))
       (λ l. let r = from_mapped f xs y l in (r.0, (later_contained z r.0 xs r.1.0, r.1.1)))
       (first_or_later (f z) y (map f xs) h)
-
-  -- ---- a list for each
-
-  pub in_flat : (f : X → List Y) (xs : List X) (x : X) (y : Y) → Contains xs x → Contains (f x) y → Contains (flat_map f xs) y
-  in_flat f [] x y h l = absurd (none_contained x h)
-  in_flat f (z ∷ xs) x y h l = ⊎_elim
-      (λ is. Contains-append_left (f z) (flat_map f xs) y (subst (λ w. Contains (f w) y) (sym is) l))
-      (λ m. Contains-append_right (f z) (flat_map f xs) y (in_flat f xs x y m l))
-      (first_or_later z x xs h)
-
-  pub from_flat : (f : X → List Y) (xs : List X) (y : Y) → Contains (flat_map f xs) y → (x : X) × (Contains xs x × Contains (f x) y)
-  from_flat f [] y h = absurd (none_contained y h)
-  from_flat f (z ∷ xs) y h = ⊎_elim
-      (λ here. (z, (first_contained z xs, here)))
-      (λ m. let r = from_flat f xs y m in (r.0, (later_contained z r.0 xs r.1.0, r.1.1)))
-      (Contains-append_cases (f z) (flat_map f xs) y h)

@@ -84,11 +84,6 @@ module _ {J X : Type 0} (P : J → J → Type 0) (Q : X → X → Type 0) where
 -- ---- the words of the library
 
 module _ {X : Type 0} where
-  pub ascending : (R : X → X → Ordering) (xs : List X) → WithLater (λ x y. R x y ≡ Less) xs → IsStrictlySortedBy R xs
-  unfolding IsStrictlySortedBy
-  ascending R [] a = tt
-  ascending R (x ∷ xs) a = (a.0, ascending R xs a.1)
-
   pub from_ascending : (R : X → X → Ordering) (xs : List X) → IsStrictlySortedBy R xs → WithLater (λ x y. R x y ≡ Less) xs
   unfolding IsStrictlySortedBy
   from_ascending R [] s = tt

@@ -1,9 +1,6 @@
-pub mod Compare
 pub mod Counting
 pub mod Differing
 pub mod Notices
-pub mod Order
 pub mod Permitted
 pub mod Reports
-pub mod Table
 pub mod World

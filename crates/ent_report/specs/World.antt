@@ -1,39 +1,43 @@
 -- What a desk holds: the state of its review, and for each session an optional mark.
-use Rattle.std.specs.Prelude.{◌≡◌, ℕ, List, length, Option, Some, None, Result, get_or, replicate, slice_set}
+use Rattle.std.specs.Prelude.{◌≡◌, ℕ, ◌≤◌, List, [], ◌∷◌, length, map, min, Option, Some, None, option_map, IfSome, Result, get_or, replicate, slice_set}
+use Rattle.std.specs.List.{All}
 use Rattle.ent_finder.specs.Rows.{Source}
 use Rattle.ent_finder.specs.Slots.{Slots}
+use Rattle.ent_table.specs.AnswerMap.{AnswerMap, answers_of}
 use Rattle.ent_table.specs.Review.{IsFresh, state_of}
 use Rattle.ent_table.specs.State.{State}
+use Rattle.ent_table.specs.Tables.{table_at_serial}
 use Rattle.ent_report.specs.Notices.{IsNoticed}
 use Rattle.ent_report.specs.Reports.{IsReported, counts}
-use Rattle.ent_report.specs.Table.{IsKept, kept_of}
 use Rattle.ent_report.specs.declared.counts.Counts.{Counts}
 use Rattle.ent_report.specs.declared.desk.Desk.{Desk}
 use Rattle.ent_report.specs.declared.fault.NoticeFault.{NoticeFault}
 use Rattle.ent_report.specs.declared.fault.ReportFault.{ReportFault}
-use Rattle.ent_report.specs.declared.kept.Kept.{Kept}
 use Rattle.ent_report.specs.declared.notices.Notice.{Notice}
 
 -- a state, and the table that each of the sessions marked last
 pub record World : Type 0 where
   pub state : State
-  pub marks : List (Option Kept)
+  pub marks : List (Option AnswerMap)
 
 -- no session has a mark
-abbrev pub unmarked : List (Option Kept)
+abbrev pub unmarked : List (Option AnswerMap)
 unmarked = replicate 16 None
 
 -- the mark of a session
-abbrev pub mark_of : World → ℕ → Option Kept
+abbrev pub mark_of : World → ℕ → Option AnswerMap
 mark_of w session = get_or w.marks session None
 
 -- a session marks the present table
 abbrev pub marked : World → ℕ → World
-marked w session = record w { marks = slice_set w.marks session (Some (kept_of w.state)) }
+marked w session = record w { marks = slice_set w.marks session (Some (answers_of w.state)) }
 
--- the world of a desk whose attributes have these sources and whose policies these slots
+-- the world of a desk whose attributes have these sources and whose policies these slots: each mark is the table at the serial that is kept
 abbrev pub world_of : {A P : Type 0} → (A → List Source) → (P → List Slots) → Desk A P → World
-world_of sources slots desk = record { state = state_of sources slots desk.review; marks = desk.marks }
+world_of sources slots desk = record {
+  state = state_of sources slots desk.review;
+  marks = map (option_map (table_at_serial sources slots desk.review)) desk.marks;
+}
 
 -- the world stays
 abbrev pub KeepsWorld : {A P : Type 0} → (A → List Source) → (P → List Slots) → Desk A P → Desk A P → Type 0
@@ -51,18 +55,24 @@ Reports sources slots report desk result = IsReported (report (world_of sources 
 abbrev pub IsNoticedIn : World → ℕ → Result (List Notice) NoticeFault → Type 0
 IsNoticedIn w session result = IsNoticed (mark_of w session) w.state result
 
--- each mark was a fresh table
-abbrev pub AreKept : List (Option Kept) → Type 0
-AreKept marks = (session : ℕ) (k : Kept) → get_or marks session None ≡ Some k → IsKept k
+-- each mark is a serial whose table is known
+abbrev pub AreMarks : ℕ → ℕ → List (Option ℕ) → Type 0
+AreMarks from serial marks = All (λ mark. IfSome mark (λ n. (from ≤ n) × (n ≤ serial))) marks
+
+-- the oldest mark, or the serial where there is none
+abbrev pub oldest : List (Option ℕ) → ℕ → ℕ
+oldest [] serial = serial
+oldest (None ∷ marks) serial = oldest marks serial
+oldest (Some n ∷ marks) serial = min n (oldest marks serial)
 
 -- counts that are kept are those of a state
 abbrev pub AreCountsOf : State → Option Counts → Type 0
 AreCountsOf s None = Unit {0}
 AreCountsOf s (Some c) = c ≡ counts s
 
--- the present table is the fresh one, each mark was one, and kept counts are those of the present table
+-- the present table is the fresh one, that of each mark is known, and kept counts are those of the present table
 pub record IsReady {A P : Type 0} (sources : A → List Source) (slots : P → List Slots) (desk : Desk A P) : Type 0 where
   pub fresh : IsFresh sources slots desk.review
-  pub kept : AreKept desk.marks
+  pub kept : AreMarks desk.review.log.from desk.review.log.serial desk.marks
   pub sixteen : length desk.marks ≡ 16
   pub counts : AreCountsOf (state_of sources slots desk.review) desk.counts

@@ -1,19 +1,17 @@
 //! The desk: a review, and the marks of its sessions.
 
-ghost use Rattle.std.specs.Prelude.{◌≡◌, ◌+◌, ◌-◌, ◌<◌, ◌^◌, min, IfOk, OnErr, OnOk, Some, option_copied};
+ghost use Rattle.std.specs.Prelude.{◌≡◌, ◌+◌, ◌-◌, ◌<◌, ◌^◌, min, IfOk, OnOk, Some, option_copied};
 ghost use Rattle.ent_table.specs.Ask.{answer_in};
 ghost use Rattle.ent_table.specs.Change.{Edits, IsSure};
 ghost use Rattle.ent_table.specs.Counted.{IsCounted};
 ghost use Rattle.ent_table.specs.Review.{IsFresh, IsIdle, OnlyEvaluates, state_of};
 ghost use Rattle.ent_table.specs.Step.{step};
 ghost use Rattle.ent_report.specs.Reports.{by_rule, can, counts, who};
-ghost use Rattle.ent_report.specs.World.{IsNoticedIn, IsReady, KeepsWorld, Marks, Reports, unmarked, world_of};
+ghost use Rattle.ent_report.specs.World.{IsNoticedIn, IsReady, KeepsWorld, Marks, Reports, oldest, unmarked, world_of};
 
-use crate::compare::Comparison;
 use crate::counts::{Counts, counted};
 use crate::fault::{NoticeFault, ReportFault};
-use crate::kept::Kept;
-use crate::notices::Notice;
+use crate::notices::{Notice, notices_of};
 use crate::reports::{by_rule_in, can_in, who_in};
 use ent_eval::{Answer, Request};
 use ent_finder::{AttributeFinder, Attributes, Policies, PolicyFinder};
@@ -24,15 +22,29 @@ use std::alloc::{AllocError, Global};
 /// How many sessions there are. They are numbered from 0 on.
 pub const SESSIONS: u8 = 16;
 
-/// A review, and for each of sixteen sessions the table that it marked last, if it did. Counts of the table may be kept
-/// until the next edit.
+/// A review, and for each of sixteen sessions the serial of the table that it marked last, if it did. The review keeps
+/// what edits changed since the oldest mark, and nothing from before it. Counts of the table may be kept until the next
+/// edit.
 #[derive(Drop)]
 pub struct Desk<A = AttributeFinder, P = PolicyFinder> {
     pub(crate) alloc: Global,
     pub(crate) review: Review<A, P>,
-    pub(crate) marks: [Option<Kept>; 16],
+    pub(crate) marks: [Option<u64>; 16],
     // The counts of the present table, if they were kept since the last edit.
     pub(crate) counts: Option<Counts>,
+}
+
+/// The oldest mark, or the serial where there is none.
+fn oldest(marks: &[Option<u64>], serial: u64) -> u64
+    ensures { result ≡ oldest marks.now serial }
+{
+    let mut least = serial;
+    for mark in marks {
+        if let Some(mark) = mark {
+            least = least.min(*mark);
+        }
+    }
+    least
 }
 
 impl<A: Attributes, P: Policies> Desk<A, P> {
@@ -62,7 +74,20 @@ impl<A: Attributes, P: Policies> Desk<A, P> {
         &self.review
     }
 
-    /// Makes an edit of the review. The marks stay, and kept counts are forgotten.
+    /// Forgets what changed before the oldest mark, or before now where there is none. The marks stay.
+    fn forget(&mut self)
+        requires { IsReady A.sources P.slots self.old }
+        ensures ready { IsReady A.sources P.slots self.new }
+        ensures world { KeepsWorld A.sources P.slots self.old self.new }
+        ensures forgotten { self.new.review.log.from ≡ oldest self.new.marks self.new.review.log.serial }
+        ensures rest { self.new ≡ record self.old { review = record self.old.review { log = self.new.review.log } } }
+    {
+        let oldest = oldest(&self.marks, self.review.serial());
+        self.review.forget_before(oldest);
+    }
+
+    /// Makes an edit of the review. The marks stay, and kept counts are forgotten. Once it is made, nothing is kept of
+    /// what changed before the oldest mark.
     ///
     /// An accepted edit counts one evaluation of each cell that it touches. Dropping a name evaluates nothing and takes
     /// no memory.
@@ -75,10 +100,14 @@ impl<A: Attributes, P: Policies> Desk<A, P> {
         ensures counted { IsCounted (step (world_of A.sources P.slots self.old).state edit)
             (world_of A.sources P.slots self.old).state
             self.old.review.pdp.evaluations self.new.review.pdp.evaluations result }
-        ensures marks { self.new.marks ≡ self.old.marks }
+        ensures marks { (world_of A.sources P.slots self.new).marks ≡ (world_of A.sources P.slots self.old).marks }
+        ensures serials { self.new.marks ≡ self.old.marks }
+        ensures forgotten { OnOk result (self.new.review.log.from ≡ oldest self.new.marks self.new.review.log.serial) }
     {
         self.counts = None;
-        self.review.edit(edit)
+        let accepted = self.review.edit(edit)?;
+        self.forget();
+        Ok(accepted)
     }
 
     /// The answer to any request, listed or not, by what is held alone (section 7): neither the table nor a mark has a
@@ -101,38 +130,39 @@ impl<A: Attributes, P: Policies> Desk<A, P> {
         self.review.ask(request)
     }
 
-    /// Marks the present table for a session in place of its last mark, and gives the number of edits so far. After a
-    /// refusal the last mark is still there. Nothing is evaluated.
+    /// Marks the present table for a session in place of its last mark, and gives the number of edits so far. It takes
+    /// no memory, so there is always a serial. Nothing is evaluated, and nothing is kept of what changed before the mark
+    /// that is now the oldest.
     pub fn mark(&mut self, session: u8) -> Result<u64, AllocError>
         requires ready { IsReady A.sources P.slots self.old }
         requires session { session < 16 }
         ensures ready { IsReady A.sources P.slots self.new }
-        ensures serial { IfOk result (λ serial. serial ≡ (world_of A.sources P.slots self.old).state.serial) }
-        ensures ok { OnOk result (Marks A.sources P.slots session self.old self.new) }
-        ensures err { OnErr result (KeepsWorld A.sources P.slots self.old self.new) }
-        ensures rest { self.new ≡ record self.old { marks = self.new.marks } }
+        ensures serial { result ≡ Ok (world_of A.sources P.slots self.old).state.serial }
+        ensures marks { Marks A.sources P.slots session self.old self.new }
+        ensures forgotten { self.new.review.log.from ≡ oldest self.new.marks self.new.review.log.serial }
+        ensures rest { self.new ≡ record self.old {
+          review = record self.old.review { log = self.new.review.log };
+          marks = self.new.marks;
+        } }
     {
-        let kept = Kept::of(self.alloc, &self.review)?;
-        self.marks[session as usize] = Some(kept);
-        Ok(self.review.serial())
+        let serial = self.review.serial();
+        self.marks[session as usize] = Some(serial);
+        self.forget();
+        Ok(serial)
     }
 
     /// The requests whose answers differ between the session's mark and now, in byte order of person, then action, then
-    /// resource. The mark stays.
+    /// resource. The mark stays. It takes time in proportion to what edits changed since the mark, times a logarithm.
     pub fn notices(&self, session: u8) -> Result<Items<Notice>, NoticeFault>
         requires ready { IsReady A.sources P.slots self.now }
         requires session { session < 16 }
         ensures { IsNoticedIn (world_of A.sources P.slots self.now) session result }
     {
-        let Some(kept) = &self.marks[session as usize] else {
+        let Some(serial) = self.marks[session as usize] else {
             return Err(NoticeFault::NoMark);
         };
-        let comparison = Comparison {
-            alloc: self.alloc,
-            kept,
-            review: &self.review,
-        };
-        Ok(comparison.notices()?)
+        let changes = self.review.changes_since(serial)?;
+        Ok(notices_of(self.alloc, changes)?)
     }
 
     /// Counts the cells of each decision.

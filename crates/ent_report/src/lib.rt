@@ -2,20 +2,16 @@
 //! the present table.
 #![tactic(auto)]
 
-mod compare;
 mod counts;
 mod desk;
 mod fault;
-mod kept;
 mod law;
 mod notices;
-mod order;
 mod reports;
 mod rules;
 
 pub use counts::Counts;
 pub use desk::{Desk, SESSIONS};
 pub use fault::{NoticeFault, ReportFault};
-pub use kept::Kept;
 pub use law::notices_are_the_difference;
 pub use notices::Notice;

@@ -1,3 +1,4 @@
+pub mod AnswerMaps
 pub mod Bits
 pub mod Changes
 pub mod Counting
@@ -5,6 +6,8 @@ pub mod Counts
 pub mod Edited
 pub mod Exchanges
 pub mod Kept
+pub mod Listed
+pub mod Logs
 pub mod Named
 pub mod Parted
 pub mod Places
@@ -14,6 +17,7 @@ pub mod Replaced
 pub mod Rests
 pub mod Rows
 pub mod Seens
+pub mod SerialTables
 pub mod Steps
 pub mod Tables
 pub mod Taken

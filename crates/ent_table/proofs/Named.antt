@@ -1,5 +1,5 @@
 -- The requests with one name, among all requests.
-use Rattle.std.proofs.Common.{◌≡◌, ℕ, ◌*◌, List, [], ◌∷◌, ◌++◌, length, map, take, drop, refl, sym, ap, ◌∙◌, arith, append_assoc, append-nil, length-append}
+use Rattle.std.proofs.Common.{◌≡◌, ℕ, zero, suc, ◌+◌, ◌*◌, List, [], ◌∷◌, ◌++◌, length, map, take, drop, refl, sym, ap, ◌∙◌, arith, append_assoc, append-nil, length-append}
 use Rattle.std.specs.List.{flat_map}
 use Rattle.std.proofs.lemmas.List.{drop_all, drop_at, length-map, map-append, take_all, take_at}
 use Rattle.std.proofs.lemmas.List.Concat.{flat_map_single}
@@ -11,6 +11,7 @@ use Rattle.ent_table.specs.Place.{StandsAt, blocks_of}
 use Rattle.ent_cells.specs.Shape.{without, woven}
 use Rattle.ent_table.specs.Table.{behind, requests_with}
 use Rattle.ent_cells.proofs.Narrowed.{without-map}
+use Rattle.ent_cells.proofs.Shapes.{halves}
 use Rattle.ent_table.proofs.Places.{length-all_triples, length-with_actions}
 use Rattle.ent_cells.proofs.Woven.{woven-map}
 
@@ -128,6 +129,12 @@ dropped_cells f list names name place s =
     ∙ ap (map f) (triples-without list names name place s)
 
 -- ---- with a name more
+
+pub length-woven : {A : Type 0} (blocks w n : ℕ) (xs ys : List A) → length (woven blocks w n xs ys) ≡ length xs + length ys
+length-woven zero w n xs ys = length-append xs ys
+length-woven {A} (suc blocks) w n xs ys =
+    let rest : List A = woven blocks w n (drop w xs) (drop n ys) in
+    omega (arith, length-append (take w xs) (take n ys ++ rest), length-append (take n ys) rest, length-woven blocks w n (drop w xs) (drop n ys), halves w xs, halves n ys)
 
 -- the cells with the new ones are those of the requests with the new ones
 pub added_cells : {B : Type 0} (f : Triple → B) (list : Which) (names : Names) (name : List ℕ)

@@ -1,18 +1,21 @@
 -- What a test that found nothing says of an edit's step.
-use Rattle.std.proofs.Common.{◌≡◌, ℕ, ◌<◌, ◌^◌, Bool, true, false, List, Result, Ok, refl, ltb-true}
-use Rattle.std.specs.Prelude.{IsOk, ◌||◌, ◌&&◌, not, nat_le, length}
+use Rattle.std.proofs.Common.{◌≡◌, ℕ, ◌<◌, Bool, true, false, List, Result, Ok, refl, ltb-true}
+use Rattle.std.specs.Prelude.{IsOk, ◌||◌, ◌&&◌, not, nat_le, nat_lt, length}
 use Rattle.ent_policy.specs.Key.{key_of}
 use Rattle.ent_policy.specs.Names.{is_bad_name}
 use Rattle.ent_policy.specs.declared.document.Tree.{Tree}
 use Rattle.ent_policy.specs.declared.key.DocKey.{DocKey}
 use Rattle.ent_finder.specs.Slots.{document_count}
-use Rattle.ent_table.specs.declared.edit.EditFault.TheVariants.{NotThere, AlreadyThere, Limit, BadValue, UnknownModule}
-use Rattle.std.proofs.lemmas.Bool.{lt-leb}
+use Rattle.ent_finder.specs.declared.row.RowKey.{RowKey}
+use Rattle.ent_values.specs.declared.value.Value.{Value}
+use Rattle.ent_table.specs.declared.change.Exchange.TheVariants.{Row}
+use Rattle.ent_table.specs.declared.edit.EditFault.TheVariants.{NotThere, AlreadyThere, Limit, Reserved, BadValue, UnknownModule}
 use Rattle.ent_table.specs.declared.edit.EditFault.{EditFault}
 use Rattle.ent_table.specs.declared.edit.List.{List as Which}
+use Rattle.ent_table.specs.Exchange.{exchanged}
 use Rattle.ent_table.specs.Names.{has_name, list_of}
 use Rattle.ent_table.specs.State.{State}
-use Rattle.ent_table.specs.Step.{unless, name_added, name_dropped, policy_added, policy_replaced, policy_withdrawn, holds, is_last, is_module, module_holds, module_lacks, exceeds}
+use Rattle.ent_table.specs.Step.{attribute_set, is_bad_row, is_reserved, is_source, next, unless, with_values, name_added, name_dropped, policy_added, policy_replaced, policy_withdrawn, holds, is_last, is_module, module_holds, module_lacks, exceeds}
 use Rattle.ent_table.proofs.Changes.{less_names, more_names}
 
 three_pass : (a b c : Bool) (x y z : EditFault) (t : State) → IsOk (unless a x (unless b y (unless c z (Ok t)))) → (a ≡ false) × (unless a x (unless b y (unless c z (Ok t))) ≡ Ok t)
@@ -26,9 +29,21 @@ pub name_passes : (s : State) (list : Which) (name : List ℕ) → IsOk (name_ad
 name_passes s list name h =
     three_pass (has_name name (list_of list s.names)) (is_last s || exceeds s list name) (is_bad_name name) AlreadyThere Limit BadValue (more_names s list name) h
 
+four_pass : (a b c d : Bool) (w x y z : EditFault) (t : State) → IsOk (unless a w (unless b x (unless c y (unless d z (Ok t))))) → unless a w (unless b x (unless c y (unless d z (Ok t)))) ≡ Ok t
+four_pass true b c d w x y z t h = cc
+four_pass false true c d w x y z t h = cc
+four_pass false false true d w x y z t h = cc
+four_pass false false false true w x y z t h = cc
+four_pass false false false false w x y z t h = refl
+
+-- values that can be set are set
+pub row_passes : (s : State) (number : ℕ) (key : RowKey) (values : List Value) → IsOk (attribute_set s number key values) → attribute_set s number key values ≡ exchanged s (Row number key values)
+row_passes s number key values h =
+    four_pass (is_last s || nat_lt 256 (length values)) (is_reserved key.category key.attribute) (is_bad_row key values) (not (is_source s number key.category)) Limit Reserved BadValue UnknownModule (next (with_values s number key values)) h
+
 -- below the last serial a name is taken out of its list, if it is there
-pub name_leaves : (s : State) (list : Which) (name : List ℕ) → has_name name (list_of list s.names) ≡ true → s.serial < 2 ^ 63 → name_dropped s list name ≡ Ok (less_names s list name)
-name_leaves s list name has h = rw (has, lt-leb (2 ^ 63) s.serial h) refl
+pub name_leaves : (s : State) (list : Which) (name : List ℕ) → has_name name (list_of list s.names) ≡ true → is_last s ≡ false → name_dropped s list name ≡ Ok (less_names s list name)
+name_leaves s list name has h = rw (has, h) refl
 
 -- ---- documents
 

@@ -1,3 +1,4 @@
+pub mod AnswerMap
 pub mod Ask
 pub mod Change
 pub mod Counted
@@ -13,3 +14,4 @@ pub mod Seen
 pub mod State
 pub mod Step
 pub mod Table
+pub mod Tables

@@ -12,10 +12,11 @@ ghost use Rattle.ent_finder.specs.Rows.{source_at};
 ghost use Rattle.ent_table.specs.Change.{Becomes, Counted, Edits, Stays, Tries};
 ghost use Rattle.ent_table.specs.Review.{IsFresh, row_at, state_of};
 ghost use Rattle.ent_table.specs.Step.{attribute_set, is_bad_row, is_reserved, is_source, with_values};
+ghost use Rattle.ent_table.specs.Tables.{KeepsTables};
 
 use crate::change::Exchange;
 use crate::edit::{Accepted, EditFault};
-use crate::review::{LAST_SERIAL, Review};
+use crate::review::Review;
 use ent_eval::id_attribute;
 use ent_finder::{Attributes, Policies, RowKey};
 use ent_policy::is_bad_name;
@@ -73,6 +74,7 @@ impl<A: Attributes, P: Policies> Review<A, P> {
         ensures fresh { IsFresh A.sources P.slots self.new }
         ensures step { Edits A.sources P.slots (λ s. attribute_set s number key values) self.old self.new result }
         ensures counted { Counted A.sources P.slots (λ s. attribute_set s number key values) self.old self.new result }
+        ensures tables { KeepsTables A.sources P.slots self.old self.new }
     {
         self.row_fault(number, &key, values.as_slice())?;
         let documents = self.documents;
@@ -85,7 +87,7 @@ impl<A: Attributes, P: Policies> Review<A, P> {
         ensures number { OnOk result (number < length (state_of A.sources P.slots self.now).held.sources) }
         ensures types { OnOk result (AllOfType key.now.datatype values.now) }
     {
-        if self.serial >= LAST_SERIAL || values.len() > MOST_VALUES {
+        if self.is_last() || values.len() > MOST_VALUES {
             return Err(EditFault::Limit);
         }
         if is_reserved(key.category.as_str(), key.attribute.as_str()) {

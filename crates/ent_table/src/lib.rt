@@ -3,7 +3,6 @@
 
 mod ask;
 mod attributes;
-mod by_place;
 mod cells;
 mod change;
 mod column;
@@ -17,6 +16,7 @@ mod parts;
 mod policies;
 mod requests;
 mod review;
+mod since;
 mod table;
 
 pub use attributes::{MOST_VALUES, is_reserved};
@@ -26,3 +26,4 @@ pub use edit::{Accepted, Edit, EditFault, List};
 pub use ent_cells::Who;
 pub use limits::Limits;
 pub use review::{LAST_SERIAL, Review};
+pub use since::Change;

@@ -4,9 +4,10 @@ ghost use Rattle.std.specs.Prelude.{◌≡◌, Err, IfErr};
 ghost use Rattle.ent_table.specs.Change.{Counted, Edits, Tries};
 ghost use Rattle.ent_table.specs.Review.{IsFresh, state_of};
 ghost use Rattle.ent_table.specs.Step.{Exceeds, name_added, name_dropped};
+ghost use Rattle.ent_table.specs.Tables.{KeepsTables};
 
 use crate::edit::{Accepted, EditFault, List};
-use crate::review::{LAST_SERIAL, Review};
+use crate::review::Review;
 use ent_finder::{Attributes, Policies};
 use ent_policy::is_bad_name;
 use ent_values::Text;
@@ -18,10 +19,12 @@ impl<A: Attributes, P: Policies> Review<A, P> {
         ensures fresh { IsFresh A.sources P.slots self.new }
         ensures step { Edits A.sources P.slots (λ s. name_added s list name) self.old self.new result }
         ensures counted { Counted A.sources P.slots (λ s. name_added s list name) self.old self.new result }
+        ensures tables { KeepsTables A.sources P.slots self.old self.new }
     {
         self.name_fault(list, &name)?;
-        match self.table.add(self.alloc, &mut self.pdp, list, name) {
-            Ok(changes) => Ok(self.next_serial(changes)),
+        let table = &mut self.table;
+        match table.add(self.alloc, &mut self.pdp, &mut self.log, list, name) {
+            Ok(olds) => Ok(self.log_edit(olds)),
             Err(_) => Err(EditFault::Memory),
         }
     }
@@ -34,18 +37,20 @@ impl<A: Attributes, P: Policies> Review<A, P> {
         ensures sure { IfErr result
             (λ fault. name_dropped (state_of A.sources P.slots self.old) list name.now ≡ Err fault) }
         ensures counted { Counted A.sources P.slots (λ s. name_dropped s list name.now) self.old self.new result }
+        ensures tables { KeepsTables A.sources P.slots self.old self.new }
         ensures idle { self.new.pdp ≡ self.old.pdp }
     {
         if !self.table.names.has(list, name.as_str()) {
             return Err(EditFault::NotThere);
         }
-        if self.serial >= LAST_SERIAL {
+        if self.is_last() {
             return Err(EditFault::Limit);
         }
-        let Some(changes) = self.table.remove(list, name.as_str()) else {
+        let Some(changes) = self.table.remove(&mut self.log, list, name.as_str()) else {
             return Err(EditFault::NotThere);
         };
-        Ok(self.next_serial(changes))
+        self.log.close();
+        Ok(self.accepted(changes))
     }
 
     /// Why a name can't be added, if it can't.
@@ -55,7 +60,7 @@ impl<A: Attributes, P: Policies> Review<A, P> {
         if self.table.names.has(list, name.as_str()) {
             return Err(EditFault::AlreadyThere);
         }
-        if self.serial >= LAST_SERIAL || self.exceeds(list) {
+        if self.is_last() || self.exceeds(list) {
             return Err(EditFault::Limit);
         }
         if is_bad_name(name.as_str()) {

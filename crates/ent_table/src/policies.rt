@@ -9,10 +9,11 @@ ghost use Rattle.ent_table.specs.Change.{Becomes, Counted, Edits, Stays, Tries};
 ghost use Rattle.ent_table.specs.Review.{IsFresh, policy_at, state_of};
 ghost use Rattle.ent_table.specs.Step.{is_module, module_holds, module_lacks, policy_added};
 ghost use Rattle.ent_table.specs.Step.{policy_replaced, policy_withdrawn, with_policy};
+ghost use Rattle.ent_table.specs.Tables.{KeepsTables};
 
 use crate::change::Exchange;
 use crate::edit::{Accepted, EditFault};
-use crate::review::{LAST_SERIAL, Review};
+use crate::review::Review;
 use ent_finder::{Attributes, Policies};
 use ent_policy::{DocKey, Document, is_bad_name};
 use std::alloc::AllocError;
@@ -27,6 +28,7 @@ impl<A: Attributes, P: Policies> Review<A, P> {
         ensures fresh { IsFresh A.sources P.slots self.new }
         ensures step { Edits A.sources P.slots (λ s. policy_added s number document) self.old self.new result }
         ensures counted { Counted A.sources P.slots (λ s. policy_added s number document) self.old self.new result }
+        ensures tables { KeepsTables A.sources P.slots self.old self.new }
     {
         let key = self.key_to_add(number, &document)?;
         let documents = self.documents + 1;
@@ -42,6 +44,7 @@ impl<A: Attributes, P: Policies> Review<A, P> {
         ensures fresh { IsFresh A.sources P.slots self.new }
         ensures step { Edits A.sources P.slots (λ s. policy_replaced s number document) self.old self.new result }
         ensures counted { Counted A.sources P.slots (λ s. policy_replaced s number document) self.old self.new result }
+        ensures tables { KeepsTables A.sources P.slots self.old self.new }
     {
         let key = self.key_to_replace(number, &document)?;
         let documents = self.documents;
@@ -57,6 +60,7 @@ impl<A: Attributes, P: Policies> Review<A, P> {
         ensures fresh { IsFresh A.sources P.slots self.new }
         ensures step { Edits A.sources P.slots (λ s. policy_withdrawn s number key) self.old self.new result }
         ensures counted { Counted A.sources P.slots (λ s. policy_withdrawn s number key) self.old self.new result }
+        ensures tables { KeepsTables A.sources P.slots self.old self.new }
     {
         self.withdrawal_fault(number, &key)?;
         let documents = self.documents - 1;
@@ -75,7 +79,7 @@ impl<A: Attributes, P: Policies> Review<A, P> {
         if self.holds(number, &key) {
             return Err(EditFault::AlreadyThere);
         }
-        if self.serial >= LAST_SERIAL || self.documents >= self.limits.documents as u128 {
+        if self.is_last() || self.documents >= self.limits.documents as u128 {
             return Err(EditFault::Limit);
         }
         if !self.is_module(number) {
@@ -95,7 +99,7 @@ impl<A: Attributes, P: Policies> Review<A, P> {
         if self.lacks(number, &key) {
             return Err(EditFault::NotThere);
         }
-        if self.serial >= LAST_SERIAL {
+        if self.is_last() {
             return Err(EditFault::Limit);
         }
         if !self.is_module(number) {
@@ -111,7 +115,7 @@ impl<A: Attributes, P: Policies> Review<A, P> {
         if self.lacks(number, key) {
             return Err(EditFault::NotThere);
         }
-        if self.serial >= LAST_SERIAL {
+        if self.is_last() {
             return Err(EditFault::Limit);
         }
         if is_bad_name(key.id.as_str()) {

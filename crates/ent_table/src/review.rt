@@ -1,8 +1,9 @@
 //! The review table and its edits.
 
-ghost use Rattle.std.specs.Prelude.{◌≡◌, ◌+◌, ◌<◌, ◌^◌};
+ghost use Rattle.std.specs.Prelude.{◌≡◌, ◌+◌, ◌<◌, ◌≤◌, ◌^◌, length};
 ghost use Rattle.std.specs.Option.{option_copied};
 ghost use Rattle.ent_eval.specs.LooksOf.{held_by};
+ghost use Rattle.ent_log.specs.Tables.{room_of};
 ghost use Rattle.ent_table.specs.Change.{Counted, Edits, IsSure};
 ghost use Rattle.ent_table.specs.Counted.{IsCounted};
 ghost use Rattle.ent_table.specs.Exchange.{IsWithin, count_with, exchanged};
@@ -11,17 +12,20 @@ ghost use Rattle.ent_table.specs.Limits.{IsStandardAtMost};
 ghost use Rattle.ent_table.specs.Names.{has_name, list_of, triple_of};
 ghost use Rattle.ent_table.specs.Review.{IsFresh, IsIdle, state_of};
 ghost use Rattle.ent_table.specs.State.{answer_at, initial, table_of};
-ghost use Rattle.ent_table.specs.Step.{day_set, root_set, step};
+ghost use Rattle.ent_table.specs.Step.{day_set, is_last, root_set, step};
+ghost use Rattle.ent_table.specs.Tables.{IsFreshAtSerial, KeepsTables, Logs};
 
 use crate::cells::Cells;
 use crate::change::Exchange;
 use crate::edit::{Accepted, Edit, EditFault, List};
 use crate::limits::Limits;
 use crate::table::Table;
+use ent_cells::Who;
 use ent_eval::{Answer, Pdp};
 use ent_finder::{AttributeFinder, Attributes, Policies, PolicyFinder};
+use ent_log::{Log, OldAnswer};
 use ent_policy::Reference;
-use ent_values::Date;
+use ent_values::{Date, Items, Shared};
 use std::alloc::Global;
 
 /// No edit is accepted at this serial.
@@ -35,7 +39,8 @@ pub struct Review<A = AttributeFinder, P = PolicyFinder> {
     pub(crate) pdp: Pdp<A, P>,
     pub(crate) limits: Limits,
     pub(crate) table: Table,
-    pub(crate) serial: u64,
+    // What edits changed, and how many were accepted.
+    pub(crate) log: Log<Who, Answer>,
     // How many documents are held.
     pub(crate) documents: u128,
 }
@@ -47,6 +52,7 @@ impl<A: Attributes, P: Policies> Review<A, P> {
         ensures fresh { IsFresh A.sources P.slots result }
         ensures state { state_of A.sources P.slots result ≡ initial (held_by A.sources P.slots pdp) limits }
         ensures counted { result.pdp.evaluations ≡ pdp.evaluations }
+        ensures from { result.log.from ≡ 0 }
     {
         let documents = pdp.policies().document_count();
         Review {
@@ -54,12 +60,13 @@ impl<A: Attributes, P: Policies> Review<A, P> {
             pdp,
             limits,
             table: Table::new(alloc),
-            serial: 0,
+            log: Log::new(alloc),
             documents,
         }
     }
 
-    /// Makes an edit, and keeps the table right. After a refusal everything is as before.
+    /// Makes an edit, and keeps the table right. After a refusal everything is as before. The table at each serial so far
+    /// stays what it was, and the one at the new serial is the fresh one.
     ///
     /// Dropping a name evaluates nothing and takes no memory.
     pub fn edit(&mut self, edit: Edit) -> Result<Accepted, EditFault>
@@ -70,6 +77,8 @@ impl<A: Attributes, P: Policies> Review<A, P> {
         ensures counted { IsCounted (step (state_of A.sources P.slots self.old) edit) (state_of A.sources P.slots self.old)
             self.old.pdp.evaluations self.new.pdp.evaluations result }
         ensures idle { IsIdle edit self.old.pdp.evaluations self.new.pdp.evaluations }
+        ensures tables { KeepsTables A.sources P.slots self.old self.new }
+        ensures now { IsFreshAtSerial A.sources P.slots self.new }
     {
         // The count is within its type.
         let _evaluations = self.pdp.evaluations();
@@ -90,8 +99,9 @@ impl<A: Attributes, P: Policies> Review<A, P> {
         ensures fresh { IsFresh A.sources P.slots self.new }
         ensures step { Edits A.sources P.slots (λ s. root_set s root) self.old self.new result }
         ensures counted { Counted A.sources P.slots (λ s. root_set s root) self.old self.new result }
+        ensures tables { KeepsTables A.sources P.slots self.old self.new }
     {
-        if self.serial >= LAST_SERIAL {
+        if self.is_last() {
             return Err(EditFault::Limit);
         }
         let documents = self.documents;
@@ -103,8 +113,9 @@ impl<A: Attributes, P: Policies> Review<A, P> {
         ensures fresh { IsFresh A.sources P.slots self.new }
         ensures step { Edits A.sources P.slots (λ s. day_set s day) self.old self.new result }
         ensures counted { Counted A.sources P.slots (λ s. day_set s day) self.old self.new result }
+        ensures tables { KeepsTables A.sources P.slots self.old self.new }
     {
-        if self.serial >= LAST_SERIAL {
+        if self.is_last() {
             return Err(EditFault::Limit);
         }
         let documents = self.documents;
@@ -119,12 +130,13 @@ impl<A: Attributes, P: Policies> Review<A, P> {
         documents: u128,
     ) -> Result<Accepted, EditFault>
         requires fresh { IsFresh A.sources P.slots self.old }
-        requires serial { self.old.serial < 2 ^ 63 }
+        requires serial { self.old.log.serial < 2 ^ 63 }
         requires within { IsWithin (state_of A.sources P.slots self.old) exchange }
         requires documents { documents ≡ count_with (state_of A.sources P.slots self.old) exchange }
         ensures fresh { IsFresh A.sources P.slots self.new }
         ensures step { Edits A.sources P.slots (λ s. exchanged s exchange) self.old self.new result }
         ensures counted { Counted A.sources P.slots (λ s. exchanged s exchange) self.old self.new result }
+        ensures tables { KeepsTables A.sources P.slots self.old self.new }
     {
         let Ok(seen) = self.seen(&exchange) else {
             return Err(EditFault::Memory);
@@ -136,10 +148,11 @@ impl<A: Attributes, P: Policies> Review<A, P> {
             self.take_back(exchange);
             return Err(EditFault::Memory);
         };
-        match self.table.cells.settle(&mut self.pdp, changed.as_slice()) {
-            Ok(changes) => {
+        let cells = &mut self.table.cells;
+        match cells.settle(&mut self.pdp, &mut self.log, changed.as_slice()) {
+            Ok(olds) => {
                 self.documents = documents;
-                Ok(self.next_serial(changes))
+                Ok(self.log_edit(olds))
             }
             Err(_) => {
                 self.take_back(exchange);
@@ -154,8 +167,22 @@ impl<A: Attributes, P: Policies> Review<A, P> {
         ensures { option_copied result
             ≡ answer_at (state_of A.sources P.slots self.now) (triple_of person.now action.now resource.now) }
     {
+        Some(self.shared_answer(person, action, resource)?.get())
+    }
+
+    /// The same, as its owner.
+    pub(crate) fn shared_answer(
+        &self,
+        person: &str,
+        action: &str,
+        resource: &str,
+    ) -> Option<&Shared<Answer>>
+        requires { IsFresh A.sources P.slots self.now }
+        ensures { option_copied result
+            ≡ answer_at (state_of A.sources P.slots self.now) (triple_of person.now action.now resource.now) }
+    {
         let place = self.table.names.place(person, action, resource)?;
-        self.table.cells.answer(place)
+        self.table.cells.shared_answer(place)
     }
 
     /// The listed requests with their answers in list order, people outermost, then actions, then resources.
@@ -183,7 +210,7 @@ impl<A: Attributes, P: Policies> Review<A, P> {
     pub fn serial(&self) -> u64
         ensures { result ≡ (state_of A.sources P.slots self.now).serial }
     {
-        self.serial
+        self.log.serial()
     }
 
     /// How many times a request was evaluated.
@@ -193,15 +220,41 @@ impl<A: Attributes, P: Policies> Review<A, P> {
         self.pdp.evaluations()
     }
 
-    /// Counts an accepted edit.
-    pub(crate) fn next_serial(&mut self, changes: usize) -> Accepted
-        requires { self.old.serial < 2 ^ 63 }
-        ensures rest { self.new ≡ record self.old { serial = self.old.serial + 1 } }
-        ensures accepted { result ≡ record { serial = self.old.serial + 1; changes = changes } }
+    /// How many cells the table has.
+    pub fn cell_count(&self) -> usize
+        requires { IsFresh A.sources P.slots self.now }
+        ensures { result ≡ length (table_of (state_of A.sources P.slots self.now)) }
     {
-        self.serial += 1;
+        self.table.cells.len()
+    }
+
+    /// Whether no edit is accepted any more.
+    pub(crate) fn is_last(&self) -> bool
+        ensures { result ≡ is_last (state_of A.sources P.slots self.now) }
+    {
+        self.log.serial() >= LAST_SERIAL
+    }
+
+    /// Logs an edit that was made by the old answers of what it changed, and counts it. It takes no memory.
+    pub(crate) fn log_edit(&mut self, olds: Items<OldAnswer<Who, Answer>>) -> Accepted
+        requires serial { self.old.log.serial < 2 ^ 63 }
+        requires room { length olds + length self.old.table.cells ≤ room_of self.old.log }
+        ensures rest { self.new ≡ record self.old { log = self.new.log } }
+        ensures logs { Logs olds self.old.log self.new.log }
+        ensures room { length self.new.table.cells ≤ room_of self.new.log }
+        ensures accepted { result ≡ record { serial = self.old.log.serial + 1; changes = length olds } }
+    {
+        let changes = olds.len();
+        self.log.push(olds);
+        self.accepted(changes)
+    }
+
+    /// What an edit is answered that was counted last.
+    pub(crate) fn accepted(&self, changes: usize) -> Accepted
+        ensures { result ≡ record { serial = self.now.log.serial; changes = changes } }
+    {
         Accepted {
-            serial: self.serial,
+            serial: self.log.serial(),
             changes: changes as u64,
         }
     }

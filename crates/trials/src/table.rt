@@ -19,9 +19,9 @@ const PERMITTING: &str = r#"{"Policy":{"PolicyId":"p","Version":"1",
        "RuleCombiningAlgId":"urn:oasis:names:tc:xacml:3.0:rule-combining-algorithm:permit-unless-deny"}}"#;
 
 /// The serial and the changes that an edit is answered, or its refusal.
-type Told = Result<(u64, u64), EditFault>;
+pub(crate) type Told = Result<(u64, u64), EditFault>;
 
-fn told(review: &mut Review, edit: Edit) -> Told
+pub(crate) fn told(review: &mut Review, edit: Edit) -> Told
     requires { IsFresh ⟦<AttributeFinder as Attributes>⟧.sources ⟦<PolicyFinder as Policies>⟧.slots review.old }
     ensures { IsFresh ⟦<AttributeFinder as Attributes>⟧.sources ⟦<PolicyFinder as Policies>⟧.slots review.new }
 {
@@ -45,14 +45,23 @@ fn add_policy(alloc: Global, review: &mut Review, module: usize) -> Result<Told,
     Ok(told(review, Edit::AddPolicy(module, document)))
 }
 
-/// Lists ann and bob, reading, and the plan.
-fn list_names(alloc: Global, review: &mut Review) -> Result<(), Fail>
+/// Lists ann, reading and the plan.
+pub(crate) fn list_reading(alloc: Global, review: &mut Review) -> Result<(), Fail>
     requires { IsFresh ⟦<AttributeFinder as Attributes>⟧.sources ⟦<PolicyFinder as Policies>⟧.slots review.old }
     ensures { IsFresh ⟦<AttributeFinder as Attributes>⟧.sources ⟦<PolicyFinder as Policies>⟧.slots review.new }
 {
     let _ann = add_name(alloc, review, List::People, "ann")?;
     let _read = add_name(alloc, review, List::Actions, "read")?;
     let _plan = add_name(alloc, review, List::Resources, "plan")?;
+    Ok(())
+}
+
+/// Lists ann and bob, reading, and the plan.
+fn list_names(alloc: Global, review: &mut Review) -> Result<(), Fail>
+    requires { IsFresh ⟦<AttributeFinder as Attributes>⟧.sources ⟦<PolicyFinder as Policies>⟧.slots review.old }
+    ensures { IsFresh ⟦<AttributeFinder as Attributes>⟧.sources ⟦<PolicyFinder as Policies>⟧.slots review.new }
+{
+    list_reading(alloc, review)?;
     let _bob = add_name(alloc, review, List::People, "bob")?;
     Ok(())
 }

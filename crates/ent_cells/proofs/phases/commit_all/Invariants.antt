@@ -1,12 +1,8 @@
-use Rattle.std.proofs.Common.{◌≡◌, ◌≤◌, ℕ, take}
+use Rattle.std.proofs.Common.{◌≡◌, ℕ, take}
 use Rattle.slab.specs.Slab.{get}
 use Rattle.ent_cells.specs.Entries.{settled}
-use Rattle.ent_cells.specs.Phases.{changed_at, changed_count}
+use Rattle.ent_cells.specs.Phases.{changed_at}
 use Rattle.ent_cells.proofs.phases.commit_all.Given as goal
 
 abbrev pub invariant-loop-key : goal.invariant-loop-key
-invariant-loop-key l = record {
-  new : (c : ℕ) → get l.store c ≡ changed_at settled (take l.key-index l.keys) c (get l.initial.store c);
-  count : l.changes ≡ changed_count l.initial.store (take l.key-index l.keys);
-  few : l.changes ≤ l.key-index;
-}
+invariant-loop-key l = (c : ℕ) → get l.store c ≡ changed_at settled (take l.key-index l.keys) c (get l.initial.store c)

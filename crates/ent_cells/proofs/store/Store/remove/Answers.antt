@@ -1,5 +1,6 @@
 use Rattle.std.proofs.Common.{◌≡◌, None, Some, ap, option_map, refl, subst, sym, ◌∙◌}
 use Rattle.slab.specs.Slab.{Updates, get}
+use Rattle.ent_cells.proofs.Held.{gone_answer_seen}
 use Rattle.ent_cells.proofs.Seen.{get_seen}
 use Rattle.ent_cells.proofs.StoreSteps.{given_up_store, given_up_updates, gone_seen, gone_store, unready_is, updates_then}
 use Rattle.ent_cells.specs.Numbers.{IsStore, IsUnready, entry_in, seen}
@@ -11,8 +12,8 @@ invariant_of-self c =
     given_up_store c.self.inside.slab c.drop_next.new.cells c.self.inside.index c.drop_next.new.index c.args.key c.self.invariant (get c.self.inside.slab c.args.key) refl c.drop_next.ensures.index c.drop_next.ensures.cells in
     rw c.in_default.ensures.absent given
 
-pub returns-in_default : goal.returns-in_default
-returns-in_default c =
+pub returns-in_default-clause-cells : goal.returns-in_default-clause-cells
+returns-in_default-clause-cells c =
     let s = c.self.inside.slab in
     let mid = c.drop_next.new.cells in
     let a = c.self.inside.index in
@@ -30,8 +31,8 @@ invariant_of-self-2 c =
     let unready : IsUnready (Some c.in-Some.cell) = subst IsUnready (sym c.drop_next.ensures.cells.changed ∙ held) (unready_is (get c.self.inside.slab c.args.key)) in
     gone_store c.drop_next.new.cells c.try_remove.new.self c.drop_next.new.index c.forget_numbered.new.self c.args.key given (Some c.in-Some.cell) held unready (rw (c.as_slice.ensures, c.get.ensures) at c.forget_numbered.ensures) c.in-Some.ensures.updates
 
-pub returns : goal.returns
-returns c =
+pub returns-clause-cells : goal.returns-clause-cells
+returns-clause-cells c =
     let given : IsStore c.drop_next.new.cells c.drop_next.new.index =
     given_up_store c.self.inside.slab c.drop_next.new.cells c.self.inside.index c.drop_next.new.index c.args.key c.self.invariant (get c.self.inside.slab c.args.key) refl c.drop_next.ensures.index c.drop_next.ensures.cells in
     let held : get c.drop_next.new.cells c.args.key ≡ Some c.in-Some.cell = sym c.in-Some.ensures.value in
@@ -42,3 +43,14 @@ returns c =
     gone_seen c.drop_next.new.cells c.try_remove.new.self c.drop_next.new.index c.forget_numbered.new.self c.args.key given (Some c.in-Some.cell) held unready (rw (c.as_slice.ensures, c.get.ensures) at c.forget_numbered.ensures) c.in-Some.ensures.updates in
     rw (← c.self.view_is)
     (updates_then (seen c.self.inside.index c.self.inside.slab) (seen c.drop_next.new.index c.drop_next.new.cells) (seen c.forget_numbered.new.self c.try_remove.new.self) c.args.key _ None first after)
+
+pub returns-in_default-clause-gone : goal.returns-in_default-clause-gone
+returns-in_default-clause-gone c =
+    rw (← c.self.view_is)
+    (gone_answer_seen c.self.inside.index c.self.inside.slab c.args.key None (sym c.drop_next.ensures.cells.changed ∙ sym c.in_default.ensures.value))
+
+pub returns-clause-gone : goal.returns-clause-gone
+returns-clause-gone c =
+    rw (← c.self.view_is)
+    (ap Some c.gone_answer.ensures
+    ∙ gone_answer_seen c.self.inside.index c.self.inside.slab c.args.key (Some c.in-Some.cell) (sym c.drop_next.ensures.cells.changed ∙ sym c.in-Some.ensures.value))

@@ -1,4 +1,4 @@
-use Rattle.std.proofs.Common.{◌≡◌, ◌+◌, ◌≤◌, ◌^◌, Ok, sym, ap, subst, ◌∙◌, arith}
+use Rattle.std.proofs.Common.{◌≡◌, ◌+◌, ◌≤◌, ◌^◌, Ok, refl, sym, ap, subst, ◌∙◌, arith}
 use Rattle.ent_cells.specs.Cell.{HasReadKeys}
 use Rattle.ent_cells.specs.Count.{most, raised}
 use Rattle.ent_eval.specs.LooksOf.{held_by}
@@ -12,7 +12,9 @@ use Rattle.ent_table.specs.Seen.{asks, keys_in}
 use Rattle.ent_table.specs.State.{State, fresh_cells}
 use Rattle.ent_table.specs.Step.{next}
 use Rattle.ent_table.proofs.Edited.{fresh_again, unlike_changes}
+use Rattle.ent_table.proofs.Logs.{as_much_room, log_between, room_between, same_log}
 use Rattle.ent_table.proofs.Rests.{all_renewed, count_touched, names_stay, right_but}
+use Rattle.ent_table.proofs.SerialTables.{kept_over, kept_stays, undone}
 use Rattle.ent_table.proofs.review.Review.make.Goals as goal
 
 pub returns-in_default-changed-clause-step : goal.returns-in_default-changed-clause-step
@@ -25,9 +27,17 @@ pub returns-in_default-changed-clause-fresh : goal.returns-in_default-changed-cl
 returns-in_default-changed-clause-fresh g c =
     let one = c.in-Ok-exchange.ensures.rest in
     let two = c.take_back.ensures.rest in
+    let log = ap (λ v. v.log) two ∙ ap (λ v. v.log) one in
     fresh_again g.A.Attributes.sources g.P.Policies.slots c.args.self.now c.take_back.new.self c.requires.fresh
     (ap (λ v. v.table.cells) two ∙ ap (λ v. v.table.cells) one)
     (ap (λ v. v.documents) two ∙ ap (λ v. v.documents) one)
+    (same_log c.args.self.now.log c.take_back.new.self.log log) (as_much_room c.args.self.now.log c.take_back.new.self.log log)
+    (returns-in_default-changed-clause-step g c).1
+
+pub returns-in_default-changed-clause-tables : goal.returns-in_default-changed-clause-tables
+returns-in_default-changed-clause-tables g c =
+    kept_stays g.A.Attributes.sources g.P.Policies.slots c.args.self.now c.take_back.new.self
+    (same_log c.args.self.now.log c.take_back.new.self.log (ap (λ v. v.log) c.take_back.ensures.rest ∙ ap (λ v. v.log) c.in-Ok-exchange.ensures.rest))
     (returns-in_default-changed-clause-step g c).1
 
 pub settle-requires : goal.settle-requires
@@ -54,17 +64,19 @@ returns-in-Ok-settle-clause-step g c =
     let x = c.args.exchange in
     let one = c.in-Ok-exchange.ensures in
     let done = c.in-Ok-settle.ensures in
-    let counted = c.next_serial.ensures in
+    let counted = c.log_edit.ensures in
     let same = ap (λ v. v.table.cells) one.rest in
     let was = same ∙ c.requires.fresh.cells in
     let has = subst (λ es. HasReadKeys (asks x) es (keys_in c.in-Ok.seen.items)) (sym same) c.in-Ok.ensures.keys in
     let cells : c.settle.new.self ≡ fresh_cells (with_exchange s x) = done.ok ∙ all_renewed s (state_of sources slots between) x one.made between.table.cells was (keys_in c.in-Ok.seen.items) has in
-    let after : state_of sources slots c.next_serial.new.self ≡ next (with_exchange s x) =
+    let up : c.log_edit.new.self.log.serial ≡ between.log.serial + 1 = counted.logs.serial ∙ ap (λ n. n + 1) done.log.serial in
+    let after : state_of sources slots c.log_edit.new.self ≡ next (with_exchange s x) =
     ap (state_of sources slots) counted.rest
+    ∙ ap (λ n. record (state_of sources slots between) { held = held_by sources slots c.settle.new.pdp; serial = n }) up
     ∙ ap (λ p. record (next (state_of sources slots between)) { held = held_by sources slots p }) done.rest
     ∙ ap next one.made in (
       ap Ok (sym after),
-      ap (λ a. a.serial) counted.accepted ∙ sym (ap (λ v. v.serial) counted.rest),
+      ap (λ a. a.serial) counted.accepted ∙ sym counted.logs.serial,
       ap (λ a. a.changes) counted.accepted
           ∙ done.changes
           ∙ unlike_changes s (with_exchange s x) between.table.cells c.settle.new.self (names_stay s x) was cells
@@ -80,23 +92,43 @@ returns-in-Ok-settle-clause-fresh g c =
     let x = c.args.exchange in
     let one = c.in-Ok-exchange.ensures in
     let done = c.in-Ok-settle.ensures in
-    let counted = c.next_serial.ensures in
+    let counted = c.log_edit.ensures in
     let same = ap (λ v. v.table.cells) one.rest in
     let was = same ∙ c.requires.fresh.cells in
     let has = subst (λ es. HasReadKeys (asks x) es (keys_in c.in-Ok.seen.items)) (sym same) c.in-Ok.ensures.keys in
     let cells : c.settle.new.self ≡ fresh_cells (with_exchange s x) = done.ok ∙ all_renewed s (state_of sources slots between) x one.made between.table.cells was (keys_in c.in-Ok.seen.items) has in
-    let after : state_of sources slots c.next_serial.new.self ≡ next (with_exchange s x) =
+    let up : c.log_edit.new.self.log.serial ≡ between.log.serial + 1 = counted.logs.serial ∙ ap (λ n. n + 1) done.log.serial in
+    let after : state_of sources slots c.log_edit.new.self ≡ next (with_exchange s x) =
     ap (state_of sources slots) counted.rest
+    ∙ ap (λ n. record (state_of sources slots between) { held = held_by sources slots c.settle.new.pdp; serial = n }) up
     ∙ ap (λ p. record (next (state_of sources slots between)) { held = held_by sources slots p }) done.rest
     ∙ ap next one.made in
     record {
       cells = ap (λ v. v.table.cells) counted.rest ∙ cells ∙ ap (λ (u : State). fresh_cells u) (sym after);
       documents = ap (λ v. v.documents) counted.rest ∙ c.requires.documents ∙ ap (λ (u : State). document_count u.held.modules) (sym after);
       serial =
-          let up : c.next_serial.new.self.serial ≡ c.args.self.now.serial + 1 = ap (λ v. v.serial) counted.rest ∙ ap (λ v. v.serial + 1) one.rest in
-          subst (λ n. n ≤ 2 ^ 63) (sym up) (omega (arith, c.requires.serial));
+          let more : c.log_edit.new.self.log.serial ≡ c.args.self.now.log.serial + 1 = up ∙ ap (λ v. v.log.serial + 1) one.rest in
+          subst (λ n. n ≤ 2 ^ 63) (sym more) (omega (arith, c.requires.serial));
       limits = subst IsStandardAtMost (sym (ap (λ v. v.limits) counted.rest ∙ ap (λ v. v.limits) one.rest)) c.requires.fresh.limits;
+      closed = counted.logs.closed;
+      room = counted.room;
     }
+
+pub returns-in-Ok-settle-clause-tables : goal.returns-in-Ok-settle-clause-tables
+returns-in-Ok-settle-clause-tables g c =
+    let sources = g.A.Attributes.sources in
+    let slots = g.P.Policies.slots in
+    let s = state_of sources slots c.args.self.now in
+    let between = c.exchange-2.new.self in
+    let new = c.log_edit.new.self in
+    let x = c.args.exchange in
+    let one = c.in-Ok-exchange.ensures in
+    let same = log_between c.args.self.now.log between.log c.settle.new.log c.settle.new.log (ap (λ v. v.log) one.rest) c.in-Ok-settle.ensures.log refl in
+    let was : between.table.cells ≡ fresh_cells s = ap (λ v. v.table.cells) one.rest ∙ c.requires.fresh.cells in
+    let is : c.settle.new.self ≡ fresh_cells (state_of sources slots new) =
+    sym (ap (λ v. v.table.cells) c.log_edit.ensures.rest) ∙ (returns-in-Ok-settle-clause-fresh g c).cells in
+    kept_over sources slots c.args.self.now new c.settle.new.log c.in-Ok-settle.olds same c.log_edit.ensures.logs
+    (undone s (state_of sources slots new) between.table.cells c.settle.new.self c.in-Ok-settle.olds was is c.in-Ok-settle.ensures.olds)
 
 pub returns-in-Ok-settle-clause-counted : goal.returns-in-Ok-settle-clause-counted
 returns-in-Ok-settle-clause-counted g c =
@@ -112,7 +144,7 @@ returns-in-Ok-settle-clause-counted g c =
     let keys = c.as_slice.ensures ∙ c.in-Ok-changed.ensures s x one.made one.taken c.in-Ok.ensures.before in
     let count = count_touched s (state_of sources slots between) x one.made between.table.cells was (keys_in c.in-Ok.seen.items) has c.as_slice.result.now keys in
     let begun : between.pdp.evaluations ≡ c.args.self.now.pdp.evaluations = ap (λ v. v.pdp.evaluations) one.rest in
-    λ h. ap (λ v. v.pdp.evaluations) c.next_serial.ensures.rest
+    λ h. ap (λ v. v.pdp.evaluations) c.log_edit.ensures.rest
     ∙ c.in-Ok-settle.ensures.counted (subst (λ n. n ≤ most) (sym begun) h)
     ∙ (λ i. raised (begun i) (count i))
 
@@ -123,7 +155,8 @@ returns-in-Err-clause-step g c =
     let sources = g.A.Attributes.sources in
     let slots = g.P.Policies.slots in
     let between = c.exchange-2.new.self in
-    let mid = ap (λ p. record (state_of sources slots between) { held = held_by sources slots p }) c.in-Err.ensures.rest in (
+    let mid = ap (λ n. record (state_of sources slots between) { held = held_by sources slots c.settle.new.pdp; serial = n }) c.in-Err.ensures.log.serial
+    ∙ ap (λ p. record (state_of sources slots between) { held = held_by sources slots p }) c.in-Err.ensures.rest in (
       tt,
       c.take_back-in-Err.ensures.before c.args.self.now (c.args.exchange, c.requires.within, mid ∙ c.in-Ok-exchange.ensures.made, c.in-Ok-exchange.ensures.taken),
     )
@@ -132,9 +165,19 @@ pub returns-in-Err-clause-fresh : goal.returns-in-Err-clause-fresh
 returns-in-Err-clause-fresh g c =
     let one = c.in-Ok-exchange.ensures.rest in
     let two = c.take_back-in-Err.ensures.rest in
+    let before = ap (λ v. v.log) one in
+    let after = ap (λ v. v.log) two in
     fresh_again g.A.Attributes.sources g.P.Policies.slots c.args.self.now c.take_back-in-Err.new.self c.requires.fresh
     (ap (λ v. v.table.cells) two ∙ c.in-Err.ensures.err ∙ ap (λ v. v.table.cells) one)
     (ap (λ v. v.documents) two ∙ ap (λ v. v.documents) one)
+    (log_between c.args.self.now.log c.exchange-2.new.self.log c.settle.new.log c.take_back-in-Err.new.self.log before c.in-Err.ensures.log after)
+    (room_between c.args.self.now.log c.exchange-2.new.self.log c.settle.new.log c.take_back-in-Err.new.self.log before c.in-Err.ensures.grows after)
+    (returns-in-Err-clause-step g c).1
+
+pub returns-in-Err-clause-tables : goal.returns-in-Err-clause-tables
+returns-in-Err-clause-tables g c =
+    kept_stays g.A.Attributes.sources g.P.Policies.slots c.args.self.now c.take_back-in-Err.new.self
+    (log_between c.args.self.now.log c.exchange-2.new.self.log c.settle.new.log c.take_back-in-Err.new.self.log (ap (λ v. v.log) c.in-Ok-exchange.ensures.rest) c.in-Err.ensures.log (ap (λ v. v.log) c.take_back-in-Err.ensures.rest))
     (returns-in-Err-clause-step g c).1
 
 pub returns-in-Err-clause-counted : goal.returns-in-Err-clause-counted

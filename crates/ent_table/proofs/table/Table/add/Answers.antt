@@ -1,12 +1,32 @@
-use Rattle.std.proofs.Common.{◌≡◌, ℕ, List, map, sym, ap, ◌∙◌}
+use Rattle.std.proofs.Common.{◌≡◌, ℕ, ◌+◌, List, length, map, None, sym, ap, ◌∙◌, arith}
+use Rattle.std.proofs.lemmas.List.{length-map}
 use Rattle.ent_cells.specs.Cell.{cell_of}
 use Rattle.ent_cells.specs.Shape.{woven}
 use Rattle.ent_eval.specs.LooksOf.{looks_of}
 use Rattle.ent_table.specs.Names.{Names, triples, with_list}
 use Rattle.ent_table.specs.Place.{blocks_of}
 use Rattle.ent_table.specs.Table.{behind, requests_with}
-use Rattle.ent_table.proofs.Named.{added_cells}
+use Rattle.ent_table.specs.Tables.{unanswered}
+use Rattle.ent_table.proofs.Named.{added_cells, length-woven}
 use Rattle.ent_table.proofs.table.Table.add.Goals as goal
+
+pub returns-in-Ok-clause-olds : goal.returns-in-Ok-clause-olds
+returns-in-Ok-clause-olds g c =
+    let old = c.args.self.now in
+    let list = c.args.list in
+    let requests : c.in_ok-requests.requests ≡ requests_with list c.args.name old.names =
+    c.in_ok-requests.ensures ∙ ap triples (c.requests_with.ensures ∙ ap (λ (l : List (List ℕ)). with_list list l old.names) c.from_ref.ensures.value) in
+    c.in_ok-olds.ensures ∙ ap unanswered (c.as_slice.ensures ∙ requests)
+
+pub returns-in-Ok-clause-room : goal.returns-in-Ok-clause-room
+returns-in-Ok-clause-room g c =
+    let b = c.behind.result in
+    let f = cell_of (looks_of g.A.Attributes.sources g.P.Policies.slots c.args.pdp.now) in
+    let requests = c.in_ok-requests.requests in
+    let long : length c.in_ok-olds.olds ≡ length requests = ap length c.in_ok-olds.ensures ∙ length-map c.as_slice.result.now (λ x. record { key = x; answer = None }) ∙ ap length c.as_slice.ensures in
+    let cells : length c.add.new.self ≡ length c.args.self.now.cells + length requests =
+    ap length c.in-Ok.ensures.ok ∙ length-woven b.count b.width b.each c.args.self.now.cells (map f requests) ∙ ap (λ n. length c.args.self.now.cells + n) (length-map requests f) in
+    omega (arith, long, cells, c.len.ensures, c.len-2.ensures, c.in_ok-make_room.ensures.room)
 
 pub returns-in-Ok-clause-ok : goal.returns-in-Ok-clause-ok
 returns-in-Ok-clause-ok g c =

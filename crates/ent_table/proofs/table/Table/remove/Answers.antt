@@ -9,10 +9,10 @@ use Rattle.ent_table.proofs.table.Table.remove.Goals as goal
 pub overflow_sub-result : goal.overflow_sub-result
 overflow_sub-result c =
     let blocks = c.blocks-blocks.result in
-    omega (arith, c.len.ensures, c.len-before.ensures, ap length c.narrow.ensures, length-without blocks.count blocks.width (c.in_ok-place.place * blocks.each) blocks.each c.args.self.now.cells)
+    omega (arith, c.len.ensures, c.len-before.ensures, ap length c.narrow.ensures.cells, length-without blocks.count blocks.width (c.in_ok-place.place * blocks.each) blocks.each c.args.self.now.cells)
 
-pub returns : goal.returns
-returns c =
+pub returns-clause-dropped : goal.returns-clause-dropped
+returns-clause-dropped c =
     let old = c.args.self.now in
     let list = c.args.list in
     let name = c.args.name.now in
@@ -24,7 +24,7 @@ returns c =
       there = ap (has_name name) stands.is ∙ has_own name stands.before stands.after;
       names = names;
       cells = λ f is.
-          c.narrow.ensures
+          c.narrow.ensures.cells
           ∙ (λ i. without (c.blocks-blocks.ensures.blocks i).count (c.blocks-blocks.ensures.blocks i).width (place * (c.blocks-blocks.ensures.blocks i).each) (c.blocks-blocks.ensures.blocks i).each (is i))
           ∙ dropped_cells f list old.names name place stands
           ∙ ap (λ (n : Names). map f (triples n)) (sym names);

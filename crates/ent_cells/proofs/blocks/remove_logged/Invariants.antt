@@ -1,0 +1,11 @@
+use Rattle.std.proofs.Common.{◌≡◌, ℕ, take}
+use Rattle.slab.specs.Slab.{get}
+use Rattle.ent_cells.specs.Logging.{Puts, gone_in}
+use Rattle.ent_cells.specs.Shape.{left_of}
+use Rattle.ent_cells.proofs.blocks.remove_logged.Given as goal
+
+abbrev pub invariant-loop-key : goal.invariant-loop-key
+invariant-loop-key l = record {
+  cells : (q : ℕ) → get l.store q ≡ left_of l.initial.store (take l.key-index l.keys) q;
+  logged : Puts (gone_in l.initial.store (take l.key-index l.keys)) l.initial.log l.log;
+}

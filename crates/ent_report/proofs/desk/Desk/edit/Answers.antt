@@ -1,0 +1,39 @@
+use Rattle.std.proofs.Common.{◌≤◌, sym, ap, subst, ◌∙◌}
+use Rattle.ent_table.specs.Review.{state_of}
+use Rattle.ent_table.specs.Tables.{table_at_serial}
+use Rattle.ent_report.specs.World.{AreMarks}
+use Rattle.ent_report.proofs.Marks.{marks_later, same_tables}
+use Rattle.ent_report.proofs.Serials.{serial_rises}
+use Rattle.ent_report.proofs.desk.Desk.edit.Goals as goal
+
+-- over the edit the table at each mark stays
+pub returns-in_err-accepted-clause-marks : goal.returns-in_err-accepted-clause-marks
+returns-in_err-accepted-clause-marks g c =
+    let d = c.args.self.now in
+    let table = table_at_serial g.A.Attributes.sources g.P.Policies.slots in
+    let old = d.review.log in
+    same_tables (table c.edit.new.self) (table d.review) old.from old.serial d.marks c.requires.kept (λ n from le. c.edit.ensures.tables.each n le)
+
+pub forget-requires : goal.forget-requires
+forget-requires g c =
+    let d = c.args.self.now in
+    let state = state_of g.A.Attributes.sources g.P.Policies.slots in
+    let old = d.review.log in
+    let new = c.edit.new.self.log in
+    let rises : old.serial ≤ new.serial = serial_rises (state d.review) (state c.edit.new.self) c.args.edit c.edit.result c.edit.ensures.step in
+    record {
+      fresh = c.edit.ensures.fresh;
+      kept =
+          subst (λ n. AreMarks n new.serial d.marks) (sym c.edit.ensures.tables.from)
+          (marks_later old.from old.serial new.serial d.marks rises c.requires.kept);
+      sixteen = c.requires.sixteen;
+      counts = tt;
+    }
+
+pub returns-clause-marks : goal.returns-clause-marks
+returns-clause-marks g c =
+    let d = c.args.self.now in
+    let table = table_at_serial g.A.Attributes.sources g.P.Policies.slots in
+    let old = d.review.log in
+    ap (λ w. w.marks) c.forget.ensures.world
+    ∙ same_tables (table c.edit.new.self) (table d.review) old.from old.serial d.marks c.requires.kept (λ n from le. c.edit.ensures.tables.each n le)

@@ -1,0 +1,22 @@
+use Rattle.std.proofs.Common.{◌≡◌, map, Some, ap, ◌∙◌}
+use Rattle.std.specs.Prelude.{option_map, slice_set}
+use Rattle.std.proofs.lemmas.List.{map-set}
+use Rattle.ent_table.specs.AnswerMap.{answers_of}
+use Rattle.ent_table.specs.Review.{state_of}
+use Rattle.ent_table.specs.Tables.{table_at_serial}
+use Rattle.ent_table.proofs.SerialTables.{table_now}
+use Rattle.ent_report.proofs.desk.Desk.mark.Goals as goal
+
+pub returns-clause-marks : goal.returns-clause-marks
+returns-clause-marks g c =
+    let d = c.args.self.now in
+    let sources = g.A.Attributes.sources in
+    let slots = g.P.Policies.slots in
+    let table = table_at_serial sources slots d.review in
+    let now : table c.serial-serial.result ≡ answers_of (state_of sources slots d.review) =
+    ap table c.serial-serial.ensures ∙ table_now sources slots d.review c.requires.ready.fresh in
+    let marks : map (option_map table) (slice_set d.marks c.args.session (Some c.serial-serial.result))
+    ≡ slice_set (map (option_map table) d.marks) c.args.session (Some (answers_of (state_of sources slots d.review))) =
+    map-set (option_map table) d.marks c.args.session (Some c.serial-serial.result)
+    ∙ ap (λ m. slice_set (map (option_map table) d.marks) c.args.session (Some m)) now in
+    c.forget.ensures.world ∙ (λ i. record { state = state_of sources slots d.review; marks = marks i })

@@ -1,0 +1,60 @@
+-- The tables at serials: what the kept log and the present cells give.
+use Rattle.std.specs.Prelude.{◌≡◌, ℕ, ◌+◌, ◌≤◌, List, map, None}
+use Rattle.ent_cells.specs.Order.{request_order}
+use Rattle.ent_cells.specs.declared.who.Who.{Who}
+use Rattle.ent_eval.specs.declared.answer.Answer.{Answer}
+use Rattle.ent_eval.specs.Same.{same_answer}
+use Rattle.ent_finder.specs.Rows.{Source}
+use Rattle.ent_finder.specs.Slots.{Slots}
+use Rattle.ent_log.specs.Maps.{map_at, map_difference}
+use Rattle.ent_log.specs.Tables.{IsClosed, KeepsTables as KeepsBefore}
+use Rattle.ent_log.specs.declared.change.Change.{Change as Logged}
+use Rattle.ent_log.specs.declared.entry.OldAnswer.{OldAnswer}
+use Rattle.ent_log.specs.declared.log.Log.{Log}
+use Rattle.ent_table.specs.declared.since.Change.{Change}
+use Rattle.ent_table.specs.declared.review.Review.{Review}
+use Rattle.ent_table.specs.AnswerMap.{AnswerMap, answers_of}
+use Rattle.ent_table.specs.Names.{Triple}
+use Rattle.ent_table.specs.Review.{state_of}
+use Rattle.ent_table.specs.State.{State}
+
+-- the table at a serial
+abbrev pub table_at_serial : {A P : Type 0} → (A → List Source) → (P → List Slots) → Review A P → ℕ → AnswerMap
+table_at_serial sources slots v n = map_at request_order v.log (answers_of (state_of sources slots v)) n
+
+-- the table at each serial so far stays what it was, and as many are known as before
+pub record KeepsTables {A P : Type 0} (sources : A → List Source) (slots : P → List Slots) (old new : Review A P) : Type 0 where
+  pub from : new.log.from ≡ old.log.from
+  pub each : (n : ℕ) → n ≤ (state_of sources slots old).serial → table_at_serial sources slots new n ≡ table_at_serial sources slots old n
+
+-- the table at each serial so far that is still known stays what it was
+abbrev pub LeavesTables : {A P : Type 0} → (A → List Source) → (P → List Slots) → Review A P → Review A P → Type 0
+LeavesTables sources slots old new =
+    (n : ℕ) → new.log.from ≤ n → n ≤ (state_of sources slots old).serial → table_at_serial sources slots new n ≡ table_at_serial sources slots old n
+
+-- the table at the present serial is the fresh one
+abbrev pub IsFreshAtSerial : {A P : Type 0} → (A → List Source) → (P → List Slots) → Review A P → Type 0
+IsFreshAtSerial sources slots v = table_at_serial sources slots v (state_of sources slots v).serial ≡ answers_of (state_of sources slots v)
+
+-- ---- what changed
+
+-- a change of an answer, with the three names of its request
+abbrev pub change_of : Logged Who Answer → Change
+change_of c = record { person = c.key.person; action = c.key.action; resource = c.key.resource; before = c.before; after = c.after }
+
+-- the difference of a table and that of a state: each request to which they give different answers, once, in byte order, with both
+abbrev pub changes_from : AnswerMap → State → List Change
+changes_from m s = map change_of (map_difference same_answer m (answers_of s))
+
+-- ---- what is logged
+
+-- requests that had no answer
+abbrev pub unanswered : List Triple → List (OldAnswer Who Answer)
+unanswered xs = map (λ x. record { key = x; answer = None }) xs
+
+-- an edit is logged by old answers, and counted
+pub record Logs (olds : List (OldAnswer Who Answer)) (old new : Log Who Answer) : Type 0 where
+  pub from : new.from ≡ old.from
+  pub serial : new.serial ≡ old.serial + 1
+  pub closed : IsClosed new
+  pub kept : KeepsBefore request_order olds old new

@@ -1,0 +1,108 @@
+//! What changed since a serial.
+
+ghost use Rattle.std.specs.Prelude.{◌≡◌, ◌≤◌, IfOk, map, max};
+ghost use Rattle.ent_table.specs.Change.{Stays};
+ghost use Rattle.ent_table.specs.Review.{IsFresh, state_of};
+ghost use Rattle.ent_table.specs.Tables.{LeavesTables, change_of, changes_from, table_at_serial};
+
+use crate::review::Review;
+use ent_cells::Who;
+use ent_eval::Answer;
+use ent_finder::{Attributes, Policies};
+use ent_log::{Change as Logged, Present};
+use ent_values::{Items, Shared, Text};
+use std::alloc::{AllocError, Global};
+
+/// A request to which two tables give different answers, or only one of them gives an answer, with both.
+#[derive(Drop)]
+pub struct Change {
+    pub person: Text,
+    pub action: Text,
+    pub resource: Text,
+    pub before: Option<Shared<Answer>>,
+    pub after: Option<Shared<Answer>>,
+}
+
+/// A logged change, with the three names of its request.
+fn named(alloc: Global, change: Logged<Who, Answer>) -> Result<Change, AllocError>
+    ensures { IfOk result (λ c. c ≡ change_of change) }
+{
+    let Logged { key, before, after } = change;
+    let who = key.get();
+    Ok(Change {
+        person: who.person.copy(alloc)?,
+        action: who.action.copy(alloc)?,
+        resource: who.resource.copy(alloc)?,
+        before,
+        after,
+    })
+}
+
+/// Logged changes, each with the three names of its request.
+fn all_named(alloc: Global, logged: Items<Logged<Who, Answer>>) -> Result<Items<Change>, AllocError>
+    ensures { IfOk result (λ changes. changes ≡ map change_of logged) }
+{
+    let mut changes = Vec::with_capacity(alloc, logged.len())?;
+    for change in logged.into_vec() {
+        changes.push(named(alloc, change)?)?;
+    }
+    Ok(Items::from_vec(changes))
+}
+
+impl<A: Attributes, P: Policies> Present<Who, Answer> for Review<A, P> {
+    ghost use Rattle.ent_table.specs.Review.{IsFresh, state_of};
+    ghost use Rattle.ent_table.specs.State.{answer_at};
+
+    ghost can_answer = { λ v. IsFresh A.sources P.slots v };
+
+    ghost answers = { λ v. answer_at (state_of A.sources P.slots v) };
+
+    fn answer(&self, key: &Who) -> Option<&Shared<Answer>> {
+        self.shared_answer(
+            key.person.as_str(),
+            key.action.as_str(),
+            key.resource.as_str(),
+        )
+    }
+}
+
+impl<A: Attributes, P: Policies> Review<A, P> {
+    /// The least serial whose table is known: 0 for a new review.
+    pub fn kept_from(&self) -> u64
+        ensures { result ≡ self.now.log.from }
+    {
+        self.log.kept_from()
+    }
+
+    /// What changed since a serial that is still known: each request to which the tables at that serial and now give
+    /// different answers, once, in byte order of person, then action, then resource, with both answers. It takes time
+    /// in proportion to what was logged since then, times a logarithm.
+    ///
+    /// # Errors
+    ///
+    /// `AllocError` if memory runs out.
+    pub fn changes_since(&self, serial: u64) -> Result<Items<Change>, AllocError>
+        requires fresh { IsFresh A.sources P.slots self.now }
+        requires kept { self.now.log.from ≤ serial }
+        requires reached { serial ≤ (state_of A.sources P.slots self.now).serial }
+        ensures { IfOk result (λ changes. changes
+            ≡ changes_from (table_at_serial A.sources P.slots self.now serial) (state_of A.sources P.slots self.now)) }
+    {
+        let logged = self.log.changes_since(self.alloc, self, serial)?;
+        all_named(self.alloc, logged)
+    }
+
+    /// Forgets the tables before a serial: those at the serials from there on stay known. It takes no memory. Where the
+    /// tables before the serial are forgotten already, nothing changes.
+    pub fn forget_before(&mut self, serial: u64)
+        requires fresh { IsFresh A.sources P.slots self.old }
+        requires reached { serial ≤ (state_of A.sources P.slots self.old).serial }
+        ensures fresh { IsFresh A.sources P.slots self.new }
+        ensures from { self.new.log.from ≡ max serial self.old.log.from }
+        ensures tables { LeavesTables A.sources P.slots self.old self.new }
+        ensures state { Stays A.sources P.slots self.old self.new }
+        ensures rest { self.new ≡ record self.old { log = self.new.log } }
+    {
+        self.log.forget_before(serial);
+    }
+}
