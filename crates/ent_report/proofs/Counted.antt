@@ -17,11 +17,12 @@ use Rattle.ent_cells.specs.Order.{request_order}
 use Rattle.ent_cells.proofs.Orders.{requests-total}
 use Rattle.ent_table.specs.AnswerMap.{answers_of}
 use Rattle.ent_table.specs.Difference.{changes, difference, differs, same_optional}
+use Rattle.ent_table.specs.Doubles.{HasNoDoubles}
 use Rattle.ent_table.specs.Names.{Names, Triple, all_triples, is_listed, triple_of, triples, with_actions, with_resources}
 use Rattle.ent_table.specs.State.{State, answer_at}
 use Rattle.ent_table.proofs.AnswerMaps.{get-answers_of}
 use Rattle.ent_table.proofs.Listed.{same_request, same_triple}
-use Rattle.ent_report.specs.Differing.{HasNoDoubles, NoticesAreTheDifference, request_of}
+use Rattle.ent_report.specs.Differing.{NoticesAreTheDifference, request_of}
 use Rattle.ent_report.specs.Notices.{decision_in, notices}
 use Rattle.ent_report.specs.declared.notices.Notice.{Notice}
 use Rattle.ent_report.proofs.Differing.{ascend, contained_listed, difference_told, listed_at, listed_contained, not_true}

@@ -1,13 +1,13 @@
 -- The law of the notices: they are the difference of a table that was marked and the present one, and as many as an edit from the one to the other tells.
-use Rattle.std.specs.Prelude.{◌≡◌, ◌↔◌, length, map, nat_eq, false}
-use Rattle.std.specs.Cmp.Lexicographic.{pointwise}
+use Rattle.std.specs.Prelude.{◌≡◌, ◌↔◌, length, map, false}
 use Rattle.std.specs.FinMap.{get}
-use Rattle.std.specs.List.{Contains, IsDistinct}
+use Rattle.std.specs.List.{Contains}
 use Rattle.std.specs.List.Sorted.{IsStrictlySortedBy}
 use Rattle.ent_cells.specs.Order.{request_order}
 use Rattle.ent_table.specs.AnswerMap.{AnswerMap, answers_of}
 use Rattle.ent_table.specs.Difference.{changes, difference, same_optional}
-use Rattle.ent_table.specs.Names.{Names, Triple, triple_of}
+use Rattle.ent_table.specs.Doubles.{HasNoDoubles}
+use Rattle.ent_table.specs.Names.{Triple, triple_of}
 use Rattle.ent_table.specs.State.{State, answer_at}
 use Rattle.ent_report.specs.Notices.{decision_in, notices}
 use Rattle.ent_report.specs.declared.notices.Notice.{Notice}
@@ -33,10 +33,6 @@ AscendInBytes m s = IsStrictlySortedBy request_order (map request_of (notices m 
 -- where the table of s was marked, the notices at t have the requests of the difference of s and t
 abbrev pub HaveTheRequests : State → State → Type 0
 HaveTheRequests s t = (x : Triple) → Contains (map request_of (notices (answers_of s) t)) x ↔ Contains (difference s t) x
-
--- no list has a name twice
-abbrev pub HasNoDoubles : Names → Type 0
-HasNoDoubles n = IsDistinct (pointwise nat_eq) n.people × IsDistinct (pointwise nat_eq) n.actions × IsDistinct (pointwise nat_eq) n.resources
 
 -- there are as many as an edit from s to t tells
 abbrev pub AreAsMany : State → State → Type 0

@@ -3,6 +3,7 @@ pub mod Bits
 pub mod Changes
 pub mod Counting
 pub mod Counts
+pub mod Doubles
 pub mod Edited
 pub mod Exchanges
 pub mod Kept

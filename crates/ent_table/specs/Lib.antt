@@ -3,6 +3,7 @@ pub mod Ask
 pub mod Change
 pub mod Counted
 pub mod Difference
+pub mod Doubles
 pub mod Exchange
 pub mod Left
 pub mod Limits
