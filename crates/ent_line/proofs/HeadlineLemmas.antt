@@ -5,6 +5,7 @@ use Rattle.std.proofs.lemmas.Bool.{lt-ltb}
 use Rattle.ent_table.specs.State.{table_of}
 use Rattle.ent_table.specs.declared.edit.Edit.{Edit}
 use Rattle.ent_report.specs.Reports as report
+use Rattle.ent_report.proofs.Counted.{are_the_difference}
 use Rattle.ent_report.specs.World.{World}
 use Rattle.ent_report.specs.declared.fault.ReportFault.TheVariants.{NotThere}
 use Rattle.ent_line.specs.Asked.{Command}
@@ -17,6 +18,8 @@ use Rattle.ent_line.specs.Step.{by_rule_told, can_told, cell_or_refusal, cell_to
 use Rattle.ent_line.specs.Step.{report_or_refusal, request_answered, requested, response_or_refusal, run, settled, step, table_marked, table_told, told, who_told, work_told}
 use Rattle.ent_line.proofs.AskedLemmas.{refusal_is}
 use Rattle.ent_line.proofs.CommandLemmas.{made, refusal_keeps, run_made, short_told}
+use Rattle.ent_line.proofs.HistoryLemmas.{led}
+use Rattle.ent_line.proofs.ReplyLemmas.{told_in_one_line}
 use Rattle.ent_line.proofs.SessionLemmas.{separate}
 
 long_refused : (n : ℕ) (w : World) (line : List ℕ) → line_limit < length line → step n w line ≡ (refused 1 None, w)
@@ -33,6 +36,7 @@ heard w line = record {
       (between.0, between.1, short_told n w line short ∙ ap (told n w) reads ∙ ap (requested n w) asks);
   command = λ n d session c short reads asks. short_told n w line short ∙ ap (told n w) reads ∙ ap (requested n w) asks;
   refusal = λ v number sub is. refusal_keeps w v line number sub is;
+  one_line = λ v a is. told_in_one_line w v line a is;
 }
 
 -- a command is answered as what it makes
@@ -69,4 +73,4 @@ answered n w session = record {
 }
 
 pub headline : IsHeadline
-headline = record { lines = heard; commands = edited; questions = answered; sessions = separate }
+headline = record { lines = heard; commands = edited; questions = answered; runs = led; differences = are_the_difference; sessions = separate }

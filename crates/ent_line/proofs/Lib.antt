@@ -1,10 +1,13 @@
 mod AskedLemmas
 mod CommandLemmas
 mod HeadlineLemmas
+mod HistoryLemmas
 pub mod LineLemmas
 pub mod PieceLemmas
+mod PrintedLemmas
 pub mod ReadLemmas
 pub mod ServeLemmas
+mod ReplyLemmas
 pub mod ReportLemmas
 mod SessionLemmas
 mod TextLemmas

@@ -3,9 +3,10 @@
 -- A line asks for one command in one of sixteen sessions. Its reply rests on the world that the accepted edits and marks of the lines before it
 -- left: a state, which is what is held, the three lists and the number of edits, and for each session an optional mark. No reply rests on a
 -- kept cell: each is said by evaluating requests afresh (section 7 of XACML 3.0 core). Only `work` tells how many evaluations were made so far,
--- which is no part of the world: the run leaves open which number that is, and `Service::handle` says it. The last words on the page, `Headline`,
--- are what the call `serve_review`, which the program makes, ensures of the bytes that are read and written.
-use Rattle.std.specs.Prelude.{◌≡◌, ◌⊎◌, ℕ, ◌<◌, ◌≤◌, ◌&&◌, false, List, length, Option, Some, None, Result, Ok, Err}
+-- which is no part of the world: the run leaves open which number that is, and `Service::handle` says it. After any lines the state is where their
+-- accepted edits lead, one after the other, and a session's mark is the fresh table at the place of its last mark among them (`IsLed`). The last
+-- words on the page, `Headline`, are what the call `serve_review`, which the program makes, ensures of the bytes that are read and written.
+use Rattle.std.specs.Prelude.{◌≡◌, ◌⊎◌, ℕ, ◌<◌, ◌≤◌, ◌&&◌, false, List, length, fold, Option, Some, None, Result, Ok, Err}
 use Rattle.serde_json.specs.Data.{Data}
 use Rattle.ent_eval.specs.declared.answer.Answer.{Answer as Evaluated}
 use Rattle.ent_eval.specs.declared.request.Request.{Request}
@@ -13,21 +14,25 @@ use Rattle.ent_profile.specs.Asks.{asks}
 use Rattle.ent_table.specs.AnswerMap.{AnswerMap}
 use Rattle.ent_table.specs.Ask.{answer_in}
 use Rattle.ent_table.specs.Difference.{changes}
+use Rattle.ent_table.specs.Doubles.{HasNoDoubles}
 use Rattle.ent_table.specs.Names.{Triple, has_name}
 use Rattle.ent_table.specs.State.{State, answer_at, table_of}
 use Rattle.ent_table.specs.Step as edits
 use Rattle.ent_table.specs.declared.edit.Edit.{Edit}
 use Rattle.ent_table.specs.declared.edit.EditFault.{EditFault}
+use Rattle.ent_report.specs.Differing.{NoticesAreTheDifference}
 use Rattle.ent_report.specs.Notices.{notices}
 use Rattle.ent_report.specs.Reports as report
 use Rattle.ent_report.specs.World.{World, mark_of, marked}
 use Rattle.ent_line.specs.Asked as asked
 use Rattle.ent_line.specs.Cells.{one_cell_text, response_text, table_text}
 use Rattle.ent_line.specs.Edits.{edit_of, faulty, unreadable, unreadable_row}
-use Rattle.ent_line.specs.Lines.{line_limit}
+use Rattle.ent_line.specs.History.{Lead, accepted_edits, history, next, seen_by}
+use Rattle.ent_line.specs.Lines.{IsOneLine, line_limit}
 use Rattle.ent_line.specs.Replies as replies
-use Rattle.ent_line.specs.Replies.{Answer, accepted, refused, text}
+use Rattle.ent_line.specs.Replies.{Answer, accepted, line_of, refused, text}
 use Rattle.ent_line.specs.Reports.{by_rule_text, can_text, counts_text, notices_text, who_text, work_text}
+use Rattle.ent_line.specs.Runs.{Run}
 use Rattle.ent_line.specs.Serving.{Ends, ServesUntil}
 use Rattle.ent_line.specs.Sessions.{SessionsAreSeparate}
 use Rattle.ent_line.specs.Step.{Answers, data_of, refusal_of, run, step, unread, unread_row}
@@ -49,6 +54,8 @@ pub record IsHeard (w : World) (line : List ℕ) : Type 0 where
       → step n w line ≡ run n w session c
   -- a refused line changes nothing
   pub refusal : (v : World) (number : ℕ) (sub : Option ℕ) → Answers w line (refused number sub) v → v ≡ w
+  -- its reply is written as one line: its text has no newline
+  pub one_line : (v : World) (a : Answer) → Answers w line a v → IsOneLine (line_of a)
 
 -- what a command that makes an edit (`edit_of`, in `Edits`) is answered in a world, after n evaluations
 pub record IsEdited (n : ℕ) (w : World) (session : ℕ) (c : asked.Command) : Type 0 where
@@ -88,11 +95,24 @@ pub record IsAnswered (n : ℕ) (w : World) (session : ℕ) : Type 0 where
   -- the work: the number of evaluations, and the world stays
   pub work : run n w session asked.work ≡ (text (work_text n), w)
 
--- each line, edit and question in each world, after any number of evaluations; and what others mark or ask has no part in a session's notices
+-- where lines that were answered so lead, one after the other, from one world to another
+pub record IsLed (w : World) (lines : List (List ℕ)) (answers : List Answer) (v : World) : Type 0 where
+  -- to the state that their accepted edits lead to, each of which was accepted where the ones before it had led
+  pub state : Lead w.state (accepted_edits lines answers) v.state
+  -- for each session to what it sees after these edits and its own accepted marks among them: an edit leads it to another state,
+  -- and each mark keeps the fresh table of the state at its place
+  pub session : (session : ℕ) → session < length w.marks → seen_by v session ≡ fold next (seen_by w session) (history session lines answers)
+  -- to lists in which no name stands twice, as none does where all begins: so a number of changes counts each request once
+  pub names : HasNoDoubles w.state.names → HasNoDoubles v.state.names
+
+-- each line, edit and question in each world, after any number of evaluations; each run of lines; that notices are the difference of the two
+-- tables, exactly the requests to which these have different answers; and what others mark or ask has no part in a session's notices
 pub record IsHeadline : Type 0 where
   pub lines : (w : World) (line : List ℕ) → IsHeard w line
   pub commands : (n : ℕ) (w : World) (session : ℕ) (c : asked.Command) → IsEdited n w session c
   pub questions : (n : ℕ) (w : World) (session : ℕ) → IsAnswered n w session
+  pub runs : (w v : World) (lines : List (List ℕ)) (answers : List Answer) → Run Answers w lines answers v → IsLed w lines answers v
+  pub differences : NoticesAreTheDifference
   pub sessions : SessionsAreSeparate
 
 -- what a served review promises: its bytes are the replies to the lines of the bytes that it read, in order, each in the world that the

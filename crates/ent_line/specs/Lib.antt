@@ -3,6 +3,7 @@ pub mod Cells
 pub mod CommandView
 pub mod Edits
 pub mod Headline
+pub mod History
 pub mod Lines
 pub mod LongLines
 pub mod Pieces

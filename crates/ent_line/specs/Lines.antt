@@ -14,6 +14,10 @@ NoNewline bytes = All (λ b. b ≢ 10) bytes
 abbrev pub ended : List ℕ → List ℕ
 ended line = line ++ 10 ∷ []
 
+-- these bytes are one line with its newline
+abbrev pub IsOneLine : List ℕ → Type 0
+IsOneLine bytes = (line : List ℕ) × NoNewline line × (bytes ≡ ended line)
+
 -- the text is these lines, each with its newline, and then a rest without one
 pub record Splits (text : List ℕ) (lines : List (List ℕ)) (rest : List ℕ) : Type 0 where
   pub whole : text ≡ flat_map ended lines ++ rest

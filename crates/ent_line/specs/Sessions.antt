@@ -1,41 +1,12 @@
 -- What a session's notices rest on: the accepted edits, whoever made them, and the session's own marks.
-use Rattle.std.specs.Prelude.{◌≡◌, ◌⊎◌, ◌<◌, ◌≤◌, ℕ, List, length, nat_eq, if◌then◌else◌, Option, Some, None, option_and_then, option_map, filter_map, zip}
-use Rattle.std.specs.Result.{result_ok}
-use Rattle.ent_table.specs.declared.edit.Edit.{Edit}
+use Rattle.std.specs.Prelude.{◌≡◌, ◌⊎◌, ◌<◌, ◌≤◌, ℕ, List, length, Some, None}
 use Rattle.ent_report.specs.World.{World, mark_of}
 use Rattle.ent_line.specs.Asked as asked
-use Rattle.ent_line.specs.Asked.{Command, request_of}
-use Rattle.ent_line.specs.Edits.{edit_of}
+use Rattle.ent_line.specs.History.{asked_by, history}
 use Rattle.ent_line.specs.Lines.{line_limit}
-use Rattle.ent_line.specs.Replies.{Answer, accepted, refused, marked, text}
+use Rattle.ent_line.specs.Replies.{Answer, refused}
 use Rattle.ent_line.specs.Runs.{Run}
-use Rattle.ent_line.specs.Step.{Answers, changes_told, data_of}
-
--- what matters to a session
-pub data Matter : Type 0 where
-  -- an accepted edit, whoever asked for it
-  edit : Edit → Matter
-  -- an accepted mark of its own
-  own_mark : Matter
-
--- the session and the command of a line that has them
-abbrev pub asked_by : List ℕ → Option (ℕ × Command)
-asked_by line = option_and_then (λ d. result_ok (request_of d)) (data_of line)
-
--- what a command that is answered so is to a session
-abbrev pub matter_of : ℕ → Answer → ℕ × Command → Option Matter
-matter_of session (accepted changes serial) x = option_map edit (result_ok (edit_of x.1))
-matter_of session (marked serial) x = if nat_eq x.0 session then Some own_mark else None
-matter_of session (refused code sub) x = None
-matter_of session (text s) x = None
-
--- the same of a line with its answer
-abbrev pub matter : ℕ → List ℕ × Answer → Option Matter
-matter session x = option_and_then (matter_of session x.1) (asked_by x.0)
-
--- the accepted edits of all sessions and the accepted marks of one, in the order of the lines
-abbrev pub history : ℕ → List (List ℕ) → List Answer → List Matter
-history session lines answers = filter_map (matter session) (zip lines answers)
+use Rattle.ent_line.specs.Step.{Answers, changes_told}
 
 -- two worlds have the same state and the same mark of a session, and each has a place for it
 pub record AreAlikeTo (session : ℕ) (w v : World) : Type 0 where

@@ -13,7 +13,7 @@ use Rattle.ent_line.specs.Edits.{NoEdit, edit_of}
 use Rattle.ent_line.specs.Lines.{line_limit}
 use Rattle.ent_line.specs.Replies as replies
 use Rattle.ent_line.specs.Replies.{Answer}
-use Rattle.ent_line.specs.Sessions.{asked_by}
+use Rattle.ent_line.specs.History.{asked_by}
 use Rattle.ent_line.specs.declared.service.Service.{Service}
 
 -- ---- how many evaluations are asked for, or that the count is to stay

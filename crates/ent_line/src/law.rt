@@ -6,7 +6,10 @@ ghost use Rattle.ent_line.specs.Sessions.{SessionsAreSeparate};
 /// Law: each reply to a line is what the headline says: a line has its refusal or asks for a command of a session; an
 /// edit is told by the state that its step leads to, or by its refusal; the table, its cells and its reports are those
 /// of every listed request evaluated afresh (section 7), notices are the difference of two such tables, and a refused
-/// line changes nothing.
+/// line changes nothing. Each reply is one line.
+///
+/// After any lines the state is where their accepted edits lead, one after the other; a session's mark is the fresh
+/// table of the state at the place of its last accepted mark among them; and no list has a name twice if none had.
 pub fn replies_are_fresh()
     ensures { IsHeadline }
 {}

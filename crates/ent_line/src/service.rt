@@ -9,7 +9,7 @@ ghost use Rattle.ent_line.specs.Asked as asked;
 ghost use Rattle.ent_line.specs.Asked.{request_of};
 ghost use Rattle.ent_line.specs.CommandView.{command_view, row_view};
 ghost use Rattle.ent_line.specs.Replying.{Replies, Tells, Works};
-ghost use Rattle.ent_line.specs.Sessions.{asked_by};
+ghost use Rattle.ent_line.specs.History.{asked_by};
 ghost use Rattle.ent_line.specs.Step.{attribute_set, day_set, edited, name_added, name_dropped, root_set};
 ghost use Rattle.ent_line.specs.Step.{policy_added, policy_replaced, policy_withdrawn, unread, unread_row};
 ghost use Rattle.ent_line.specs.Step.{cell_told, data_of, request_answered, requested, run, table_told, told};

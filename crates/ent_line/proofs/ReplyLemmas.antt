@@ -1,0 +1,154 @@
+-- Each reply is written as one line.
+use Rattle.std.proofs.Common.{◌≡◌, ℕ, List, [], ◌∷◌, ◌++◌, length, Bool, true, false, Option, Some, None, Result, Ok, Err, refl, sym, ap, subst, inl, inr}
+use Rattle.std.specs.Prelude.{codes, decimal, if◌then◌else◌, nat_le, nat_lt}
+use Rattle.std.specs.List.{list_all}
+use Rattle.serde_json.specs.Data.{Data}
+use Rattle.ent_eval.specs.declared.answer.Answer.{Answer as Evaluated}
+use Rattle.ent_eval.specs.declared.request.Request.{Request}
+use Rattle.ent_profile.specs.Asks.{asks}
+use Rattle.ent_profile.specs.Response.{response}
+use Rattle.ent_table.specs.AnswerMap.{AnswerMap}
+use Rattle.ent_table.specs.Ask.{answer_in}
+use Rattle.ent_table.specs.Names.{Triple}
+use Rattle.ent_table.specs.State.{State, answer_at, table_of}
+use Rattle.ent_table.specs.Step as table
+use Rattle.ent_table.specs.declared.edit.Edit.{Edit}
+use Rattle.ent_table.specs.declared.edit.EditFault.{EditFault}
+use Rattle.ent_report.specs.Notices.{notices}
+use Rattle.ent_report.specs.Reports as report
+use Rattle.ent_report.specs.World.{World, mark_of}
+use Rattle.ent_report.specs.declared.fault.ReportFault.{ReportFault}
+use Rattle.ent_line.specs.Asked as asked
+use Rattle.ent_line.specs.Asked.{Command, request_of}
+use Rattle.ent_line.specs.Cells.{one_cell_data, one_cell_text, response_text, table_data, table_text}
+use Rattle.ent_line.specs.Edits.{NoEdit, edit_of, faulty, no_edit, unreadable, unreadable_row}
+use Rattle.ent_line.specs.Lines.{IsOneLine, line_limit}
+use Rattle.ent_line.specs.Replies as replies
+use Rattle.ent_line.specs.Replies.{Answer, accepted, line_of, refused, text}
+use Rattle.ent_line.specs.Reports.{by_rule_reply, by_rule_text, can_reply, can_text, counts_reply, counts_text, notices_reply, notices_text, who_reply, who_text, work_text}
+use Rattle.ent_line.specs.Step.{Answers, by_rule_told, can_told, cell_or_refusal, cell_told, changes_told, counts_told, data_of, notices_or_refusal}
+use Rattle.ent_line.specs.Step.{report_or_refusal, request_answered, requested, response_or_refusal, run, settled, step, table_marked, table_told, told, who_told, work_told}
+use Rattle.ent_line.proofs.CommandLemmas.{IsNoEdit, made, nothing, run_made}
+use Rattle.ent_line.proofs.PrintedLemmas.{ArePrinted, IsPrintedLine, behind, both_printed, decimal_printed, one_line, text_printed, word_printed}
+
+-- the text of an answer has no control character
+abbrev IsPrinted : Answer → Type 0
+IsPrinted (accepted n m) = Unit {0}
+IsPrinted (refused n sub) = Unit {0}
+IsPrinted (replies.marked n) = Unit {0}
+IsPrinted (text s) = ArePrinted s
+
+-- ---- questions
+
+cell_printed : (x : Triple) (o : Option Evaluated) → IsPrinted (cell_or_refusal x o)
+unfolding one_cell_text
+cell_printed x None = tt
+cell_printed x (Some answer) = text_printed (one_cell_data (x, answer))
+
+response_printed : (s : State) (o : Option Request) → IsPrinted (response_or_refusal s o)
+unfolding response_text
+response_printed s None = tt
+response_printed s (Some request) = text_printed (response (answer_in s request) request)
+
+report_printed : {A : Type 0} (written : A → List ℕ) → ((x : A) → ArePrinted (written x)) → (r : Result A ReportFault) → IsPrinted (report_or_refusal written r)
+report_printed written h (Ok x) = h x
+report_printed written h (Err fault) = tt
+
+can_printed : (found : List (List ℕ × List ℕ)) → ArePrinted (can_text found)
+unfolding can_text
+can_printed found = text_printed (can_reply found)
+
+who_printed : (people : List (List ℕ)) → ArePrinted (who_text people)
+unfolding who_text
+who_printed people = text_printed (who_reply people)
+
+notices_printed : (s : State) (o : Option AnswerMap) → IsPrinted (notices_or_refusal s o)
+unfolding notices_text
+notices_printed s None = tt
+notices_printed s (Some kept) = text_printed (notices_reply (notices kept s))
+
+work_printed : (n : ℕ) → ArePrinted (work_text n)
+unfolding work_text
+work_printed n =
+    both_printed (codes "{\"evaluations\":") (decimal n ++ codes "}") (word_printed (codes "{\"evaluations\":") refl)
+    (both_printed (decimal n) (codes "}") (decimal_printed n) (word_printed (codes "}") refl))
+
+-- ---- edits
+
+settled_printed : (w : World) (r : Result State EditFault) → IsPrinted (settled w r).0
+settled_printed w (Ok t) = tt
+settled_printed w (Err fault) = tt
+
+made_printed : (w : World) (r : Result Edit NoEdit) → IsPrinted (made w (nothing w) r).0
+made_printed w (Ok edit) = settled_printed w (table.step w.state edit)
+made_printed w (Err no_edit) = tt
+made_printed w (Err (faulty sub)) = tt
+made_printed w (Err unreadable) = tt
+made_printed w (Err (unreadable_row row)) = tt
+
+edit_printed : (n : ℕ) (w : World) (x : ℕ) (c : Command) → (IsNoEdit c → ⊥) → IsPrinted (run n w x c).0
+edit_printed n w x c is =
+    subst (λ (y : Answer × World). IsPrinted y.0) (sym (run_made n w x (nothing w) c (λ h. absurd (is h)))) (made_printed w (edit_of c))
+
+-- ---- commands and lines
+
+run_printed : (n : ℕ) (w : World) (x : ℕ) (c : Command) → IsPrinted (run n w x c).0
+unfolding run table_told cell_told counts_told can_told who_told by_rule_told table_marked changes_told request_answered work_told table_text counts_text by_rule_text
+run_printed n w x (asked.add_name list name) = edit_printed n w x (asked.add_name list name) (λ h. h)
+run_printed n w x (asked.drop_name list name) = edit_printed n w x (asked.drop_name list name) (λ h. h)
+run_printed n w x (asked.add_policy number d) = edit_printed n w x (asked.add_policy number d) (λ h. h)
+run_printed n w x (asked.replace_policy number d) = edit_printed n w x (asked.replace_policy number d) (λ h. h)
+run_printed n w x (asked.withdraw_policy number kind id version) = edit_printed n w x (asked.withdraw_policy number kind id version) (λ h. h)
+run_printed n w x (asked.set_attribute number row) = edit_printed n w x (asked.set_attribute number row) (λ h. h)
+run_printed n w x (asked.set_root d) = edit_printed n w x (asked.set_root d) (λ h. h)
+run_printed n w x (asked.set_day day) = edit_printed n w x (asked.set_day day) (λ h. h)
+run_printed n w x asked.table = text_printed (table_data (table_of w.state))
+run_printed n w x (asked.cell t) = cell_printed t (answer_at w.state t)
+run_printed n w x (asked.ask d) = response_printed w.state (asks d)
+run_printed n w x asked.counts = text_printed (counts_reply (report.counts w.state))
+run_printed n w x (asked.can person) = report_printed can_text can_printed (report.can w.state person)
+run_printed n w x (asked.who action resource) = report_printed who_text who_printed (report.who w.state action resource)
+run_printed n w x (asked.by_rule policy rule) = text_printed (by_rule_reply (report.by_rule w.state policy rule))
+run_printed n w x asked.mark = tt
+run_printed n w x asked.notices = notices_printed w.state (mark_of w x)
+run_printed n w x asked.work = work_printed n
+
+requested_printed : (n : ℕ) (w : World) (r : Result (ℕ × Command) ℕ) → IsPrinted (requested n w r).0
+requested_printed n w (Ok x) = run_printed n w x.0 x.1
+requested_printed n w (Err refusal) = tt
+
+told_printed : (n : ℕ) (w : World) (o : Option Data) → IsPrinted (told n w o).0
+told_printed n w None = tt
+told_printed n w (Some d) = requested_printed n w (request_of d)
+
+chosen_printed : (n : ℕ) (w : World) (long : Bool) (o : Option Data) → IsPrinted (if long then (refused 1 None, w) else told n w o).0
+chosen_printed n w true o = tt
+chosen_printed n w false o = told_printed n w o
+
+answer_printed : (w v : World) (line : List ℕ) (a : Answer) → Answers w line a v → IsPrinted a
+unfolding step
+answer_printed w v line a (n, inl is) =
+    subst IsPrinted (sym (ap (λ (y : Answer × World). y.0) is)) (chosen_printed n w (nat_lt line_limit (length line)) (data_of line))
+answer_printed w v line a (n, inr (refusal, same, short)) = subst IsPrinted (sym refusal) tt
+
+-- ---- what is written
+
+-- a word, a number, and what follows
+numbered : (word more : List ℕ) (n : ℕ) → list_all (nat_le 32) word ≡ true → IsPrintedLine more → IsPrintedLine (word ++ (decimal n ++ more))
+numbered word more n h line = behind word (decimal n ++ more) (word_printed word h) (behind (decimal n) more (decimal_printed n) line)
+
+closed : IsPrintedLine (codes "}\n")
+closed = record { line = codes "}"; printed = word_printed (codes "}") refl; is = refl }
+
+written : (a : Answer) → IsPrinted a → IsPrintedLine (line_of a)
+written (accepted n m) h = numbered (codes "{\"changes\":") (codes ",\"serial\":" ++ (decimal m ++ codes "}\n")) n refl
+    (numbered (codes ",\"serial\":") (codes "}\n") m refl closed)
+written (refused n None) h = numbered (codes "{\"refused\":") (codes "}\n") n refl closed
+written (refused n (Some sub)) h = numbered (codes "{\"refused\":") (codes ",\"sub\":" ++ (decimal sub ++ codes "}\n")) n refl
+    (numbered (codes ",\"sub\":") (codes "}\n") sub refl closed)
+written (replies.marked n) h = numbered (codes "{\"mark\":") (codes "}\n") n refl closed
+written (text s) h = record { line = s; printed = h; is = refl }
+
+-- the reply to a line is one line
+pub told_in_one_line : (w v : World) (line : List ℕ) (a : Answer) → Answers w line a v → IsOneLine (line_of a)
+told_in_one_line w v line a is = one_line (line_of a) (written a (answer_printed w v line a is))

@@ -1,0 +1,75 @@
+-- The history of some lines: their accepted edits, whoever asked for them, and of a session its own accepted marks among them.
+use Rattle.std.specs.Prelude.{◌≡◌, ℕ, List, [], ◌∷◌, nat_eq, if◌then◌else◌, Option, Some, None, option_and_then, option_map, filter_map, zip, Ok}
+use Rattle.std.specs.Result.{result_ok, result_unwrap_or}
+use Rattle.ent_table.specs.AnswerMap.{AnswerMap, answers_of}
+use Rattle.ent_table.specs.State.{State}
+use Rattle.ent_table.specs.Step as table
+use Rattle.ent_table.specs.declared.edit.Edit.{Edit}
+use Rattle.ent_report.specs.World.{World, mark_of}
+use Rattle.ent_line.specs.Asked.{Command, request_of}
+use Rattle.ent_line.specs.Edits.{edit_of}
+use Rattle.ent_line.specs.Replies.{Answer, accepted, refused, marked, text}
+use Rattle.ent_line.specs.Step.{data_of}
+
+-- the session and the command of a line that has them
+abbrev pub asked_by : List ℕ → Option (ℕ × Command)
+asked_by line = option_and_then (λ d. result_ok (request_of d)) (data_of line)
+
+-- ---- the accepted edits
+
+-- the edit of a command whose answer says that it was accepted
+abbrev pub edit_told : Answer → ℕ × Command → Option Edit
+edit_told (accepted changes serial) x = result_ok (edit_of x.1)
+edit_told (marked serial) x = None
+edit_told (refused code sub) x = None
+edit_told (text s) x = None
+
+-- the same of a line with its answer
+abbrev pub accepted_edit : List ℕ × Answer → Option Edit
+accepted_edit x = option_and_then (edit_told x.1) (asked_by x.0)
+
+-- the accepted edits, in the order of the lines
+abbrev pub accepted_edits : List (List ℕ) → List Answer → List Edit
+accepted_edits lines answers = filter_map accepted_edit (zip lines answers)
+
+-- these edits, one after the other and each accepted, lead from one state to another
+abbrev pub Lead : State → List Edit → State → Type 0
+Lead s [] t = t ≡ s
+Lead s (edit ∷ edits) t = (middle : State) × (table.step s edit ≡ Ok middle) × Lead middle edits t
+
+-- ---- what a session sees
+
+-- what matters to a session
+pub data Matter : Type 0 where
+  -- an accepted edit, whoever asked for it
+  edit : Edit → Matter
+  -- an accepted mark of its own
+  own_mark : Matter
+
+-- what a command that is answered so is to a session
+abbrev pub matter_of : ℕ → Answer → ℕ × Command → Option Matter
+matter_of session (accepted changes serial) x = option_map edit (result_ok (edit_of x.1))
+matter_of session (marked serial) x = if nat_eq x.0 session then Some own_mark else None
+matter_of session (refused code sub) x = None
+matter_of session (text s) x = None
+
+-- the same of a line with its answer
+abbrev pub matter : ℕ → List ℕ × Answer → Option Matter
+matter session x = option_and_then (matter_of session x.1) (asked_by x.0)
+
+-- the accepted edits of all sessions and the accepted marks of one, in the order of the lines
+abbrev pub history : ℕ → List (List ℕ) → List Answer → List Matter
+history session lines answers = filter_map (matter session) (zip lines answers)
+
+-- what a session sees of a world: the state, and its own mark
+pub record Seen : Type 0 where
+  pub state : State
+  pub mark : Option AnswerMap
+
+abbrev pub seen_by : World → ℕ → Seen
+seen_by w session = record { state = w.state; mark = mark_of w session }
+
+-- what it sees next: after an edit the state that this leads to, and after a mark of its own the fresh table of that moment as its mark
+abbrev pub next : Seen → Matter → Seen
+next s (edit e) = record s { state = result_unwrap_or (table.step s.state e) s.state }
+next s own_mark = record s { mark = Some (answers_of s.state) }
