@@ -1,5 +1,6 @@
 -- Where lines lead: the state by their accepted edits, and the mark of a session by its history.
-use Rattle.std.proofs.Common.{◌≡◌, ◌≢◌, ◌<◌, ◌⊎◌, ℕ, List, [], ◌∷◌, length, nat_eq, Bool, true, false, get_or, Option, Some, None, Result, Ok, Err, refl, sym, ap, subst, ◌∙◌, inl, inr}
+use Rattle.std.proofs.Common.{◌≡◌, ◌≢◌, ◌<◌, ◌⊎◌, ℕ, List, [], ◌∷◌, length, nat_eq, Bool, true, false, get_or, Option, Some, None, Result, Ok, Err}
+use Rattle.std.proofs.Common.{refl, sym, ap, subst, ◌∙◌, inl, inr}
 use Rattle.std.specs.Prelude.{if◌then◌else◌, nat_lt, slice_set, option_and_then, option_map}
 use Rattle.std.specs.List.{cons_option, fold}
 use Rattle.std.specs.Result.{result_ok, result_unwrap_or}
@@ -18,7 +19,7 @@ use Rattle.ent_table.specs.declared.edit.Edit.{Edit}
 use Rattle.ent_table.specs.declared.edit.EditFault.{EditFault}
 use Rattle.ent_table.proofs.Doubles.{no_name_is_twice}
 use Rattle.ent_report.specs.Reports as report
-use Rattle.ent_report.specs.World.{World, mark_of, marked}
+use Rattle.ent_report.specs.World.{World, mark_of}
 use Rattle.ent_report.specs.declared.fault.ReportFault.{ReportFault}
 use Rattle.ent_line.specs.Asked as asked
 use Rattle.ent_line.specs.Asked.{Command, request_of}
@@ -32,8 +33,8 @@ use Rattle.ent_line.specs.Replies.{Answer, accepted, refused, text}
 use Rattle.ent_line.specs.Reports.{can_text, who_text}
 use Rattle.ent_line.specs.Runs.{Run}
 use Rattle.ent_line.specs.Step.{Answers, by_rule_told, can_told, cell_or_refusal, cell_told, changes_told, counts_told, data_of, notices_or_refusal, refusal_of}
-use Rattle.ent_line.specs.Step.{report_or_refusal, request_answered, requested, response_or_refusal, run, settled, step, table_marked, table_told, told, unread, work_told}
-use Rattle.ent_line.specs.Step.{unread_row, who_told}
+use Rattle.ent_line.specs.Step.{report_or_refusal, request_answered, requested, response_or_refusal, run, settled, step, table_marked}
+use Rattle.ent_line.specs.Step.{table_told, told, unread, unread_row, who_told, work_told}
 use Rattle.ent_line.proofs.CommandLemmas.{IsNoEdit, IsQuiet, made, nothing, run_made}
 
 -- ---- what a line leads to
@@ -149,7 +150,8 @@ run_follows i n w x asked.table = quiet_follows i w (Some (x, asked.table)) (tab
 run_follows i n w x (asked.cell t) = quiet_follows i w (Some (x, asked.cell t)) (cell_told w.state t) (cell_quiet t (answer_at w.state t))
 run_follows i n w x (asked.ask d) = quiet_follows i w (Some (x, asked.ask d)) (request_answered w.state d) (response_quiet w.state (asks d))
 run_follows i n w x asked.counts = quiet_follows i w (Some (x, asked.counts)) (counts_told w.state) tt
-run_follows i n w x (asked.can person) = quiet_follows i w (Some (x, asked.can person)) (can_told w.state person) (report_quiet can_text (report.can w.state person))
+run_follows i n w x (asked.can person) =
+    quiet_follows i w (Some (x, asked.can person)) (can_told w.state person) (report_quiet can_text (report.can w.state person))
 run_follows i n w x (asked.who action resource) =
     quiet_follows i w (Some (x, asked.who action resource)) (who_told w.state action resource) (report_quiet who_text (report.who w.state action resource))
 run_follows i n w x (asked.by_rule policy rule) = quiet_follows i w (Some (x, asked.by_rule policy rule)) (by_rule_told w.state policy rule) tt

@@ -1,5 +1,6 @@
 -- Each reply is one line: no byte of its text is a control character.
-use Rattle.std.proofs.Common.{◌≡◌, ℕ, ◌≤◌, ◌<◌, ◌/◌, ◌%◌, pos, negsuc, zero, suc, List, [], ◌∷◌, ◌++◌, Bool, true, false, cond, nat_lt, refl, sym, ap, ◌∙◌, append_assoc, arith}
+use Rattle.std.proofs.Common.{◌≡◌, ℕ, ◌≤◌, ◌<◌, ◌/◌, ◌%◌, pos, negsuc, zero, suc, List, [], ◌∷◌, ◌++◌, Bool, true, false, cond, nat_lt}
+use Rattle.std.proofs.Common.{refl, sym, ap, ◌∙◌, append_assoc, arith}
 use Rattle.std.specs.Prelude.{◌&&◌, ◌||◌, ◌==◌, decimal, if◌then◌else◌, nat_le}
 use Rattle.std.specs.Char.{digit_char}
 use Rattle.std.specs.Fmt.{digit_glyph, digits, digits_onto}
@@ -75,7 +76,8 @@ glyph_printed d = grind (arith, nat_tests)
 
 digits_printed : (k n : ℕ) (more : List ℕ) → ArePrinted more → ArePrinted (digits_onto k 10 false n more)
 digits_printed zero n more h = h
-digits_printed (suc k) n more h = by (n / 10 == 0) (glyph_printed (n % 10), h) (digits_printed k (n / 10) (digit_glyph false (n % 10) ∷ more) (glyph_printed (n % 10), h))
+digits_printed (suc k) n more h =
+    by (n / 10 == 0) (glyph_printed (n % 10), h) (digits_printed k (n / 10) (digit_glyph false (n % 10) ∷ more) (glyph_printed (n % 10), h))
   where
     by : (b : Bool) → ArePrinted (digit_glyph false (n % 10) ∷ more) → ArePrinted (digits_onto k 10 false (n / 10) (digit_glyph false (n % 10) ∷ more))
         → ArePrinted (if b then digit_glyph false (n % 10) ∷ more else digits_onto k 10 false (n / 10) (digit_glyph false (n % 10) ∷ more))

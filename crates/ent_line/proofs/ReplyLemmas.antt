@@ -1,5 +1,5 @@
 -- Each reply is written as one line.
-use Rattle.std.proofs.Common.{◌≡◌, ℕ, List, [], ◌∷◌, ◌++◌, length, Bool, true, false, Option, Some, None, Result, Ok, Err, refl, sym, ap, subst, inl, inr}
+use Rattle.std.proofs.Common.{◌≡◌, ℕ, List, ◌++◌, length, Bool, true, false, Option, Some, None, Result, Ok, Err, refl, sym, ap, subst, inl, inr}
 use Rattle.std.specs.Prelude.{codes, decimal, if◌then◌else◌, nat_le, nat_lt}
 use Rattle.std.specs.List.{list_all}
 use Rattle.serde_json.specs.Data.{Data}
@@ -25,9 +25,11 @@ use Rattle.ent_line.specs.Edits.{NoEdit, edit_of, faulty, no_edit, unreadable, u
 use Rattle.ent_line.specs.Lines.{IsOneLine, line_limit}
 use Rattle.ent_line.specs.Replies as replies
 use Rattle.ent_line.specs.Replies.{Answer, accepted, line_of, refused, text}
-use Rattle.ent_line.specs.Reports.{by_rule_reply, by_rule_text, can_reply, can_text, counts_reply, counts_text, notices_reply, notices_text, who_reply, who_text, work_text}
+use Rattle.ent_line.specs.Reports.{by_rule_reply, can_reply, counts_reply, notices_reply, who_reply}
+use Rattle.ent_line.specs.Reports.{by_rule_text, can_text, counts_text, notices_text, who_text, work_text}
 use Rattle.ent_line.specs.Step.{Answers, by_rule_told, can_told, cell_or_refusal, cell_told, changes_told, counts_told, data_of, notices_or_refusal}
-use Rattle.ent_line.specs.Step.{report_or_refusal, request_answered, requested, response_or_refusal, run, settled, step, table_marked, table_told, told, who_told, work_told}
+use Rattle.ent_line.specs.Step.{report_or_refusal, request_answered, requested, response_or_refusal, run, settled, step}
+use Rattle.ent_line.specs.Step.{table_marked, table_told, told, who_told, work_told}
 use Rattle.ent_line.proofs.CommandLemmas.{IsNoEdit, made, nothing, run_made}
 use Rattle.ent_line.proofs.PrintedLemmas.{ArePrinted, IsPrintedLine, behind, both_printed, decimal_printed, one_line, text_printed, word_printed}
 
@@ -39,6 +41,10 @@ IsPrinted (replies.marked n) = Unit {0}
 IsPrinted (text s) = ArePrinted s
 
 -- ---- questions
+
+table_printed : (cells : List (Triple × Evaluated)) → ArePrinted (table_text cells)
+unfolding table_text
+table_printed cells = text_printed (table_data cells)
 
 cell_printed : (x : Triple) (o : Option Evaluated) → IsPrinted (cell_or_refusal x o)
 unfolding one_cell_text
@@ -61,6 +67,10 @@ can_printed found = text_printed (can_reply found)
 who_printed : (people : List (List ℕ)) → ArePrinted (who_text people)
 unfolding who_text
 who_printed people = text_printed (who_reply people)
+
+by_rule_printed : (found : List (List ℕ × List ℕ × List ℕ)) → ArePrinted (by_rule_text found)
+unfolding by_rule_text
+by_rule_printed found = text_printed (by_rule_reply found)
 
 notices_printed : (s : State) (o : Option AnswerMap) → IsPrinted (notices_or_refusal s o)
 unfolding notices_text
@@ -93,7 +103,7 @@ edit_printed n w x c is =
 -- ---- commands and lines
 
 run_printed : (n : ℕ) (w : World) (x : ℕ) (c : Command) → IsPrinted (run n w x c).0
-unfolding run table_told cell_told counts_told can_told who_told by_rule_told table_marked changes_told request_answered work_told table_text counts_text by_rule_text
+unfolding run table_told cell_told counts_told can_told who_told by_rule_told table_marked changes_told request_answered work_told counts_text
 run_printed n w x (asked.add_name list name) = edit_printed n w x (asked.add_name list name) (λ h. h)
 run_printed n w x (asked.drop_name list name) = edit_printed n w x (asked.drop_name list name) (λ h. h)
 run_printed n w x (asked.add_policy number d) = edit_printed n w x (asked.add_policy number d) (λ h. h)
@@ -102,13 +112,13 @@ run_printed n w x (asked.withdraw_policy number kind id version) = edit_printed 
 run_printed n w x (asked.set_attribute number row) = edit_printed n w x (asked.set_attribute number row) (λ h. h)
 run_printed n w x (asked.set_root d) = edit_printed n w x (asked.set_root d) (λ h. h)
 run_printed n w x (asked.set_day day) = edit_printed n w x (asked.set_day day) (λ h. h)
-run_printed n w x asked.table = text_printed (table_data (table_of w.state))
+run_printed n w x asked.table = table_printed (table_of w.state)
 run_printed n w x (asked.cell t) = cell_printed t (answer_at w.state t)
 run_printed n w x (asked.ask d) = response_printed w.state (asks d)
 run_printed n w x asked.counts = text_printed (counts_reply (report.counts w.state))
 run_printed n w x (asked.can person) = report_printed can_text can_printed (report.can w.state person)
 run_printed n w x (asked.who action resource) = report_printed who_text who_printed (report.who w.state action resource)
-run_printed n w x (asked.by_rule policy rule) = text_printed (by_rule_reply (report.by_rule w.state policy rule))
+run_printed n w x (asked.by_rule policy rule) = by_rule_printed (report.by_rule w.state policy rule)
 run_printed n w x asked.mark = tt
 run_printed n w x asked.notices = notices_printed w.state (mark_of w x)
 run_printed n w x asked.work = work_printed n

@@ -99,10 +99,10 @@ pub record IsAnswered (n : ℕ) (w : World) (session : ℕ) : Type 0 where
 pub record IsLed (w : World) (lines : List (List ℕ)) (answers : List Answer) (v : World) : Type 0 where
   -- to the state that their accepted edits lead to, each of which was accepted where the ones before it had led
   pub state : Lead w.state (accepted_edits lines answers) v.state
-  -- for each session to what it sees after these edits and its own accepted marks among them: an edit leads it to another state,
-  -- and each mark keeps the fresh table of the state at its place
+  -- each session to what it sees after these edits and its own accepted marks among them (`History`): an edit leads to another state,
+  -- and a mark keeps the fresh table of the state at its place, so that its last one is that of its last place
   pub session : (session : ℕ) → session < length w.marks → seen_by v session ≡ fold next (seen_by w session) (history session lines answers)
-  -- to lists in which no name stands twice, as none does where all begins: so a number of changes counts each request once
+  -- to lists in which no name stands twice where none did before, as at the start (`Doubles`): so a number of changes counts each request once
   pub names : HasNoDoubles w.state.names → HasNoDoubles v.state.names
 
 -- each line, edit and question in each world, after any number of evaluations; each run of lines; that notices are the difference of the two

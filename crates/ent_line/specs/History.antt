@@ -69,7 +69,7 @@ pub record Seen : Type 0 where
 abbrev pub seen_by : World → ℕ → Seen
 seen_by w session = record { state = w.state; mark = mark_of w session }
 
--- what it sees next: after an edit the state that this leads to, and after a mark of its own the fresh table of that moment as its mark
+-- what it sees next: after an edit, which was accepted, the state that this leads to; after a mark of its own the fresh table of that moment as its mark
 abbrev pub next : Seen → Matter → Seen
 next s (edit e) = record s { state = result_unwrap_or (table.step s.state e) s.state }
 next s own_mark = record s { mark = Some (answers_of s.state) }

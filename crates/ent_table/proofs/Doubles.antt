@@ -56,7 +56,8 @@ unfolding IsDistinct
 distinct_filter q [] h = tt
 distinct_filter q (x ∷ xs) h = by (q x) (all_filter (λ z. pointwise nat_eq x z ≡ false) q xs h.0) (distinct_filter q xs h.1)
   where
-    by : (b : Bool) → AllByRecursion (λ z. pointwise nat_eq x z ≡ false) (filter q xs) → Distinct (filter q xs) → Distinct (cond b (x ∷ filter q xs) (filter q xs))
+    by : (b : Bool) → AllByRecursion (λ z. pointwise nat_eq x z ≡ false) (filter q xs) → Distinct (filter q xs)
+        → Distinct (cond b (x ∷ filter q xs) (filter q xs))
     by true apart rest = (apart, rest)
     by false apart rest = rest
 
@@ -72,12 +73,15 @@ one_list which.People xs names h d = (d, h.1, h.2)
 one_list which.Actions xs names h d = (h.0, d, h.2)
 one_list which.Resources xs names h d = (h.0, h.1, d)
 
-name_more : (list : Which) (name : List ℕ) (names : Names) → HasNoDoubles names → has_name name (list_of list names) ≡ false → HasNoDoubles (with_name list name names)
-name_more list name names h new = one_list list (list_of list names ++ name ∷ []) names h (distinct_push (list_of list names) name (listed_once list names h) new)
+name_more : (list : Which) (name : List ℕ) (names : Names)
+    → HasNoDoubles names → has_name name (list_of list names) ≡ false → HasNoDoubles (with_name list name names)
+name_more list name names h new =
+    one_list list (list_of list names ++ name ∷ []) names h (distinct_push (list_of list names) name (listed_once list names h) new)
 
 name_less : (list : Which) (name : List ℕ) (names : Names) → HasNoDoubles names → HasNoDoubles (without_name list name names)
 name_less list name names h =
-    one_list list (others name (list_of list names)) names h (distinct_filter (λ x. not (pointwise nat_eq name x)) (list_of list names) (listed_once list names h))
+    one_list list (others name (list_of list names)) names h
+    (distinct_filter (λ x. not (pointwise nat_eq name x)) (list_of list names) (listed_once list names h))
 
 -- ---- an accepted edit
 
