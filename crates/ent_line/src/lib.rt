@@ -25,4 +25,4 @@ pub use law::{replies_are_fresh, sessions_are_separate};
 pub use output::send_all;
 pub use reply::Reply;
 pub use service::Service;
-pub use serving::{serve, serve_review};
+pub use serving::{serve, serve_review, serve_within};

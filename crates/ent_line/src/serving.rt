@@ -1,6 +1,6 @@
 //! Lines from a reader, and their replies to a writer.
 
-ghost use Rattle.std.specs.Prelude.{◌≡◌};
+ghost use Rattle.std.specs.Prelude.{◌≡◌, ◌≤◌, IfOk};
 ghost use Rattle.ent_line.specs.Headline.{Headline};
 ghost use Rattle.ent_line.specs.Serving.{ServesUntil, AnswersLine};
 ghost use Rattle.ent_line.specs.World.{IsReady, world_of};
@@ -34,17 +34,19 @@ fn answer_line<S: Answering, W: Write>(
     }
 }
 
-/// Answers each line of the reader by one line into the writer, and gives their number.
+/// Answers each line of the reader by one line into the writer, and gives their number, after so many looks at the
+/// reader's buffer at most.
 ///
 /// A line ends at a newline, or at the end of the input if it has a byte. A line of more than `LINE_LIMIT` bytes is
 /// read to its end and handled as a line that is too long. The writer is flushed after each reply. The line buffer is
-/// taken at the start, and `Memory` comes only there. After 4,294,967,295 looks at the reader's buffer the call ends
-/// with `Read`.
-pub fn serve<S: Answering, R: BufRead, W: Write>(
+/// taken at the start, and `Memory` comes only there. Where the last look doesn't show the end the call ends with
+/// `Read`. A look shows no more than one line, so no more lines than looks are answered.
+pub fn serve_within<S: Answering, R: BufRead, W: Write>(
     alloc: Global,
     service: &mut S,
     reader: &mut R,
     writer: &mut W,
+    looks: u32,
 ) -> Result<u64, ServeFault>
     requires { S.is_ready service.old }
     ensures ready { S.is_ready service.new }
@@ -56,12 +58,13 @@ pub fn serve<S: Answering, R: BufRead, W: Write>(
       wrote = W.contents writer.old;
       holds = W.contents writer.new;
     }) result }
+    ensures looks { IfOk result (λ count. count ≤ looks) }
 {
     let Ok(mut line) = Vec::with_capacity(alloc, LINE_LIMIT + 1) else {
         return Err(ServeFault::Memory);
     };
     let mut count = 0;
-    for _ in 0..u32::MAX {
+    for _ in 0..looks {
         let piece = take_piece(reader, &mut line)?;
         match piece {
             Piece::End => {
@@ -80,6 +83,29 @@ pub fn serve<S: Answering, R: BufRead, W: Write>(
         }
     }
     Err(ServeFault::Read)
+}
+
+/// Answers each line of the reader by one line into the writer, and gives their number, as `serve_within` does it
+/// with 4,294,967,295 looks.
+pub fn serve<S: Answering, R: BufRead, W: Write>(
+    alloc: Global,
+    service: &mut S,
+    reader: &mut R,
+    writer: &mut W,
+) -> Result<u64, ServeFault>
+    requires { S.is_ready service.old }
+    ensures ready { S.is_ready service.new }
+    ensures run { ServesUntil S.answers (record {
+      start = S.world service.old;
+      end = S.world service.new;
+      unread = R.remaining reader.old;
+      left = R.remaining reader.new;
+      wrote = W.contents writer.old;
+      holds = W.contents writer.new;
+    }) result }
+    ensures looks { IfOk result (λ count. count ≤ 4294967295) }
+{
+    serve_within(alloc, service, reader, writer, u32::MAX)
 }
 
 /// Serves a review: each line of the reader has its reply in the writer, as `serve` does it, and each reply is what

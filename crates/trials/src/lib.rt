@@ -15,6 +15,8 @@ mod evaluation;
 #[cfg(test)]
 mod functions;
 #[cfg(test)]
+mod hostile;
+#[cfg(test)]
 mod index;
 #[cfg(test)]
 mod policies;

@@ -4,7 +4,7 @@ use ent_eval::Pdp;
 use ent_finder::{
     AttributeFinder, AttributeFinderModule, MapDocs, MapRows, PolicyFinder, PolicyFinderModule,
 };
-use ent_line::{Answering, LINE_LIMIT, Reply, ServeFault, Service, serve};
+use ent_line::{Answering, LINE_LIMIT, Reply, ServeFault, Service, serve, serve_within};
 use ent_report::Desk;
 use ent_table::{Accepted, Limits, Review};
 use ent_values::Items;
@@ -53,7 +53,7 @@ impl Answering for Tally {
 
 /// A reader that shows so many bytes at a time. It is interrupted before each odd piece, and then ends or fails.
 #[derive(Drop)]
-struct Slow<'a> {
+pub(crate) struct Slow<'a> {
     text: &'a [u8],
     step: usize,
     fails: bool,
@@ -61,7 +61,7 @@ struct Slow<'a> {
 }
 
 impl<'a> Slow<'a> {
-    fn new(text: &'a [u8], step: usize, fails: bool) -> Slow<'a> {
+    pub(crate) fn new(text: &'a [u8], step: usize, fails: bool) -> Slow<'a> {
         Slow {
             text,
             step,
@@ -181,6 +181,33 @@ fn counts_lines(rt: HostRuntime) {
         let (_, lines, handled) = served(rt.alloc(), text.as_bytes(), 2, false);
         assert_eq!(rt; lines, Ok(number));
         assert_eq!(rt; handled, number);
+    }
+}
+
+/// Texts with how serving them ends within five looks, and how many lines were handled. The first, third and fifth look
+/// are interrupted; the second and the fourth show what is left, take a line of it at most, and may find the end.
+const FIVE_LOOKS: &[(&str, Result<u64, ServeFault>, u64)] = &[
+    ("", Ok(0), 0),
+    ("a", Ok(1), 1),
+    ("a\n", Ok(1), 1),
+    ("a\nb", Err(ServeFault::Read), 1),
+    ("a\nb\n", Err(ServeFault::Read), 2),
+    ("a\nb\nc\n", Err(ServeFault::Read), 2),
+];
+
+/// How serving a text ends within five looks, and how many lines were handled.
+fn within_five(alloc: Global, text: &str) -> (Result<u64, ServeFault>, u64) {
+    let mut tally = Tally { alloc, lines: 0 };
+    let mut reader = Slow::new(text.as_bytes(), 1000, false);
+    let mut out = Vec::new(alloc);
+    let lines = serve_within(alloc, &mut tally, &mut reader, &mut out, 5);
+    (lines, tally.lines)
+}
+
+#[test]
+fn ends_after_so_many_looks(rt: HostRuntime) {
+    for &(text, end, number) in FIVE_LOOKS {
+        assert!(rt; within_five(rt.alloc(), text) == (end, number), "{text}");
     }
 }
 

@@ -2,8 +2,8 @@ use Rattle.std.proofs.Common.{◌≡◌, ◌∙◌, vec_len, true≢false, eq-eq
 use Rattle.std.proofs.lemmas.Result.{err_from_is_err_and}
 use Rattle.ent_line.specs.declared.input.Piece.TheVariants.{End, Part, Line}
 use Rattle.ent_line.proofs.ServeLemmas.{ends, took, begins, after_part, after_line, stops_at_fault, stops_at_end, last_is_answered, last_breaks, line_breaks}
-use Rattle.ent_line.proofs.serving.serve.Goals.{in-Part, in-Line+in_ok-answer_line-in-Line}
-use Rattle.ent_line.proofs.serving.serve.Goals as goal
+use Rattle.ent_line.proofs.serving.serve_within.Goals.{in-Part, in-Line+in_ok-answer_line-in-Line}
+use Rattle.ent_line.proofs.serving.serve_within.Goals as goal
 
 pub loop-init : goal.loop-init
 loop-init g c = record {

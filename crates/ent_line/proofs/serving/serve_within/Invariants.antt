@@ -1,7 +1,7 @@
 use Rattle.std.proofs.Common.{◌+◌, ◌≤◌, vec_len, vec_capacity}
 use Rattle.ent_line.specs.Lines.{line_limit}
 use Rattle.ent_line.proofs.ServeLemmas.{Progress, ends}
-use Rattle.ent_line.proofs.serving.serve.Given as goal
+use Rattle.ent_line.proofs.serving.serve_within.Given as goal
 
 abbrev pub invariant-loop : goal.invariant-loop
 invariant-loop g l = record {
