@@ -22,9 +22,9 @@ static struct {
     volatile uint64_t last;
     volatile uint64_t refused;   /* how many were refused */
     volatile uint64_t waiting;   /* 1 while standard input is being read */
-    volatile uint64_t read_end;  /* standard input fails behind so many bytes; 0: never */
+    volatile uint64_t read_limit;  /* standard input fails behind so many bytes less one; 0: never */
     volatile uint64_t was_read;
-    volatile uint64_t write_end; /* standard output fails behind so many bytes; 0: never */
+    volatile uint64_t write_limit; /* standard output fails behind so many bytes less one; 0: never */
     volatile uint64_t written;
 } *page;
 
@@ -60,12 +60,19 @@ int posix_memalign(void **to, size_t align, size_t size) {
     return 0;
 }
 
+/* How many of so many bytes may still be moved. */
+static size_t allowed(uint64_t limit, uint64_t moved, size_t size) {
+    if (!limit) return size;
+    uint64_t left = limit - 1 > moved ? limit - 1 - moved : 0;
+    return size < left ? size : left;
+}
+
 ssize_t read(int file, void *to, size_t size) {
     if (!page || file != 0) return syscall(SYS_read, file, to, size);
-    if (page->read_end && page->was_read >= page->read_end) return errno = EIO, -1;
-    if (page->read_end && size > page->read_end - page->was_read) size = page->read_end - page->was_read;
+    size_t most = allowed(page->read_limit, page->was_read, size);
+    if (size && !most) return errno = EIO, -1;
     page->waiting = 1;
-    ssize_t got = syscall(SYS_read, file, to, size);
+    ssize_t got = syscall(SYS_read, file, to, most);
     page->waiting = 0;
     if (got > 0) page->was_read += got;
     return got;
@@ -73,9 +80,9 @@ ssize_t read(int file, void *to, size_t size) {
 
 ssize_t write(int file, const void *from, size_t size) {
     if (!page || file != 1) return syscall(SYS_write, file, from, size);
-    if (page->write_end && page->written >= page->write_end) return errno = EIO, -1;
-    if (page->write_end && size > page->write_end - page->written) size = page->write_end - page->written;
-    ssize_t put = syscall(SYS_write, file, from, size);
+    size_t most = allowed(page->write_limit, page->written, size);
+    if (size && !most) return errno = EIO, -1;
+    ssize_t put = syscall(SYS_write, file, from, most);
     if (put > 0) page->written += put;
     return put;
 }

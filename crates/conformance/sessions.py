@@ -5,7 +5,8 @@
 
 A file sessions/SUBJECT.txt holds sessions. A line `# name` begins one, with a service of its own over two modules of attributes and two of policies; a line
 `# name N` begins one over N of each, from 1 to 4. A line `> ` with what is sent stands before
-a line `< ` with its reply; `--` begins a comment, and an empty line means nothing. The text is sent as it stands, but for what stands in «»:
+a line `< ` with its reply; `--` begins a comment, and an empty line means nothing. What stands behind a line `* N`, up to an empty line, comes N times, with № the number
+of the time, from 0, №+K that number and K more, and №%K what is left of it when it is divided by K. The text is sent as it stands, but for what stands in «»:
 
     «N*TEXT»    N copies of TEXT             №      in TEXT: the number of the copy, from 0
     «N,TEXT»    N copies joined by commas    №+1    in TEXT: the number of the next copy
@@ -43,20 +44,37 @@ def sent(text):
     return b''.join(bytes.fromhex(part) if i % 2 else part.encode() for i, part in enumerate(parts))
 
 
+def time(text, number):
+    """A text that comes many times, as it is at that time."""
+    return re.sub('№(?:\\+([0-9]+)|%([0-9]+))?', lambda found: str(number % int(found[2]) if found[2] else number + int(found[1] or 0)), text)
+
+
+def repeated(pairs, times):
+    """Pairs of a line and a reply that come so many times, as bytes; none: once, as they stand."""
+    if times is None:
+        return [(sent(line), sent(reply)) for line, reply in pairs]
+    return [(sent(time(line, number)), sent(time(reply, number))) for number in range(times) for line, reply in pairs]
+
+
 def sessions_of(path, text):
     """The sessions of a text: for each its name and its pairs of a line and a reply."""
-    sessions, line = [], None
+    sessions, line, times, pairs = [], None, None, []
     for number, text in enumerate(text.split('\n') + [''], 1):
         mark, rest = text[:2].rstrip(), text[2:]
         if mark == '<' and line is not None:
-            sessions[-1][1].append((line, sent(rest)))
+            pairs.append((line, rest))
             line = None
-        elif line is not None or mark not in ('#', '>', '--', '') or mark == '>' and not sessions:
+        elif line is not None or mark not in ('#', '>', '--', '', '*') or mark in ('>', '*') and not sessions or mark in ('#', '*') and times is not None:
             sys.exit(f'{path}:{number}: this can\'t stand here: {text[:80]}')
-        elif mark == '#' and re.fullmatch('[a-z0-9_]+( [1-4])?', rest):
-            sessions.append((rest, []))
         elif mark == '>':
-            line = sent(rest)
+            line = rest
+        elif pairs and mark != '--':
+            sessions[-1][1].extend(repeated(pairs, times))
+            times, pairs = None, []
+        if mark == '#' and re.fullmatch('[a-z0-9_]+( [1-4])?', rest):
+            sessions.append((rest, []))
+        elif mark == '*' and rest.isdecimal():
+            times = int(rest)
     return sessions
 
 
