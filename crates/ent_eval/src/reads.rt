@@ -54,7 +54,11 @@ impl Reads {
     pub fn into_items(self, alloc: Global) -> Result<Items<ReadKey>, AllocError>
         ensures { IfOk result (λ keys. keys ≡ self) }
     {
-        Ok(Items::from_vec(self.keys.into_iter().collect(alloc)?))
+        let mut keys = Items::with_capacity(alloc, self.keys.len())?;
+        for key in self.keys {
+            keys.push(key)?;
+        }
+        Ok(keys)
     }
 
     /// Notes a key, if it isn't there yet. After a refusal the keys are as before. A key that is there takes no memory.
