@@ -235,6 +235,20 @@ fn rank(ranks: &BTreeMap<&str, usize>, id: &str) -> usize {
     }
 }
 
+/// The definitions in their order, each lent.
+fn lent(
+    alloc: Global,
+    definitions: &[VariableDefinition],
+) -> Result<Vec<&VariableDefinition>, AllocError>
+    ensures { IfOk result (λ v. map (λ d. d.now) v.items ≡ definitions.now) }
+{
+    let mut all = Vec::with_capacity(alloc, definitions.len())?;
+    for definition in definitions {
+        all.push(definition)?;
+    }
+    Ok(all)
+}
+
 /// The definitions, mostly each before those that it uses.
 ///
 /// The order only spares time: where no definition is used through itself, each stands before those that it uses.
@@ -251,7 +265,7 @@ fn users_first(
         steps.push(Step::Enter(definition))?;
     }
     let ranks = walk(alloc, &by_id, steps, definitions.len())?;
-    let mut all: Vec<&VariableDefinition> = definitions.iter().collect(alloc)?;
+    let mut all = lent(alloc, definitions)?;
     all.sort_unstable_by_key(|definition| rank(&ranks, definition.id.as_str()));
     Ok(all)
 }
