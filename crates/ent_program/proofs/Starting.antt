@@ -7,7 +7,7 @@ use Rattle.ent_values.specs.declared.value.Value.{Value}
 use Rattle.ent_policy.specs.declared.document.Tree.{Tree}
 use Rattle.ent_finder.specs.Rows as rows
 use Rattle.ent_finder.specs.Rows.{Rows, Source, filled_source, is_filled, row_cmp}
-use Rattle.ent_finder.specs.Slots.{Docs, Slots, held, key_cmp}
+use Rattle.ent_finder.specs.Slots.{Slots, held, key_cmp}
 use Rattle.ent_finder.proofs.Filled.{entries-filled}
 use Rattle.ent_finder.proofs.Held.{entries-held, filled}
 use Rattle.ent_eval.specs.LooksOf.{held_by}

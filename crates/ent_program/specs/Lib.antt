@@ -1,3 +1,5 @@
 pub mod Checking
+pub mod Options
+pub mod Sentences
 pub mod Starting
 pub mod Statuses

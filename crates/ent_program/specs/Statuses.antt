@@ -1,7 +1,11 @@
 -- The exit statuses of the program.
 use Rattle.std.specs.Prelude.{ℕ, Bool, true, false, Result, Ok, Err}
+use Rattle.clap.specs.declared.error.kind.ErrorKind.{ErrorKind}
+use Rattle.clap.specs.declared.error.kind.ErrorKind.TheVariants.{DisplayHelp, DisplayVersion, OutOfMemory}
 use Rattle.ent_line.specs.declared.fault.ServeFault.{ServeFault}
 use Rattle.ent_line.specs.declared.fault.ServeFault.TheVariants as fault
+use Rattle.ent_program.specs.declared.words.WordsFault.{WordsFault}
+use Rattle.ent_program.specs.declared.words.WordsFault.TheVariants as words
 
 -- a read or write fault gives 2, want of memory 3
 abbrev pub fault_status : ServeFault → ℕ
@@ -19,3 +23,15 @@ abbrev pub check_status : Result Bool ServeFault → ℕ
 check_status (Ok true) = 0
 check_status (Ok false) = 1
 check_status (Err e) = fault_status e
+
+-- a word of the command line that isn't UTF-8 gives 1, want of memory 3
+abbrev pub words_status : WordsFault → ℕ
+words_status words.NotText = 1
+words_status words.Memory = 3
+
+-- a command line that asks for help gives 0, want of memory 3, and any that can't be used 1
+abbrev pub usage_status : ErrorKind → ℕ
+usage_status DisplayHelp = 0
+usage_status DisplayVersion = 0
+usage_status OutOfMemory = 3
+usage_status other = 1

@@ -17,19 +17,18 @@ use itoa::Buffer;
 use json::Scratch;
 use std::alloc::{AllocError, Global};
 use std::io::{ErrorKind, Read, Write};
-use thiserror::Error;
 
 /// The most bytes that the file of a document may have: as many as a line.
 pub const FILE_LIMIT: usize = LINE_LIMIT;
 
 /// Why a file is refused.
-#[derive(Clone, Copy, Debug, Error)]
-pub(crate) enum FileFault {
-    #[error("the file has more than {limit} bytes", limit = FILE_LIMIT)]
+#[derive(Clone, Copy, Debug, PartialEq, Eq)]
+pub enum FileFault {
+    /// It has more than `FILE_LIMIT` bytes.
     TooLong,
-    #[error("the file isn't JSON")]
+    /// It isn't JSON.
     NotJson,
-    #[error("{0}")]
+    /// Its JSON isn't a document that may be stored, by this fault.
     Document(DocFault),
 }
 

@@ -2,11 +2,15 @@
 #![tactic(auto)]
 
 mod checking;
+mod options;
 mod running;
+mod sentences;
 mod status;
 mod words;
 
-pub use checking::{FILE_LIMIT, check_from};
-pub use running::run;
-pub use status::{check_status, serve_status, status_of, words_status};
-pub use words::{ATTRIBUTE_MODULES, FILE, POLICY_MODULES, command};
+pub use checking::{FILE_LIMIT, FileFault, check_from};
+pub use options::{Modules, Task, task_of};
+pub use running::{run, serve_from};
+pub use sentences::{document_sentence, fault_sentence, file_sentence, words_sentence};
+pub use status::{check_status, serve_status, status_of, usage_status, words_status};
+pub use words::{WordsFault, command, given_words};

@@ -4,11 +4,15 @@ ghost use Rattle.std.specs.Prelude.{◌≡◌, ◌≤◌, ◌+◌, ◌++◌, ◌
 ghost use Rattle.std.specs.FinMap.{empty};
 ghost use Rattle.ent_report.specs.World.{World};
 ghost use Rattle.ent_line.specs.Headline.{Headline};
+ghost use Rattle.clap.specs.Values.{kind_of};
 ghost use Rattle.ent_program.specs.Starting.{IsFew, categories, no_rows, start_of};
+ghost use Rattle.ent_program.specs.Statuses.{usage_status};
 
 use crate::checking::{Verdict, check, is_passed};
-use crate::status::{REFUSED, check_status, serve_status, status_of, words_status};
-use crate::words;
+use crate::options::{Modules, Task, task_of};
+use crate::sentences::file_sentence;
+use crate::status::{REFUSED, check_status, serve_status, status_of, usage_status, words_status};
+use crate::words::{command, given_words};
 use clap::ArgMatches;
 use clap::error::ErrorKind;
 use ent_eval::{ACCESS_SUBJECT, ACTION, Pdp, RESOURCE};
@@ -64,16 +68,9 @@ fn push_empty(
     Ok(())
 }
 
-/// How many modules hold what a service answers by.
-#[derive(Clone, Copy)]
-struct Modules {
-    attributes: usize,
-    policies: usize,
-}
-
 /// Answers each line of the reader by one line into the writer, by a service whose modules, of those numbers, hold
 /// nothing before the first of them, and gives their number.
-fn serve_from<R: BufRead, W: Write>(
+pub fn serve_from<R: BufRead, W: Write>(
     alloc: Global,
     count: Modules,
     reader: &mut R,
@@ -128,7 +125,7 @@ fn serve_input<R: Input + Print + AllocGlobal>(rt: &R, modules: Modules) -> Resu
 /// Says on standard error why a file is refused, if it is.
 fn tell(rt: &impl Eprint, verdict: &Verdict) {
     if let Verdict::Refused(fault) = verdict {
-        let _ = eprintln!(rt; "review: {fault}");
+        let _ = rt.eprintln(file_sentence(*fault));
     }
 }
 
@@ -148,32 +145,22 @@ fn check_file<R: Files + Print + Eprint + AllocGlobal>(
     Ok(is_passed(&verdict))
 }
 
-/// The number of modules that an option of `serve` gives. What the command line gives is from 1 to 4.
-fn number_of(asked: &ArgMatches<'_>, option: &str) -> usize
-    ensures { IsFew result }
+/// Says what the command line asks to be told, or why it can't be used, and gives the exit status for it.
+fn tell_usage(rt: &(impl Print + Eprint), error: &clap::Error) -> u8
+    ensures { result ≡ usage_status (kind_of error.now) }
 {
-    asked.get_one::<usize>(option).unwrap_or(1).clamp(1, 4)
-}
-
-/// How many modules `serve` is asked for.
-fn modules_asked(asked: &ArgMatches<'_>) -> Modules
-    ensures attributes { IsFew result.attributes }
-    ensures policies { IsFew result.policies }
-{
-    Modules {
-        attributes: number_of(asked, words::ATTRIBUTE_MODULES),
-        policies: number_of(asked, words::POLICY_MODULES),
+    if error.kind() == ErrorKind::OutOfMemory {
+        return status_of(rt, ServeFault::Memory);
     }
+    let _ = error.print(rt);
+    usage_status(error)
 }
 
 /// Does what the words of the command line ask for, and gives the exit status.
 fn act<R: Files + Input + Print + Eprint + AllocGlobal>(rt: &R, matches: &ArgMatches<'_>) -> u8 {
-    match matches.subcommand() {
-        Some(("check", asked)) => {
-            let path = asked.get_str(words::FILE).unwrap_or("");
-            check_status(rt, check_file(rt, path))
-        }
-        Some((_, asked)) => serve_status(rt, serve_input(rt, modules_asked(asked))),
+    match task_of(matches) {
+        Some(Task::Serve(modules)) => serve_status(rt, serve_input(rt, modules)),
+        Some(Task::Check(path)) => check_status(rt, check_file(rt, path)),
         None => REFUSED,
     }
 }
@@ -181,17 +168,15 @@ fn act<R: Files + Input + Print + Eprint + AllocGlobal>(rt: &R, matches: &ArgMat
 /// Runs the program with the words of its command line, and gives its exit status: 0 where all went well, 1 where the
 /// command line can't be used or a file was refused, 2 where reading or writing failed, and 3 for want of memory.
 pub fn run<R: Env + Files + Input + Print + Eprint + AllocGlobal>(rt: &R) -> u8 {
-    let (Ok(words), Ok(command)) = (words::words(rt), words::command(rt.alloc())) else {
+    let words = match given_words(rt) {
+        Ok(words) => words,
+        Err(fault) => return words_status(rt, fault),
+    };
+    let Ok(command) = command(rt.alloc()) else {
         return status_of(rt, ServeFault::Memory);
     };
     match command.try_get_matches_from(words.as_slice()) {
         Ok(matches) => act(rt, &matches),
-        Err(e) => {
-            if e.kind() == ErrorKind::OutOfMemory {
-                return status_of(rt, ServeFault::Memory);
-            }
-            let _ = e.print(rt);
-            words_status(&e)
-        }
+        Err(e) => tell_usage(rt, &e),
     }
 }

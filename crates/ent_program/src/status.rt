@@ -1,8 +1,12 @@
 //! The exit statuses of the program.
 
 ghost use Rattle.std.specs.Prelude.{◌≡◌};
-ghost use Rattle.ent_program.specs.Statuses.{check_status, fault_status, serve_status};
+ghost use Rattle.clap.specs.Values.{kind_of};
+ghost use Rattle.ent_program.specs.Statuses.{check_status, fault_status, serve_status, usage_status, words_status};
 
+use crate::sentences::{fault_sentence, words_sentence};
+use crate::words::WordsFault;
+use clap::error::ErrorKind;
 use ent_line::ServeFault;
 
 /// All went well.
@@ -21,13 +25,11 @@ const NO_MEMORY: u8 = 3;
 pub fn status_of(rt: &impl Eprint, fault: ServeFault) -> u8
     ensures { result ≡ fault_status fault }
 {
-    let (text, status) = match fault {
-        ServeFault::Read => ("review: read fault", BROKEN),
-        ServeFault::Write => ("review: write fault", BROKEN),
-        ServeFault::Memory => ("review: out of memory", NO_MEMORY),
-    };
-    let _ = rt.eprintln(text);
-    status
+    let _ = rt.eprintln(fault_sentence(fault));
+    match fault {
+        ServeFault::Read | ServeFault::Write => BROKEN,
+        ServeFault::Memory => NO_MEMORY,
+    }
 }
 
 /// The exit status of serving; a fault is told on standard error.
@@ -51,7 +53,24 @@ pub fn check_status(rt: &impl Eprint, checked: Result<bool, ServeFault>) -> u8
     }
 }
 
+/// Says on standard error why the words of the command line can't be had, and gives the exit status for it.
+pub fn words_status(rt: &impl Eprint, fault: WordsFault) -> u8
+    ensures { result ≡ words_status fault }
+{
+    let _ = rt.eprintln(words_sentence(fault));
+    match fault {
+        WordsFault::NotText => REFUSED,
+        WordsFault::Memory => NO_MEMORY,
+    }
+}
+
 /// The exit status where the command line asks for help, or can't be used.
-pub fn words_status(error: &clap::Error) -> u8 {
-    if error.use_stderr() { REFUSED } else { OKAY }
+pub fn usage_status(error: &clap::Error) -> u8
+    ensures { result ≡ usage_status (kind_of error.now) }
+{
+    match error.kind() {
+        ErrorKind::DisplayHelp | ErrorKind::DisplayVersion => OKAY,
+        ErrorKind::OutOfMemory => NO_MEMORY,
+        _ => REFUSED,
+    }
 }

@@ -2,16 +2,30 @@
 
 use clap::{Arg, Command, value_parser};
 use std::alloc::{AllocError, Global};
+use std::env;
+use std::io::ErrorKind;
 use std::rt::Env;
-use std::{env, io};
 
-/// The words with which the program was called.
-pub(crate) fn words<R: Env + AllocGlobal>(rt: &R) -> io::Result<Vec<String>> {
-    let mut words = Vec::new(rt.alloc());
-    for word in env::args(rt)? {
-        words.push(word)?;
+/// Why the words of the command line can't be had.
+#[derive(Clone, Copy, Debug, PartialEq, Eq)]
+pub enum WordsFault {
+    /// A word isn't UTF-8.
+    NotText,
+    /// Memory was wanting.
+    Memory,
+}
+
+/// The words with which the program was called, its name first.
+pub fn given_words<R: Env + AllocGlobal>(rt: &R) -> Result<Vec<String>, WordsFault> {
+    let given = match env::args(rt) {
+        Ok(given) => given,
+        Err(e) if e.kind() == ErrorKind::OutOfMemory => return Err(WordsFault::Memory),
+        Err(_) => return Err(WordsFault::NotText),
+    };
+    match given.collect(rt.alloc()) {
+        Ok(words) => Ok(words),
+        Err(_) => Err(WordsFault::Memory),
     }
-    Ok(words)
 }
 
 /// The argument of `check`: the file that is read.

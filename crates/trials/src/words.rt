@@ -1,7 +1,17 @@
-//! What the command line takes, what is said of words that it does not, and the statuses.
+//! What the command line takes and asks for, what is said of words that it does not take, and the statuses.
 
-use ent_program::{FILE, command, words_status};
+use ent_line::ServeFault;
+use ent_policy::DocFault;
+use ent_program::{
+    FileFault, Modules, Task, WordsFault, command, file_sentence, given_words, status_of, task_of,
+    usage_status, words_status,
+};
 use std::alloc::{AllocError, Global};
+use std::cell::RefCell;
+use std::env::FillError;
+use std::fmt::Display;
+use std::io;
+use std::rt::Env;
 use std::test::Fail;
 
 const HELP: &str = "\
@@ -101,7 +111,7 @@ fn line_of(alloc: Global, words: &[&str]) -> Result<Vec<String>, AllocError> {
 
 /// What is said of the words, and the exit status.
 fn told(alloc: Global, error: &clap::Error) -> Result<(String, u8), AllocError> {
-    Ok((error.to_string(alloc)?, words_status(error)))
+    Ok((error.to_string(alloc)?, usage_status(error)))
 }
 
 /// What is said of these words, behind the program's name, and the exit status for it, unless the program takes them.
@@ -141,15 +151,189 @@ fn words_that_are_not_taken(rt: HostRuntime) -> Result<(), Fail> {
     Ok(())
 }
 
+/// Words that the program takes, with what they ask for.
+const TAKEN: &[(&[&str], Task)] = &[
+    (
+        &["serve"],
+        Task::Serve(Modules {
+            attributes: 2,
+            policies: 2,
+        }),
+    ),
+    (
+        &["serve", "--attribute-modules", "1"],
+        Task::Serve(Modules {
+            attributes: 1,
+            policies: 2,
+        }),
+    ),
+    (
+        &["serve", "--policy-modules=4", "--attribute-modules", "3"],
+        Task::Serve(Modules {
+            attributes: 3,
+            policies: 4,
+        }),
+    ),
+    (&["check", "serve"], Task::Check("serve")),
+];
+
+/// Whether the words ask for that.
+fn is_asked(alloc: Global, words: &[&str], task: Task<'_>) -> Result<bool, Fail> {
+    let all = line_of(alloc, words)?;
+    let matches = command(alloc)?.try_get_matches_from(all.as_slice())?;
+    Ok(task_of(&matches) == Some(task))
+}
+
 #[test]
-fn commands_are_taken(rt: HostRuntime) -> Result<(), Fail> {
+fn words_that_are_taken(rt: HostRuntime) -> Result<(), Fail> {
+    for &(words, task) in TAKEN {
+        assert!(rt; is_asked(rt.alloc(), words, task)?, "{words:?}");
+    }
+    Ok(())
+}
+
+/// A program that is called by one word of one byte.
+#[derive(Drop)]
+struct Called {
+    alloc: Global,
+    byte: u8,
+}
+
+impl Alloc for Called {
+    type A = Global;
+
+    fn alloc(&self) -> Global {
+        self.alloc
+    }
+}
+
+impl Env for Called {
+    fn arg(&self, i: usize, buf: &mut [u8]) -> Result<usize, FillError> {
+        if i > 0 {
+            return Err(FillError::NotPresent);
+        }
+        if buf.is_empty() {
+            return Err(FillError::TooLong);
+        }
+        buf[0] = self.byte;
+        Ok(1)
+    }
+
+    fn var(&self, _name: &str, _buf: &mut [u8]) -> Result<usize, FillError> {
+        Err(FillError::NotPresent)
+    }
+
+    fn var_at(&self, _i: usize, _buf: &mut [u8]) -> Result<usize, FillError> {
+        Err(FillError::NotPresent)
+    }
+}
+
+#[test]
+fn a_word_that_is_not_text(rt: HostRuntime) {
     let alloc = rt.alloc();
-    assert!(rt; said(alloc, &["serve"])?.is_none());
-    assert!(rt; said(alloc, &["serve", "--policy-modules", "4"])?.is_none());
-    let words = line_of(alloc, &["check", "a"])?;
-    let matches = command(alloc)?.try_get_matches_from(words.as_slice())?;
-    let (name, asked) = matches.subcommand().ok_or("no subcommand")?;
-    assert_eq!(rt; name, "check");
-    assert_eq!(rt; asked.get_str(FILE), Some("a"));
+    assert_eq!(rt;
+        given_words(&Called { alloc, byte: b'a' }).map(|words| words.len()),
+        Ok(1)
+    );
+    assert_eq!(rt;
+        given_words(&Called { alloc, byte: 0xFF }).map(|words| words.len()),
+        Err(WordsFault::NotText)
+    );
+}
+
+/// A standard error that keeps the last line.
+#[derive(Drop)]
+struct Ear {
+    alloc: Global,
+    line: RefCell<String>,
+}
+
+impl Ear {
+    fn new(alloc: Global) -> Ear {
+        Ear {
+            alloc,
+            line: RefCell::new(String::new(alloc)),
+        }
+    }
+
+    /// Whether that is the last line.
+    fn heard(&self, line: &str) -> bool {
+        match self.line.try_borrow() {
+            Ok(last) => last.as_str() == line,
+            Err(_) => false,
+        }
+    }
+}
+
+impl Eprint for Ear {
+    fn eprint<D: Display + Drop>(&self, value: D) -> io::Result<()> {
+        self.eprintln(value)
+    }
+
+    fn eprintln<D: Display + Drop>(&self, value: D) -> io::Result<()> {
+        let line = format!(in self.alloc; "{value}")?;
+        let _ = self.line.try_replace(line);
+        Ok(())
+    }
+}
+
+/// What is said of a fault that ends the program, and the status.
+const ENDS: &[(ServeFault, &str, u8)] = &[
+    (ServeFault::Read, "review: read fault", 2),
+    (ServeFault::Write, "review: write fault", 2),
+    (ServeFault::Memory, "review: out of memory", 3),
+];
+
+#[test]
+fn each_fault_is_told(rt: HostRuntime) {
+    let ear = Ear::new(rt.alloc());
+    for &(fault, line, status) in ENDS {
+        let given = status_of(&ear, fault);
+        assert!(rt; given == status && ear.heard(line), "{line}");
+    }
+    let status = words_status(&ear, WordsFault::NotText);
+    assert!(rt; status == 1 && ear.heard("review: a word of the command line isn't UTF-8"));
+}
+
+/// What is said of a file that is refused.
+const REFUSED: &[(FileFault, &str)] = &[
+    (
+        FileFault::TooLong,
+        "review: the file has more than 1048576 bytes",
+    ),
+    (FileFault::NotJson, "review: the file isn't JSON"),
+];
+
+#[test]
+fn each_refused_file_is_told(rt: HostRuntime) {
+    for &(fault, line) in REFUSED {
+        assert_eq!(rt; file_sentence(fault), line);
+    }
+}
+
+/// Each fault of a document.
+const FAULTS: &[DocFault] = &[
+    DocFault::Form,
+    DocFault::Identifier,
+    DocFault::Version,
+    DocFault::Algorithm,
+    DocFault::Function,
+    DocFault::Variable,
+    DocFault::Size,
+    DocFault::Depth,
+    DocFault::Type,
+];
+
+/// Whether the same is said of a file as by the fault itself.
+fn says_as_much(alloc: Global, fault: DocFault) -> Result<bool, Fail> {
+    let line = format!(in alloc; "review: {fault}")?;
+    Ok(file_sentence(FileFault::Document(fault)) == line.as_str())
+}
+
+#[test]
+fn documents_are_told_by_their_faults(rt: HostRuntime) -> Result<(), Fail> {
+    for &fault in FAULTS {
+        assert!(rt; says_as_much(rt.alloc(), fault)?, "{fault}");
+    }
     Ok(())
 }

@@ -1,0 +1,32 @@
+-- What the command line asks for, by what is found in its words.
+use Rattle.std.specs.Prelude.{◌≡◌, ⊤, ℕ, List, [], Option, Some, codes, unwrap_or}
+use Rattle.std.specs.Str.Parse.{IsNumeral, digits_value, without_leading_plus}
+use Rattle.clap.specs.Walk.{Row, first_of, one_of}
+use Rattle.ent_program.specs.Starting.{IsFew}
+use Rattle.ent_program.specs.declared.options.Task.{Task}
+use Rattle.ent_program.specs.declared.options.Task.TheVariants.{Serve, Check}
+use Rattle.ent_program.specs.declared.options.Modules.{Modules}
+
+-- where the text of an option writes a number from 1 to 4 in decimal digits, that is the count
+abbrev pub IsWritten : Option (List ℕ) → ℕ → Type 0
+IsWritten text count = (t : List ℕ) → text ≡ Some t → let digits = without_leading_plus t in
+    IsNumeral 10 digits → IsFew (digits_value 10 digits) → count ≡ digits_value 10 digits
+
+-- from 1 to 4 modules of each sort
+abbrev pub AreFew : Modules → Type 0
+AreFew modules = IsFew modules.attributes × IsFew modules.policies
+
+-- as many modules of each sort as the option for this sort says
+pub record AreModules (options : List Row) (modules : Modules) : Type 0 where
+  pub attributes : IsWritten (one_of (codes "attribute-modules") options) modules.attributes
+  pub policies : IsWritten (one_of (codes "policy-modules") options) modules.policies
+
+-- what is asked for, by the subcommand that was found, with its options and arguments
+pub record IsTaskOf (found : Option (List ℕ × List Row)) (task : Option Task) : Type 0 where
+  pub serve : (options : List Row) → found ≡ Some (codes "serve", options) → (modules : Modules) × (task ≡ Some (Serve modules)) × AreModules options modules
+  pub check : (options : List Row) → found ≡ Some (codes "check", options) → (path : _) × (task ≡ Some (Check path)) × (path.now ≡ unwrap_or (first_of (codes "FILE") options) [])
+
+-- a task that is served is served by from 1 to 4 modules of each sort
+abbrev pub HasFew : Option Task → Type 0
+HasFew (Some (Serve modules)) = AreFew modules
+HasFew other = ⊤

@@ -1,0 +1,61 @@
+//! What the command line asks for.
+
+ghost use Rattle.std.specs.Prelude.{◌≡◌};
+ghost use Rattle.clap.specs.Matches.{found_of, one_text};
+ghost use Rattle.clap.specs.Simple.{subcommand_rows_of};
+ghost use Rattle.clap.specs.Walk.{rows_of};
+ghost use Rattle.ent_program.specs.Options.{AreFew, AreModules, HasFew, IsTaskOf, IsWritten};
+ghost use Rattle.ent_program.specs.Starting.{IsFew};
+
+use crate::words::{ATTRIBUTE_MODULES, FILE, POLICY_MODULES};
+use clap::ArgMatches;
+
+/// How many modules hold what a service answers by.
+#[derive(Clone, Copy, Debug, PartialEq, Eq)]
+pub struct Modules {
+    /// How many hold values of attributes.
+    pub attributes: usize,
+    /// How many hold policies.
+    pub policies: usize,
+}
+
+/// What the command line asks for.
+#[derive(Clone, Copy, Debug, PartialEq, Eq)]
+pub enum Task<'a> {
+    /// To serve standard input by a service over that many modules.
+    Serve(Modules),
+    /// To check the file of this path.
+    Check(&'a str),
+}
+
+/// The number of modules that an option of `serve` gives. What the command line takes is from 1 to 4.
+fn number_of(options: &ArgMatches<'_>, option: &str) -> usize
+    ensures few { IsFew result }
+    ensures written { IsWritten (one_text (found_of options.now) option.now) result }
+{
+    options.get_one::<usize>(option).unwrap_or(1).clamp(1, 4)
+}
+
+/// How many modules the options of `serve` ask for.
+fn modules_of(options: &ArgMatches<'_>) -> Modules
+    ensures few { AreFew result }
+    ensures written { AreModules (rows_of (found_of options.now)) result }
+{
+    Modules {
+        attributes: number_of(options, ATTRIBUTE_MODULES),
+        policies: number_of(options, POLICY_MODULES),
+    }
+}
+
+/// What is asked for by words that the command line takes: which subcommand, with how many modules or on which file.
+pub fn task_of<'a>(matches: &ArgMatches<'a>) -> Option<Task<'a>>
+    ensures few { HasFew result }
+    ensures task { IsTaskOf (subcommand_rows_of matches.now) result }
+{
+    let (name, options) = matches.subcommand()?;
+    match name {
+        "serve" => Some(Task::Serve(modules_of(options))),
+        "check" => Some(Task::Check(options.get_str(FILE).unwrap_or(""))),
+        _ => None,
+    }
+}

@@ -1,0 +1,71 @@
+//! What is said on standard error.
+
+ghost use Rattle.std.specs.Prelude.{◌≡◌};
+ghost use Rattle.ent_program.specs.Sentences.{document_sentence, fault_sentence, file_sentence, words_sentence};
+
+use crate::checking::{FILE_LIMIT, FileFault};
+use crate::words::WordsFault;
+use ent_line::ServeFault;
+use ent_policy::DocFault;
+
+/// What is said of a fault by which serving or a check ended early.
+pub fn fault_sentence(fault: ServeFault) -> &'static str
+    ensures { result.now ≡ fault_sentence fault }
+{
+    match fault {
+        ServeFault::Read => "review: read fault",
+        ServeFault::Write => "review: write fault",
+        ServeFault::Memory => "review: out of memory",
+    }
+}
+
+/// What is said where the words of the command line can't be had.
+pub fn words_sentence(fault: WordsFault) -> &'static str
+    ensures { result.now ≡ words_sentence fault }
+{
+    match fault {
+        WordsFault::NotText => "review: a word of the command line isn't UTF-8",
+        WordsFault::Memory => fault_sentence(ServeFault::Memory),
+    }
+}
+
+/// What is said of the first fault of a document in a file.
+pub fn document_sentence(fault: DocFault) -> &'static str
+    ensures { result.now ≡ document_sentence fault }
+{
+    match fault {
+        DocFault::Form => {
+            "review: a key is unknown or missing, or what stands at it has the wrong form"
+        }
+        DocFault::Identifier => {
+            "review: an identifier is empty or has more than 256 bytes, or two rules of a policy have the same one"
+        }
+        DocFault::Version => {
+            "review: a version isn't 1 to 8 numbers of at most 9 digits with dots between them, or a version pattern can't be read"
+        }
+        DocFault::Algorithm => "review: a rule or policy combining algorithm is unknown",
+        DocFault::Function => "review: a function is unknown",
+        DocFault::Variable => "review: a variable is defined twice, not at all, or through itself",
+        DocFault::Size => {
+            "review: a list has more than 256 members, or the document more than 65,536 expressions or 32 references"
+        }
+        DocFault::Depth => "review: expressions or policy sets nest more than 16 deep",
+        DocFault::Type => {
+            "review: a data type is unknown, a value isn't of its type, or an expression has the wrong type"
+        }
+    }
+}
+
+/// The sentence on a file that is too long has the number of bytes that it may have.
+const _: () = prove!(FILE_LIMIT == 1_048_576);
+
+/// What is said of a file that is refused.
+pub fn file_sentence(fault: FileFault) -> &'static str
+    ensures { result.now ≡ file_sentence fault }
+{
+    match fault {
+        FileFault::TooLong => "review: the file has more than 1048576 bytes",
+        FileFault::NotJson => "review: the file isn't JSON",
+        FileFault::Document(fault) => document_sentence(fault),
+    }
+}

@@ -1,0 +1,10 @@
+//! The program once more, as it is called with other numbers of modules than without options: the gate runs a program
+//! with one list of words.
+#![tactic(auto)]
+
+use ent_program::run;
+use std::process::ExitCode;
+
+fn main(rt: HostRuntime) -> ExitCode {
+    ExitCode::from(run(&rt))
+}
