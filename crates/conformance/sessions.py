@@ -12,17 +12,18 @@ of the time, from 0, №+K that number and K more, and №%K what is left of it 
     «N,TEXT»    N copies joined by commas    №+1    in TEXT: the number of the next copy
     «FF»        the byte of these two hexadecimal digits
 
-The pages of docs/ on limits, on refusals and on requests have sessions too, in their blocks of the kind `session`. One more session, policies_page, is made from
+The pages of docs/ on commands, on limits, on refusals and on requests have sessions too, in their blocks of the kind `session`. One more session, policies_page, is made from
 docs/POLICIES.md: each example there is added, with the reply that follows from what the page says below it. After `ok KIND ID VERSION` a document of that kind, id and version is there already, and after an example below which its written
 form stands, so is that form. A block `session` below an example has lines and replies as above, of a service to which the example was
-added first: a session of its own, policies_page_N.
+added first: a session of its own, policies_page_ID with the id of that document. The example of README.md, whose lines stand before all replies, is the session readme.
 """
 import json, os, re, sys
 
 HERE = os.path.dirname(os.path.abspath(__file__))
 DOCS = os.path.join(HERE, '..', '..', 'docs')
 PAGE = os.path.join(DOCS, 'POLICIES.md')
-PAGES = ['LIMITS.md', 'REFUSALS.md', 'REQUESTS.md']
+README = os.path.join(HERE, '..', '..', 'README.md')
+PAGES = ['COMMANDS.md', 'LIMITS.md', 'REFUSALS.md', 'REQUESTS.md']
 
 
 def read(path):
@@ -126,15 +127,26 @@ def shown_sessions():
         elif kind == 'session':
             lines = text.splitlines()
             pairs = [(sent(line[2:]), sent(reply[2:])) for line, reply in zip(lines[::2], lines[1::2])]
-            shown.append((f'policies_page_{len(shown) + 1}', [(added(document), b'{"changes":0,"serial":1}')] + pairs))
+            (body,) = document.values()
+            name = re.sub('[^a-z0-9]+', '_', (body.get('PolicyId') or body['PolicySetId']).lower())
+            shown.append((f'policies_page_{name}', [(added(document), b'{"changes":0,"serial":1}')] + pairs))
     return shown
+
+
+def readme_session():
+    """The example of README.md: its lines, and behind them its replies."""
+    found = re.search("<<'LINES'\n((?:    .*\n)*?)    LINES\n((?:    .*\n)*)", read(README))
+    lines, replies = ([text[4:].encode() for text in part.splitlines()] for part in found.groups())
+    if len(lines) != len(replies):
+        sys.exit(f'{README}: {len(lines)} lines, {len(replies)} replies')
+    return 'readme', list(zip(lines, replies))
 
 
 def main():
     folder = os.path.join(HERE, 'sessions')
     names = sorted((name for name in os.listdir(folder) if name.endswith('.txt')), key=str.encode)
     paths = [os.path.join(folder, name) for name in names]
-    sessions = [session for path in paths for session in sessions_of(path, read(path))] + [page_session()] + shown_sessions()
+    sessions = [session for path in paths for session in sessions_of(path, read(path))] + [readme_session(), page_session()] + shown_sessions()
     sessions += [session for name in PAGES for session in page_sessions(name)]
     lines = replies = b''
     for name, pairs in sessions:

@@ -1,8 +1,7 @@
-//! The JSON of documents, references and values: what is read of it, and what is written.
+//! The JSON of documents and values: what is read of it, and what is written.
 
-use ent_json::{JsonTree, filled_list_at, flag_at, list_at, text_at, text_or_absent};
-use ent_polform::{read_document, read_reference, read_value, write_document, write_value};
-use ent_policy::{CheckFault, DocFault, Document, Expression, Kind, Tree};
+use ent_polform::{read_document, read_value, write_document, write_value};
+use ent_policy::{Document, Expression, Tree};
 use ent_values::{DataType, Date, Value, ValueFault, YearMonth};
 use serde_json::Value as Json;
 use std::alloc::{AllocError, Global};
@@ -250,115 +249,5 @@ fn values_are_read_and_written(rt: HostRuntime) -> Result<(), Fail> {
         let again = value_again(rt.alloc(), datatype, text)?;
         assert_eq!(rt; again.as_ref().map(String::as_str), written, "{text}");
     }
-    Ok(())
-}
-
-/// JSON of references, all of which are to `p1`, or of none.
-const REFERENCES: &[(&str, Result<Kind, DocFault>)] = &[
-    (r#"{"PolicyIdReference":{"Id":"p1"}}"#, Ok(Kind::Policy)),
-    (
-        r#"{"PolicySetIdReference":{"Id":"p1"}}"#,
-        Ok(Kind::PolicySet),
-    ),
-    ("null", Err(DocFault::Form)),
-    (
-        r#"{"PolicyIdReference":{"Id":"p1","Version":"1.*","LatestVersion":"1.+"}}"#,
-        Ok(Kind::Policy),
-    ),
-    (
-        r#"{"PolicyIdReference":{"Id":"","Version":"x"}}"#,
-        Err(DocFault::Identifier),
-    ),
-    (
-        r#"{"PolicyIdReference":{"Id":"p1","Version":"x"}}"#,
-        Err(DocFault::Version),
-    ),
-];
-
-/// The kind of the reference to `p1` that the text spells, or its fault.
-fn kind_of(alloc: Global, text: &str) -> Result<Result<Kind, DocFault>, Fail> {
-    let json = json_of(alloc, text)?;
-    match read_reference(alloc, &json) {
-        Ok(reference) if reference.id.as_str() == "p1" => Ok(Ok(reference.kind)),
-        Ok(_) => Err(Fail::new("another id")),
-        Err(CheckFault::Doc(fault)) => Ok(Err(fault)),
-        Err(CheckFault::Memory) => Err(Fail::new("out of memory")),
-    }
-}
-
-#[test]
-fn references_are_read(rt: HostRuntime) -> Result<(), Fail> {
-    for &(text, kind) in REFERENCES {
-        assert_eq!(rt; kind_of(rt.alloc(), text)?, kind, "{text}");
-    }
-    Ok(())
-}
-
-/// Lists of keys, and whether the object below has no others.
-const KEYS: &[(&[&str], bool)] = &[
-    (&["none", "list", "text", "true", "more"], true),
-    (&["list", "text", "true"], false),
-];
-
-/// Keys with the text that stands there, and whether there is a text or nothing.
-const TEXTS: &[(&str, Option<&str>, bool)] = &[
-    ("text", Some("t"), true),
-    ("more", None, true),
-    ("list", None, false),
-    ("true", None, false),
-];
-
-/// Keys with the flag that stands there.
-const FLAGS: &[(&str, Option<bool>)] = &[
-    ("true", Some(true)),
-    ("more", Some(false)),
-    ("text", None),
-];
-
-/// Keys with the length of the list that stands there, and of one that isn't empty.
-const LISTS: &[(&str, Option<usize>, Option<usize>)] = &[
-    ("list", Some(1), Some(1)),
-    ("none", Some(0), None),
-    ("more", Some(0), None),
-    ("text", None, None),
-];
-
-/// The object whose members the test looks at.
-const OBJECT: &str = r#"{"list":[1],"none":[],"text":"t","true":true}"#;
-
-fn length(list: Option<&[Json]>) -> Option<usize> {
-    list.map(|items| items.len())
-}
-
-#[test]
-fn members_of_objects(rt: HostRuntime) -> Result<(), Fail> {
-    let json = json_of(rt.alloc(), OBJECT)?;
-    for &(keys, is_all) in KEYS {
-        assert!(rt; json.has_only(keys) == is_all);
-    }
-    for &(key, text, is_text) in TEXTS {
-        assert!(rt; text_at(&json, key) == text, "{key}");
-        assert!(rt; text_or_absent(&json, key) == is_text, "{key}");
-    }
-    for &(key, flag) in FLAGS {
-        assert!(rt; flag_at(&json, key) == flag, "{key}");
-    }
-    for &(key, any, filled) in LISTS {
-        assert!(rt; length(list_at(&json, key)) == any, "{key}");
-        assert!(rt; length(filled_list_at(&json, key)) == filled, "{key}");
-    }
-    Ok(())
-}
-
-/// Whether that is the only key of the object that the text spells, or it has not just one.
-fn has_one_key(alloc: Global, text: &str, want: Option<&str>) -> Result<bool, Fail> {
-    let json = json_of(alloc, text)?;
-    Ok(json.one_member().map(|member| member.0) == want)
-}
-
-#[test]
-fn only_members(rt: HostRuntime) -> Result<(), Fail> {
-    assert!(rt; has_one_key(rt.alloc(), r#"{"key":"t"}"#, Some("key"))?);
-    assert!(rt; has_one_key(rt.alloc(), r#"{"key":"t","more":1}"#, None)?);
     Ok(())
 }

@@ -5,15 +5,12 @@ ghost use Rattle.std.specs.Prelude.{◌≡◌};
 ghost use Rattle.ent_policy.specs.Key.{key_of};
 
 use crate::documents::document;
-use ent_combine::{IndKind, Outcome};
-use ent_eval::{Answer, Category, Evaluation, Pdp, ReadKey, Reads, Request, Status, WhyEntry};
+use ent_eval::{Answer, Category, Evaluation, Pdp, ReadKey, Reads, Request};
 use ent_finder::{
     AttributeFinder, AttributeFinderModule, MapDocs, MapRows, Policies, PolicyFinder,
     PolicyFinderModule,
 };
-use ent_policy::{
-    DocKey, Document, Kind, Name, Reference, Version, VersionConstraints, VersionMatch,
-};
+use ent_policy::{DocKey, Document, Kind, Name, Reference, VersionConstraints, VersionMatch};
 use ent_values::{Items, Text};
 use std::alloc::{AllocError, Global};
 use std::test::Fail;
@@ -42,21 +39,6 @@ pub(crate) fn reference(alloc: Global, id: &str) -> Result<Reference, Fail> {
         id: Name::new(Text::from_str(alloc, id)?).ok_or("no name")?,
         constraints: VersionConstraints::none(),
     })
-}
-
-/// The key of a version of a policy.
-fn key_with(alloc: Global, id: &str, version: &str) -> Result<DocKey, Fail> {
-    let version = Version::parse(version).ok_or("no version")?;
-    Ok(DocKey {
-        kind: Kind::Policy,
-        id: Text::from_str(alloc, id)?,
-        version,
-    })
-}
-
-/// The key of a version of `p1`.
-fn key(alloc: Global, version: &str) -> Result<DocKey, Fail> {
-    key_with(alloc, "p1", version)
 }
 
 /// Exchanges a document in the first module, and says whether there is one.
@@ -133,25 +115,17 @@ fn first_reading(alloc: Global) -> Result<Evaluation, Fail> {
     Ok(reading(alloc, &mut pdp)?)
 }
 
-/// Whether an answer permits, and its copy too.
-fn permits(alloc: Global, answer: &Answer) -> Result<bool, AllocError> {
-    let is_permit = answer.decision == Outcome::Permit && answer.status == Status::Okay;
-    Ok(is_permit && answer.copy(alloc)? == *answer)
-}
-
-/// Whether an entry names a rule of a version of `p1`, and its copy too.
-fn names_rule(alloc: Global, entry: &WhyEntry, id: &str, version: &str) -> Result<bool, Fail> {
-    let path = Items::of_one(alloc, key(alloc, version)?)?;
-    let is_rule = entry.rule.as_ref().is_some_and(|rule| rule.as_str() == id);
-    Ok(is_rule && *entry.path.get() == path && entry.copy(alloc)? == *entry)
+/// Whether an answer is equal to its copy, and its first entry too.
+fn is_copied(alloc: Global, answer: &Answer) -> Result<bool, Fail> {
+    let entry = answer.why.as_slice().first().ok_or("no entry")?;
+    let is_equal = entry.copy(alloc)? == *entry;
+    Ok(is_equal && answer.copy(alloc)? == *answer)
 }
 
 #[test]
-fn reading_is_permitted(rt: HostRuntime) -> Result<(), Fail> {
+fn answers_are_copied(rt: HostRuntime) -> Result<(), Fail> {
     let answer = first_reading(rt.alloc())?.answer;
-    assert!(rt; permits(rt.alloc(), &answer)?);
-    let entry = answer.why.as_slice().first().ok_or("no entry")?;
-    assert!(rt; names_rule(rt.alloc(), entry, "r1", "1.0")?);
+    assert!(rt; is_copied(rt.alloc(), &answer)?);
     Ok(())
 }
 
@@ -215,97 +189,6 @@ fn is_asked_alike(alloc: Global, action: &str, resource: &str) -> Result<bool, A
 #[test]
 fn another_resource_is_asked_of(rt: HostRuntime) -> Result<(), Fail> {
     assert!(rt; is_asked_alike(rt.alloc(), "write", "read")?);
-    Ok(())
-}
-
-/// The decision on ann's writing of what is called as an action is, and how many evaluations that takes.
-fn writing(alloc: Global) -> Result<(Outcome, u128), Fail> {
-    let mut modules: Vec<Box<dyn PolicyFinderModule>> = Vec::new(alloc);
-    modules.push(Box::new(alloc, MapDocs::new(alloc))?)?;
-    let mut attributes: Vec<Box<dyn AttributeFinderModule>> = Vec::new(alloc);
-    attributes.push(Box::new(alloc, MapRows::new(alloc, Items::new(alloc)))?)?;
-    let mut pdp = Pdp::new(
-        alloc,
-        AttributeFinder::new(attributes),
-        PolicyFinder::new(modules),
-    );
-    permit_reading(alloc, &mut pdp)?;
-    let request = asked_anew(alloc, "write", "read")?;
-    let decision = pdp.evaluate(&request)?.answer.decision;
-    Ok((decision, pdp.evaluations()))
-}
-
-#[test]
-fn writing_is_not_decided(rt: HostRuntime) -> Result<(), Fail> {
-    assert!(rt; writing(rt.alloc())? == (Outcome::NotApplicable, 1));
-    Ok(())
-}
-
-/// Sets the root to the policy of that id, or to none, and gives the id of the old one.
-fn replace_root(alloc: Global, pdp: &mut Pdp, id: Option<&str>) -> Result<Option<Name>, Fail> {
-    let root = match id {
-        Some(id) => Some(reference(alloc, id)?),
-        None => None,
-    };
-    Ok(pdp.set_root(root).map(|old| old.id))
-}
-
-/// Ids of roots, with the decision on reading, its status, and how many look-ups it rests on.
-const ROOTS: &[(Option<&str>, Outcome, Status, usize)] = &[
-    (
-        Some("p2"),
-        Outcome::Ind(IndKind::DP),
-        Status::ProcessingError,
-        2,
-    ),
-    (None, Outcome::NotApplicable, Status::Okay, 1),
-];
-
-/// The id of the root before it is replaced, and whether the other one is the root then.
-fn replaced(alloc: Global) -> Result<(Option<Name>, bool), Fail> {
-    let mut modules: Vec<Box<dyn PolicyFinderModule>> = Vec::new(alloc);
-    modules.push(Box::new(alloc, MapDocs::new(alloc))?)?;
-    let mut attributes: Vec<Box<dyn AttributeFinderModule>> = Vec::new(alloc);
-    attributes.push(Box::new(alloc, MapRows::new(alloc, Items::new(alloc)))?)?;
-    let mut pdp = Pdp::new(
-        alloc,
-        AttributeFinder::new(attributes),
-        PolicyFinder::new(modules),
-    );
-    permit_reading(alloc, &mut pdp)?;
-    let old = replace_root(alloc, &mut pdp, Some("p2"))?;
-    Ok((old, *pdp.root() == Some(reference(alloc, "p2")?)))
-}
-
-#[test]
-fn roots_are_replaced(rt: HostRuntime) -> Result<(), Fail> {
-    let (old, is_root) = replaced(rt.alloc())?;
-    assert!(rt; old.is_some_and(|old| old.as_str() == "p1") && is_root);
-    Ok(())
-}
-
-/// The decision on reading with that root, its status, and how many look-ups it rests on.
-fn decided_by(alloc: Global, root: Option<&str>) -> Result<(Outcome, Status, usize), Fail> {
-    let mut modules: Vec<Box<dyn PolicyFinderModule>> = Vec::new(alloc);
-    modules.push(Box::new(alloc, MapDocs::new(alloc))?)?;
-    let mut attributes: Vec<Box<dyn AttributeFinderModule>> = Vec::new(alloc);
-    attributes.push(Box::new(alloc, MapRows::new(alloc, Items::new(alloc)))?)?;
-    let mut pdp = Pdp::new(
-        alloc,
-        AttributeFinder::new(attributes),
-        PolicyFinder::new(modules),
-    );
-    permit_reading(alloc, &mut pdp)?;
-    let _old = replace_root(alloc, &mut pdp, root)?;
-    let Evaluation { answer, reads } = reading(alloc, &mut pdp)?;
-    Ok((answer.decision, answer.status, reads.len()))
-}
-
-#[test]
-fn roots_decide(rt: HostRuntime) -> Result<(), Fail> {
-    for &(root, decision, status, count) in ROOTS {
-        assert!(rt; decided_by(rt.alloc(), root)? == (decision, status, count));
-    }
     Ok(())
 }
 

@@ -1,13 +1,7 @@
 //! Serving readers and writers of several kinds, the longest line, and what faults are called.
 
-use ent_eval::Pdp;
-use ent_finder::{
-    AttributeFinder, AttributeFinderModule, MapDocs, MapRows, PolicyFinder, PolicyFinderModule,
-};
-use ent_line::{Answering, LINE_LIMIT, Reply, ServeFault, Service, serve, serve_within};
-use ent_report::Desk;
-use ent_table::{Accepted, Limits, Review};
-use ent_values::Items;
+use ent_line::{Answering, LINE_LIMIT, Reply, ServeFault, serve, serve_within};
+use ent_table::Accepted;
 use std::alloc::{AllocError, Global};
 use std::io;
 use std::io::{BufRead, ErrorKind, Read, Write};
@@ -322,47 +316,4 @@ pub(crate) fn padded(alloc: Global, text: &str, length: usize) -> Result<Vec<u8>
     bytes.extend_from_slice(text.as_bytes())?;
     bytes.resize(length, b' ')?;
     Ok(bytes)
-}
-
-/// The reply of a new service.
-fn reply_to(alloc: Global, line: &[u8]) -> Result<Reply, AllocError> {
-    let mut modules: Vec<Box<dyn PolicyFinderModule>> = Vec::new(alloc);
-    modules.push(Box::new(alloc, MapDocs::new(alloc))?)?;
-    let mut attributes: Vec<Box<dyn AttributeFinderModule>> = Vec::new(alloc);
-    attributes.push(Box::new(alloc, MapRows::new(alloc, Items::new(alloc)))?)?;
-    let pdp = Pdp::new(
-        alloc,
-        AttributeFinder::new(attributes),
-        PolicyFinder::new(modules),
-    );
-    let review = Review::new(alloc, pdp, Limits::standard());
-    Ok(Service::new(alloc, Desk::new(alloc, review)).handle(line))
-}
-
-/// Whether a reply is the report of an empty table.
-fn is_empty_table(reply: &Reply) -> bool {
-    match reply {
-        Reply::Text(text) => text.as_str() == "{\"table\":[]}",
-        _ => false,
-    }
-}
-
-/// Whether a reply refuses a line that is too long.
-fn is_too_long(reply: &Reply) -> bool {
-    matches!(reply, Reply::Refused(1, None))
-}
-
-/// Whether a line of so many bytes that asks for the table is told of it, and whether it is refused as too long.
-fn told(alloc: Global, length: usize) -> Result<(bool, bool), AllocError> {
-    let line = padded(alloc, "{\"do\":\"table\"}", length)?;
-    let reply = reply_to(alloc, line.as_slice())?;
-    Ok((is_empty_table(&reply), is_too_long(&reply)))
-}
-
-#[test]
-fn handles_the_longest_line(rt: HostRuntime) -> Result<(), Fail> {
-    for (length, want) in [(LINE_LIMIT, (true, false)), (LINE_LIMIT + 1, (false, true))] {
-        assert_eq!(rt; told(rt.alloc(), length)?, want);
-    }
-    Ok(())
 }

@@ -56,51 +56,6 @@ pub(crate) fn list_reading(alloc: Global, review: &mut Review) -> Result<(), Fai
     Ok(())
 }
 
-/// Lists ann and bob, reading, and the plan.
-fn list_names(alloc: Global, review: &mut Review) -> Result<(), Fail>
-    requires { IsFresh ⟦<AttributeFinder as Attributes>⟧.sources ⟦<PolicyFinder as Policies>⟧.slots review.old }
-    ensures { IsFresh ⟦<AttributeFinder as Attributes>⟧.sources ⟦<PolicyFinder as Policies>⟧.slots review.new }
-{
-    list_reading(alloc, review)?;
-    let _bob = add_name(alloc, review, List::People, "bob")?;
-    Ok(())
-}
-
-/// Whether a name is among the people, and whether it is among the actions.
-fn listed(review: &Review, name: &str) -> (bool, bool) {
-    (
-        review.listed(List::People, name),
-        review.listed(List::Actions, name),
-    )
-}
-
-/// Whether bob is among the people and the actions of a review of those names, how many requests were evaluated for
-/// it, and its serial.
-fn of_bob(alloc: Global) -> Result<((bool, bool), u128, u64), Fail> {
-    let mut modules: Vec<Box<dyn PolicyFinderModule>> = Vec::new(alloc);
-    modules.push(Box::new(alloc, MapDocs::new(alloc))?)?;
-    let mut attributes: Vec<Box<dyn AttributeFinderModule>> = Vec::new(alloc);
-    attributes.push(Box::new(alloc, MapRows::new(alloc, Items::new(alloc)))?)?;
-    let pdp = Pdp::new(
-        alloc,
-        AttributeFinder::new(attributes),
-        PolicyFinder::new(modules),
-    );
-    let mut review = Review::new(alloc, pdp, Limits::standard());
-    list_names(alloc, &mut review)?;
-    Ok((
-        listed(&review, "bob"),
-        review.evaluations(),
-        review.serial(),
-    ))
-}
-
-#[test]
-fn names_are_listed(rt: HostRuntime) -> Result<(), Fail> {
-    assert!(rt; of_bob(rt.alloc())? == ((true, false), 2, 4));
-    Ok(())
-}
-
 /// Limits with room for one person, and for no document.
 fn narrow() -> Limits
     ensures { IsStandardAtMost result }

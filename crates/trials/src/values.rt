@@ -4,31 +4,6 @@ use ent_values::{Bag, DataType, Date, Items, Shared, Text, Value, YearMonth};
 use std::alloc::{AllocError, Global};
 use std::test::Fail;
 
-/// The types with their names.
-const NAMES: &[(&str, DataType)] = &[
-    ("string", DataType::Text),
-    ("boolean", DataType::Boolean),
-    ("integer", DataType::Integer),
-    ("date", DataType::Date),
-    ("anyURI", DataType::AnyUri),
-    ("yearMonthDuration", DataType::YearMonth),
-];
-
-#[test]
-fn type_names(rt: HostRuntime) {
-    for &(name, datatype) in NAMES {
-        assert_eq!(rt; DataType::from_name(name), Some(datatype));
-        assert_eq!(rt; datatype.short_name(), name);
-        assert_eq!(rt; DataType::from_name(datatype.uri()), Some(datatype));
-    }
-    assert_eq!(rt;
-        DataType::YearMonth.uri(),
-        "http://www.w3.org/2001/XMLSchema#yearMonthDuration"
-    );
-    assert_eq!(rt; DataType::from_name("String"), None);
-    assert_eq!(rt; DataType::from_name("time"), None);
-}
-
 /// Texts with what the value that each spells is written as, in the order of the values, which come after the empty
 /// string.
 const WRITTEN: &[(DataType, &str, &str)] = &[
