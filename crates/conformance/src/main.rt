@@ -2,17 +2,12 @@
 //! session's heading with the reply to each of its lines.
 #![tactic(auto)]
 
-ghost use Rattle.std.specs.Prelude.{◌≡◌, ◌≤◌, ◌⊎◌};
+ghost use Rattle.std.specs.Prelude.{◌≡◌, ◌⊎◌};
+ghost use Rattle.ent_program.specs.Starting.{IsFew};
 
-use ent_eval::{ACCESS_SUBJECT, ACTION, Pdp, RESOURCE};
-use ent_finder::{
-    AttributeFinder, AttributeFinderModule, MapDocs, MapRows, PolicyFinder, PolicyFinderModule,
-};
-use ent_line::{ServeFault, Service, send_all, serve};
-use ent_report::Desk;
-use ent_table::{Limits, Review};
-use ent_values::{Items, Text};
-use std::alloc::{AllocError, Global};
+use ent_line::{ServeFault, send_all};
+use ent_program::{Modules, serve_from};
+use std::alloc::Global;
 use std::io;
 use std::io::{BufRead, BufReader, BufWriter, ErrorKind, Write};
 use std::process::ExitCode;
@@ -28,8 +23,7 @@ const HEADING: &[u8] = b"# ";
 
 /// How many modules of each sort the service of a session has: the number from 1 to 4 behind its name, or else 2.
 fn module_count(heading: &[u8]) -> usize
-    ensures some { 1 ≤ result }
-    ensures few { result ≤ 4 }
+    ensures { IsFew result }
 {
     match heading {
         [.., b' ', b'1', b'\n'] => 1,
@@ -37,15 +31,6 @@ fn module_count(heading: &[u8]) -> usize
         [.., b' ', b'4', b'\n'] => 4,
         _ => 2,
     }
-}
-
-/// The categories that a module of attributes supports.
-fn categories(alloc: Global) -> Result<Items<Text>, AllocError> {
-    let mut categories = Items::with_capacity(alloc, 3)?;
-    for category in [ACCESS_SUBJECT, RESOURCE, ACTION] {
-        categories.push(Text::from_str(alloc, category)?)?;
-    }
-    Ok(categories)
 }
 
 /// Writes the line that names a session, and what a new service replies to its lines.
@@ -57,21 +42,11 @@ fn run_session<W: Write>(
 ) -> Result<(), ServeFault> {
     send_all(writer, &[heading])?;
     let count = module_count(heading);
-    let mut attributes: Vec<Box<dyn AttributeFinderModule>> = Vec::new(alloc);
-    let mut policies: Vec<Box<dyn PolicyFinderModule>> = Vec::new(alloc);
-    for _ in 0..count {
-        let store = MapRows::new(alloc, categories(alloc)?);
-        attributes.push(Box::new(alloc, store)?)?;
-        policies.push(Box::new(alloc, MapDocs::new(alloc))?)?;
-    }
-    let pdp = Pdp::new(
-        alloc,
-        AttributeFinder::new(attributes),
-        PolicyFinder::new(policies),
-    );
-    let review = Review::new(alloc, pdp, Limits::standard());
-    let mut service = Service::new(alloc, Desk::new(alloc, review));
-    serve(alloc, &mut service, &mut lines, writer)?;
+    let modules = Modules {
+        attributes: count,
+        policies: count,
+    };
+    serve_from(alloc, modules, &mut lines, writer)?;
     Ok(())
 }
 
