@@ -22,10 +22,13 @@ pub fn given_words<R: Env + AllocGlobal>(rt: &R) -> Result<Vec<String>, WordsFau
         Err(e) if e.kind() == ErrorKind::OutOfMemory => return Err(WordsFault::Memory),
         Err(_) => return Err(WordsFault::NotText),
     };
-    match given.collect(rt.alloc()) {
-        Ok(words) => Ok(words),
-        Err(_) => Err(WordsFault::Memory),
+    let mut words = Vec::new(rt.alloc());
+    for word in given {
+        if words.push(word).is_err() {
+            return Err(WordsFault::Memory);
+        }
     }
+    Ok(words)
 }
 
 /// The argument of `check`: the file that is read.
