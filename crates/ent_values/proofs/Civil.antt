@@ -12,7 +12,8 @@ use Rattle.jiff_core.specs.Calendar.{IsDate, IsYear, days_in_month}
 use Rattle.jiff_core.specs.Date.{IsYmd, epoch_day}
 use Rattle.jiff_core.specs.declared.civil.date.Date.{Date}
 use Rattle.ent_values.specs.Calendar.{Day, day_of, day_order, is_date}
-use Rattle.ent_values.specs.Civil.{IsFromYearOne, day_in, day_of_civil, is_real, month_in, year_in}
+use Rattle.ent_values.specs.Civil.{IsFromYearOne, day_of_civil}
+use Rattle.ent_values.specs.proofs_only.Civil.{day_in, is_real, month_in, year_in}
 
 -- the first day comes before the second
 abbrev IsBefore : Day → Day → Type 0

@@ -9,3 +9,4 @@ pub mod Same
 pub mod Types
 pub mod Writing
 pub mod formers
+pub mod proofs_only

@@ -18,8 +18,8 @@ pub struct Date {
 
 impl Model for Date {
     ghost use Rattle.ent_values.specs.Calendar.{Day};
-    ghost use Rattle.ent_values.specs.Civil.{IsFromYearOne, civil_of, day_of_civil};
-    ghost use Rattle.ent_values.specs.Civil.{civil_back};
+    ghost use Rattle.ent_values.specs.Civil.{IsFromYearOne, day_of_civil};
+    ghost use Rattle.ent_values.specs.proofs_only.Civil.{civil_back, civil_of};
 
     ghost Value = { Day };
 
