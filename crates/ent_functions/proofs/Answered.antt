@@ -15,7 +15,7 @@ use Rattle.ent_functions.specs.Arguments.{HasAnswer, type_of_arg, truth, of_bag,
 use Rattle.ent_functions.specs.Arguments as arguments_of
 use Rattle.ent_functions.specs.Dates.{date_in_month, day_in_month, month_number, months_later}
 use Rattle.ent_functions.specs.Integers.{from_left, is_zero, partial_results, quotient, remainder, within_64_bits, whole_result}
-use Rattle.ent_functions.specs.Reading.{AreOneBag, AreTwoBags, AreTwoValues, AreValueAndBag, Takes}
+use Rattle.ent_functions.specs.proofs_only.Reading.{AreOneBag, AreTwoBags, AreTwoValues, AreValueAndBag, Takes}
 use Rattle.ent_functions.specs.Sets.{are_equal_sets, have_common, in_both, is_among, is_subset, only_value}
 use Rattle.ent_functions.specs.Orders.{stands}
 use Rattle.ent_functions.specs.Texts.{begins_with, ends_with, has_part}

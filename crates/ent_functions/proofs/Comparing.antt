@@ -9,7 +9,7 @@ use Rattle.ent_values.specs.declared.value.Value.{Value}
 use Rattle.ent_values.specs.declared.value.Value.TheVariants as values
 use Rattle.ent_functions.specs.Applied.{first_order}
 use Rattle.ent_functions.specs.Arguments.{type_of_arg, truth, is_true}
-use Rattle.ent_functions.specs.Reading.{Takes, AreTwoValues, is_test, is_test_of_two, seen_argument, seen_arguments}
+use Rattle.ent_functions.specs.proofs_only.Reading.{Takes, AreTwoValues, is_test, is_test_of_two, seen_argument, seen_arguments}
 use Rattle.ent_functions.specs.Types.{first_order_type, element_type, ordered_type, boolean, text, value_of}
 use Rattle.ent_functions.specs.declared.arg.Arg.{Arg}
 use Rattle.ent_functions.specs.declared.arg.Arg.TheVariants.{One, Many, Fun}

@@ -8,7 +8,7 @@ use Rattle.ent_values.specs.Bags.{AllOfType}
 use Rattle.ent_values.specs.Types.{datatype_of}
 use Rattle.ent_values.specs.declared.datatype.DataType.{DataType}
 use Rattle.ent_functions.specs.Arguments.{type_of_arg, values_in, values_of}
-use Rattle.ent_functions.specs.Reading.{HoldType, IsHeld, held_type}
+use Rattle.ent_functions.specs.proofs_only.Reading.{HoldType, IsHeld, held_type}
 use Rattle.ent_functions.specs.Sets.{each_once}
 use Rattle.ent_functions.specs.declared.arg.Arg.{Arg}
 use Rattle.ent_functions.specs.declared.arg.Arg.TheVariants.{One, Many, Fun}

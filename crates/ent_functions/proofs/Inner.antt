@@ -11,7 +11,7 @@ use Rattle.ent_values.specs.Types.{datatype_of}
 use Rattle.ent_values.specs.declared.value.Value.{Value}
 use Rattle.ent_functions.specs.Arguments.{type_of_arg}
 use Rattle.ent_functions.specs.Higher.{bag_values_in, with_value}
-use Rattle.ent_functions.specs.Reading.{IsInner, Takes, held_type, is_test}
+use Rattle.ent_functions.specs.proofs_only.Reading.{IsInner, Takes, held_type, is_test}
 use Rattle.ent_functions.specs.Types.{bag_of, boolean, date, duration, each, exactly, first_order_type, higher_order_type, integer, is_bag, is_boolean, one_of, same_type, text, two_or_more, value_of}
 use Rattle.ent_functions.specs.declared.arg.Arg.{Arg}
 use Rattle.ent_functions.specs.declared.arg.Arg.TheVariants.{One, Many, Fun}

@@ -9,7 +9,7 @@ use Rattle.ent_values.specs.Bags.{Contents}
 use Rattle.ent_values.specs.Types.{is_textual}
 use Rattle.ent_functions.specs.Applied.{allocates, first_order}
 use Rattle.ent_functions.specs.Arguments.{Applies, HasAnswer, TakesMemory, type_of_arg, values_in, values_of}
-use Rattle.ent_functions.specs.Reading.{Takes}
+use Rattle.ent_functions.specs.proofs_only.Reading.{Takes}
 use Rattle.ent_functions.specs.Sets.{each_once}
 use Rattle.ent_functions.specs.Types.{bag_of, element_type, first_order_type, value_of}
 use Rattle.ent_functions.specs.declared.arg.Arg.{Arg}

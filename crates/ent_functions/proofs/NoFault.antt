@@ -11,7 +11,7 @@ use Rattle.ent_values.specs.declared.value.Value.TheVariants as values
 use Rattle.ent_functions.specs.Applied.{applied, first_order}
 use Rattle.ent_functions.specs.Arguments.{of_texts, truth, type_of_arg, is_true}
 use Rattle.ent_functions.specs.Orders.{stands}
-use Rattle.ent_functions.specs.Reading.{Takes, is_test, is_test_of_two}
+use Rattle.ent_functions.specs.proofs_only.Reading.{Takes, is_test, is_test_of_two}
 use Rattle.ent_functions.specs.Texts.{begins_with, ends_with, has_part}
 use Rattle.ent_functions.specs.Types.{boolean, first_order_type, higher_order_type, is_boolean, one_of, result_type_of}
 use Rattle.ent_functions.specs.declared.arg.Arg.{Arg}

@@ -8,8 +8,9 @@ use Rattle.ent_values.specs.Reading.{is_within_64_bits}
 use Rattle.ent_values.specs.declared.value.Value.TheVariants as values
 use Rattle.ent_functions.specs.Applied.{first_order}
 use Rattle.ent_functions.specs.Arguments.{type_of_arg, integer_in, integers_of}
-use Rattle.ent_functions.specs.Integers.{from_left, integer_or, next_result, partial_results, within_64_bits}
-use Rattle.ent_functions.specs.Reading.{Takes, is_arithmetic, is_of_two_integers}
+use Rattle.ent_functions.specs.Integers.{from_left, partial_results, within_64_bits}
+use Rattle.ent_functions.specs.proofs_only.Integers.{integer_or, next_result}
+use Rattle.ent_functions.specs.proofs_only.Reading.{Takes, is_arithmetic, is_of_two_integers}
 use Rattle.ent_functions.specs.Types.{first_order_type, integer}
 use Rattle.ent_functions.specs.declared.arg.Arg.{Arg}
 use Rattle.ent_functions.specs.declared.arg.Arg.TheVariants.{One}

@@ -2,7 +2,7 @@
 use Rattle.std.proofs.Common.{◌≡◌, Bool, true, false, List, [], ◌∷◌, map, refl}
 use Rattle.ent_values.specs.declared.datatype.DataType.{DataType}
 use Rattle.ent_functions.specs.Arguments.{type_of_arg}
-use Rattle.ent_functions.specs.Reading.{AreOneBag, AreTwoBags, AreValueAndBag, HoldType, Takes, is_date_sum, is_set_test}
+use Rattle.ent_functions.specs.proofs_only.Reading.{AreOneBag, AreTwoBags, AreValueAndBag, HoldType, Takes, is_date_sum, is_set_test}
 use Rattle.ent_functions.specs.Types.{bag_of, boolean, date, duration, element_type, first_order_type, integer, value_of}
 use Rattle.ent_functions.specs.declared.arg.Arg.{Arg}
 use Rattle.ent_functions.specs.declared.arg.Arg.TheVariants.{One, Many, Fun}

@@ -16,7 +16,7 @@ use Rattle.ent_functions.specs.Arguments.{Applies, type_of_arg, truth, of_bag, o
 use Rattle.ent_functions.specs.Arguments as arguments_of
 use Rattle.ent_functions.specs.Dates.{date_in_month, month_number, months_later}
 use Rattle.ent_functions.specs.Integers.{from_left, is_zero, partial_results, quotient, remainder, within_64_bits}
-use Rattle.ent_functions.specs.Reading.{IsHeld, Takes, is_one_and_only}
+use Rattle.ent_functions.specs.proofs_only.Reading.{IsHeld, Takes, is_one_and_only}
 use Rattle.ent_functions.specs.Sets.{are_equal_sets, have_common, is_among, is_subset, only_value}
 use Rattle.ent_functions.specs.Orders.{stands}
 use Rattle.ent_functions.specs.Texts.{begins_with, ends_with, has_part}

@@ -2,7 +2,7 @@
 use Rattle.std.proofs.Common.{◌≡◌, Bool, false, List, [], ◌∷◌, map, refl, ap}
 use Rattle.std.specs.List.{list_all}
 use Rattle.std.specs.Prelude.{◌&&◌}
-use Rattle.ent_functions.specs.Types.{seen_type}
+use Rattle.ent_functions.specs.proofs_only.Types.{seen_type}
 use Rattle.ent_functions.specs.declared.types.ArgType.{ArgType}
 
 -- a test of each of what a function gives is a test of that at each

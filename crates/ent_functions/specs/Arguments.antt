@@ -32,7 +32,7 @@ Applies defined (Err Overflow) = defined ≡ Err Overflow
 Applies defined (Err NotSingle) = defined ≡ Err NotSingle
 Applies defined (Err DateRange) = defined ≡ Err DateRange
 
--- what a function comes to where its arguments have no result type, and nowhere else: no fault of a function is Memory
+-- what a function comes to where its arguments have no result type, and nowhere else (`WellTypedCallsHaveAnswers`): no fault of a function is Memory
 abbrev pub ill_typed : Result Arg Fault
 ill_typed = Err Memory
 

@@ -1,8 +1,8 @@
 -- Functions of integers (appendix A.3.2): the numbers have no bounds, and then it is asked whether the result is within 64 bits.
-use Rattle.std.specs.Prelude.{ℤ, Bool, int_div, int_rem, unsigned_abs, ◌==◌, List, [], ◌∷◌, unwrap_or, option_map, Option, Some, None, Result, Err, if◌then◌else◌}
+use Rattle.std.specs.Prelude.{ℤ, Bool, int_div, int_rem, unsigned_abs, ◌==◌, List, [], ◌∷◌, Result, Err, if◌then◌else◌}
 use Rattle.std.specs.List.{list_all}
 use Rattle.ent_values.specs.Reading.{is_within_64_bits}
-use Rattle.ent_functions.specs.Arguments.{integer, integer_in}
+use Rattle.ent_functions.specs.Arguments.{integer}
 use Rattle.ent_functions.specs.declared.arg.Arg.{Arg}
 use Rattle.ent_functions.specs.declared.arg.Fault.{Fault}
 use Rattle.ent_functions.specs.declared.arg.Fault.TheVariants.{DivideByZero, Overflow}
@@ -11,19 +11,10 @@ use Rattle.ent_functions.specs.declared.arg.Fault.TheVariants.{DivideByZero, Ove
 abbrev pub within_64_bits : ℤ → Result Arg Fault
 within_64_bits number = if is_within_64_bits number then integer number else Err Overflow
 
--- an integer as a result, or that fault where there is none
-abbrev pub integer_or : Fault → Option ℤ → Result Arg Fault
-integer_or fault (Some number) = integer number
-integer_or fault None = Err fault
-
 -- the results of combining numbers from left to right, each with the one before, from a first one on
 abbrev pub partial_results : (ℤ → ℤ → ℤ) → ℤ → List ℤ → List ℤ
 partial_results f first [] = first ∷ []
 partial_results f first (number ∷ numbers) = first ∷ partial_results f (f first number) numbers
-
--- the next of them, with the integer that an argument is
-abbrev pub next_result : (ℤ → ℤ → ℤ) → ℤ → Arg → ℤ
-next_result f total argument = unwrap_or (option_map (λ number. f total number) (integer_in argument)) total
 
 -- the last of them
 abbrev pub whole_result : (ℤ → ℤ → ℤ) → ℤ → List ℤ → ℤ

@@ -5,8 +5,8 @@ pub mod Higher
 pub mod Identifiers
 pub mod Integers
 pub mod Orders
-pub mod Reading
 pub mod Same
 pub mod Sets
 pub mod Texts
 pub mod Types
+pub mod proofs_only

@@ -106,11 +106,6 @@ abbrev pub one_of : ArgType → ArgType
 one_of (Many type) = One type
 one_of given = given
 
--- the type of one argument, with a value in a bag's place if that is asked for
-abbrev pub seen_type : Bool → ArgType → ArgType
-seen_type true given = one_of given
-seen_type false given = given
-
 -- it is the type of one boolean
 abbrev pub is_boolean : Option ArgType → Bool
 is_boolean (Some type) = same_type type boolean

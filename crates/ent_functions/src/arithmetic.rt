@@ -5,8 +5,9 @@ ghost use Rattle.std.specs.Int.{w64};
 ghost use Rattle.ent_values.specs.declared.value.Value.TheVariants as values;
 ghost use Rattle.ent_functions.specs.Applied.{first_order};
 ghost use Rattle.ent_functions.specs.Arguments.{integers_of};
-ghost use Rattle.ent_functions.specs.Integers.{from_left, integer_or, next_result, quotient, remainder, within_64_bits};
-ghost use Rattle.ent_functions.specs.Reading.{Takes, is_arithmetic, is_of_two_integers};
+ghost use Rattle.ent_functions.specs.Integers.{from_left, quotient, remainder, within_64_bits};
+ghost use Rattle.ent_functions.specs.proofs_only.Integers.{integer_or, next_result};
+ghost use Rattle.ent_functions.specs.proofs_only.Reading.{Takes, is_arithmetic, is_of_two_integers};
 
 use crate::arg::{Arg, Fault};
 use crate::function::Function;

@@ -5,7 +5,7 @@ ghost use Rattle.ent_values.specs.Types.{is_textual};
 ghost use Rattle.ent_functions.specs.Applied.{bag_result};
 ghost use Rattle.ent_functions.specs.Arguments.{Applies, values_in, values_of};
 ghost use Rattle.ent_functions.specs.Integers.{within_64_bits};
-ghost use Rattle.ent_functions.specs.Reading.{HoldType, IsHeld};
+ghost use Rattle.ent_functions.specs.proofs_only.Reading.{HoldType, IsHeld};
 ghost use Rattle.ent_functions.specs.Sets.{is_among, only_value};
 ghost use Rattle.ent_functions.specs.Types.{element_type};
 ghost use Rattle.ent_functions.specs.declared.arg.Fault.TheVariants.{Memory};

@@ -6,7 +6,7 @@ ghost use Rattle.ent_values.specs.Types.{datatype_of};
 ghost use Rattle.ent_functions.specs.Applied.{all_of, any_of, comes_true_with};
 ghost use Rattle.ent_functions.specs.Arguments.{truth, type_of_arg};
 ghost use Rattle.ent_functions.specs.Higher.{bag_values, bag_values_in, with_value};
-ghost use Rattle.ent_functions.specs.Reading.{IsInner, Takes, held_type, is_test};
+ghost use Rattle.ent_functions.specs.proofs_only.Reading.{IsInner, Takes, held_type, is_test};
 ghost use Rattle.ent_functions.specs.Types.{higher_order_type};
 
 use crate::arg::Arg;

@@ -6,7 +6,8 @@ ghost use Rattle.ent_values.specs.Order.{value_order};
 ghost use Rattle.ent_functions.specs.Applied.{first_order};
 ghost use Rattle.ent_functions.specs.Arguments.{is_true, truth};
 ghost use Rattle.ent_functions.specs.Orders.{stands};
-ghost use Rattle.ent_functions.specs.Reading.{Takes, is_test, is_test_of_two, seen_argument, seen_arguments};
+ghost use Rattle.ent_functions.specs.proofs_only.Reading.{Takes, is_test, is_test_of_two, seen_argument};
+ghost use Rattle.ent_functions.specs.proofs_only.Reading.{seen_arguments};
 ghost use Rattle.ent_functions.specs.Texts.{begins_with, ends_with, has_part};
 
 use crate::arg::Arg;

@@ -5,8 +5,8 @@ ghost use Rattle.ent_values.specs.Types.{datatype_of};
 ghost use Rattle.ent_values.specs.declared.datatype.DataType.TheVariants as data_types;
 ghost use Rattle.ent_values.specs.declared.value.Value.TheVariants as values;
 ghost use Rattle.ent_functions.specs.Arguments.{type_of_arg, integer_in, is_true};
-ghost use Rattle.ent_functions.specs.Reading.{AreOneBag, AreTwoBags, AreTwoValues, AreValueAndBag};
-ghost use Rattle.ent_functions.specs.Reading.{seen_argument, seen_arguments};
+ghost use Rattle.ent_functions.specs.proofs_only.Reading.{AreOneBag, AreTwoBags, AreTwoValues, AreValueAndBag};
+ghost use Rattle.ent_functions.specs.proofs_only.Reading.{seen_argument, seen_arguments};
 ghost use Rattle.ent_functions.specs.Types.{higher_order_type};
 ghost use Rattle.ent_functions.specs.declared.types.ArgType.TheVariants as types;
 

@@ -4,7 +4,7 @@ ghost use Rattle.std.specs.Prelude.{◌≡◌, ◌<◌, List, [], ◌∷◌, ◌
 ghost use Rattle.ent_values.specs.declared.value.Value.{Value};
 ghost use Rattle.ent_functions.specs.Applied.{bag_result};
 ghost use Rattle.ent_functions.specs.Arguments.{Applies, values_of};
-ghost use Rattle.ent_functions.specs.Reading.{HoldType, IsHeld};
+ghost use Rattle.ent_functions.specs.proofs_only.Reading.{HoldType, IsHeld};
 ghost use Rattle.ent_functions.specs.Sets.{are_equal_sets, each_once, have_common, in_both, is_subset};
 ghost use Rattle.ent_functions.specs.Types.{element_type};
 

@@ -4,7 +4,8 @@ ghost use Rattle.std.specs.Prelude.{◌≡◌, ◌==◌, [], ◌∷◌, map, cou
 ghost use Rattle.std.specs.List.{list_all};
 ghost use Rattle.std.specs.Cmp.Lexicographic.{pointwise};
 ghost use Rattle.ent_functions.specs.Types.{element_type, ordered_type, same_type, exactly, each, two_or_more, is_bag};
-ghost use Rattle.ent_functions.specs.Types.{one_of, seen_type, is_boolean, first_order_type, higher_order_type};
+ghost use Rattle.ent_functions.specs.Types.{one_of, is_boolean, first_order_type, higher_order_type};
+ghost use Rattle.ent_functions.specs.proofs_only.Types.{seen_type};
 ghost use Rattle.ent_functions.specs.Types.{result_type_of};
 
 use crate::function::{Element, Function, Ordered};

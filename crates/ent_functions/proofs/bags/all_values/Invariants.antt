@@ -1,7 +1,7 @@
 use Rattle.std.proofs.Common.{◌≡◌, take}
 use Rattle.std.specs.Prelude.{All}
 use Rattle.ent_functions.specs.Arguments.{values_of}
-use Rattle.ent_functions.specs.Reading.{IsHeld}
+use Rattle.ent_functions.specs.proofs_only.Reading.{IsHeld}
 use Rattle.ent_functions.proofs.bags.all_values.Given as goal
 
 abbrev pub invariant-loop-argument : goal.invariant-loop-argument

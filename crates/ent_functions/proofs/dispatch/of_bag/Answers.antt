@@ -1,6 +1,6 @@
 use Rattle.std.proofs.Common.{◌≡◌, true, [], refl}
 use Rattle.std.proofs.lemmas.List.Elements.{All-cons, All-nil}
-use Rattle.ent_functions.specs.Reading.{IsHeld, Takes}
+use Rattle.ent_functions.specs.proofs_only.Reading.{IsHeld, Takes}
 use Rattle.ent_functions.specs.declared.arg.Arg.TheVariants.{Many}
 use Rattle.ent_functions.specs.declared.function.Function.TheVariants as functions
 use Rattle.ent_functions.proofs.Memory.{only_value_wants}

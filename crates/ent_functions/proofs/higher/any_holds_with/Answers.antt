@@ -3,7 +3,7 @@ use Rattle.ent_values.specs.declared.value.Value.{Value}
 use Rattle.ent_functions.specs.Applied.{comes_true_with}
 use Rattle.ent_functions.specs.Arguments.{comes_true}
 use Rattle.ent_functions.specs.Higher.{with_value}
-use Rattle.ent_functions.specs.Reading.{Takes}
+use Rattle.ent_functions.specs.proofs_only.Reading.{Takes}
 use Rattle.ent_functions.proofs.Walks.{any_found, any_on}
 use Rattle.ent_functions.proofs.higher.any_holds_with.Goals as goal
 

@@ -1,5 +1,5 @@
 use Rattle.std.specs.Prelude.{option_copied}
-use Rattle.ent_functions.specs.Reading.{seen_arguments}
+use Rattle.ent_functions.specs.proofs_only.Reading.{seen_arguments}
 use Rattle.ent_functions.proofs.Comparing.{test_of_two, two_values_taken}
 use Rattle.ent_functions.proofs.logic.holds.Goals as goal
 

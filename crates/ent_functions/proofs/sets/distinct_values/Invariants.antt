@@ -1,7 +1,7 @@
 use Rattle.std.proofs.Common.{◌≡◌, take}
 use Rattle.std.specs.Prelude.{All}
 use Rattle.ent_functions.specs.Arguments.{values_of}
-use Rattle.ent_functions.specs.Reading.{IsHeld}
+use Rattle.ent_functions.specs.proofs_only.Reading.{IsHeld}
 use Rattle.ent_functions.specs.Sets.{each_once}
 use Rattle.ent_functions.proofs.sets.distinct_values.Given as goal
 
