@@ -3,7 +3,8 @@ use Rattle.std.proofs.Common.{◌≡◌, ℕ, ◌+◌, Bool, true, false, ◌||�
 use Rattle.std.specs.Prelude.{if◌then◌else◌}
 use Rattle.std.specs.List.{list_any}
 use Rattle.std.proofs.lemmas.List.Folds.{list_any-append}
-use Rattle.ent_combine.specs.Choose.{is_indeterminate, matching_from, only_member, choose, with_target, is_bad, seen_targets}
+use Rattle.ent_combine.specs.Choose.{is_indeterminate, matching_from, only_member, choose, is_bad, seen_targets}
+use Rattle.ent_combine.specs.proofs_only.Choose.{with_target}
 use Rattle.ent_combine.specs.Seen.{rest_to_passing}
 use Rattle.ent_combine.specs.declared.chooser.Choice.TheVariants.{Nobody, Only, Bad}
 use Rattle.ent_combine.specs.declared.chooser.Choice.{Choice}

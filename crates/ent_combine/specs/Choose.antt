@@ -8,7 +8,7 @@ use Rattle.ent_combine.specs.declared.combiner.Progress.TheVariants.{Go, Stop}
 use Rattle.ent_combine.specs.declared.chooser.Choice.{Choice}
 use Rattle.ent_combine.specs.declared.chooser.Choice.TheVariants.{Nobody, Only, Bad}
 use Rattle.ent_combine.specs.declared.chooser.TargetResult.{TargetResult}
-use Rattle.ent_combine.specs.declared.chooser.TargetResult.TheVariants.{Match, NoMatch, Indeterminate}
+use Rattle.ent_combine.specs.declared.chooser.TargetResult.TheVariants.{Match, Indeterminate}
 
 -- whether a target applies
 abbrev pub is_match : TargetResult → Bool
@@ -61,14 +61,6 @@ progress_at_target ts t = progress_of (choose (ts ++ t ∷ []))
 pub record HasSeen (c : Chosen) (ts : List TargetResult) : Type 0 where
   pub taken : c.taken ≡ length ts
   pub choice : c.choice ≡ choose ts
-
--- a choice after one more target, that of the child at `place`
-abbrev pub with_target : Choice → ℕ → TargetResult → Choice
-with_target choice place Indeterminate = Bad
-with_target choice place NoMatch = choice
-with_target Nobody place Match = Only place
-with_target (Only i) place Match = Bad
-with_target Bad place Match = Bad
 
 -- what follows doesn't change a choice that is Bad
 abbrev pub BadStays : Type 0

@@ -5,3 +5,4 @@ pub mod Identifiers
 pub mod Seen
 pub mod Taken
 pub mod Under
+pub mod proofs_only

@@ -1,5 +1,6 @@
 ghost use Rattle.std.specs.Prelude.{◌≡◌, ◌+◌, ◌<◌, List, [], ◌∷◌, ◌++◌};
-ghost use Rattle.ent_combine.specs.Choose.{choose, progress_of, progress_at_target, with_target, HasSeen};
+ghost use Rattle.ent_combine.specs.Choose.{choose, progress_of, progress_at_target, HasSeen};
+ghost use Rattle.ent_combine.specs.proofs_only.Choose.{with_target};
 ghost use Rattle.ent_combine.specs.Choose.{BadStays, OnlyBadStays, SeenTargetsAreEnough};
 ghost use Rattle.ent_combine.specs.declared.chooser.TargetResult.{TargetResult};
 
