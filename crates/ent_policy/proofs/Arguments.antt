@@ -6,7 +6,7 @@ use Rattle.ent_functions.specs.declared.types.ArgType.{ArgType}
 use Rattle.ent_policy.specs.declared.expression.Expression.{Expression}
 use Rattle.ent_policy.specs.Depths.{depth_with, greatest}
 use Rattle.ent_policy.specs.declared.measure.Measured.{Measured}
-use Rattle.ent_policy.specs.Measure.{AreMeasured, measured_with}
+use Rattle.ent_policy.specs.proofs_only.Measure.{AreMeasured, measured_with}
 use Rattle.ent_policy.specs.Sizes.{nodes_with}
 use Rattle.ent_policy.specs.Typing.{all_typed, type_with}
 

@@ -5,7 +5,8 @@ use Rattle.std.proofs.lemmas.Bool.{and_parts, lt-ltb}
 use Rattle.std.proofs.lemmas.Bool.Decides.{nat_tests}
 use Rattle.std.proofs.lemmas.List.{length-map, take_more, take_more_set, take_all, map_push}
 use Rattle.std.proofs.lemmas.List.Splits.{length-slice_split, slice_split_none, slice_split_at}
-use Rattle.ent_policy.specs.Versions.{all_there, behind_dot, dotted_of, pieces}
+use Rattle.ent_policy.specs.Versions.{all_there, dotted_of, pieces}
+use Rattle.ent_policy.specs.proofs_only.Versions.{behind_dot}
 
 -- ---- reading them, one after another
 

@@ -23,7 +23,7 @@ use Rattle.ent_policy.specs.declared.given.GivenExpression.{GivenExpression}
 use Rattle.ent_policy.specs.declared.given.GivenExpressions.{GivenExpressions}
 use Rattle.ent_policy.specs.declared.key.Reference.{Reference}
 use Rattle.ent_policy.specs.Depths.{deep_in_set, deep_in_child, defined_depth, depth, depth_with, greatest, has_deep, is_deep, is_deep_condition, is_deep_given, is_deep_given_expression, is_deep_rule, set_depth_step, child_depth_step}
-use Rattle.ent_policy.specs.Measure.{IsExtentOf, IsExtentOfPolicy, IsTableOf, Table, all_of_extent, any_of_extent, assignment_extent, condition_extent, definition_extent, found, given_expression_extent, given_extent, limited, match_extent, measured_extent, measured_with, policy_extent, rule_extent, target_extent, together, child_extent, whole}
+use Rattle.ent_policy.specs.proofs_only.Measure.{IsExtentOf, IsExtentOfPolicy, IsTableOf, Table, all_of_extent, any_of_extent, assignment_extent, condition_extent, definition_extent, found, given_expression_extent, given_extent, limited, match_extent, measured_extent, measured_with, policy_extent, rule_extent, target_extent, together, child_extent, whole}
 use Rattle.ent_policy.specs.Sizes.{any_of_nodes, child_nodes_step, child_references_step, condition_nodes, defined_nodes, given_expression_nodes, given_nodes, nodes, nodes_with, references, rule_nodes, set_nodes_step, set_references_step, target_nodes}
 use Rattle.ent_policy.specs.Typing.{all_of_is_typed, any_of_is_typed, assignment_is_typed, condition_is_typed, definition_is_typed, given_expression_is_typed, given_is_typed, held, is_boolean, is_typed, match_is_typed, policy_is_typed, rule_is_typed, set_step, target_is_typed, child_step, type_in}
 use Rattle.ent_policy.specs.Variables.{given_variables, has_variable_fault, is_resolved, variables, variables_of_set, variables_of_child}

@@ -11,8 +11,8 @@ use Rattle.ent_policy.specs.declared.expression.VariableDefinition.{VariableDefi
 use Rattle.ent_policy.specs.declared.measure.Measured.{Measured}
 use Rattle.ent_policy.specs.Depths.{depth_with}
 use Rattle.ent_policy.specs.Limits.{is_among}
-use Rattle.ent_policy.specs.Measure.{IsTableOf, Table, found, measured_variable, measured_with}
-use Rattle.ent_policy.specs.Order.{IsInOrder, IsOrderOf}
+use Rattle.ent_policy.specs.proofs_only.Measure.{IsTableOf, Table, found, measured_variable, measured_with}
+use Rattle.ent_policy.specs.proofs_only.Order.{IsInOrder, IsOrderOf}
 use Rattle.ent_policy.specs.Sizes.{nodes_with}
 use Rattle.ent_policy.specs.Typing.{held, variable_type}
 use Rattle.ent_policy.specs.Variables.{defined, definition_of, followed, ids_of, is_resolved, uses_only}

@@ -10,7 +10,7 @@ use Rattle.std.specs.Cmp.{IsEquivalence}
 use Rattle.std.specs.Cmp.Lexicographic.{on_texts_equal, slice_cmp}
 use Rattle.std.specs.Ordering.{is_eq}
 use Rattle.ent_policy.specs.Limits.{has_double, is_among}
-use Rattle.ent_policy.specs.Order.{has_id}
+use Rattle.ent_policy.specs.proofs_only.Order.{has_id}
 
 -- the laws of equal ids
 pub same_id : IsEquivalence bytes_eq

@@ -9,6 +9,7 @@ pub mod Arguments
 pub mod Filling
 pub mod Extents
 pub mod Same
+pub mod StandIns
 pub mod Written
 pub mod Patterns
 pub mod Accepting

@@ -14,7 +14,7 @@ use Rattle.ent_policy.specs.declared.expression.Expression.TheFolds.{fold-roll-E
 use Rattle.ent_policy.specs.declared.expression.Expression.TheViews.{roll-Expression}
 use Rattle.ent_policy.specs.declared.measure.Measured.{Measured}
 use Rattle.ent_policy.specs.Depths.{depth_step, depth_with, greatest}
-use Rattle.ent_policy.specs.Measure.{measured_with}
+use Rattle.ent_policy.specs.proofs_only.Measure.{measured_with}
 use Rattle.ent_policy.specs.Sizes.{nodes_step, nodes_with}
 use Rattle.ent_policy.specs.Typing.{all_typed, type_step, type_with}
 use Rattle.ent_policy.specs.Variables.{uses_only, variables, variables_step}

@@ -16,7 +16,7 @@ use Rattle.std.specs.List.Sorted.{IsPermutation}
 use Rattle.ent_policy.specs.declared.expression.VariableDefinition.{VariableDefinition}
 use Rattle.ent_policy.specs.Limits.{has_double, is_among}
 use Rattle.ent_policy.specs.declared.document.Policy.{Policy}
-use Rattle.ent_policy.specs.Order.{AreDistinctIds, IsInOrder, IsOrderOf, has_id}
+use Rattle.ent_policy.specs.proofs_only.Order.{AreDistinctIds, IsInOrder, IsOrderOf, has_id}
 use Rattle.ent_policy.specs.Variables.{MoreReferencesChangeNothing, defined, definition_of, followed, has_bad_variable, ids_of, is_resolved, used, uses_only, variables}
 use Rattle.ent_policy.proofs.Ids.{known_push, same_id, text_cmp}
 

@@ -14,7 +14,8 @@ use Rattle.ent_policy.specs.declared.raw.RawExpression.TheVariants as raw_expres
 use Rattle.ent_policy.specs.declared.raw.RawExpression.TheOpen.{RawExpression-F}
 use Rattle.ent_policy.specs.declared.raw.RawExpression.TheFolds.{fold-roll-RawExpression}
 use Rattle.ent_policy.specs.declared.read.Read.{Read}
-use Rattle.ent_policy.specs.Reading.{apply_read, child_read, child_step, expression_read, expression_step, made, set_read, set_step}
+use Rattle.ent_policy.specs.Reading.{child_read, child_step, expression_read, expression_step, made, set_read, set_step}
+use Rattle.ent_policy.specs.proofs_only.Reading.{apply_read}
 
 pub apply_is_read : (id : List ℕ) (arguments : List RawExpression) → expression_read (raw_expressions.Apply id arguments) ≡ apply_read id arguments
 unfolding Rattle.ent_policy.specs.declared.raw.RawExpression.TheViews.roll-RawExpression denote.Hole.Carrier.roll

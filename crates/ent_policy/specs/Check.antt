@@ -7,7 +7,6 @@ use Rattle.ent_policy.specs.declared.fault.DocFault.{DocFault}
 use Rattle.ent_policy.specs.declared.fault.DocFault.TheVariants.{Variable, Size, Depth, «Type»}
 use Rattle.ent_policy.specs.declared.raw.RawDocument.{RawDocument}
 use Rattle.ent_policy.specs.declared.raw.RawReference.{RawReference}
-use Rattle.ent_policy.specs.declared.read.Read.{Read}
 use Rattle.ent_policy.specs.Children.{as_child}
 use Rattle.ent_policy.specs.Depths.{exceeds_depth}
 use Rattle.ent_policy.specs.First.{earlier, first_of, if_so}
@@ -41,10 +40,6 @@ unless_fault (Some fault) read = Err fault
 -- what the checker answers of a document: its first fault, or else its tree
 unfoldable pub checked : RawDocument → Result Tree DocFault
 checked d = unless_fault (fault_of d) (document_read d).value
-
--- what was read of some document
-abbrev pub WasRead : Read Tree → Type 0
-WasRead r = (d : RawDocument) × (r ≡ document_read d)
 
 -- what the checker passes: read of some document that has no fault
 abbrev pub IsChecked : Tree → Type 0

@@ -178,13 +178,6 @@ expression_step (RawExpression-F.Function id) = made (λ function. expressions.F
 abbrev pub expression_read : RawExpression → Read Expression
 expression_read = fold-RawExpression (Read Expression) expression_step
 
--- a function of arguments
-abbrev pub apply_read : List ℕ → List RawExpression → Read Expression
-apply_read id arguments = do
-  function ← function_read id
-  all ← each_read expression_read arguments
-  done (expressions.Apply function all)
-
 -- ---- targets
 
 -- a match

@@ -1,5 +1,5 @@
 -- The written form of versions (section 5.12).
-use Rattle.std.specs.Prelude.{◌≡◌, ℕ, [], ◌∷◌, List, IsTrue, Bool, ◌==◌, ◌&&◌, Option, Some, None, if◌then◌else◌, length, map, nat_lt, nat_le, option_map, take, ◌≤◌}
+use Rattle.std.specs.Prelude.{◌≡◌, ℕ, [], ◌∷◌, List, IsTrue, Bool, ◌==◌, ◌&&◌, Option, Some, None, if◌then◌else◌, length, map, nat_lt, nat_le, option_map}
 use Rattle.std.specs.List.{list_all, slice_split, join_with_byte}
 use Rattle.std.specs.Char.{is_ascii_digit}
 use Rattle.std.specs.Fmt.{decimal}
@@ -27,17 +27,9 @@ all_there (Some x ∷ others) = option_map (λ xs. x ∷ xs) (all_there others)
 abbrev pub dotted_of : {A : Type 0} → (List ℕ → Option A) → List ℕ → Option (List A)
 dotted_of piece text = if nat_le (length (pieces text)) 8 then all_there (map piece (pieces text)) else None
 
--- the first of these parts, which are 8 at most, are what the text spells
-abbrev pub IsSpelledBy : {A : Type 0} → (List ℕ → Option A) → List ℕ → List A × ℕ → Type 0
-IsSpelledBy piece text found = (found.1 ≤ 8) × (dotted_of piece text ≡ Some (take found.1 found.0))
-
 -- the numbers of a text, which are at most 8 with dots between them
 unfoldable pub version_of : List ℕ → Option (List ℕ)
 version_of text = dotted_of number_of text
-
--- a piece in front of which a dot stands unless it is the first
-abbrev pub behind_dot : ℕ → List ℕ → List ℕ
-behind_dot place piece = if place == 0 then piece else (46 ∷ piece)
 
 -- the text of a version: its numbers in decimal, with dots between them
 abbrev pub version_text : List ℕ → List ℕ

@@ -1,7 +1,8 @@
 //! The checker, which makes documents.
 
 ghost use Rattle.std.specs.Prelude.{◌≡◌, IfOk};
-ghost use Rattle.ent_policy.specs.Check.{checked, reference_checked, tree_fault, unless_fault, whole_fault, WasRead};
+ghost use Rattle.ent_policy.specs.Check.{checked, reference_checked, tree_fault, unless_fault, whole_fault};
+ghost use Rattle.ent_policy.specs.proofs_only.Check.{WasRead};
 ghost use Rattle.ent_policy.specs.First.{earlier};
 ghost use Rattle.ent_policy.specs.Children.{as_child};
 ghost use Rattle.ent_policy.specs.Gives.{Gives};

@@ -5,8 +5,9 @@ ghost use Rattle.std.specs.Prelude.{◌≡◌, IfOk, map, min};
 ghost use Rattle.ent_policy.specs.Children.{as_child};
 ghost use Rattle.ent_policy.specs.declared.document.Child.TheVariants.{Set};
 ghost use Rattle.ent_policy.specs.Depths.{depth, greatest};
-ghost use Rattle.ent_policy.specs.Measure.{IsExtentOf, IsExtentOfAll, IsExtentOfPolicy, found, together, whole};
-ghost use Rattle.ent_policy.specs.Measure.{condition_extent, given_extent, held_extent, target_extent};
+ghost use Rattle.ent_policy.specs.proofs_only.Measure.{IsExtentOf, IsExtentOfAll, IsExtentOfPolicy, found, together};
+ghost use Rattle.ent_policy.specs.proofs_only.Measure.{whole};
+ghost use Rattle.ent_policy.specs.proofs_only.Measure.{condition_extent, given_extent, held_extent, target_extent};
 
 use crate::document::{AllOf, AnyOf, Child, Match, Policy, PolicySet, Rule, Target, Tree};
 use crate::expression::{Expression, VariableDefinition};
@@ -79,7 +80,7 @@ fn extent_of_all<E: Extended>(parts: &[E]) -> Extent
 }
 
 impl Extended for Match {
-    ghost use Rattle.ent_policy.specs.Measure.{match_extent};
+    ghost use Rattle.ent_policy.specs.proofs_only.Measure.{match_extent};
 
     ghost of = { match_extent };
 
@@ -99,7 +100,7 @@ impl Extended for Match {
 }
 
 impl Extended for AllOf {
-    ghost use Rattle.ent_policy.specs.Measure.{all_of_extent};
+    ghost use Rattle.ent_policy.specs.proofs_only.Measure.{all_of_extent};
 
     ghost of = { all_of_extent };
 
@@ -109,7 +110,7 @@ impl Extended for AllOf {
 }
 
 impl Extended for AnyOf {
-    ghost use Rattle.ent_policy.specs.Measure.{any_of_extent};
+    ghost use Rattle.ent_policy.specs.proofs_only.Measure.{any_of_extent};
 
     ghost of = { any_of_extent };
 
@@ -130,7 +131,7 @@ trait Measurable {
     ghost use Rattle.std.specs.Prelude.{◌≡◌, ℕ, List, IfOk};
     ghost use Rattle.ent_policy.specs.declared.extent.Extent.{Extent};
     ghost use Rattle.ent_policy.specs.declared.measure.Measured.{Measured};
-    ghost use Rattle.ent_policy.specs.Measure.{found};
+    ghost use Rattle.ent_policy.specs.proofs_only.Measure.{found};
 
     ghost of: { (List ℕ → Measured) → Self → Extent };
 
@@ -209,7 +210,7 @@ fn given_extent(
 }
 
 impl Measurable for VariableDefinition {
-    ghost use Rattle.ent_policy.specs.Measure.{definition_extent};
+    ghost use Rattle.ent_policy.specs.proofs_only.Measure.{definition_extent};
 
     ghost of = { definition_extent };
 
@@ -223,7 +224,7 @@ impl Measurable for VariableDefinition {
 }
 
 impl Measurable for AssignmentExpression {
-    ghost use Rattle.ent_policy.specs.Measure.{assignment_extent};
+    ghost use Rattle.ent_policy.specs.proofs_only.Measure.{assignment_extent};
 
     ghost of = { assignment_extent };
 
@@ -237,7 +238,7 @@ impl Measurable for AssignmentExpression {
 }
 
 impl Measurable for GivenExpression {
-    ghost use Rattle.ent_policy.specs.Measure.{given_expression_extent};
+    ghost use Rattle.ent_policy.specs.proofs_only.Measure.{given_expression_extent};
 
     ghost of = { given_expression_extent };
 
@@ -251,7 +252,7 @@ impl Measurable for GivenExpression {
 }
 
 impl Measurable for Rule {
-    ghost use Rattle.ent_policy.specs.Measure.{rule_extent};
+    ghost use Rattle.ent_policy.specs.proofs_only.Measure.{rule_extent};
 
     ghost of = { rule_extent };
 

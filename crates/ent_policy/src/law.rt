@@ -7,6 +7,7 @@ ghost use Rattle.ent_policy.specs.Orders.{ReferencesOrderByName};
 ghost use Rattle.ent_policy.specs.Same.{SameConstraintsAreEqual, SameDocumentsAreEqual, SameKeysAreEqual};
 ghost use Rattle.ent_policy.specs.Same.{SameKindsAreEqual, SameNamesAreEqual, SamePatternsAreEqual};
 ghost use Rattle.ent_policy.specs.Same.{SameReferencesAreEqual, SameVersionsAreEqual};
+ghost use Rattle.ent_policy.specs.StandIns.{StandInsHaveNoType};
 ghost use Rattle.ent_policy.specs.Variables.{EndsByDefinitions, MoreReferencesChangeNothing};
 
 /// A law, with nothing to run: `==` of two kinds, of two names, of two versions, of two version patterns, of two
@@ -38,4 +39,10 @@ pub fn more_references_change_nothing()
     ensures counts { MoreReferencesChangeNothing ℕ }
     ensures types { MoreReferencesChangeNothing (Option ArgType) }
     ensures ends { EndsByDefinitions }
+{}
+
+/// A law, with nothing to run: where a name or a value of a document can't be read, its first fault is the one of its
+/// reading or one of limits, variables, size or depth. No type is asked for, also none of what stands in for it.
+pub fn stand_ins_have_no_type()
+    ensures { StandInsHaveNoType }
 {}

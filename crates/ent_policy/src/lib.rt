@@ -31,7 +31,10 @@ pub use expression::{Expression, VariableDefinition};
 pub use fault::{CheckFault, DocFault};
 pub use given::{AssignmentExpression, GivenExpression, GivenExpressions};
 pub use key::{DocKey, Kind, Reference};
-pub use law::{more_references_change_nothing, order_is_by_kind_id_and_version, same_is_equal};
+pub use law::{
+    more_references_change_nothing, order_is_by_kind_id_and_version, same_is_equal,
+    stand_ins_have_no_type,
+};
 pub use limits::is_bad_name;
 pub use literals::{boolean_as, integer_as};
 pub use name::Name;

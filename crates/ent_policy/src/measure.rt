@@ -1,7 +1,7 @@
 //! What is measured of expressions: how many nodes they have, how deep they are, and their types.
 
 ghost use Rattle.std.specs.Prelude.{◌≡◌, ◌+◌, IfOk, min, option_map};
-ghost use Rattle.ent_policy.specs.Measure.{AreMeasured, IsTable, found, measured_with};
+ghost use Rattle.ent_policy.specs.proofs_only.Measure.{AreMeasured, IsTable, found, measured_with};
 ghost use Rattle.ent_policy.specs.Typing.{held, is_boolean};
 
 use crate::document::Policy;

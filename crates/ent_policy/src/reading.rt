@@ -1,7 +1,8 @@
 //! From the parts of a document as read to those that are stored.
 
 ghost use Rattle.std.specs.Prelude.{◌≡◌, IfOk};
-ghost use Rattle.ent_policy.specs.Reading.{apply_read, designator_read, expression_read, function_read};
+ghost use Rattle.ent_policy.specs.Reading.{designator_read, expression_read, function_read};
+ghost use Rattle.ent_policy.specs.proofs_only.Reading.{apply_read};
 ghost use Rattle.ent_policy.specs.Reading.{child_read, document_read, each_read, maybe_read, policy_read, set_read};
 ghost use Rattle.ent_policy.specs.Reading.{definition_read, given_read, policy_algorithm_read, rule_algorithm_read};
 ghost use Rattle.ent_policy.specs.Reading.{rule_read, target_read, version_read};

@@ -4,7 +4,7 @@ ghost use Rattle.std.specs.Prelude.{◌≡◌, [], false, IfOk, map};
 ghost use Rattle.std.specs.List.{flat_map, list_all};
 ghost use Rattle.std.specs.List.Sorted.{IsPermutation};
 ghost use Rattle.ent_policy.specs.Limits.{has_double};
-ghost use Rattle.ent_policy.specs.Order.{AreDistinctIds, IsFoundOrder, IsOrdered, has_id};
+ghost use Rattle.ent_policy.specs.proofs_only.Order.{AreDistinctIds, IsFoundOrder, IsOrdered, has_id};
 ghost use Rattle.ent_policy.specs.Variables.{condition_variables, given_variables, used, variables};
 ghost use Rattle.ent_policy.specs.Variables.{ids_of, is_resolved, uses_only};
 
@@ -53,7 +53,7 @@ fn condition_uses_only(condition: &Option<Expression>, known: &BTreeSet<&str>) -
 trait Using {
     ghost use Rattle.std.specs.Prelude.{◌≡◌, ℕ, List};
     ghost use Rattle.std.specs.List.{list_all};
-    ghost use Rattle.ent_policy.specs.Order.{has_id};
+    ghost use Rattle.ent_policy.specs.proofs_only.Order.{has_id};
 
     ghost uses: { Self → List (List ℕ) };
 

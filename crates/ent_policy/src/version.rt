@@ -9,8 +9,9 @@ ghost use Rattle.std.specs.Ordering.{nat_cmp};
 ghost use Rattle.std.specs.Char.{is_ascii_digit};
 ghost use Rattle.std.specs.Fmt.{decimal};
 ghost use Rattle.std.specs.List.{join_with_byte, list_all};
-ghost use Rattle.ent_policy.specs.Versions.{behind_dot, dotted_of, is_number, is_version, number_of, version_of};
-ghost use Rattle.ent_policy.specs.Versions.{version_text, IsSpelledBy, TextReadsBack};
+ghost use Rattle.ent_policy.specs.Versions.{dotted_of, is_number, is_version, number_of, version_of};
+ghost use Rattle.ent_policy.specs.proofs_only.Versions.{behind_dot, IsSpelledBy};
+ghost use Rattle.ent_policy.specs.Versions.{version_text, TextReadsBack};
 
 use ent_values::Text;
 use std::alloc::{AllocError, Global};

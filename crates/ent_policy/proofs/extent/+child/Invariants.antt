@@ -1,6 +1,6 @@
 use Rattle.std.proofs.Common.{◌≡◌, false, take}
 use Rattle.std.specs.List.{list_any}
-use Rattle.ent_policy.specs.Measure.{child_extent, whole}
+use Rattle.ent_policy.specs.proofs_only.Measure.{child_extent, whole}
 use Rattle.ent_policy.specs.Variables.{has_variable_fault}
 use Rattle.ent_policy.proofs.extent.+child.Given as goal
 

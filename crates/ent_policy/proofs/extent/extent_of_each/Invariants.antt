@@ -1,5 +1,5 @@
 use Rattle.std.proofs.Common.{◌≡◌, take}
-use Rattle.ent_policy.specs.Measure.{found, whole}
+use Rattle.ent_policy.specs.proofs_only.Measure.{found, whole}
 use Rattle.ent_policy.proofs.extent.extent_of_each.Given as goal
 
 abbrev pub invariant-loop-part : goal.invariant-loop-part

@@ -1,6 +1,6 @@
 use Rattle.std.proofs.Common.{◌≡◌, false, sym, true, arith}
 use Rattle.ent_policy.specs.declared.document.Rule.{Rule}
-use Rattle.ent_policy.specs.Order.{has_id}
+use Rattle.ent_policy.specs.proofs_only.Order.{has_id}
 use Rattle.ent_policy.proofs.Ids.{gathered_more, gathered_twice}
 use Rattle.ent_policy.proofs.limits.has_double_rule.Goals as goal
 

@@ -1,5 +1,5 @@
 use Rattle.std.proofs.Common.{◌≡◌, cond, Some, None}
-use Rattle.ent_policy.specs.Measure.{found}
+use Rattle.ent_policy.specs.proofs_only.Measure.{found}
 use Rattle.ent_policy.proofs.Arguments.{measured_more, with_none, with_some, with_type}
 use Rattle.ent_policy.proofs.measure.+measure.Goals as goal
 use Rattle.ent_policy.proofs.measure.+measure.Goals.{all_measured-in-Some+in_ok-push-in-Some, all_measured-in-None}

@@ -1,6 +1,6 @@
 use Rattle.std.proofs.Common.{◌≡◌, map, drop}
 use Rattle.std.specs.List.{flat_map, list_all}
-use Rattle.ent_policy.specs.Order.{has_id}
+use Rattle.ent_policy.specs.proofs_only.Order.{has_id}
 use Rattle.ent_policy.specs.Variables.{variables}
 use Rattle.ent_policy.proofs.variables.+known.Given as goal
 

@@ -1,6 +1,6 @@
 use Rattle.std.proofs.Common.{◌≡◌, false, true, arith}
 use Rattle.ent_policy.specs.declared.expression.VariableDefinition.{VariableDefinition}
-use Rattle.ent_policy.specs.Order.{has_id}
+use Rattle.ent_policy.specs.proofs_only.Order.{has_id}
 use Rattle.ent_policy.proofs.Ids.{gathered_more, gathered_twice}
 use Rattle.ent_policy.proofs.variables.distinct_ids.Goals as goal
 

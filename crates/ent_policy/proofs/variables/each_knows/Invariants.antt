@@ -1,6 +1,6 @@
 use Rattle.std.proofs.Common.{◌≡◌, drop}
 use Rattle.std.specs.List.{flat_map, list_all}
-use Rattle.ent_policy.specs.Order.{has_id}
+use Rattle.ent_policy.specs.proofs_only.Order.{has_id}
 use Rattle.ent_policy.proofs.variables.each_knows.Given as goal
 
 abbrev pub invariant-loop-part : goal.invariant-loop-part

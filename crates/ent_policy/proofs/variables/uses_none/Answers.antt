@@ -1,5 +1,5 @@
 use Rattle.std.proofs.Common.{◌∙◌, [], refl}
-use Rattle.ent_policy.specs.Order.{has_id}
+use Rattle.ent_policy.specs.proofs_only.Order.{has_id}
 use Rattle.ent_policy.specs.Variables.{given_variables, is_resolved}
 use Rattle.ent_policy.proofs.References.{all_agree}
 use Rattle.ent_policy.proofs.variables.uses_none.Goals as goal

@@ -1,6 +1,6 @@
 use Rattle.std.proofs.Common.{◌∙◌, ap, string_bytes, ◌++◌}
 use Rattle.ent_policy.proofs.Dotted.{grows}
-use Rattle.ent_policy.specs.Versions.{behind_dot}
+use Rattle.ent_policy.specs.proofs_only.Versions.{behind_dot}
 use Rattle.ent_policy.proofs.version.joined.Goals as goal
 
 pub loop-place-preserved : goal.loop-place-preserved

@@ -1,0 +1,5 @@
+pub mod Check
+pub mod Measure
+pub mod Order
+pub mod Reading
+pub mod Versions
