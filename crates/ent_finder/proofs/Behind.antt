@@ -15,7 +15,7 @@ use Rattle.ent_finder.proofs.Names.{name_tied, names_rise}
 use Rattle.ent_finder.proofs.Recent.{accepted, last_accepted_back, most_recent-slots}
 use Rattle.ent_finder.specs.Entry.{AreSorted, slots_of}
 use Rattle.ent_finder.specs.Finding.{is_of, most_recent}
-use Rattle.ent_finder.specs.Order.{name_cmp, name_of, name_wanted}
+use Rattle.ent_finder.specs.proofs_only.Order.{name_cmp, name_of, name_wanted}
 use Rattle.ent_finder.specs.Slots.{held}
 use Rattle.ent_finder.specs.declared.slot.DocSlot.{DocSlot}
 

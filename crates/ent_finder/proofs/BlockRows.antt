@@ -11,7 +11,8 @@ use Rattle.std.proofs.lemmas.List.Folds.{list_all-append}
 use Rattle.ent_finder.proofs.Parts.{below_back, below_front, sorted_back, sorted_front}
 use Rattle.ent_finder.proofs.Ranges.{Rises}
 use Rattle.ent_finder.proofs.Sorted.{both, first, is_true, less, second}
-use Rattle.ent_finder.specs.Blocks.{first_cmp, rows_in}
+use Rattle.ent_finder.specs.Blocks.{rows_in}
+use Rattle.ent_finder.specs.proofs_only.Blocks.{first_cmp}
 use Rattle.ent_finder.specs.RowEntry.{RowsAreSorted, row_entries, row_entry}
 use Rattle.ent_finder.specs.Rows.{row_cmp}
 use Rattle.ent_finder.specs.declared.block.Block.{Block}

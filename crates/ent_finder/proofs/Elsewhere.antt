@@ -20,8 +20,9 @@ use Rattle.ent_finder.specs.Finding.{is_latest, is_of, most_recent, named, names
 use Rattle.ent_finder.specs.Law.{SwapLeavesOtherReferences}
 use Rattle.ent_finder.specs.LawOfRows.{SwapLeavesOtherKeys}
 use Rattle.ent_finder.specs.Looking.{names_row, values_of, values_of_each}
-use Rattle.ent_finder.specs.Rows.{Rows, Source, is_filled, row_cmp_total, supports, with_row, with_values_in}
-use Rattle.ent_finder.specs.Slots.{Docs, key_cmp_total, with_document, with_document_in}
+use Rattle.ent_finder.specs.Rows.{Rows, Source, is_filled, supports, with_row, with_values_in}
+use Rattle.ent_finder.proofs.Totals.{row_cmp_total, key_cmp_total}
+use Rattle.ent_finder.specs.Slots.{Docs, with_document, with_document_in}
 use Rattle.ent_finder.specs.declared.row.AttrKey.{AttrKey}
 use Rattle.ent_finder.specs.declared.row.RowKey.{RowKey}
 

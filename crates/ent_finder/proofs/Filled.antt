@@ -5,7 +5,8 @@ use Rattle.std.specs.List.{filter}
 use Rattle.ent_values.specs.declared.value.Value.{Value}
 use Rattle.ent_finder.proofs.Kept.{entries-keep, keep, keep-insert_none, keep-insert_some, keep_restored, kept}
 use Rattle.ent_finder.proofs.RowKeys.{row_cmp_antisymmetric}
-use Rattle.ent_finder.specs.Rows.{Rows, filled, is_filled, row_cmp, row_cmp_total, values_at, with_row}
+use Rattle.ent_finder.specs.Rows.{Rows, filled, is_filled, row_cmp, values_at, with_row}
+use Rattle.ent_finder.proofs.Totals.{row_cmp_total}
 use Rattle.ent_finder.specs.declared.row.RowKey.{RowKey}
 
 abbrev full : List Value → Option (List Value)

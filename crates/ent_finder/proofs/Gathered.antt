@@ -13,7 +13,8 @@ use Rattle.ent_finder.proofs.RowKeys.{names_one, type_named}
 use Rattle.ent_finder.proofs.Sorted.{first, is_true, less, second}
 use Rattle.ent_finder.specs.Looking.{names_row, values_of}
 use Rattle.ent_finder.specs.RowEntry.{RowsAreSorted, row_entries, row_entry, rows_of}
-use Rattle.ent_finder.specs.Rows.{Rows, filled, is_filled, row_cmp, row_cmp_total, values_at}
+use Rattle.ent_finder.specs.Rows.{Rows, filled, is_filled, row_cmp, values_at}
+use Rattle.ent_finder.proofs.Totals.{row_cmp_total}
 use Rattle.ent_finder.specs.declared.row.AttrKey.{AttrKey}
 use Rattle.ent_finder.specs.declared.row.Row.{Row}
 use Rattle.ent_finder.specs.declared.row.RowKey.{RowKey}

@@ -14,8 +14,9 @@ use Rattle.ent_finder.proofs.Keys.{key_cmp_antisymmetric}
 use Rattle.ent_finder.proofs.Kept.{entries-keep, get-keep, keep-insert_none, keep-insert_some, keep_restored}
 use Rattle.ent_finder.proofs.Sorted.{equal, find_there, none_there}
 use Rattle.ent_finder.specs.Finding.{has_document}
-use Rattle.ent_finder.specs.Places.{IsPlace, is_at}
-use Rattle.ent_finder.specs.Slots.{Slots, document_at, filled_entry, held, key_cmp, key_cmp_total, with_document}
+use Rattle.ent_finder.specs.proofs_only.Places.{IsPlace, is_at}
+use Rattle.ent_finder.specs.Slots.{Slots, document_at, filled_entry, held, key_cmp, with_document}
+use Rattle.ent_finder.proofs.Totals.{key_cmp_total}
 
 -- the entries that aren't empty
 abbrev pub filled : List (DocKey × Option Tree) → List (DocKey × Tree)

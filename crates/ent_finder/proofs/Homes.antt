@@ -14,9 +14,11 @@ use Rattle.ent_finder.proofs.BlockRows.{Follows, IsBelow, around, around_set, be
 use Rattle.ent_finder.proofs.Parts.{all_before, find_between, put_between}
 use Rattle.ent_finder.proofs.Ranges.{Rises, rises_with}
 use Rattle.ent_finder.proofs.Sorted.{both, element, first, second}
-use Rattle.ent_finder.specs.Blocks.{IsHome, first_cmp, rows_in}
+use Rattle.ent_finder.specs.Blocks.{rows_in}
+use Rattle.ent_finder.specs.proofs_only.Blocks.{IsHome, first_cmp}
 use Rattle.ent_finder.specs.RowEntry.{RowsAreSorted, row_entries, row_entry, rows_of}
-use Rattle.ent_finder.specs.Rows.{row_cmp, row_cmp_total}
+use Rattle.ent_finder.specs.Rows.{row_cmp}
+use Rattle.ent_finder.proofs.Totals.{row_cmp_total}
 use Rattle.ent_finder.specs.declared.block.Block.{Block}
 use Rattle.ent_finder.specs.declared.row.Row.{Row}
 use Rattle.ent_finder.specs.declared.row.RowKey.{RowKey}

@@ -6,7 +6,7 @@ use Rattle.std.proofs.lemmas.Slice.Eq.{bytes_eq-Decides}
 use Rattle.ent_values.proofs.Values.{same_type-Decides}
 use Rattle.ent_values.proofs.Telling.{decided, decides, last, maybe, more, struct}
 use Rattle.ent_finder.specs.LawOfKeys.{in_turn, issuer_order, row_order, same_attr_key, same_row_key, text_order, wanted_cmp, wanted_key_order}
-use Rattle.ent_finder.specs.Order.{type_cmp}
+use Rattle.ent_values.specs.Order.{type_cmp}
 use Rattle.ent_finder.specs.Rows.{row_cmp}
 use Rattle.ent_finder.specs.contracts.row.AttrKey as attr_key
 use Rattle.ent_finder.specs.contracts.row.AttrKeyEq.TheImpl.Laws as attr_keys

@@ -19,7 +19,8 @@ use Rattle.ent_finder.proofs.Recent.{last, latest_last, versions_in_order}
 use Rattle.ent_finder.proofs.Sorted.{equal, first, none_tied, second, unlike}
 use Rattle.ent_finder.specs.Finding.{has_document, is_earlier, is_latest, most_recent, named, names, resolved}
 use Rattle.ent_finder.specs.Law.{IsMostRecent, IsOfFirst}
-use Rattle.ent_finder.specs.Slots.{Docs, key_cmp, key_cmp_total, module_at}
+use Rattle.ent_finder.specs.Slots.{Docs, key_cmp, module_at}
+use Rattle.ent_finder.proofs.Totals.{key_cmp_total}
 
 abbrev Entry : Type 0
 Entry = DocKey × Tree

@@ -23,3 +23,4 @@ pub mod RowKeys
 pub mod Seats
 pub mod Sorted
 pub mod Sources
+pub mod Totals

@@ -14,9 +14,10 @@ use Rattle.ent_finder.proofs.BlockRows.{Follows, before_block, follows_from, fro
 use Rattle.ent_finder.proofs.Gathered.{named_rows, values_in, values_of-rows}
 use Rattle.ent_finder.proofs.RowKeys.{row_tied, rows_rise}
 use Rattle.ent_finder.proofs.Sorted.{element, first, second}
-use Rattle.ent_finder.specs.Blocks.{first_cmp, rows_in}
+use Rattle.ent_finder.specs.Blocks.{rows_in}
+use Rattle.ent_finder.specs.proofs_only.Blocks.{first_cmp}
 use Rattle.ent_finder.specs.Looking.{names_row, values_of}
-use Rattle.ent_finder.specs.Order.{named_cmp}
+use Rattle.ent_finder.specs.proofs_only.Order.{named_cmp}
 use Rattle.ent_finder.specs.RowEntry.{RowsAreSorted, rows_of}
 use Rattle.ent_finder.specs.Rows.{filled}
 use Rattle.ent_finder.specs.declared.block.Block.{Block}

@@ -17,7 +17,7 @@ use Rattle.ent_finder.proofs.Orders.{texts_tied, then_assoc, then_less, tied}
 use Rattle.ent_finder.proofs.Ranges.{Rises, rises_with}
 use Rattle.ent_finder.specs.Entry.{AreSorted, entry_of}
 use Rattle.ent_finder.specs.Finding.{is_of}
-use Rattle.ent_finder.specs.Order.{Name, kind_cmp, name_cmp, name_of, name_wanted}
+use Rattle.ent_finder.specs.proofs_only.Order.{Name, kind_cmp, name_cmp, name_of, name_wanted}
 use Rattle.ent_finder.specs.Slots.{key_cmp}
 use Rattle.ent_finder.specs.declared.slot.DocSlot.{DocSlot}
 

@@ -20,7 +20,7 @@ use Rattle.ent_finder.proofs.Names.{and_first, is_of-decides, name_cmp_total}
 use Rattle.ent_finder.proofs.Sorted.{first, is_true, second, unlike}
 use Rattle.ent_finder.specs.Entry.{AreSorted, entries_of, slots_of}
 use Rattle.ent_finder.specs.Finding.{is_earlier, is_latest, is_of, most_recent, named, names}
-use Rattle.ent_finder.specs.Order.{Name, kind_cmp, name_of, name_cmp}
+use Rattle.ent_finder.specs.proofs_only.Order.{Name, kind_cmp, name_of, name_cmp}
 use Rattle.ent_finder.specs.Slots.{Docs, held, key_cmp}
 use Rattle.ent_finder.specs.declared.slot.DocSlot.{DocSlot}
 

@@ -14,9 +14,11 @@ use Rattle.ent_finder.proofs.Orders.{lists_same, options_same, texts_tied, then_
 use Rattle.ent_finder.proofs.Ranges.{Rises, rises_with}
 use Rattle.ent_finder.proofs.Sorted.{equal}
 use Rattle.ent_finder.specs.Looking.{is_wanted, names_row}
-use Rattle.ent_finder.specs.Order.{issuer_cmp, named_cmp, type_cmp}
+use Rattle.ent_finder.specs.proofs_only.Order.{issuer_cmp, named_cmp}
+use Rattle.ent_values.specs.Order.{type_cmp}
 use Rattle.ent_finder.specs.RowEntry.{RowsAreSorted, row_entry}
-use Rattle.ent_finder.specs.Rows.{row_cmp, row_cmp_total}
+use Rattle.ent_finder.specs.Rows.{row_cmp}
+use Rattle.ent_finder.proofs.Totals.{row_cmp_total}
 use Rattle.ent_finder.specs.declared.row.AttrKey.{AttrKey}
 use Rattle.ent_finder.specs.declared.row.Row.{Row}
 use Rattle.ent_finder.specs.declared.row.RowKey.{RowKey}

@@ -15,7 +15,7 @@ use Rattle.std.proofs.lemmas.List.{length-map, map-append, map-set}
 use Rattle.std.proofs.lemmas.List.Sorted.{searchable_from_sorted}
 use Rattle.std.proofs.lemmas.Option.{same_Some, slice_get-map, slice_get_past, slice_get_read, slice_get_within}
 use Rattle.ent_finder.proofs.Sorted.{adjacent, element, entry_read, equal, find_there, none_there, place_of_key, place_within, put_new, put_there}
-use Rattle.ent_finder.specs.Places.{IsPlace, IsSeat, is_at, is_before}
+use Rattle.ent_finder.specs.proofs_only.Places.{IsPlace, IsSeat, is_at, is_before}
 
 -- ---- the place that a binary search finds
 

@@ -10,7 +10,7 @@ use Rattle.std.specs.declared.cmp.Ordering.{Ordering}
 use Rattle.std.specs.declared.cmp.Ordering.TheVariants.{Less, Equal, Greater}
 use Rattle.std.proofs.lemmas.Cmp.{tied_back}
 use Rattle.std.proofs.lemmas.Option.{slice_get_read, slice_get-map}
-use Rattle.ent_finder.specs.Places.{IsPlace, is_at, is_before}
+use Rattle.ent_finder.specs.proofs_only.Places.{IsPlace, is_at, is_before}
 
 pub both : (a b : Bool) → T a → T b → T (a && b)
 both true b p q = q

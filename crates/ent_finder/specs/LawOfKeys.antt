@@ -5,7 +5,7 @@ use Rattle.std.specs.Cmp.Lexicographic.{slice_cmp}
 use Rattle.std.specs.Ordering.{nat_cmp, ordering_then}
 use Rattle.std.specs.declared.cmp.Ordering.{Ordering}
 use Rattle.std.specs.declared.cmp.Ordering.TheVariants.{Less, Equal, Greater}
-use Rattle.ent_finder.specs.Order.{type_cmp}
+use Rattle.ent_values.specs.Order.{type_cmp}
 use Rattle.ent_finder.specs.Rows.{row_cmp}
 use Rattle.ent_finder.specs.contracts.row.AttrKeyOrd.TheImpl as wanted_order
 use Rattle.ent_finder.specs.contracts.row.AttrKeyPartialEq.TheImpl as wanted_keys

@@ -5,8 +5,7 @@ pub mod Law
 pub mod LawOfKeys
 pub mod LawOfRows
 pub mod Looking
-pub mod Order
-pub mod Places
 pub mod RowEntry
 pub mod Rows
 pub mod Slots
+pub mod proofs_only

@@ -1,21 +1,15 @@
 -- What a module of attributes has: the categories that it supports, and its rows by key.
-use Rattle.std.specs.Prelude.{ℕ, List, [], ◌∷◌, Bool, true, false, bytes_eq, refl, slice_index_or, slice_set, unwrap_or}
-use Rattle.std.specs.Cmp.{IsTotalOrder}
-use Rattle.std.specs.Coded.{Coded, code_by, coded×, coded_list, coded_ℕ}
-use Rattle.std.specs.FinMap.{FinMap, code, empty, entries, from_entries, get, insert, remove}
+use Rattle.std.specs.Prelude.{ℕ, List, [], ◌∷◌, Bool, true, false, bytes_eq, slice_index_or, slice_set, unwrap_or}
+use Rattle.std.specs.FinMap.{FinMap, empty, entries, from_entries, get, insert, remove}
 use Rattle.std.specs.List.{filter, list_any}
 use Rattle.std.specs.declared.cmp.Ordering.{Ordering}
 use Rattle.ent_values.specs.declared.value.Value.{Value}
 use Rattle.ent_finder.specs.contracts.row.RowKeyOrd.TheImpl.{ghosts}
-use Rattle.ent_finder.specs.contracts.row.RowKeyOrd.TheImpl.Laws.{total-law}
 use Rattle.ent_finder.specs.declared.row.RowKey.{RowKey}
 
 -- the order of keys: by category, entity, attribute, type and issuer, that without an issuer first
 abbrev pub row_cmp : RowKey → RowKey → Ordering
 row_cmp = ghosts.cmp
-
-pub row_cmp_total : IsTotalOrder row_cmp
-row_cmp_total = total-law
 
 -- rows by key, of which some are empty
 abbrev pub Rows : Type 0
@@ -43,11 +37,6 @@ with_row rows key (v ∷ vs) = insert rows key (v ∷ vs)
 pub record Source : Type 0 where
   pub categories : List (List ℕ)
   pub rows : Rows
-
--- a module is stored as the pair of both
-abbrev pub source_code : Coded RowKey → Coded Value → Coded Source
-source_code key value =
-    code_by (List (List ℕ) × Rows) (coded× (coded_list (coded_list coded_ℕ)) (code key (coded_list value))) (λ s. (s.categories, s.rows)) (λ p. record { categories = p.0; rows = p.1 }) (λ _. refl)
 
 -- whether a module supports a category
 abbrev pub supports : List ℕ → Source → Bool

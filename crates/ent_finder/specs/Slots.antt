@@ -1,21 +1,16 @@
 -- What a module of documents has: slots by key, and the documents in them.
 use Rattle.std.specs.Prelude.{ℕ, List, Option, Some, None, slice_index_or, slice_set}
-use Rattle.std.specs.Cmp.{IsTotalOrder}
 use Rattle.std.specs.FinMap.{FinMap, empty, entries, from_entries, get, insert, len, remove}
 use Rattle.std.specs.List.{filter_map, sum_by}
 use Rattle.std.specs.Option.{option_flatten, option_map}
 use Rattle.std.specs.declared.cmp.Ordering.{Ordering}
 use Rattle.ent_policy.specs.contracts.key.DocKeyOrd.TheImpl.{ghosts}
-use Rattle.ent_policy.specs.contracts.key.DocKeyOrd.TheImpl.Laws.{total-law}
 use Rattle.ent_policy.specs.declared.document.Tree.{Tree}
 use Rattle.ent_policy.specs.declared.key.DocKey.{DocKey}
 
 -- the order of keys: by kind, then by id, then by version
 abbrev pub key_cmp : DocKey → DocKey → Ordering
 key_cmp = ghosts.cmp
-
-pub key_cmp_total : IsTotalOrder key_cmp
-key_cmp_total = total-law
 
 -- slots by key, of which some are empty
 abbrev pub Slots : Type 0

@@ -7,9 +7,10 @@ ghost use Rattle.std.specs.FinMap as finmap;
 ghost use Rattle.std.specs.List.{filter};
 ghost use Rattle.std.specs.Option.{option_copied};
 ghost use Rattle.ent_values.specs.Bags.{AllOfType};
-ghost use Rattle.ent_finder.specs.Blocks.{IsHome, first_cmp, held_in, rows_in};
+ghost use Rattle.ent_finder.specs.Blocks.{rows_in};
+ghost use Rattle.ent_finder.specs.proofs_only.Blocks.{IsHome, first_cmp, held_in};
 ghost use Rattle.ent_finder.specs.Looking.{bag_found, names_row, values_of};
-ghost use Rattle.ent_finder.specs.Order.{named_cmp};
+ghost use Rattle.ent_finder.specs.proofs_only.Order.{named_cmp};
 ghost use Rattle.ent_finder.specs.RowEntry.{RowsAreSorted};
 ghost use Rattle.ent_finder.specs.Rows.{filled, row_cmp, values_at};
 

@@ -7,7 +7,7 @@ ghost use Rattle.std.specs.Option.{ForSome, option_copied, option_map};
 ghost use Rattle.ent_policy.specs.Key.{key_of};
 ghost use Rattle.ent_finder.specs.Entry.{entry_of};
 ghost use Rattle.ent_finder.specs.Finding.{has_document, most_recent};
-ghost use Rattle.ent_finder.specs.Places.{IsPlace, is_before};
+ghost use Rattle.ent_finder.specs.proofs_only.Places.{IsPlace, is_before};
 ghost use Rattle.ent_finder.specs.Slots.{document_at, held, key_cmp};
 
 use crate::module::PolicyFinderModule;

@@ -10,8 +10,8 @@ ghost use Rattle.ent_policy.specs.Constraints.{meets};
 ghost use Rattle.ent_policy.specs.Key.{key_of};
 ghost use Rattle.ent_finder.specs.Entry.{AreSorted, entries_of, slots_of};
 ghost use Rattle.ent_finder.specs.Finding.{is_of, most_recent};
-ghost use Rattle.ent_finder.specs.Order.{name_cmp, name_of, name_wanted};
-ghost use Rattle.ent_finder.specs.Places.{IsPlace, IsSeat, is_at};
+ghost use Rattle.ent_finder.specs.proofs_only.Order.{name_cmp, name_of, name_wanted};
+ghost use Rattle.ent_finder.specs.proofs_only.Places.{IsPlace, IsSeat, is_at};
 ghost use Rattle.ent_finder.specs.Slots.{document_at, held, key_cmp};
 ghost use Rattle.ent_finder.specs.declared.slot.DocSlot.{DocSlot};
 

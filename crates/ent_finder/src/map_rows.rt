@@ -25,7 +25,8 @@ pub struct MapRows {
 impl Model for MapRows {
     ghost use Rattle.ent_values.specs.contracts.value.Value as value;
     ghost use Rattle.ent_finder.specs.contracts.row.RowKey as key;
-    ghost use Rattle.ent_finder.specs.Rows.{Source, source_code};
+    ghost use Rattle.ent_finder.specs.Rows.{Source};
+    ghost use Rattle.ent_finder.specs.proofs_only.Rows.{source_code};
 
     ghost Value = { Source };
 

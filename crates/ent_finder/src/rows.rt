@@ -6,8 +6,8 @@ ghost use Rattle.std.specs.FinMap as finmap;
 ghost use Rattle.std.specs.List.{filter};
 ghost use Rattle.ent_values.specs.Bags.{AllOfType};
 ghost use Rattle.ent_finder.specs.Looking.{names_row, values_of};
-ghost use Rattle.ent_finder.specs.Order.{issuer_cmp, named_cmp};
-ghost use Rattle.ent_finder.specs.Places.{IsPlace, IsSeat, is_at};
+ghost use Rattle.ent_finder.specs.proofs_only.Order.{issuer_cmp, named_cmp};
+ghost use Rattle.ent_finder.specs.proofs_only.Places.{IsPlace, IsSeat, is_at};
 ghost use Rattle.ent_finder.specs.RowEntry.{RowsAreSorted, row_entries, rows_of};
 ghost use Rattle.ent_finder.specs.Rows.{filled, row_cmp, values_at};
 

@@ -26,7 +26,7 @@ use Rattle.ent_policy.specs.declared.key.Kind.{Kind}
 use Rattle.ent_finder.proofs.Names.{is_of-decides, name_cmp_total, name_tied}
 use Rattle.ent_finder.proofs.Orders.{then_assoc, then_less}
 use Rattle.ent_finder.proofs.Sorted.{both, first, is_true, less, second}
-use Rattle.ent_finder.specs.Order.{Name, kind_cmp, name_cmp}
+use Rattle.ent_finder.specs.proofs_only.Order.{Name, kind_cmp, name_cmp}
 use Rattle.ent_eval.specs.Noted.{read_cmp}
 use Rattle.ent_eval.specs.declared.key.ReadKey.{ReadKey}
 use Rattle.ent_eval.specs.declared.key.ReadKey.TheVariants.{Attr, Day, Ref, Root}

@@ -12,7 +12,7 @@ use Rattle.std.specs.declared.cmp.Ordering.TheVariants.{Less, Equal, Greater}
 use Rattle.std.proofs.lemmas.List.{map-append}
 use Rattle.ent_finder.proofs.Seats.{IsGap, IsThere, found_or_not, nothing_seen, searched}
 use Rattle.ent_finder.proofs.Sorted.{before_at, equal, first, is_true, less, put_new, second}
-use Rattle.ent_finder.specs.Places.{is_at}
+use Rattle.ent_finder.specs.proofs_only.Places.{is_at}
 use Rattle.ent_index.specs.Cells.{CellSet, has_cell, in_order, marked, no_cells, with_cell, without_cell}
 
 abbrev pub mark : ℕ → ℕ × Unit {0}

@@ -8,7 +8,7 @@ use Rattle.std.specs.declared.cmp.Ordering.{Ordering}
 use Rattle.std.specs.declared.cmp.Ordering.TheVariants.{Greater, Less}
 use Rattle.slab.specs.Slab.{Slab, Updates, get}
 use Rattle.ent_policy.specs.declared.key.Kind.{Kind}
-use Rattle.ent_finder.specs.Order.{name_cmp}
+use Rattle.ent_finder.specs.proofs_only.Order.{name_cmp}
 use Rattle.ent_eval.specs.Noted.{read_cmp}
 use Rattle.ent_eval.specs.declared.key.ReadKey.{ReadKey}
 use Rattle.ent_eval.specs.declared.key.ReadKey.TheVariants.{Attr, Day, Ref, Root}

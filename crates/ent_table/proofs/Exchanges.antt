@@ -7,7 +7,8 @@ use Rattle.std.proofs.lemmas.List.{get_or-map, get_or-set_same, length-map, map-
 use Rattle.std.proofs.lemmas.List.Sums.{sum_by-set}
 use Rattle.ent_policy.specs.declared.document.Tree.{Tree}
 use Rattle.ent_policy.specs.declared.key.DocKey.{DocKey}
-use Rattle.ent_finder.specs.Slots.{Docs, Slots, document_at, document_count, held, key_cmp, key_cmp_total, module_at, with_document}
+use Rattle.ent_finder.specs.Slots.{Docs, Slots, document_at, document_count, held, key_cmp, module_at, with_document}
+use Rattle.ent_finder.proofs.Totals.{key_cmp_total}
 use Rattle.ent_finder.proofs.Held.{get-held, held-insert}
 use Rattle.ent_finder.proofs.Keys.{key_cmp_antisymmetric}
 use Rattle.ent_finder.proofs.Sorted.{equal}

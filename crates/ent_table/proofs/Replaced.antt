@@ -20,7 +20,8 @@ use Rattle.ent_policy.specs.declared.key.Reference.{Reference}
 use Rattle.ent_policy.proofs.Documents.{same_document-Decides}
 use Rattle.ent_finder.specs.Finding.{found, has_document, is_earlier, most_recent, names, resolved}
 use Rattle.ent_finder.specs.Law.{IsOfFirst}
-use Rattle.ent_finder.specs.Slots.{Docs, key_cmp, key_cmp_total, module_at, with_document, with_document_in}
+use Rattle.ent_finder.specs.Slots.{Docs, key_cmp, module_at, with_document, with_document_in}
+use Rattle.ent_finder.proofs.Totals.{key_cmp_total}
 use Rattle.ent_finder.proofs.Keys.{key_cmp_antisymmetric}
 use Rattle.ent_finder.proofs.Latest.{first_found, latest, none_found, none_named}
 use Rattle.ent_finder.proofs.Sorted.{equal}

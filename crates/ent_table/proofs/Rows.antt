@@ -5,7 +5,8 @@ use Rattle.std.specs.Ordering.{is_eq}
 use Rattle.std.proofs.lemmas.Cmp.{tied_itself}
 use Rattle.std.proofs.lemmas.List.{get_or-map, get_or-set_same, length-map, map-set, set-get_or, set-set}
 use Rattle.ent_values.specs.declared.value.Value.{Value}
-use Rattle.ent_finder.specs.Rows.{Rows, Source, filled, filled_source, row_cmp_total, source_at, values_at, with_row}
+use Rattle.ent_finder.specs.Rows.{Rows, Source, filled, filled_source, source_at, values_at, with_row}
+use Rattle.ent_finder.proofs.Totals.{row_cmp_total}
 use Rattle.ent_finder.specs.declared.row.RowKey.{RowKey}
 use Rattle.ent_finder.proofs.Filled.{filled-insert, filled_restored}
 use Rattle.ent_table.specs.State.{State}

@@ -5,7 +5,7 @@ use Rattle.ent_finder.proofs.BlockRows.{first_rises}
 use Rattle.ent_finder.proofs.Fronts.{rest, rest_within}
 use Rattle.ent_finder.proofs.NamedBlocks.{named_between, to_named, to_named_follows}
 use Rattle.ent_finder.proofs.Ranges.{ends_after, le_partitioned_rest, lt_partitioned}
-use Rattle.ent_finder.specs.Blocks.{first_cmp}
+use Rattle.ent_finder.specs.proofs_only.Blocks.{first_cmp}
 use Rattle.ent_finder.specs.declared.block.Block.{Block}
 use Rattle.ent_finder.proofs.blocks.bounds.Goals as goal
 

@@ -4,7 +4,7 @@ use Rattle.std.proofs.lemmas.List.Sorted.{IsPartitionPoint-from_clause}
 use Rattle.ent_finder.proofs.BlockRows.{first_rises}
 use Rattle.ent_finder.proofs.Homes.{home_found, to_key, to_key_follows}
 use Rattle.ent_finder.proofs.Ranges.{le_partitioned}
-use Rattle.ent_finder.specs.Blocks.{first_cmp}
+use Rattle.ent_finder.specs.proofs_only.Blocks.{first_cmp}
 use Rattle.ent_finder.specs.declared.block.Block.{Block}
 use Rattle.ent_finder.proofs.blocks.home.Goals as goal
 

@@ -1,7 +1,7 @@
 use Rattle.std.proofs.Common.{arith, sym, ◌∙◌}
 use Rattle.std.specs.FinMap.{entries_sorted}
 use Rattle.ent_finder.proofs.Sorted.{before_rises, not_before_rises}
-use Rattle.ent_finder.specs.Slots.{key_cmp_total}
+use Rattle.ent_finder.proofs.Totals.{key_cmp_total}
 use Rattle.ent_finder.proofs.boxed.place.Goals as goal
 
 pub loop-low-preserved-then-is_before : goal.loop-low-preserved-then-is_before

@@ -1,6 +1,6 @@
 use Rattle.std.proofs.Common.{◌≡◌, ℕ, ◌<◌, ◌≤◌, ◌-◌, false, true}
 use Rattle.std.specs.FinMap.{entries}
-use Rattle.ent_finder.specs.Places.{is_before}
+use Rattle.ent_finder.specs.proofs_only.Places.{is_before}
 use Rattle.ent_finder.specs.Slots.{key_cmp}
 use Rattle.ent_finder.proofs.boxed.place.Given as goal
 

@@ -1,7 +1,7 @@
 use Rattle.ent_finder.proofs.Held.{held_restored}
 use Rattle.ent_finder.proofs.Keys.{key_cmp_antisymmetric}
 use Rattle.ent_finder.proofs.Kept.{restored}
-use Rattle.ent_finder.specs.Slots.{key_cmp_total}
+use Rattle.ent_finder.proofs.Totals.{key_cmp_total}
 use Rattle.ent_finder.proofs.law.second_swap_undoes_first.Goals as goal
 
 pub returns : goal.returns

@@ -1,6 +1,6 @@
 use Rattle.ent_finder.proofs.Held.{held-insert}
 use Rattle.ent_finder.proofs.Kept.{there_after}
-use Rattle.ent_finder.specs.Slots.{key_cmp_total}
+use Rattle.ent_finder.proofs.Totals.{key_cmp_total}
 use Rattle.ent_finder.proofs.law.swap_changes_one_document.Goals as goal
 
 pub returns : goal.returns

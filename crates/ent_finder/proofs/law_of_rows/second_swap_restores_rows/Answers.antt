@@ -1,7 +1,7 @@
 use Rattle.ent_finder.proofs.Filled.{filled_restored}
 use Rattle.ent_finder.proofs.Kept.{restored}
 use Rattle.ent_finder.proofs.RowKeys.{row_cmp_antisymmetric}
-use Rattle.ent_finder.specs.Rows.{row_cmp_total}
+use Rattle.ent_finder.proofs.Totals.{row_cmp_total}
 use Rattle.ent_finder.proofs.law_of_rows.second_swap_restores_rows.Goals as goal
 
 pub returns : goal.returns

@@ -4,7 +4,7 @@ use Rattle.std.proofs.lemmas.List.Sorted.{IsPartitionPoint-from_clause}
 use Rattle.ent_finder.proofs.Fronts.{rest, rest_within}
 use Rattle.ent_finder.proofs.Names.{name_tied, names_rise}
 use Rattle.ent_finder.proofs.Ranges.{ends_after, le_partitioned_rest, lt_partitioned, tied_between}
-use Rattle.ent_finder.specs.Order.{name_cmp, name_of, name_wanted}
+use Rattle.ent_finder.specs.proofs_only.Order.{name_cmp, name_of, name_wanted}
 use Rattle.ent_finder.specs.declared.slot.DocSlot.{DocSlot}
 use Rattle.ent_finder.proofs.list.bounds.Goals as goal
 

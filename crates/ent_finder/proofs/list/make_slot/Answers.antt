@@ -3,8 +3,9 @@ use Rattle.std.proofs.lemmas.Result.{err_from_is_err_and}
 use Rattle.ent_finder.proofs.Keys.{key_cmp_antisymmetric}
 use Rattle.ent_finder.proofs.Seats.{gap_within, none_seen, seat_made, seat_there}
 use Rattle.ent_finder.specs.Entry.{entries_of, entry_of}
-use Rattle.ent_finder.specs.Places.{IsSeat}
-use Rattle.ent_finder.specs.Slots.{key_cmp, key_cmp_total}
+use Rattle.ent_finder.specs.proofs_only.Places.{IsSeat}
+use Rattle.ent_finder.specs.Slots.{key_cmp}
+use Rattle.ent_finder.proofs.Totals.{key_cmp_total}
 use Rattle.ent_finder.proofs.list.make_slot.Goals as goal
 
 pub returns-in-Ok-clause-seat : goal.returns-in-Ok-clause-seat

@@ -2,7 +2,8 @@ use Rattle.std.proofs.Common.{rules}
 use Rattle.std.proofs.lemmas.Fn.{always_returns_same}
 use Rattle.ent_finder.proofs.Seats.{searched}
 use Rattle.ent_finder.specs.Entry.{entry_of}
-use Rattle.ent_finder.specs.Slots.{key_cmp, key_cmp_total}
+use Rattle.ent_finder.specs.Slots.{key_cmp}
+use Rattle.ent_finder.proofs.Totals.{key_cmp_total}
 use Rattle.ent_finder.proofs.list.place.Goals as goal
 
 -- the closure compares a slot's key with the key

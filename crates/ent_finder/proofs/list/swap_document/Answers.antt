@@ -5,7 +5,7 @@ use Rattle.ent_policy.specs.Key.{key_of}
 use Rattle.ent_finder.proofs.Held.{flatten_is}
 use Rattle.ent_finder.proofs.Seats.{carried, read_seen, seat_key, written_seen, written_sorted}
 use Rattle.ent_finder.specs.Entry.{entry_of, slots_of}
-use Rattle.ent_finder.specs.Slots.{key_cmp_total}
+use Rattle.ent_finder.proofs.Totals.{key_cmp_total}
 use Rattle.ent_finder.proofs.list.swap_document.Goals as goal
 
 pub invariant_of-index_mut : goal.invariant_of-index_mut

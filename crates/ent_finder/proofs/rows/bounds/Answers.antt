@@ -4,7 +4,7 @@ use Rattle.std.proofs.lemmas.List.Sorted.{IsPartitionPoint-from_clause}
 use Rattle.ent_finder.proofs.Fronts.{rest, rest_within}
 use Rattle.ent_finder.proofs.Ranges.{ends_after, le_partitioned_rest, lt_partitioned, tied_between}
 use Rattle.ent_finder.proofs.RowKeys.{row_tied, rows_rise}
-use Rattle.ent_finder.specs.Order.{named_cmp}
+use Rattle.ent_finder.specs.proofs_only.Order.{named_cmp}
 use Rattle.ent_finder.specs.declared.row.Row.{Row}
 use Rattle.ent_finder.proofs.rows.bounds.Goals as goal
 

@@ -1,7 +1,7 @@
 use Rattle.std.proofs.Common.{◌∙◌}
 use Rattle.ent_finder.proofs.Seats.{found_or_not}
 use Rattle.ent_finder.specs.RowEntry.{row_entry}
-use Rattle.ent_finder.specs.Rows.{row_cmp_total}
+use Rattle.ent_finder.proofs.Totals.{row_cmp_total}
 use Rattle.ent_finder.proofs.rows.has_row.Goals as goal
 
 pub returns : goal.returns

@@ -2,9 +2,10 @@ use Rattle.std.proofs.Common.{[], arith, subst, sym}
 use Rattle.std.proofs.lemmas.Result.{err_from_is_err_and}
 use Rattle.ent_finder.proofs.RowKeys.{row_cmp_antisymmetric}
 use Rattle.ent_finder.proofs.Seats.{gap_within, none_seen, seat_made, seat_there}
-use Rattle.ent_finder.specs.Places.{IsSeat}
+use Rattle.ent_finder.specs.proofs_only.Places.{IsSeat}
 use Rattle.ent_finder.specs.RowEntry.{row_entries, row_entry}
-use Rattle.ent_finder.specs.Rows.{row_cmp, row_cmp_total}
+use Rattle.ent_finder.specs.Rows.{row_cmp}
+use Rattle.ent_finder.proofs.Totals.{row_cmp_total}
 use Rattle.ent_finder.proofs.rows.make_row.Goals as goal
 
 pub returns-in-Ok-clause-seat : goal.returns-in-Ok-clause-seat

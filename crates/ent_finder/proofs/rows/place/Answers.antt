@@ -2,7 +2,8 @@ use Rattle.std.proofs.Common.{rules}
 use Rattle.std.proofs.lemmas.Fn.{always_returns_same}
 use Rattle.ent_finder.proofs.Seats.{searched}
 use Rattle.ent_finder.specs.RowEntry.{row_entry}
-use Rattle.ent_finder.specs.Rows.{row_cmp, row_cmp_total}
+use Rattle.ent_finder.specs.Rows.{row_cmp}
+use Rattle.ent_finder.proofs.Totals.{row_cmp_total}
 use Rattle.ent_finder.proofs.rows.place.Goals as goal
 
 -- the closure compares a row's key with the key

@@ -2,7 +2,7 @@ use Rattle.std.proofs.Common.{refl, sym, ◌∙◌}
 use Rattle.ent_values.specs.Bags.{AllOfType}
 use Rattle.ent_finder.proofs.Seats.{carried, read_seen, seat_key, written_seen, written_sorted}
 use Rattle.ent_finder.specs.RowEntry.{row_entry}
-use Rattle.ent_finder.specs.Rows.{row_cmp_total}
+use Rattle.ent_finder.proofs.Totals.{row_cmp_total}
 use Rattle.ent_finder.proofs.rows.swap_row.Goals as goal
 
 pub invariant_of-index_mut : goal.invariant_of-index_mut

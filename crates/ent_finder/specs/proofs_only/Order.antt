@@ -5,8 +5,7 @@ use Rattle.std.specs.Option.{option_cmp}
 use Rattle.std.specs.Ordering.{nat_cmp, ordering_then}
 use Rattle.std.specs.declared.cmp.Ordering.{Ordering}
 use Rattle.std.specs.declared.cmp.Ordering.TheVariants.{Equal}
-use Rattle.ent_values.specs.contracts.datatype.DataTypeOrd.TheImpl as types
-use Rattle.ent_values.specs.declared.datatype.DataType.{DataType}
+use Rattle.ent_values.specs.Order.{type_cmp}
 use Rattle.ent_policy.specs.contracts.key.KindOrd.TheImpl as kinds
 use Rattle.ent_policy.specs.declared.key.DocKey.{DocKey}
 use Rattle.ent_policy.specs.declared.key.Kind.{Kind}
@@ -32,9 +31,6 @@ abbrev pub name_wanted : Reference → Name
 name_wanted reference = (reference.kind, reference.id)
 
 -- ---- rows
-
-abbrev pub type_cmp : DataType → DataType → Ordering
-type_cmp = (types.ghosts).cmp
 
 -- how the issuer of a row stands to the one that is wanted, if one is: none comes before every other
 abbrev pub issuer_cmp : Option (List ℕ) → Option (List ℕ) → Ordering

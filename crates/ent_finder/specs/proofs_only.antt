@@ -1,0 +1,4 @@
+pub mod Blocks
+pub mod Order
+pub mod Places
+pub mod Rows
