@@ -2,10 +2,10 @@
 use Rattle.std.proofs.Common.{◌≡◌, List, Option, Some, None, Result, Ok, Err, false, sym, ap, subst, ◌∙◌}
 use Rattle.std.specs.Prelude.{IfOk, OnOk}
 use Rattle.ent_policy.specs.declared.document.Designator.{Designator}
-use Rattle.ent_eval.specs.Comes.{Comes}
-use Rattle.ent_eval.specs.Looked.{AreLooked}
+use Rattle.ent_eval.specs.proofs_only.Comes.{Comes}
+use Rattle.ent_eval.specs.proofs_only.Looked.{AreLooked}
 use Rattle.ent_eval.specs.Looks.{Looks}
-use Rattle.ent_eval.specs.Noted.{Notes, noting}
+use Rattle.ent_eval.specs.proofs_only.Noted.{Notes, noting}
 use Rattle.ent_eval.specs.Part.{Part}
 use Rattle.ent_eval.specs.Sources.{values_part}
 use Rattle.ent_eval.specs.declared.key.ReadKey.{ReadKey}

@@ -30,7 +30,8 @@ use Rattle.ent_eval.specs.Given.{finished}
 use Rattle.ent_eval.specs.Judged.{nothing}
 use Rattle.ent_eval.specs.Law.{EqualLookUpsGiveEqualAnswers, IsSameLook}
 use Rattle.ent_eval.specs.Looks.{Looks}
-use Rattle.ent_eval.specs.Node.{Node, child_step, children_part, combined, followed, found_node, node_with, refer, set_node_with, set_step}
+use Rattle.ent_eval.specs.Node.{Node, child_step, children_part, combined, followed, found_node, node_with, refer, set_step}
+use Rattle.ent_eval.specs.proofs_only.Node.{set_node_with}
 use Rattle.ent_eval.specs.Noted.{noted}
 use Rattle.ent_eval.specs.Only.{chosen_part, choice_part, chosen, only_one, result_of_target, results, seen_choice, spoils}
 use Rattle.ent_eval.specs.Part.{Part, after_look, without_look, reads_of, values}

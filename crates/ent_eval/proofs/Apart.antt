@@ -16,7 +16,7 @@ use Rattle.ent_eval.specs.declared.own.Sought.{Sought}
 use Rattle.ent_eval.specs.declared.request.Category.{Category}
 use Rattle.ent_eval.specs.declared.request.Request.{Request}
 use Rattle.ent_eval.specs.Own.{attributes_in, own_values, values_in}
-use Rattle.ent_eval.specs.Sought.{AreSeveral, IsWhole, designator_of, values_of}
+use Rattle.ent_eval.specs.proofs_only.Sought.{AreSeveral, IsWhole, designator_of, values_of}
 use Rattle.ent_eval.proofs.Walk.{at_item}
 
 -- what stands where there is none

@@ -17,9 +17,9 @@ use Rattle.ent_policy.specs.Typing.{all_typed}
 use Rattle.ent_eval.specs.declared.evaluated.Evaluated.{Evaluated}
 use Rattle.ent_eval.specs.declared.evaluated.Evaluated.TheVariants.{Known, Indeterminate}
 use Rattle.ent_eval.specs.Expression.{arguments_of, evaluated_of, decides, is_result, result_of}
-use Rattle.ent_eval.specs.Noted.{Notes, noting}
+use Rattle.ent_eval.specs.proofs_only.Noted.{Notes, noting}
 use Rattle.ent_eval.specs.Part.{Part, reads_of, seen_parts, values}
-use Rattle.ent_eval.specs.Typed.{HasType}
+use Rattle.ent_eval.specs.proofs_only.Typed.{HasType}
 use Rattle.ent_eval.proofs.Booleans.{find_behind, find_none}
 use Rattle.ent_eval.proofs.Walk.{IsGoing, at_item, goes_on, stops_at, values_to, values_to-next}
 

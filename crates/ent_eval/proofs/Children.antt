@@ -12,10 +12,10 @@ use Rattle.ent_combine.specs.declared.outcome.RuleAlg.{RuleAlg}
 use Rattle.ent_policy.specs.declared.key.DocKey.{DocKey}
 use Rattle.ent_eval.specs.declared.answer.Answer.{Answer}
 use Rattle.ent_eval.specs.declared.gather.Gathering.{Gathering}
-use Rattle.ent_eval.specs.Gathered.{judged_by, HasGathered}
+use Rattle.ent_eval.specs.proofs_only.Gathered.{judged_by, HasGathered}
 use Rattle.ent_eval.specs.Judged.{decisions, judged, judgement_of, stops}
 use Rattle.ent_eval.specs.Part.{Part, values, reads_of, seen_parts}
-use Rattle.ent_eval.specs.Noted.{Notes, noting}
+use Rattle.ent_eval.specs.proofs_only.Noted.{Notes, noting}
 use Rattle.ent_eval.proofs.Walk.{IsGoing, Stops, goes_on, stops_at, values_to, values_to-next}
 
 decisions_seen : (algorithm : RuleAlg) (js : List Answer) → decisions (up_to_first (stops algorithm) js) ≡ seen algorithm (decisions js)

@@ -18,8 +18,9 @@ use Rattle.ent_eval.specs.declared.answer.Status.TheVariants.{ProcessingError}
 use Rattle.ent_eval.specs.declared.only.Only.TheVariants as only
 use Rattle.ent_eval.specs.declared.target.Targeted.{Targeted}
 use Rattle.ent_eval.specs.declared.target.Targeted.TheVariants.{Match, NoMatch, Indeterminate}
-use Rattle.ent_eval.specs.Noted.{Notes, noting}
-use Rattle.ent_eval.specs.Only.{chosen, first_target_status, result_of_target, results, seen_choice, spoils, status_of_target}
+use Rattle.ent_eval.specs.proofs_only.Noted.{Notes, noting}
+use Rattle.ent_eval.specs.Only.{chosen, first_target_status, result_of_target, results, seen_choice, spoils}
+use Rattle.ent_eval.specs.proofs_only.Only.{status_of_target}
 use Rattle.ent_eval.specs.Part.{Part, reads_of, values}
 use Rattle.ent_eval.proofs.Walk.{at_item, noting-append, values_to, values_to-next}
 

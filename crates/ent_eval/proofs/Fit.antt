@@ -18,7 +18,7 @@ use Rattle.ent_policy.specs.declared.document.PolicySet.{PolicySet}
 use Rattle.ent_policy.specs.declared.document.Tree.{Tree}
 use Rattle.ent_policy.specs.declared.fault.DocFault.{DocFault}
 use Rattle.ent_policy.specs.declared.fault.DocFault.TheVariants.{Size}
-use Rattle.ent_eval.specs.Typed.{fit_step, is_fit, set_is_fit}
+use Rattle.ent_eval.specs.proofs_only.Typed.{fit_step, is_fit, set_is_fit}
 use Rattle.ent_eval.proofs.Typing.{both_true}
 
 -- where a fault is none, its condition doesn't stand

@@ -13,7 +13,7 @@ use Rattle.ent_combine.specs.declared.outcome.Outcome.{Outcome}
 use Rattle.ent_combine.specs.declared.outcome.Outcome.TheVariants.{Permit, Deny, NotApplicable, Ind}
 use Rattle.ent_eval.specs.declared.answer.Answer.{Answer}
 use Rattle.ent_eval.specs.declared.answer.Status.{Status}
-use Rattle.ent_eval.specs.Gathered.{status_with, told_more, HasGathered}
+use Rattle.ent_eval.specs.proofs_only.Gathered.{status_with, told_more, HasGathered}
 use Rattle.ent_eval.specs.Judged.{decisions, first_status, status_before, lists_of, told_by}
 
 pub decisions-more : (js : List Answer) (j : Answer) → decisions (js ++ j ∷ []) ≡ decisions js ++ j.decision ∷ []

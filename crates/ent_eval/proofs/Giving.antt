@@ -10,9 +10,9 @@ use Rattle.ent_eval.specs.declared.answer.Status.{Status}
 use Rattle.ent_eval.specs.declared.evaluated.Evaluated.{Evaluated}
 use Rattle.ent_eval.specs.declared.evaluated.Evaluated.TheVariants.{Known, Indeterminate}
 use Rattle.ent_eval.specs.Given.{joined, together}
-use Rattle.ent_eval.specs.Noted.{Notes, noting}
+use Rattle.ent_eval.specs.proofs_only.Noted.{Notes, noting}
 use Rattle.ent_eval.specs.Part.{Part, reads_of, seen_parts, values}
-use Rattle.ent_eval.specs.Typed.{HasType, is_held}
+use Rattle.ent_eval.specs.proofs_only.Typed.{HasType, is_held}
 use Rattle.ent_eval.proofs.Walk.{IsGoing, at_item, goes_on, stops_at}
 
 joined-assoc : {A : Type 0} (a b c : Result (List A) Status) → joined (joined a b) c ≡ joined a (joined b c)

@@ -7,7 +7,7 @@ use Rattle.ent_policy.specs.declared.key.Reference.{Reference}
 use Rattle.ent_eval.specs.declared.key.ReadKey.TheVariants.{Ref}
 use Rattle.ent_eval.specs.declared.request.Request.{Request}
 use Rattle.ent_eval.specs.Looks.{Looks}
-use Rattle.ent_eval.specs.Hops.{child_target, followed_part, node_of, reference_part, reference_target}
+use Rattle.ent_eval.specs.proofs_only.Hops.{child_target, followed_part, node_of, reference_part, reference_target}
 use Rattle.ent_eval.specs.Node.{Node, followed, found_node, refer}
 use Rattle.ent_eval.specs.Part.{after_look}
 

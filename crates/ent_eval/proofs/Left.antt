@@ -5,9 +5,9 @@ use Rattle.ent_combine.specs.declared.combiner.Progress.{Progress}
 use Rattle.ent_eval.specs.declared.answer.Answer.{Answer}
 use Rattle.ent_eval.specs.declared.target.Targeted.{Targeted}
 use Rattle.ent_eval.specs.declared.gather.Gathering.{Gathering}
-use Rattle.ent_eval.specs.Gathered.{Gathers, Tells}
-use Rattle.ent_eval.specs.Noted.{Notes, noting}
-use Rattle.ent_eval.specs.Opened.{IsLeft}
+use Rattle.ent_eval.specs.proofs_only.Gathered.{Gathers, Tells}
+use Rattle.ent_eval.specs.proofs_only.Noted.{Notes, noting}
+use Rattle.ent_eval.specs.proofs_only.Opened.{IsLeft}
 use Rattle.ent_eval.specs.Part.{Part, and_then}
 use Rattle.ent_eval.proofs.Walk.{noting_both}
 

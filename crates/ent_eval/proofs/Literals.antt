@@ -30,8 +30,8 @@ use Rattle.ent_eval.specs.Looks.{Looks}
 use Rattle.ent_eval.specs.Own.{is_empty, own_values}
 use Rattle.ent_eval.specs.Part.{Part, without_look, mapped, reads_of, seen_parts, whole}
 use Rattle.ent_eval.specs.Sources.{source_part, values_part}
-use Rattle.ent_eval.specs.Typed.{HasType, apply_type, type_of}
-use Rattle.ent_eval.specs.Uncopied.{member, member_part}
+use Rattle.ent_eval.specs.proofs_only.Typed.{HasType, apply_type, type_of}
+use Rattle.ent_eval.specs.proofs_only.Uncopied.{member, member_part}
 
 -- a value is no result of a function that no boolean decides
 goes-on : (f : Function) (v : Value) → ((b : Bool) → decides f b ≡ false) → is_result f (Known (One v)) ≡ false

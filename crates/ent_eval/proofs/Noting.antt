@@ -6,8 +6,9 @@ use Rattle.std.specs.FinMap.{IsAntisymmetric}
 use Rattle.std.specs.Ordering.{match_ordering, ordering_reverse}
 use Rattle.ent_eval.specs.contracts.key.ReadKeyOrd.TheImpl.Laws.{total-law}
 use Rattle.ent_eval.specs.declared.key.ReadKey.{ReadKey}
-use Rattle.ent_eval.specs.Looked.{IsNoted}
-use Rattle.ent_eval.specs.Noted.{Notes, noting, read_cmp, with_key, with_note}
+use Rattle.ent_eval.specs.proofs_only.Looked.{IsNoted}
+use Rattle.ent_eval.specs.Noted.{read_cmp, with_key}
+use Rattle.ent_eval.specs.proofs_only.Noted.{Notes, noting, with_note}
 use Rattle.ent_eval.proofs.Keys.{read_cmp-IsAntisymmetric}
 
 module _ {K : Type 0} (cmp : K → K → Ordering) (order : IsTotalOrder cmp) (same : IsAntisymmetric cmp) where

@@ -1,11 +1,11 @@
 -- What came of one part came of an equal one.
 use Rattle.std.proofs.Common.{◌≡◌, Result, sym, ap, subst, ◌∙◌}
 use Rattle.std.specs.Prelude.{IfOk, OnOk, Ok, Err}
-use Rattle.ent_eval.specs.Comes.{Comes}
+use Rattle.ent_eval.specs.proofs_only.Comes.{Comes}
 use Rattle.ent_eval.specs.declared.answer.Answer.{Answer}
 use Rattle.ent_eval.specs.declared.key.ReadKey.{ReadKey}
-use Rattle.ent_eval.specs.Noted.{Notes, noting, with_note}
-use Rattle.ent_eval.specs.Opened.{IsLeft}
+use Rattle.ent_eval.specs.proofs_only.Noted.{Notes, noting, with_note}
+use Rattle.ent_eval.specs.proofs_only.Opened.{IsLeft}
 use Rattle.ent_eval.specs.Part.{Part, after_look}
 
 module _ {A B E : Type 0} (meaning : A → B) where

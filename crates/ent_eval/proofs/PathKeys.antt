@@ -3,7 +3,7 @@ use Rattle.std.proofs.Common.{◌≡◌, ℕ, List, [], ◌∷◌, ◌++◌, rul
 use Rattle.std.specs.Borrow.{Bor}
 use Rattle.ent_policy.specs.declared.key.Kind.{Kind}
 use Rattle.ent_eval.specs.declared.path.Path.{Path, Below, Root, the_lemmas}
-use Rattle.ent_eval.specs.Path.{keys_of}
+use Rattle.ent_eval.specs.proofs_only.Path.{keys_of}
 
 pub keys_of_root : keys_of Root ≡ []
 keys_of_root = search (rules, the_lemmas)

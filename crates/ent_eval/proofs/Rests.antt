@@ -38,7 +38,7 @@ use Rattle.ent_policy.specs.declared.given.GivenExpressions.{GivenExpressions}
 use Rattle.ent_eval.specs.declared.answer.Status.{Status}
 use Rattle.ent_eval.specs.declared.given.Given.{Given}
 use Rattle.ent_eval.specs.Given.{advice_after, assigned, assignment_part, effect_of, finished, given_in_turn, given_of, given_part, given_with, givens_part, goes_with, joined, together, with_own}
-use Rattle.ent_eval.specs.Gathered.{judged_by}
+use Rattle.ent_eval.specs.proofs_only.Gathered.{judged_by}
 use Rattle.ent_eval.specs.Judged.{judgement_of, stops, with_target}
 use Rattle.ent_eval.specs.Law.{IsSameLook}
 use Rattle.ent_eval.specs.Looks.{Looks}

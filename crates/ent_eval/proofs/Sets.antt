@@ -14,12 +14,12 @@ use Rattle.ent_policy.specs.declared.key.DocKey.{DocKey}
 use Rattle.ent_policy.specs.declared.key.Kind.TheVariants as kind
 use Rattle.ent_eval.specs.declared.request.Request.{Request}
 use Rattle.ent_eval.specs.Looks.{Looks}
-use Rattle.ent_eval.specs.Hops.{children_combined, child_target, node_of, only_child, set_children, set_part}
+use Rattle.ent_eval.specs.proofs_only.Hops.{children_combined, child_target, node_of, only_child, set_children, set_part}
 use Rattle.ent_eval.specs.Given.{finished}
 use Rattle.ent_eval.specs.Node.{Node, child_step, children_part, combined, element, refer, set_step}
 use Rattle.ent_eval.specs.Only.{only_one}
 use Rattle.ent_eval.specs.Target.{target_part}
-use Rattle.ent_eval.specs.Typed.{fit_step, is_fit, set_is_fit}
+use Rattle.ent_eval.specs.proofs_only.Typed.{fit_step, is_fit, set_is_fit}
 use Rattle.ent_eval.proofs.Typing.{both_true}
 
 pub map-map : {X Y Z : Type 0} (f : X → Y) (g : Y → Z) (xs : List X) → map g (map f xs) ≡ map (λ x. g (f x)) xs

@@ -3,9 +3,10 @@ use Rattle.std.proofs.Common.{◌≡◌, ℕ, ◌+◌, ◌<◌, Bool, true, fals
 use Rattle.std.specs.Prelude.{find, if◌then◌else◌, unwrap_or}
 use Rattle.ent_eval.specs.declared.target.Targeted.{Targeted}
 use Rattle.ent_eval.specs.declared.target.Targeted.TheVariants as is
-use Rattle.ent_eval.specs.Noted.{Notes, noting}
+use Rattle.ent_eval.specs.proofs_only.Noted.{Notes, noting}
 use Rattle.ent_eval.specs.Part.{Part}
-use Rattle.ent_eval.specs.Target.{first_indeterminate, is_indeterminate, is_match, is_no_match, unless_indeterminate}
+use Rattle.ent_eval.specs.Target.{first_indeterminate, is_indeterminate, is_match, is_no_match}
+use Rattle.ent_eval.specs.proofs_only.Target.{unless_indeterminate}
 use Rattle.ent_eval.proofs.Walk.{IsGoing, goes_on, values_to, values_to-next}
 
 -- none of the first i parts stops, and `so_far` is the first of them that is Indeterminate

@@ -11,7 +11,7 @@ use Rattle.ent_policy.specs.Variables.{defined, definition_of}
 use Rattle.ent_eval.specs.declared.request.Request.{Request}
 use Rattle.ent_eval.specs.Expression.{meaning, variable_part}
 use Rattle.ent_eval.specs.Looks.{Looks}
-use Rattle.ent_eval.specs.Typed.{deepest, type_of, worth}
+use Rattle.ent_eval.specs.proofs_only.Typed.{deepest, type_of, worth}
 
 held_some : (t : Option ArgType) → IsSome (held t) → held t ≡ t
 held_some None some = refl

@@ -6,7 +6,8 @@ use Rattle.std.proofs.Math.Seq.{take-suc}
 use Rattle.std.proofs.lemmas.List.{append-nil, map-append}
 use Rattle.ent_combine.specs.Seen.{up_to_first}
 use Rattle.ent_eval.specs.declared.key.ReadKey.{ReadKey}
-use Rattle.ent_eval.specs.Noted.{Notes, noted, noting, with_key, with_note}
+use Rattle.ent_eval.specs.Noted.{noted, with_key}
+use Rattle.ent_eval.specs.proofs_only.Noted.{Notes, noting, with_note}
 use Rattle.ent_eval.specs.Part.{Part, reads_of, values, seen_parts}
 
 pub noting-append : (keys : Notes) (first more : List ReadKey) → noting keys (first ++ more) ≡ noting (noting keys first) more

@@ -1,5 +1,5 @@
 -- What an expression comes to (sections 7.3.5 and 7.8, appendix A.3).
-use Rattle.std.specs.Prelude.{ℕ, zero, suc, List, [], ◌∷◌, Bool, true, false, not, if◌then◌else◌, Option, Some, None, find, map, unwrap_or}
+use Rattle.std.specs.Prelude.{ℕ, zero, suc, List, [], ◌∷◌, Bool, true, false, not, if◌then◌else◌, Option, Some, None, find, unwrap_or}
 use Rattle.ent_values.specs.declared.value.Value.{Value}
 use Rattle.ent_values.specs.declared.value.Value.TheVariants.{Boolean}
 use Rattle.ent_functions.specs.declared.arg.Arg.{Arg}
@@ -88,8 +88,3 @@ variable_part looks request definitions (suc n) id = defined_part (meaning_with 
 -- an expression among definitions, through at most this many references
 abbrev pub meaning : Looks → Request → List VariableDefinition → ℕ → Expression → Part Evaluated
 meaning looks request definitions n = meaning_with looks request (variable_part looks request definitions n)
-
--- a function of arguments, which are such expressions
-abbrev pub apply_part : Looks → Request → List VariableDefinition → ℕ → Function → List Expression → Part Evaluated
-apply_part looks request definitions n function arguments =
-    whole (is_result function) (result_of function) (map (meaning looks request definitions n) arguments)

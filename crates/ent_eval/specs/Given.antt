@@ -33,10 +33,6 @@ joined (Err status) later = Err status
 joined (Ok xs) (Err status) = Err status
 joined (Ok xs) (Ok ys) = Ok (xs ++ ys)
 
--- what stands already, and what one more part gives
-abbrev pub joined_with : {A : Type 0} → List A → Part (Result (List A) Status) → Result (List A) Status
-joined_with before part = joined (Ok before) part.value
-
 -- the same of several
 abbrev pub together : {A : Type 0} → List (Result (List A) Status) → Result (List A) Status
 together [] = Ok []
@@ -45,11 +41,6 @@ together (first ∷ later) = joined first (together later)
 -- what several things give, which are seen up to the first that is Indeterminate
 abbrev pub given_in_turn : {X A : Type 0} → (X → Part (Result (List A) Status)) → List X → Part (Result (List A) Status)
 given_in_turn part xs = whole is_err together (map part xs)
-
--- a list to which something was added, unless that was Indeterminate
-abbrev pub added : {A : Type 0} → List A → Option Status → Result (List A) Status
-added xs None = Ok xs
-added xs (Some status) = Err status
 
 -- ---- assignments
 

@@ -23,10 +23,6 @@ use Rattle.ent_eval.specs.declared.target.Targeted.TheVariants.{Match, NoMatch, 
 abbrev pub nothing : Answer
 nothing = record { decision = NotApplicable; status = Okay; why = []; obligations = []; advice = [] }
 
--- what an element comes to, where no answer is what isn't applicable
-abbrev pub or_nothing : Option Answer → Answer
-or_nothing a = unwrap_or a nothing
-
 -- what is Indeterminate
 abbrev pub indeterminate : IndKind → Status → Answer
 indeterminate kind status = record { decision = Ind kind; status = status; why = []; obligations = []; advice = [] }

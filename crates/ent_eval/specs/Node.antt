@@ -8,7 +8,7 @@ use Rattle.ent_policy.specs.declared.document.PolicySet.{PolicySet}
 use Rattle.ent_policy.specs.declared.document.Rule.{Rule}
 use Rattle.ent_policy.specs.declared.document.Tree.{Tree}
 use Rattle.ent_policy.specs.declared.document.Child.{Child}
-use Rattle.ent_policy.specs.declared.document.Child.TheFolds.{fold-Child, fold-PolicySet}
+use Rattle.ent_policy.specs.declared.document.Child.TheFolds.{fold-Child}
 use Rattle.ent_policy.specs.declared.document.Child.TheOpen.{Child-F, PolicySet-F}
 use Rattle.ent_policy.specs.Children.{as_child}
 use Rattle.ent_policy.specs.declared.expression.VariableDefinition.{VariableDefinition}
@@ -57,10 +57,6 @@ abbrev pub policy_rules : Looks → Request → List DocKey → Policy → Part 
 policy_rules looks request path policy =
     rules_part looks request (path ++ record { kind = kind.Policy; id = policy.id; version = policy.version } ∷ []) policy
 
--- what comes behind the target of a policy
-abbrev pub policy_after : Looks → Request → List DocKey → Policy → Targeted → Part Answer
-policy_after looks request path policy = children_after (finished looks request policy.variables policy.given) (policy_rules looks request path policy)
-
 -- a policy, where `path` leads from the root to what it stands in
 abbrev pub policy_part : Looks → Request → List DocKey → Policy → Part Answer
 policy_part looks request path policy =
@@ -93,10 +89,6 @@ set_step looks request set = record {
 -- a child, where `refer` gives what a reference comes to
 abbrev pub node_with : Looks → Request → (Reference → Node) → Child → Node
 node_with looks request refer = fold-Child Node Node (child_step looks request refer) (set_step looks request)
-
--- a set, where `refer` gives what a reference comes to
-abbrev pub set_node_with : Looks → Request → (Reference → Node) → PolicySet → Node
-set_node_with looks request refer = fold-PolicySet Node Node (child_step looks request refer) (set_step looks request)
 
 -- ---- references
 

@@ -1,5 +1,5 @@
 -- Keys of look-ups that are noted once.
-use Rattle.std.specs.Prelude.{List, [], ◌∷◌, Bool, Option, Some, None}
+use Rattle.std.specs.Prelude.{List, [], ◌∷◌, Bool}
 use Rattle.std.specs.List.{list_any}
 use Rattle.std.specs.Ordering.{is_eq}
 use Rattle.std.specs.BTreeSet.{insert_key}
@@ -19,20 +19,6 @@ with_key keys key = insert_key read_cmp keys key
 abbrev pub noted : List ReadKey → List ReadKey → List ReadKey
 noted keys [] = keys
 noted keys (more ∷ others) = noted (with_key keys more) others
-
--- what is noted of the look-ups of an evaluation: their keys so far, or nothing where they aren't asked for
-abbrev pub Notes : Type 0
-Notes = Option (List ReadKey)
-
--- the notes, with one more key
-abbrev pub with_note : Notes → ReadKey → Notes
-with_note None key = None
-with_note (Some keys) key = Some (with_key keys key)
-
--- the notes, with several more
-abbrev pub noting : Notes → List ReadKey → Notes
-noting notes [] = notes
-noting notes (more ∷ others) = noting (with_note notes more) others
 
 -- whether a key is among these
 abbrev pub has_key : List ReadKey → ReadKey → Bool

@@ -26,11 +26,6 @@ result_of_target (Indeterminate status) = result.Indeterminate
 abbrev pub results : List Targeted → List TargetResult
 results ts = map result_of_target ts
 
--- the status of a target that is Indeterminate; a second match is a processing error
-abbrev pub status_of_target : Targeted → Status
-status_of_target (Indeterminate status) = status
-status_of_target _ = ProcessingError
-
 -- the status of the first target that is Indeterminate
 abbrev pub first_target_status : List Targeted → Option Status
 first_target_status [] = None

@@ -3,7 +3,6 @@ use Rattle.std.specs.Prelude.{ℕ, List, [], ◌∷◌, Bool, true, false, ◌&&
 use Rattle.std.specs.List.{flat_map}
 use Rattle.std.specs.Str.{bytes_eq}
 use Rattle.ent_values.specs.Same.{same_type}
-use Rattle.ent_values.specs.declared.datatype.DataType.{DataType}
 use Rattle.ent_values.specs.declared.value.Value.{Value}
 use Rattle.ent_policy.specs.declared.document.Designator.{Designator}
 use Rattle.ent_eval.specs.declared.request.Attribute.{Attribute}
@@ -39,11 +38,6 @@ attributes_of id categories = flat_map (attributes_in id) categories
 -- the request's own values for a designator
 abbrev pub own_values : Designator → Request → List Value
 own_values d request = values_among d (attributes_of d.category request.categories)
-
--- its own values of an attribute; an absent issuer is any
-abbrev pub own_values_of : List ℕ → List ℕ → DataType → Option (List ℕ) → Request → List Value
-own_values_of category attribute datatype issuer request =
-    own_values (record { category = category; attribute = attribute; datatype = datatype; issuer = issuer; must_be_present = false }) request
 
 -- the only one of several values, if there is exactly one
 abbrev pub sole_value : List Value → Option Value

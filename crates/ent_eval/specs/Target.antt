@@ -1,5 +1,5 @@
 -- Whether a target matches (sections 7.6 and 7.7).
-use Rattle.std.specs.Prelude.{List, [], ◌∷◌, Bool, true, false, if◌then◌else◌, Option, Some, None, map, find, unwrap_or}
+use Rattle.std.specs.Prelude.{List, [], ◌∷◌, Bool, true, false, if◌then◌else◌, map, find, unwrap_or}
 use Rattle.std.specs.List.{list_any}
 use Rattle.ent_values.specs.declared.value.Value.{Value}
 use Rattle.ent_functions.specs.Applied.{applied}
@@ -26,11 +26,6 @@ is_true function literal value = comes_true (applied function (One literal ∷ O
 abbrev pub matched : Match → List Value → Targeted
 matched m [] = if m.designator.must_be_present then is.Indeterminate MissingAttribute else is.NoMatch
 matched m (v ∷ vs) = if list_any (is_true m.function m.literal) (v ∷ vs) then is.Match else is.NoMatch
-
--- a match of the request's own values, if it has any
-abbrev pub own_match : Match → List Value → Option Targeted
-own_match m [] = None
-own_match m (v ∷ vs) = Some (matched m (v ∷ vs))
 
 -- whether it is a match
 abbrev pub is_match : Targeted → Bool
@@ -74,9 +69,3 @@ any_of_part looks request any_of = whole is_match one_matches (map (all_of_part 
 -- a target, up to its first any-of element that doesn't match (section 7.7)
 abbrev pub target_part : Looks → Request → Target → Part Targeted
 target_part looks request target = whole is_no_match all_match (map (any_of_part looks request) target.any_of)
-
--- the first of two, if it is Indeterminate, and else the second
-abbrev pub unless_indeterminate : Targeted → Targeted → Targeted
-unless_indeterminate (is.Indeterminate status) second = is.Indeterminate status
-unless_indeterminate is.Match second = second
-unless_indeterminate is.NoMatch second = second

@@ -3,11 +3,11 @@
 ghost use Rattle.std.specs.Prelude.{◌≡◌, ◌++◌, IfOk, OnOk, Ok, length, map, true};
 ghost use Rattle.std.specs.List.{list_all};
 ghost use Rattle.ent_policy.specs.Typing.{assignment_is_typed};
-ghost use Rattle.ent_eval.specs.Comes.{Comes, in_scene};
-ghost use Rattle.ent_eval.specs.Given.{added, assigned, assignment_of, assignment_part, given_in_turn, joined};
-ghost use Rattle.ent_eval.specs.Given.{joined_with};
-ghost use Rattle.ent_eval.specs.Noted.{noting};
-ghost use Rattle.ent_eval.specs.Typed.{is_held};
+ghost use Rattle.ent_eval.specs.proofs_only.Comes.{Comes, in_scene};
+ghost use Rattle.ent_eval.specs.Given.{assigned, assignment_of, assignment_part, given_in_turn, joined};
+ghost use Rattle.ent_eval.specs.proofs_only.Given.{added, joined_with};
+ghost use Rattle.ent_eval.specs.proofs_only.Noted.{noting};
+ghost use Rattle.ent_eval.specs.proofs_only.Typed.{is_held};
 
 use crate::answer::{Status, copied_text};
 use crate::evaluated::Evaluated;

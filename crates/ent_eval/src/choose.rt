@@ -2,10 +2,11 @@
 
 ghost use Rattle.std.specs.Prelude.{◌≡◌, ◌≤◌, IfOk, length, map, true};
 ghost use Rattle.std.specs.List.{list_all};
-ghost use Rattle.ent_eval.specs.Comes.{Comes, in_scene};
-ghost use Rattle.ent_eval.specs.Hops.{child_target};
-ghost use Rattle.ent_eval.specs.Only.{choice_part, result_of_target, status_of_target};
-ghost use Rattle.ent_eval.specs.Typed.{is_fit};
+ghost use Rattle.ent_eval.specs.proofs_only.Comes.{Comes, in_scene};
+ghost use Rattle.ent_eval.specs.proofs_only.Hops.{child_target};
+ghost use Rattle.ent_eval.specs.Only.{choice_part, result_of_target};
+ghost use Rattle.ent_eval.specs.proofs_only.Only.{status_of_target};
+ghost use Rattle.ent_eval.specs.proofs_only.Typed.{is_fit};
 
 use crate::answer::Status;
 use crate::look_ups::LookUps;

@@ -8,12 +8,13 @@ ghost use Rattle.ent_functions.specs.Types.{boolean, result_type_of};
 ghost use Rattle.ent_functions.specs.declared.types.ArgType.TheVariants.{Many};
 ghost use Rattle.ent_policy.specs.Typing.{variable_type};
 ghost use Rattle.ent_policy.specs.Variables.{definition_of};
-ghost use Rattle.ent_eval.specs.Comes.{Comes, in_scene};
-ghost use Rattle.ent_eval.specs.Expression.{apply_part, evaluated_of, designated, is_result, meaning, settles};
+ghost use Rattle.ent_eval.specs.proofs_only.Comes.{Comes, in_scene};
+ghost use Rattle.ent_eval.specs.Expression.{evaluated_of, designated, is_result, meaning, settles};
+ghost use Rattle.ent_eval.specs.proofs_only.Expression.{apply_part};
 ghost use Rattle.ent_eval.specs.Expression.{variable_part};
 ghost use Rattle.ent_eval.specs.declared.evaluated.Evaluated.TheVariants.{Known};
-ghost use Rattle.ent_eval.specs.Typed.{HasType, apply_type, type_of};
-ghost use Rattle.ent_eval.specs.Uncopied.{member_part};
+ghost use Rattle.ent_eval.specs.proofs_only.Typed.{HasType, apply_type, type_of};
+ghost use Rattle.ent_eval.specs.proofs_only.Uncopied.{member_part};
 
 use crate::answer::Status;
 use crate::evaluated::Evaluated;

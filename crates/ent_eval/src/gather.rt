@@ -1,9 +1,10 @@
 //! What is kept of children that were seen.
 
 ghost use Rattle.std.specs.Prelude.{◌≡◌, List, [], IfOk, OnOk};
-ghost use Rattle.ent_eval.specs.Gathered.{Gathers, HasGathered, Tells, judged_by, status_with};
-ghost use Rattle.ent_eval.specs.Path.{keys_of};
-ghost use Rattle.ent_eval.specs.Judged.{nothing, or_nothing};
+ghost use Rattle.ent_eval.specs.proofs_only.Gathered.{Gathers, HasGathered, Tells, judged_by, status_with};
+ghost use Rattle.ent_eval.specs.proofs_only.Path.{keys_of};
+ghost use Rattle.ent_eval.specs.Judged.{nothing};
+ghost use Rattle.ent_eval.specs.proofs_only.Judged.{or_nothing};
 ghost use Rattle.ent_eval.specs.declared.answer.Answer.{Answer};
 
 use crate::answer::{Answer, Status};

@@ -3,9 +3,9 @@
 ghost use Rattle.std.specs.Prelude.{◌≡◌, IfOk};
 ghost use Rattle.std.specs.List.{list_any};
 ghost use Rattle.ent_eval.specs.Own.{own_values};
-ghost use Rattle.ent_eval.specs.Sought.{designator_of, values_of};
+ghost use Rattle.ent_eval.specs.proofs_only.Sought.{designator_of, values_of};
 ghost use Rattle.ent_eval.specs.Target.{is_true};
-ghost use Rattle.ent_eval.specs.Typed.{Tests, TestsEach};
+ghost use Rattle.ent_eval.specs.proofs_only.Typed.{Tests, TestsEach};
 ghost use Rattle.ent_values.specs.Types.{datatype_of};
 
 use crate::own::{Sought, attributes_in, values_in};

@@ -2,7 +2,7 @@
 
 ghost use Rattle.std.specs.Prelude.{◌≡◌, IsTrue, MatchOption, false};
 ghost use Rattle.ent_eval.specs.Own.{own_values};
-ghost use Rattle.ent_eval.specs.Sought.{AreSeveral, IsWhole};
+ghost use Rattle.ent_eval.specs.proofs_only.Sought.{AreSeveral, IsWhole};
 
 use crate::own::{Sought, own_values, same_text};
 use crate::request::Request;
@@ -27,7 +27,7 @@ struct Found<'a> {
 
 impl<'a> Model for Latest<'a> {
     ghost use Rattle.ent_eval.specs.declared.request.Request.{Request};
-    ghost use Rattle.ent_eval.specs.Latest.{AreOf};
+    ghost use Rattle.ent_eval.specs.proofs_only.Latest.{AreOf};
 
     ghost Value = { Request };
 

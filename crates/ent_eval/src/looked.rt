@@ -2,11 +2,11 @@
 
 ghost use Rattle.std.specs.Prelude.{◌≡◌, IfOk, IsSome, OnOk, Some};
 ghost use Rattle.ent_functions.specs.Types.{boolean};
-ghost use Rattle.ent_eval.specs.Comes.{Comes, in_scene};
+ghost use Rattle.ent_eval.specs.proofs_only.Comes.{Comes, in_scene};
 ghost use Rattle.ent_eval.specs.Expression.{meaning};
-ghost use Rattle.ent_eval.specs.Looked.{AreLooked};
-ghost use Rattle.ent_eval.specs.Typed.{HasType, type_of};
-ghost use Rattle.ent_eval.specs.Uncopied.{member_part};
+ghost use Rattle.ent_eval.specs.proofs_only.Looked.{AreLooked};
+ghost use Rattle.ent_eval.specs.proofs_only.Typed.{HasType, type_of};
+ghost use Rattle.ent_eval.specs.proofs_only.Uncopied.{member_part};
 
 use crate::evaluated::Evaluated;
 use crate::latest::seeks_same;

@@ -3,10 +3,12 @@
 ghost use Rattle.std.specs.Prelude.{◌≡◌, IfOk, true};
 ghost use Rattle.std.specs.List.{list_all};
 ghost use Rattle.ent_policy.specs.Typing.{given_is_typed, rule_is_typed};
-ghost use Rattle.ent_eval.specs.Comes.{Comes, in_scene};
-ghost use Rattle.ent_eval.specs.Judged.{or_nothing, under_target};
-ghost use Rattle.ent_eval.specs.Node.{policy_after, policy_rules, rules_combined};
-ghost use Rattle.ent_eval.specs.Path.{keys_of};
+ghost use Rattle.ent_eval.specs.proofs_only.Comes.{Comes, in_scene};
+ghost use Rattle.ent_eval.specs.Judged.{under_target};
+ghost use Rattle.ent_eval.specs.proofs_only.Judged.{or_nothing};
+ghost use Rattle.ent_eval.specs.Node.{policy_rules, rules_combined};
+ghost use Rattle.ent_eval.specs.proofs_only.Node.{policy_after};
+ghost use Rattle.ent_eval.specs.proofs_only.Path.{keys_of};
 
 use crate::answer::{Answer, Status};
 use crate::gather::gather;

@@ -1,8 +1,8 @@
 //! What an evaluation notes of its look-ups.
 
 ghost use Rattle.std.specs.Prelude.{◌≡◌, [], IfOk, None, OnOk, Some};
-ghost use Rattle.ent_eval.specs.Noted.{with_note};
-ghost use Rattle.ent_eval.specs.Path.{keys_of};
+ghost use Rattle.ent_eval.specs.proofs_only.Noted.{with_note};
+ghost use Rattle.ent_eval.specs.proofs_only.Path.{keys_of};
 ghost use Rattle.ent_eval.specs.declared.key.ReadKey.TheVariants.{Ref};
 
 use crate::key::ReadKey;

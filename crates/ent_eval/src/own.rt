@@ -4,7 +4,7 @@ ghost use Rattle.std.specs.Prelude.{◌≡◌, ◌++◌, MatchOption, false, opt
 ghost use Rattle.std.specs.Str.{bytes_eq};
 ghost use Rattle.ent_values.specs.Bags.{AllOfType};
 ghost use Rattle.ent_eval.specs.Own.{attributes_in, has_issuer, is_designated, own_values, values_in};
-ghost use Rattle.ent_eval.specs.Sought.{AreSeveral, IsWhole, designator_of, values_of};
+ghost use Rattle.ent_eval.specs.proofs_only.Sought.{AreSeveral, IsWhole, designator_of, values_of};
 
 use crate::request::{Attribute, Category, Request};
 use ent_policy::Designator;

@@ -4,7 +4,7 @@ ghost use Rattle.std.specs.Prelude.{◌≡◌, ◌++◌, IfOk, None, OnOk, Some,
 ghost use Rattle.ent_values.specs.Bags.{AllOfType};
 ghost use Rattle.ent_functions.specs.Sets.{is_among};
 ghost use Rattle.ent_eval.specs.Own.{is_empty, own_values, sole_value};
-ghost use Rattle.ent_eval.specs.Sought.{designator_of, values_of};
+ghost use Rattle.ent_eval.specs.proofs_only.Sought.{designator_of, values_of};
 
 use crate::own::{Sought, attributes_in, own_values, values_in};
 use crate::request::{Category, Request};

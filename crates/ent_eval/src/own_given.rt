@@ -3,11 +3,12 @@
 ghost use Rattle.std.specs.Prelude.{◌≡◌, IfOk, OnOk, Ok, true};
 ghost use Rattle.std.specs.List.{list_all};
 ghost use Rattle.ent_policy.specs.Typing.{given_expression_is_typed, given_is_typed};
-ghost use Rattle.ent_eval.specs.Comes.{Comes, in_scene};
-ghost use Rattle.ent_eval.specs.Given.{added, advice_after, effect_of, finished, given_part, given_with, givens_part};
+ghost use Rattle.ent_eval.specs.proofs_only.Comes.{Comes, in_scene};
+ghost use Rattle.ent_eval.specs.Given.{advice_after, effect_of, finished, given_part, given_with, givens_part};
+ghost use Rattle.ent_eval.specs.proofs_only.Given.{added};
 ghost use Rattle.ent_eval.specs.Given.{goes_with, indeterminate_of, joined, with_own};
-ghost use Rattle.ent_eval.specs.Judged.{or_nothing};
-ghost use Rattle.ent_eval.specs.Noted.{noting};
+ghost use Rattle.ent_eval.specs.proofs_only.Judged.{or_nothing};
+ghost use Rattle.ent_eval.specs.proofs_only.Noted.{noting};
 ghost use Rattle.std.specs.Prelude.{Some};
 
 use crate::answer::{Answer, Status};

@@ -1,7 +1,7 @@
 //! Where a policy or a policy set stands.
 
 ghost use Rattle.std.specs.Prelude.{◌≡◌, ◌++◌, IsTrue, OnOk};
-ghost use Rattle.ent_eval.specs.Path.{keys_of};
+ghost use Rattle.ent_eval.specs.proofs_only.Path.{keys_of};
 
 use ent_policy::{DocKey, Kind, Version};
 use ent_values::{Items, Text};

@@ -1,7 +1,7 @@
 //! The lists of keys that the entries of answers share.
 
 ghost use Rattle.std.specs.Prelude.{◌≡◌, [], IfOk};
-ghost use Rattle.ent_eval.specs.Path.{keys_of};
+ghost use Rattle.ent_eval.specs.proofs_only.Path.{keys_of};
 
 use crate::path::Path;
 use ent_policy::DocKey;

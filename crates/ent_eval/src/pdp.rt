@@ -5,7 +5,7 @@ ghost use Rattle.std.specs.Borrow.{sem};
 ghost use Rattle.ent_eval.specs.Answer.{answer, looked_up, recorded};
 ghost use Rattle.ent_eval.specs.Lending.{LendsAttributes, LendsPolicies};
 ghost use Rattle.ent_eval.specs.LooksOf.{looks_of};
-ghost use Rattle.ent_eval.specs.Noted.{noting};
+ghost use Rattle.ent_eval.specs.proofs_only.Noted.{noting};
 
 use crate::answer::Answer;
 use crate::look_ups::LookUps;

@@ -3,10 +3,10 @@
 ghost use Rattle.std.specs.Prelude.{◌≡◌, IfOk, OnOk, true};
 ghost use Rattle.std.specs.Option.{option_copied};
 ghost use Rattle.ent_policy.specs.Children.{as_child};
-ghost use Rattle.ent_eval.specs.Comes.{Comes, in_scene};
-ghost use Rattle.ent_eval.specs.Hops.{child_target, reference_target};
-ghost use Rattle.ent_eval.specs.Noted.{with_note};
-ghost use Rattle.ent_eval.specs.Typed.{is_fit};
+ghost use Rattle.ent_eval.specs.proofs_only.Comes.{Comes, in_scene};
+ghost use Rattle.ent_eval.specs.proofs_only.Hops.{child_target, reference_target};
+ghost use Rattle.ent_eval.specs.proofs_only.Noted.{with_note};
+ghost use Rattle.ent_eval.specs.proofs_only.Typed.{is_fit};
 ghost use Rattle.ent_eval.specs.declared.key.ReadKey.TheVariants.{Ref};
 
 use crate::answer::Status;

@@ -3,14 +3,14 @@
 ghost use Rattle.std.specs.Prelude.{◌≡◌, IfOk, OnOk, Some, true};
 ghost use Rattle.ent_functions.specs.Types.{boolean};
 ghost use Rattle.ent_policy.specs.Typing.{condition_is_typed, given_is_typed, rule_is_typed};
-ghost use Rattle.ent_eval.specs.Comes.{Comes, in_scene};
-ghost use Rattle.ent_eval.specs.Gathered.{Gathers, Tells};
-ghost use Rattle.ent_eval.specs.Judged.{or_nothing};
-ghost use Rattle.ent_eval.specs.Looked.{AreLooked};
-ghost use Rattle.ent_eval.specs.Noted.{noting};
-ghost use Rattle.ent_eval.specs.Path.{keys_of};
+ghost use Rattle.ent_eval.specs.proofs_only.Comes.{Comes, in_scene};
+ghost use Rattle.ent_eval.specs.proofs_only.Gathered.{Gathers, Tells};
+ghost use Rattle.ent_eval.specs.proofs_only.Judged.{or_nothing};
+ghost use Rattle.ent_eval.specs.proofs_only.Looked.{AreLooked};
+ghost use Rattle.ent_eval.specs.proofs_only.Noted.{noting};
+ghost use Rattle.ent_eval.specs.proofs_only.Path.{keys_of};
 ghost use Rattle.ent_eval.specs.Rule.{condition_part, decided, decision_of, rule_part, rule_under, truth_of};
-ghost use Rattle.ent_eval.specs.Typed.{HasType};
+ghost use Rattle.ent_eval.specs.proofs_only.Typed.{HasType};
 
 use crate::answer::{Answer, Status, WhyEntry};
 use crate::evaluated::{Evaluated, Truth};

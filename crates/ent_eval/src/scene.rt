@@ -2,7 +2,7 @@
 
 ghost use Rattle.std.specs.Prelude.{◌≡◌, IfOk};
 ghost use Rattle.ent_eval.specs.Answer.{answer_part};
-ghost use Rattle.ent_eval.specs.Comes.{Comes, in_scene};
+ghost use Rattle.ent_eval.specs.proofs_only.Comes.{Comes, in_scene};
 
 use crate::answer::Answer;
 use crate::key::ReadKey;

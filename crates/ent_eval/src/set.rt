@@ -3,15 +3,15 @@
 ghost use Rattle.std.specs.Prelude.{◌≡◌, ◌≤◌, [], IfOk, OnOk, length, map, true};
 ghost use Rattle.std.specs.List.{list_all};
 ghost use Rattle.ent_policy.specs.Typing.{given_is_typed};
-ghost use Rattle.ent_eval.specs.Comes.{Comes, in_scene};
-ghost use Rattle.ent_eval.specs.Gathered.{Gathers, Tells};
-ghost use Rattle.ent_eval.specs.Hops.{child_part, children_combined, only_child, set_after, set_children};
-ghost use Rattle.ent_eval.specs.Judged.{or_nothing};
-ghost use Rattle.ent_eval.specs.Noted.{noting};
+ghost use Rattle.ent_eval.specs.proofs_only.Comes.{Comes, in_scene};
+ghost use Rattle.ent_eval.specs.proofs_only.Gathered.{Gathers, Tells};
+ghost use Rattle.ent_eval.specs.proofs_only.Hops.{child_part, children_combined, only_child, set_after, set_children};
+ghost use Rattle.ent_eval.specs.proofs_only.Judged.{or_nothing};
+ghost use Rattle.ent_eval.specs.proofs_only.Noted.{noting};
 ghost use Rattle.ent_eval.specs.Only.{chosen_part};
-ghost use Rattle.ent_eval.specs.Opened.{is_fit_left, left_part};
-ghost use Rattle.ent_eval.specs.Path.{keys_of};
-ghost use Rattle.ent_eval.specs.Typed.{is_fit};
+ghost use Rattle.ent_eval.specs.proofs_only.Opened.{is_fit_left, left_part};
+ghost use Rattle.ent_eval.specs.proofs_only.Path.{keys_of};
+ghost use Rattle.ent_eval.specs.proofs_only.Typed.{is_fit};
 
 use crate::answer::Answer;
 use crate::gather::{Gathering, gather};

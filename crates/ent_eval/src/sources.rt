@@ -3,8 +3,8 @@
 ghost use Rattle.std.specs.Prelude.{◌≡◌, IfOk, OnOk};
 ghost use Rattle.std.specs.Option.{option_copied};
 ghost use Rattle.ent_values.specs.declared.datatype.DataType.TheVariants.{Date};
-ghost use Rattle.ent_eval.specs.Comes.{Comes, bag_part, in_scene};
-ghost use Rattle.ent_eval.specs.Noted.{with_note};
+ghost use Rattle.ent_eval.specs.proofs_only.Comes.{Comes, bag_part, in_scene};
+ghost use Rattle.ent_eval.specs.proofs_only.Noted.{with_note};
 ghost use Rattle.ent_eval.specs.Sources.{asks_day, day_values, entity_of, id_attribute, key_for, only_text};
 ghost use Rattle.ent_eval.specs.Sources.{source_part, text_of, values_part};
 ghost use Rattle.ent_eval.specs.declared.key.ReadKey.TheVariants.{Attr, Day};

@@ -3,12 +3,13 @@
 ghost use Rattle.std.specs.Prelude.{◌≡◌, IfOk, if◌then◌else◌, map, true};
 ghost use Rattle.std.specs.List.{list_all};
 ghost use Rattle.ent_policy.specs.Typing.{all_of_is_typed, any_of_is_typed, match_is_typed, target_is_typed};
-ghost use Rattle.ent_eval.specs.Comes.{Comes, in_scene};
-ghost use Rattle.ent_eval.specs.Typed.{Tests};
+ghost use Rattle.ent_eval.specs.proofs_only.Comes.{Comes, in_scene};
+ghost use Rattle.ent_eval.specs.proofs_only.Typed.{Tests};
 ghost use Rattle.ent_eval.specs.Own.{own_values};
 ghost use Rattle.ent_eval.specs.Part.{whole};
 ghost use Rattle.ent_eval.specs.Target.{all_match, all_of_part, any_of_part, is_match, is_no_match, match_part};
-ghost use Rattle.ent_eval.specs.Target.{matched, one_matches, own_match, target_part, unless_indeterminate};
+ghost use Rattle.ent_eval.specs.Target.{matched, one_matches, target_part};
+ghost use Rattle.ent_eval.specs.proofs_only.Target.{own_match, unless_indeterminate};
 
 use crate::answer::Status;
 use crate::holds::{holds_in, holds_of};

@@ -1,9 +1,9 @@
 //! What children tell of a decision.
 
 ghost use Rattle.std.specs.Prelude.{◌≡◌, [], false, IfOk, OnOk};
-ghost use Rattle.ent_eval.specs.Gathered.{told_more};
+ghost use Rattle.ent_eval.specs.proofs_only.Gathered.{told_more};
 ghost use Rattle.ent_eval.specs.Judged.{decided_by, has_default};
-ghost use Rattle.ent_eval.specs.Path.{keys_of};
+ghost use Rattle.ent_eval.specs.proofs_only.Path.{keys_of};
 
 use crate::answer::{Answer, Status, WhyEntry};
 use crate::given::Given;

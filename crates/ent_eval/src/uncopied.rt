@@ -6,8 +6,8 @@ ghost use Rattle.ent_functions.specs.declared.function.Element.{Element};
 ghost use Rattle.ent_functions.specs.declared.function.Function.TheVariants as functions;
 ghost use Rattle.ent_eval.specs.Expression.{result_of};
 ghost use Rattle.ent_eval.specs.Own.{own_values};
-ghost use Rattle.ent_eval.specs.Typed.{HasType};
-ghost use Rattle.ent_eval.specs.Uncopied.{ComesTo, HasItsType, IsBoolean, IsMembership, IsOne, member};
+ghost use Rattle.ent_eval.specs.proofs_only.Typed.{HasType};
+ghost use Rattle.ent_eval.specs.proofs_only.Uncopied.{ComesTo, HasItsType, IsBoolean, IsMembership, IsOne, member};
 ghost use Rattle.ent_eval.specs.declared.evaluated.Evaluated.TheVariants.{Known};
 
 use crate::answer::Status;

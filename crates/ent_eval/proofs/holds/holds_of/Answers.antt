@@ -1,7 +1,7 @@
 use Rattle.std.proofs.Common.{◌∙◌, ap, sym}
 use Rattle.std.specs.List.{list_any}
 use Rattle.ent_eval.specs.Own.{own_values}
-use Rattle.ent_eval.specs.Sought.{values_of}
+use Rattle.ent_eval.specs.proofs_only.Sought.{values_of}
 use Rattle.ent_eval.specs.Target.{is_true}
 use Rattle.ent_eval.proofs.Apart.{finds, finds_none, of_categories}
 use Rattle.ent_eval.proofs.holds.holds_of.Goals as goal

@@ -1,6 +1,6 @@
 use Rattle.std.proofs.Common.{◌≡◌, drop}
 use Rattle.std.specs.List.{flat_map, list_any}
-use Rattle.ent_eval.specs.Sought.{values_of}
+use Rattle.ent_eval.specs.proofs_only.Sought.{values_of}
 use Rattle.ent_eval.specs.Target.{is_true}
 use Rattle.ent_eval.proofs.holds.holds_of.Given as goal
 

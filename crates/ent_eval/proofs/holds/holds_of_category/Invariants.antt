@@ -1,7 +1,7 @@
 use Rattle.std.proofs.Common.{◌≡◌, drop}
 use Rattle.std.specs.List.{flat_map, list_any}
 use Rattle.ent_eval.specs.Own.{values_in}
-use Rattle.ent_eval.specs.Sought.{designator_of}
+use Rattle.ent_eval.specs.proofs_only.Sought.{designator_of}
 use Rattle.ent_eval.specs.Target.{is_true}
 use Rattle.ent_eval.proofs.holds.holds_of_category.Given as goal
 

@@ -1,6 +1,6 @@
 use Rattle.std.proofs.Common.{◌∙◌, subst}
 use Rattle.ent_eval.specs.Own.{own_values}
-use Rattle.ent_eval.specs.Sought.{AreSeveral, IsWhole, designator_of, values_of}
+use Rattle.ent_eval.specs.proofs_only.Sought.{AreSeveral, IsWhole, designator_of, values_of}
 use Rattle.ent_eval.proofs.Apart.{is_none, of_categories, several_of, several_with, whole}
 use Rattle.ent_eval.proofs.own.own_values.Goals as goal
 

@@ -1,4 +1,4 @@
-use Rattle.ent_eval.specs.Sought.{designator_of, values_of}
+use Rattle.ent_eval.specs.proofs_only.Sought.{designator_of, values_of}
 use Rattle.ent_eval.proofs.Apart.{IsSoFar}
 use Rattle.ent_eval.proofs.own.own_values.Given as goal
 

@@ -1,5 +1,5 @@
 use Rattle.ent_eval.specs.Own.{values_in}
-use Rattle.ent_eval.specs.Sought.{designator_of}
+use Rattle.ent_eval.specs.proofs_only.Sought.{designator_of}
 use Rattle.ent_eval.proofs.Apart.{next_so_far}
 use Rattle.ent_eval.proofs.own.values_of.Goals as goal
 

@@ -1,5 +1,5 @@
 use Rattle.ent_eval.specs.Own.{values_in}
-use Rattle.ent_eval.specs.Sought.{designator_of}
+use Rattle.ent_eval.specs.proofs_only.Sought.{designator_of}
 use Rattle.ent_eval.proofs.Apart.{IsSoFar}
 use Rattle.ent_eval.proofs.own.values_of.Given as goal
 

@@ -1,7 +1,7 @@
 use Rattle.std.proofs.Common.{◌≡◌, ◌++◌, drop}
 use Rattle.std.specs.List.{flat_map}
 use Rattle.ent_eval.specs.Own.{values_in}
-use Rattle.ent_eval.specs.Sought.{designator_of}
+use Rattle.ent_eval.specs.proofs_only.Sought.{designator_of}
 use Rattle.ent_eval.proofs.own_bag.add_of.Given as goal
 
 abbrev pub invariant-loop-attribute : goal.invariant-loop-attribute

@@ -3,7 +3,7 @@ use Rattle.std.specs.List.{flat_map}
 use Rattle.ent_values.specs.Bags.{Contents}
 use Rattle.ent_values.specs.declared.datatype.DataType.{DataType}
 use Rattle.ent_values.specs.declared.value.Value.{Value}
-use Rattle.ent_eval.specs.Sought.{designator_of, values_of}
+use Rattle.ent_eval.specs.proofs_only.Sought.{designator_of, values_of}
 use Rattle.ent_eval.proofs.Apart.{adds_all, of_categories}
 use Rattle.ent_eval.proofs.own_bag.gathered.Goals as goal
 

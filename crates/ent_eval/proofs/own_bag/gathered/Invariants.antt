@@ -1,6 +1,6 @@
 use Rattle.std.proofs.Common.{◌≡◌, ◌++◌, drop}
 use Rattle.std.specs.List.{flat_map}
-use Rattle.ent_eval.specs.Sought.{designator_of, values_of}
+use Rattle.ent_eval.specs.proofs_only.Sought.{designator_of, values_of}
 use Rattle.ent_eval.proofs.own_bag.gathered.Given as goal
 
 abbrev pub invariant-loop-category : goal.invariant-loop-category

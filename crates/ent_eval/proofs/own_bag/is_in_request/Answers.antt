@@ -1,7 +1,7 @@
 use Rattle.std.proofs.Common.{◌∙◌, sym}
 use Rattle.ent_values.specs.Same.{same_value}
 use Rattle.ent_eval.specs.Own.{own_values}
-use Rattle.ent_eval.specs.Sought.{designator_of, values_of}
+use Rattle.ent_eval.specs.proofs_only.Sought.{designator_of, values_of}
 use Rattle.ent_eval.proofs.Apart.{finds, finds_none, of_categories}
 use Rattle.ent_eval.proofs.own_bag.is_in_request.Goals as goal
 

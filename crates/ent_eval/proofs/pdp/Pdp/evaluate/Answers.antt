@@ -2,7 +2,7 @@ use Rattle.std.proofs.Common.{◌≡◌, ◌∙◌, None, Some, [], ap, sym}
 use Rattle.std.proofs.lemmas.Option.{same_Some}
 use Rattle.ent_eval.specs.Answer.{looked_up, recorded}
 use Rattle.ent_eval.specs.LooksOf.{looks_of}
-use Rattle.ent_eval.specs.Noted.{noting}
+use Rattle.ent_eval.specs.proofs_only.Noted.{noting}
 use Rattle.ent_eval.proofs.Walk.{noting-keys}
 use Rattle.ent_eval.proofs.pdp.Pdp.evaluate.Goals as goal
 

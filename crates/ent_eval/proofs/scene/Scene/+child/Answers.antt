@@ -1,11 +1,11 @@
 use Rattle.std.proofs.Common.{◌∙◌, ap, arith, refl, subst, sym}
 use Rattle.std.proofs.lemmas.Result.{IfOk-weaker}
-use Rattle.ent_eval.specs.Judged.{or_nothing}
-use Rattle.ent_eval.specs.Hops.{child_part, children_combined}
-use Rattle.ent_eval.specs.Gathered.{Gathers, Tells}
-use Rattle.ent_eval.specs.Noted.{noting}
-use Rattle.ent_eval.specs.Opened.{is_fit_left, left_part, worth}
-use Rattle.ent_eval.specs.Path.{keys_of}
+use Rattle.ent_eval.specs.proofs_only.Judged.{or_nothing}
+use Rattle.ent_eval.specs.proofs_only.Hops.{child_part, children_combined}
+use Rattle.ent_eval.specs.proofs_only.Gathered.{Gathers, Tells}
+use Rattle.ent_eval.specs.proofs_only.Noted.{noting}
+use Rattle.ent_eval.specs.proofs_only.Opened.{is_fit_left, left_part, worth}
+use Rattle.ent_eval.specs.proofs_only.Path.{keys_of}
 use Rattle.ent_eval.proofs.Children.{all_children, all_reads, last_child, last_reads, next_child}
 use Rattle.ent_eval.proofs.Left.{gathers_equal, notes_equal, tells_equal}
 use Rattle.ent_eval.proofs.Parts.{comes, comes_equal, comes_left, on_ok}

@@ -1,9 +1,9 @@
 use Rattle.std.proofs.Common.{◌≡◌, ◌+◌, ◌*◌}
-use Rattle.ent_eval.specs.Gathered.{HasGathered}
+use Rattle.ent_eval.specs.proofs_only.Gathered.{HasGathered}
 use Rattle.ent_eval.specs.Judged.{stops}
-use Rattle.ent_eval.specs.Hops.{child_part}
-use Rattle.ent_eval.specs.Opened.{worth, worth_of_hop}
-use Rattle.ent_eval.specs.Path.{keys_of}
+use Rattle.ent_eval.specs.proofs_only.Hops.{child_part}
+use Rattle.ent_eval.specs.proofs_only.Opened.{worth, worth_of_hop}
+use Rattle.ent_eval.specs.proofs_only.Path.{keys_of}
 use Rattle.ent_eval.proofs.Walk.{IsGoing, values_to}
 use Rattle.ent_eval.proofs.scene.Scene.+child.Given as goal
 

@@ -4,8 +4,8 @@ use Rattle.std.proofs.lemmas.Result.{IfOk-weaker}
 use Rattle.ent_functions.specs.Applied.{applied}
 use Rattle.ent_policy.specs.Variables.{definition_of}
 use Rattle.ent_eval.specs.Expression.{evaluated_of, meaning}
-use Rattle.ent_eval.specs.Noted.{noting}
-use Rattle.ent_eval.specs.Typed.{HasType, type_of}
+use Rattle.ent_eval.specs.proofs_only.Noted.{noting}
+use Rattle.ent_eval.specs.proofs_only.Typed.{HasType, type_of}
 use Rattle.ent_eval.proofs.Arguments.{all-reads, all-value, next_argument, settled-reads, settled-type, settled-value}
 use Rattle.ent_eval.proofs.Parts.{comes_equal}
 use Rattle.ent_eval.proofs.Variables.{definition_part, definition_type, has_reference, worth-falls}

@@ -1,6 +1,6 @@
 use Rattle.std.proofs.Common.{◌+◌, ◌*◌}
 use Rattle.ent_eval.specs.Expression.{meaning}
-use Rattle.ent_eval.specs.Typed.{type_of, worth}
+use Rattle.ent_eval.specs.proofs_only.Typed.{type_of, worth}
 use Rattle.ent_eval.proofs.Arguments.{AreEvaluated}
 use Rattle.ent_eval.proofs.scene.Scene.+expression.Given as goal
 

@@ -1,5 +1,6 @@
 use Rattle.std.proofs.Common.{sym, ap, ◌∙◌, arith}
-use Rattle.ent_eval.specs.Given.{added, assignment_part}
+use Rattle.ent_eval.specs.Given.{assignment_part}
+use Rattle.ent_eval.specs.proofs_only.Given.{added}
 use Rattle.ent_eval.proofs.Giving.{gives_on, starts, stopped-reads, stopped-value, whole-reads, whole-value}
 use Rattle.ent_eval.proofs.scene.Scene.assignments.Goals as goal
 

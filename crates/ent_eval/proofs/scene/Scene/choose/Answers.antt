@@ -1,6 +1,6 @@
 use Rattle.std.proofs.Common.{[], ◌∷◌, ◌++◌, ◌∙◌, ap, subst}
 use Rattle.ent_combine.specs.Choose.{HasSeen, progress_at_target}
-use Rattle.ent_eval.specs.Hops.{child_target}
+use Rattle.ent_eval.specs.proofs_only.Hops.{child_target}
 use Rattle.ent_eval.specs.declared.only.Only.TheVariants as only
 use Rattle.ent_eval.proofs.Choices.{next_choice, room, stop_reads, stop_value}
 use Rattle.ent_eval.proofs.scene.Scene.choose.Goals as goal

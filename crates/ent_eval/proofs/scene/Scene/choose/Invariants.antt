@@ -1,4 +1,4 @@
-use Rattle.ent_eval.specs.Hops.{child_target}
+use Rattle.ent_eval.specs.proofs_only.Hops.{child_target}
 use Rattle.ent_eval.proofs.Choices.{IsChoosing}
 use Rattle.ent_eval.proofs.scene.Scene.choose.Given as goal
 

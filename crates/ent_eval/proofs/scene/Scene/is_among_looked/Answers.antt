@@ -1,5 +1,5 @@
 use Rattle.std.proofs.Common.{◌≡◌, ap, false, rules, ◌∙◌}
-use Rattle.ent_eval.specs.Uncopied.{member}
+use Rattle.ent_eval.specs.proofs_only.Uncopied.{member}
 use Rattle.ent_eval.proofs.Again.{looked_again, looked_now, noted_again}
 use Rattle.ent_eval.proofs.scene.Scene.is_among_looked.Goals as goal
 

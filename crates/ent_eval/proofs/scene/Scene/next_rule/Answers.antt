@@ -1,6 +1,6 @@
 use Rattle.std.proofs.Common.{ap, subst, sym, ◌∙◌}
-use Rattle.ent_eval.specs.Gathered.{Gathers, Tells}
-use Rattle.ent_eval.specs.Path.{keys_of}
+use Rattle.ent_eval.specs.proofs_only.Gathered.{Gathers, Tells}
+use Rattle.ent_eval.specs.proofs_only.Path.{keys_of}
 use Rattle.ent_eval.specs.Rule.{rule_under}
 use Rattle.ent_eval.specs.Target.{target_part}
 use Rattle.ent_eval.proofs.Again.{looked_stay}

@@ -1,4 +1,4 @@
-use Rattle.ent_eval.specs.Node.{policy_after}
+use Rattle.ent_eval.specs.proofs_only.Node.{policy_after}
 use Rattle.ent_eval.specs.Target.{target_part}
 use Rattle.ent_eval.proofs.Left.{left_behind}
 use Rattle.ent_eval.proofs.scene.Scene.open_policy.Goals as goal

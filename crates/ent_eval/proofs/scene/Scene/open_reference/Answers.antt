@@ -1,6 +1,6 @@
 use Rattle.std.proofs.Common.{arith}
 use Rattle.std.proofs.lemmas.Result.{IfOk-weaker}
-use Rattle.ent_eval.specs.Opened.{left_part}
+use Rattle.ent_eval.specs.proofs_only.Opened.{left_part}
 use Rattle.ent_eval.proofs.Hops.{answer_followed}
 use Rattle.ent_eval.proofs.Left.{left_of_equal}
 use Rattle.ent_eval.proofs.scene.Scene.open_reference.Goals as goal

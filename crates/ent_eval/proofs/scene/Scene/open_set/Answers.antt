@@ -1,5 +1,5 @@
 use Rattle.std.proofs.Common.{sym, ◌∙◌}
-use Rattle.ent_eval.specs.Hops.{set_after}
+use Rattle.ent_eval.specs.proofs_only.Hops.{set_after}
 use Rattle.ent_eval.specs.Target.{target_part}
 use Rattle.ent_eval.specs.declared.target.Targeted.TheVariants.{NoMatch}
 use Rattle.ent_eval.proofs.Left.{left_behind, left_of_equal}

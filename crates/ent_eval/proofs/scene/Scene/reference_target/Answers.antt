@@ -2,7 +2,7 @@ use Rattle.std.proofs.Common.{◌-◌, ◌∙◌, Some, sym, ap, arith}
 use Rattle.std.specs.Option.{option_copied}
 use Rattle.ent_eval.proofs.Fit.{sound_fit}
 use Rattle.ent_policy.specs.Children.{as_child}
-use Rattle.ent_eval.specs.Hops.{child_target}
+use Rattle.ent_eval.specs.proofs_only.Hops.{child_target}
 use Rattle.ent_eval.specs.declared.key.ReadKey.TheVariants.{Ref}
 use Rattle.ent_eval.proofs.Hops.{target_followed}
 use Rattle.ent_eval.proofs.Parts.{comes_behind}

@@ -1,7 +1,7 @@
 use Rattle.std.proofs.Common.{subst, sym}
 use Rattle.ent_eval.specs.Given.{finished}
-use Rattle.ent_eval.specs.Judged.{or_nothing}
-use Rattle.ent_eval.specs.Looked.{AreLooked}
+use Rattle.ent_eval.specs.proofs_only.Judged.{or_nothing}
+use Rattle.ent_eval.specs.proofs_only.Looked.{AreLooked}
 use Rattle.ent_eval.proofs.Again.{looked_behind}
 use Rattle.ent_eval.proofs.scene.Scene.rule_after.Goals as goal
 

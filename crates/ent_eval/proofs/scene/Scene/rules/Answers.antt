@@ -1,7 +1,7 @@
 use Rattle.std.proofs.Common.{◌∙◌, arith, refl}
 use Rattle.std.proofs.lemmas.Result.{IfOk-weaker}
-use Rattle.ent_eval.specs.Path.{keys_of}
-use Rattle.ent_eval.specs.Judged.{or_nothing}
+use Rattle.ent_eval.specs.proofs_only.Path.{keys_of}
+use Rattle.ent_eval.specs.proofs_only.Judged.{or_nothing}
 use Rattle.ent_eval.specs.Node.{rules_combined}
 use Rattle.ent_eval.specs.Rule.{rule_part}
 use Rattle.ent_eval.proofs.Children.{all_children, all_reads, last_child, last_reads, next_child}

@@ -1,8 +1,8 @@
 use Rattle.std.specs.Prelude.{◌≡◌}
-use Rattle.ent_eval.specs.Gathered.{HasGathered}
+use Rattle.ent_eval.specs.proofs_only.Gathered.{HasGathered}
 use Rattle.ent_eval.specs.Judged.{stops}
-use Rattle.ent_eval.specs.Looked.{AreLooked}
-use Rattle.ent_eval.specs.Path.{keys_of}
+use Rattle.ent_eval.specs.proofs_only.Looked.{AreLooked}
+use Rattle.ent_eval.specs.proofs_only.Path.{keys_of}
 use Rattle.ent_eval.specs.Rule.{rule_part}
 use Rattle.ent_eval.proofs.Walk.{IsGoing, values_to}
 use Rattle.ent_eval.proofs.scene.Scene.rules.Given as goal

@@ -2,7 +2,7 @@ use Rattle.std.proofs.Common.{subst, sym, ◌∙◌}
 use Rattle.std.specs.Prelude.{IsSome}
 use Rattle.std.proofs.lemmas.Result.{IfOk-weaker}
 use Rattle.ent_eval.specs.Expression.{meaning}
-use Rattle.ent_eval.specs.Typed.{HasType}
+use Rattle.ent_eval.specs.proofs_only.Typed.{HasType}
 use Rattle.ent_eval.proofs.Again.{looked_behind}
 use Rattle.ent_eval.proofs.Literals.{application-part, application-type}
 use Rattle.ent_eval.proofs.Parts.{comes_equal}

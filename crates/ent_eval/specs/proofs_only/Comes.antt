@@ -6,7 +6,7 @@ use Rattle.ent_values.specs.declared.value.Value.{Value}
 use Rattle.ent_eval.specs.declared.request.Request.{Request}
 use Rattle.ent_eval.specs.declared.scene.Scene.{Scene}
 use Rattle.ent_eval.specs.Looks.{Looks}
-use Rattle.ent_eval.specs.Noted.{Notes, noting}
+use Rattle.ent_eval.specs.proofs_only.Noted.{Notes, noting}
 use Rattle.ent_eval.specs.Part.{Part, mapped}
 
 -- what is said of look-ups and a request, of those of a scene

@@ -2,7 +2,7 @@
 use Rattle.std.specs.Prelude.{◌≡◌, List, Option, Some, None}
 use Rattle.std.specs.List.{AllByRecursion}
 use Rattle.ent_eval.specs.Looks.{Looks}
-use Rattle.ent_eval.specs.Noted.{Notes, with_note}
+use Rattle.ent_eval.specs.proofs_only.Noted.{Notes, with_note}
 use Rattle.ent_eval.specs.Sources.{values_part}
 use Rattle.ent_eval.specs.declared.key.ReadKey.{ReadKey}
 use Rattle.ent_eval.specs.declared.looked.Looked.{Looked}

@@ -7,13 +7,13 @@ use Rattle.ent_eval.specs.declared.answer.Answer.{Answer}
 use Rattle.ent_eval.specs.declared.opened.Opened.{Opened}
 use Rattle.ent_eval.specs.declared.opened.Opened.TheVariants.{Passed, Unresolved, Policy, Set}
 use Rattle.ent_eval.specs.declared.request.Request.{Request}
-use Rattle.ent_eval.specs.Hops.{set_after}
+use Rattle.ent_eval.specs.proofs_only.Hops.{set_after}
 use Rattle.ent_eval.specs.Judged.{nothing, unresolved}
 use Rattle.ent_eval.specs.Looks.{Looks}
-use Rattle.ent_eval.specs.Node.{policy_after}
-use Rattle.ent_eval.specs.Noted.{Notes, noting}
+use Rattle.ent_eval.specs.proofs_only.Node.{policy_after}
+use Rattle.ent_eval.specs.proofs_only.Noted.{Notes, noting}
 use Rattle.ent_eval.specs.Part.{Part, without_look}
-use Rattle.ent_eval.specs.Typed.{set_is_fit}
+use Rattle.ent_eval.specs.proofs_only.Typed.{set_is_fit}
 
 -- what is left comes to, where `path` leads from the root to what the child stands in
 abbrev pub left_part : Looks → Request → List DocKey → Opened → Part Answer

@@ -1,7 +1,7 @@
 -- What is at hand of a request's own values.
 use Rattle.std.specs.Prelude.{Option, Some, None}
 use Rattle.ent_eval.specs.Own.{own_values}
-use Rattle.ent_eval.specs.Sought.{IsWhole}
+use Rattle.ent_eval.specs.proofs_only.Sought.{IsWhole}
 use Rattle.ent_eval.specs.declared.latest.Found.{Found}
 use Rattle.ent_eval.specs.declared.request.Request.{Request}
 

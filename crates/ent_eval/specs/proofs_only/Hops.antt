@@ -11,7 +11,8 @@ use Rattle.ent_eval.specs.declared.request.Request.{Request}
 use Rattle.ent_eval.specs.declared.target.Targeted.{Targeted}
 use Rattle.ent_eval.specs.Given.{finished}
 use Rattle.ent_eval.specs.Looks.{Looks}
-use Rattle.ent_eval.specs.Node.{Node, children_after, children_part, combined, followed, node_with, refer, set_node_with}
+use Rattle.ent_eval.specs.Node.{Node, children_after, children_part, combined, followed, node_with, refer}
+use Rattle.ent_eval.specs.proofs_only.Node.{set_node_with}
 use Rattle.ent_eval.specs.Only.{only_one}
 use Rattle.ent_eval.specs.Part.{Part}
 

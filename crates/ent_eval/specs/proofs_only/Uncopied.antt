@@ -13,11 +13,12 @@ use Rattle.ent_eval.specs.declared.answer.Status.TheVariants.{MissingAttribute}
 use Rattle.ent_eval.specs.declared.evaluated.Evaluated.{Evaluated}
 use Rattle.ent_eval.specs.declared.evaluated.Evaluated.TheVariants.{Indeterminate, Known}
 use Rattle.ent_eval.specs.declared.request.Request.{Request}
-use Rattle.ent_eval.specs.Expression.{apply_part, meaning}
+use Rattle.ent_eval.specs.Expression.{meaning}
+use Rattle.ent_eval.specs.proofs_only.Expression.{apply_part}
 use Rattle.ent_eval.specs.Looks.{Looks}
 use Rattle.ent_eval.specs.Part.{Part, mapped, without_look}
 use Rattle.ent_eval.specs.Sources.{values_part}
-use Rattle.ent_eval.specs.Typed.{HasType, apply_type}
+use Rattle.ent_eval.specs.proofs_only.Typed.{HasType, apply_type}
 
 -- an expression comes to one value
 abbrev pub IsOne : Request → Expression → Value → Type 0

@@ -1,0 +1,17 @@
+pub mod Comes
+pub mod Expression
+pub mod Gathered
+pub mod Given
+pub mod Hops
+pub mod Judged
+pub mod Latest
+pub mod Looked
+pub mod Node
+pub mod Noted
+pub mod Only
+pub mod Opened
+pub mod Path
+pub mod Sought
+pub mod Target
+pub mod Typed
+pub mod Uncopied

@@ -1,0 +1,22 @@
+-- What a policy and a set come to, step by step: words of the code's own contracts.
+use Rattle.std.specs.Prelude.{List}
+use Rattle.ent_policy.specs.declared.document.Policy.{Policy}
+use Rattle.ent_policy.specs.declared.document.PolicySet.{PolicySet}
+use Rattle.ent_policy.specs.declared.document.Child.TheFolds.{fold-PolicySet}
+use Rattle.ent_policy.specs.declared.key.DocKey.{DocKey}
+use Rattle.ent_policy.specs.declared.key.Reference.{Reference}
+use Rattle.ent_eval.specs.declared.answer.Answer.{Answer}
+use Rattle.ent_eval.specs.declared.request.Request.{Request}
+use Rattle.ent_eval.specs.declared.target.Targeted.{Targeted}
+use Rattle.ent_eval.specs.Given.{finished}
+use Rattle.ent_eval.specs.Looks.{Looks}
+use Rattle.ent_eval.specs.Part.{Part}
+use Rattle.ent_eval.specs.Node.{Node, child_step, children_after, policy_rules, set_step}
+
+-- what comes behind the target of a policy
+abbrev pub policy_after : Looks → Request → List DocKey → Policy → Targeted → Part Answer
+policy_after looks request path policy = children_after (finished looks request policy.variables policy.given) (policy_rules looks request path policy)
+
+-- a set, where `refer` gives what a reference comes to
+abbrev pub set_node_with : Looks → Request → (Reference → Node) → PolicySet → Node
+set_node_with looks request refer = fold-PolicySet Node Node (child_step looks request refer) (set_step looks request)
