@@ -5,6 +5,7 @@ pub mod Targets
 pub mod Reference
 pub mod Given
 pub mod Form
+pub mod Nested
 pub mod Values
 pub mod Written
 pub mod Depths

@@ -1,6 +1,7 @@
 //! What is written, and how it is read again.
 
 ghost use Rattle.ent_polform.specs.Depths.{DocumentsAreShallow};
+ghost use Rattle.ent_polform.specs.Nested.{ChildrenAreNested, ExpressionsAreNested};
 ghost use Rattle.ent_polform.specs.ReadBack.{DocumentsReadBack, ReferencesReadBack, ValuesReadBack};
 
 /// A law, with nothing to run: what [`crate::write_value`] writes of a value, [`crate::read_value`] reads as that
@@ -26,4 +27,11 @@ pub fn references_read_back()
 /// nests at most 100 deep, so that `serde_json`, which reads 127 levels, reads it also inside a few more.
 pub fn documents_are_shallow()
     ensures { DocumentsAreShallow }
+{}
+
+/// A law, with nothing to run: an expression is read as one level whose arguments are read as expressions, and a child
+/// of a set as one level whose children are read as children, however many levels there are.
+pub fn levels_are_read_alike()
+    ensures expressions { ExpressionsAreNested }
+    ensures children { ChildrenAreNested }
 {}

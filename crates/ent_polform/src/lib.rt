@@ -17,7 +17,10 @@ mod written_targets;
 mod written_values;
 
 pub use form::read_document;
-pub use law::{documents_are_shallow, documents_read_back, references_read_back, values_read_back};
+pub use law::{
+    documents_are_shallow, documents_read_back, levels_are_read_alike, references_read_back,
+    values_read_back,
+};
 pub use reference::read_reference;
 pub use value::read_value;
 pub use written_documents::write_document;
