@@ -4,7 +4,7 @@ use Rattle.std.proofs.lemmas.Bool.Decides.{eqb_tells}
 use Rattle.std.proofs.lemmas.List.{take_more, take-append-drop, drop_more}
 use Rattle.std.proofs.lemmas.List.Folds.{list_any-append}
 use Rattle.ent_cells.specs.Grid.{times}
-use Rattle.ent_cells.specs.Phases.{is_among}
+use Rattle.ent_cells.specs.proofs_only.Phases.{is_among}
 use Rattle.ent_cells.proofs.Shapes.{times-append}
 
 -- 1 for true

@@ -18,9 +18,9 @@ use Rattle.ent_index.specs.Index.{ReadIndex, cells_at, has, number_of}
 use Rattle.ent_cells.proofs.KeyNumbers.{cells_there, is_there, shares_keys}
 use Rattle.ent_cells.proofs.Seen.{get_seen, rests}
 use Rattle.ent_cells.specs.declared.cell.Cell.{Cell}
-use Rattle.ent_cells.specs.Entries.{HasKeysOf, touched_at}
+use Rattle.ent_cells.specs.proofs_only.Entries.{HasKeysOf, touched_at}
 use Rattle.ent_cells.specs.Grid.{times}
-use Rattle.ent_cells.specs.Numbers.{IsStore, entry_in, is_candidate, keys_in, next_rests, rests_at, said_of, seen, shares_at}
+use Rattle.ent_cells.specs.proofs_only.Numbers.{IsStore, entry_in, is_candidate, keys_in, next_rests, rests_at, said_of, seen, shares_at}
 
 abbrev bit : Bool → ℕ
 bit b = cond b 1 0

@@ -12,8 +12,8 @@ use Rattle.ent_cells.specs.declared.who.Who.{Who}
 use Rattle.ent_cells.specs.Cell.{Kept}
 use Rattle.ent_cells.specs.Entries.{Entry, kept_of}
 use Rattle.ent_cells.specs.Grid.{IsGrid, entries_of, values}
-use Rattle.ent_cells.specs.Logging.{gone_in}
-use Rattle.ent_cells.specs.Old.{AreOld, old_of}
+use Rattle.ent_cells.specs.proofs_only.Logging.{gone_in, old_of}
+use Rattle.ent_cells.specs.Old.{AreOld}
 use Rattle.ent_cells.specs.Order.{request_order}
 use Rattle.ent_cells.specs.Shape.{taken_out, without}
 use Rattle.ent_cells.proofs.Grids.{AllThere, all_there, filled, filled_inside, grid_shown, grid_within, shown, slot}

@@ -5,10 +5,9 @@ use Rattle.slab.specs.Slab.{Slab, get}
 use Rattle.ent_index.specs.Index.{ReadIndex}
 use Rattle.ent_cells.specs.declared.cell.Cell.{Cell}
 use Rattle.ent_cells.specs.declared.cell.Numbered.{Numbered}
-use Rattle.ent_cells.specs.Entries.{changes_by}
-use Rattle.ent_cells.specs.Logging.{answer_in, old_at, replaced_in}
-use Rattle.ent_cells.specs.Numbers.{entry_in, replaces_by, said_of, seen, unready}
-use Rattle.ent_cells.specs.Old.{old_of}
+use Rattle.ent_cells.specs.proofs_only.Entries.{changes_by}
+use Rattle.ent_cells.specs.proofs_only.Logging.{answer_in, old_at, old_of, replaced_in}
+use Rattle.ent_cells.specs.proofs_only.Numbers.{entry_in, replaces_by, said_of, seen, unready}
 use Rattle.ent_cells.proofs.Seen.{get_seen}
 
 module _ (a : ReadIndex) (s : Slab Cell) (key : ℕ) where

@@ -13,7 +13,7 @@ use Rattle.ent_eval.specs.declared.key.ReadKey.{ReadKey}
 use Rattle.ent_index.proofs.ReadersOf.{cells_read}
 use Rattle.ent_index.proofs.Views.{cell_itself, key_itself, not_cell, not_key, same_cell, same_key, some_none}
 use Rattle.ent_index.specs.Index.{KeepsNumbers, ReadIndex, Readers, cells_at, cells_of, has, is_number, is_numbered, key_of, number_of}
-use Rattle.ent_cells.specs.Numbers.{AreNumbers, AreOfOneKey, keys_in, shares}
+use Rattle.ent_cells.specs.proofs_only.Numbers.{AreNumbers, AreOfOneKey, keys_in, shares}
 
 -- ---- the key of a number
 

@@ -9,7 +9,8 @@ use Rattle.ent_eval.specs.declared.answer.Answer.{Answer}
 use Rattle.ent_eval.specs.declared.key.ReadKey.{ReadKey}
 use Rattle.ent_eval.specs.Noted.{has_key}
 use Rattle.ent_cells.specs.Cell.{HasReadKeys, Kept, answers_in}
-use Rattle.ent_cells.specs.Entries.{Entry, HasKeysOf, Inserts, IsLive, kept_of}
+use Rattle.ent_cells.specs.Entries.{Entry, IsLive, kept_of}
+use Rattle.ent_cells.specs.proofs_only.Entries.{HasKeysOf, Inserts}
 use Rattle.ent_cells.specs.Grid.{IsGrid, entries_of, times, values}
 use Rattle.ent_cells.specs.Shape.{left_after, left_of, taken_out, without, woven}
 use Rattle.ent_cells.proofs.Among.{bit}

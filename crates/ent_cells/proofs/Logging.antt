@@ -12,8 +12,7 @@ use Rattle.ent_log.proofs.Before.{table_at-same, table_before-append}
 use Rattle.ent_cells.specs.declared.who.Who.{Who}
 use Rattle.ent_cells.specs.Entries.{Entry}
 use Rattle.ent_cells.specs.Grid.{times}
-use Rattle.ent_cells.specs.Logging.{Puts, gone_in}
-use Rattle.ent_cells.specs.Old.{old_of}
+use Rattle.ent_cells.specs.proofs_only.Logging.{Puts, gone_in, old_of}
 use Rattle.ent_cells.specs.Order.{request_order}
 use Rattle.ent_cells.specs.Shape.{left_after, left_of}
 use Rattle.ent_cells.proofs.Among.{once_at_least}

@@ -17,12 +17,13 @@ use Rattle.ent_log.specs.declared.entry.OldAnswer.{OldAnswer}
 use Rattle.ent_log.proofs.Before.{undoes-listed}
 use Rattle.ent_cells.specs.declared.who.Who.{Who}
 use Rattle.ent_cells.specs.Cell.{IsRightBut, Kept, answers_in, reads_any, renewed, says, unlike_count}
-use Rattle.ent_cells.specs.Entries.{Entry, IsLive, changes, kept_of, touched_at}
+use Rattle.ent_cells.specs.Entries.{Entry, IsLive, kept_of}
+use Rattle.ent_cells.specs.proofs_only.Entries.{changes, touched_at}
 use Rattle.ent_cells.specs.Grid.{times}
-use Rattle.ent_cells.specs.Logging.{old_at, olds_in}
-use Rattle.ent_cells.specs.Old.{AreOld, old_of}
+use Rattle.ent_cells.specs.proofs_only.Logging.{old_at, old_of, olds_in}
+use Rattle.ent_cells.specs.Old.{AreOld}
 use Rattle.ent_cells.specs.Order.{request_order}
-use Rattle.ent_cells.specs.Phases.{IsPrepared, is_among, made_ready}
+use Rattle.ent_cells.specs.proofs_only.Phases.{IsPrepared, is_among, made_ready}
 use Rattle.ent_cells.proofs.Among.{bit}
 use Rattle.ent_cells.proofs.Listed.{each, kept_cons}
 use Rattle.ent_cells.proofs.Orders.{requests-respected, same_request}

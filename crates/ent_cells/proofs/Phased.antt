@@ -3,9 +3,10 @@ use Rattle.std.proofs.Common.{◌≡◌, inl, inr, ℕ, ◌+◌, ◌<◌, ◌≤
 use Rattle.std.proofs.lemmas.Bool.Decides.{eqb_tells}
 use Rattle.slab.specs.Slab.{Slab, Updates, get}
 use Rattle.ent_eval.specs.Looks.{Looks}
-use Rattle.ent_cells.specs.Entries.{AreFree, Becomes, Entry, IsFree, given_up}
+use Rattle.ent_cells.specs.Entries.{AreFree, Entry}
+use Rattle.ent_cells.specs.proofs_only.Entries.{Becomes, IsFree, given_up}
 use Rattle.ent_cells.specs.Grid.{times}
-use Rattle.ent_cells.specs.Phases.{KeepsCells, changed_at, is_among, made_ready}
+use Rattle.ent_cells.specs.proofs_only.Phases.{KeepsCells, changed_at, is_among, made_ready}
 use Rattle.ent_cells.proofs.Among.{among_here, among_others, among_take, first_time}
 
 pub some_of : {A : Type 0} (o : Option A) → IsSome o → (e : A) × (o ≡ Some e)

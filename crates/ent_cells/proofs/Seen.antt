@@ -8,7 +8,7 @@ use Rattle.ent_index.specs.Index.{ReadIndex, has, number_of}
 use Rattle.ent_cells.proofs.KeyNumbers.{Stay, stay}
 use Rattle.ent_cells.specs.declared.cell.Cell.{Cell}
 use Rattle.ent_cells.specs.declared.cell.Numbered.{Numbered}
-use Rattle.ent_cells.specs.Numbers.{AreNextNumbers, AreOfOneKey, HasNumbers, IsStore, entry_in, keys_in, next_rests, rests_at, said_of, seen}
+use Rattle.ent_cells.specs.proofs_only.Numbers.{AreNextNumbers, AreOfOneKey, HasNumbers, IsStore, entry_in, keys_in, next_rests, rests_at, said_of, seen}
 
 -- ---- what is under a key
 

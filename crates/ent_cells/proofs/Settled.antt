@@ -11,9 +11,10 @@ use Rattle.ent_eval.specs.declared.key.ReadKey.{ReadKey}
 use Rattle.ent_eval.specs.Looks.{Looks}
 use Rattle.ent_eval.specs.Same.{same_answer}
 use Rattle.ent_cells.specs.Cell.{IsRightBut, Kept, Said, answers_in, reads_any, renewed, says, unlike_count}
-use Rattle.ent_cells.specs.Entries.{Entry, IsLive, changes, entry_of_cell, given_up, kept_of, settled, touched_at}
+use Rattle.ent_cells.specs.Entries.{Entry, IsLive, kept_of}
+use Rattle.ent_cells.specs.proofs_only.Entries.{changes, entry_of_cell, given_up, settled, touched_at}
 use Rattle.ent_cells.specs.Grid.{IsGrid, times}
-use Rattle.ent_cells.specs.Phases.{IsPrepared, KeepsCells, changed_at, is_among, made_ready}
+use Rattle.ent_cells.specs.proofs_only.Phases.{IsPrepared, KeepsCells, changed_at, is_among, made_ready}
 use Rattle.ent_cells.proofs.Among.{among_bit, bit, once_at_least, same_length, times_filter}
 use Rattle.ent_cells.proofs.Listed.{each, kept_cons, mapped}
 

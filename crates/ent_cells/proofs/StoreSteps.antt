@@ -19,8 +19,9 @@ use Rattle.ent_cells.specs.declared.cell.Cell.{Cell}
 use Rattle.ent_cells.specs.declared.cell.Numbered.{Numbered}
 use Rattle.ent_cells.specs.declared.who.Who.{Who}
 use Rattle.ent_cells.specs.Cell.{Said}
-use Rattle.ent_cells.specs.Entries.{Becomes, Entry, Inserts, IsFree, entry_of_cell, given_up, no_entries, settled, settled_by}
-use Rattle.ent_cells.specs.Numbers.{AreNextNumbers, AreNumbers, AreOfOneKey, ForgetsAt, HasNumbers, IsAsBefore, IsStore, IsUnready, entry_in, is_numbered_only, keys_in, next_only, next_only_by, next_rests, numbers_at, replaced, replaced_by, rests_at, said_of, said_only, said_only_by, seen, unready}
+use Rattle.ent_cells.specs.Entries.{Entry}
+use Rattle.ent_cells.specs.proofs_only.Entries.{Becomes, Inserts, IsFree, entry_of_cell, given_up, no_entries, settled, settled_by}
+use Rattle.ent_cells.specs.proofs_only.Numbers.{AreNextNumbers, AreNumbers, AreOfOneKey, ForgetsAt, HasNumbers, IsAsBefore, IsStore, IsUnready, entry_in, is_numbered_only, keys_in, next_only, next_only_by, next_rests, numbers_at, replaced, replaced_by, rests_at, said_of, said_only, said_only_by, seen, unready}
 
 -- ---- at the cell, and elsewhere
 

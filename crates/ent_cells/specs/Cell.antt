@@ -1,6 +1,5 @@
 -- The cells of a table: of each listed request the answer to it, and the look-ups that the answer rests on.
-use Rattle.std.specs.Prelude.{◌≡◌, ℕ, ◌+◌, List, [], ◌∷◌, Bool, false, true, if◌then◌else◌, map, refl}
-use Rattle.std.specs.Coded.{Coded, code_by, coded×, coded_list}
+use Rattle.std.specs.Prelude.{◌≡◌, ℕ, ◌+◌, List, [], ◌∷◌, Bool, false, true, if◌then◌else◌, map}
 use Rattle.std.specs.List.{list_any}
 use Rattle.ent_eval.specs.declared.answer.Answer.{Answer}
 use Rattle.ent_eval.specs.declared.key.ReadKey.{ReadKey}
@@ -37,10 +36,6 @@ renewed looks e = cell_of looks e.who
 abbrev pub answers_in : List Kept → List Answer
 answers_in es = map (λ e. e.said.answer) es
 
--- the requests of cells, in their order
-abbrev pub requests_in : List Kept → List Who
-requests_in es = map (λ e. e.who) es
-
 -- whether a cell reads one of some keys
 abbrev pub reads_any : List ReadKey → Kept → Bool
 reads_any keys e = list_any (λ k. has_key e.said.reads k) keys
@@ -58,12 +53,3 @@ abbrev pub unlike_count : List Answer → List Answer → ℕ
 unlike_count [] bs = 0
 unlike_count (a ∷ as_) [] = 0
 unlike_count (a ∷ as_) (b ∷ bs) = (if same_answer a b then 0 else 1) + unlike_count as_ bs
-
--- ---- how they are stored
-
--- what is said is stored as the pair of answer and keys, a cell as the pair of request and that
-abbrev pub said_code : Coded Answer → Coded ReadKey → Coded Said
-said_code answers keys = code_by (Answer × List ReadKey) (coded× answers (coded_list keys)) (λ s. (s.answer, s.reads)) (λ p. record { answer = p.0; reads = p.1 }) (λ _. refl)
-
-abbrev pub kept_code : Coded Who → Coded Answer → Coded ReadKey → Coded Kept
-kept_code whos answers keys = code_by (Who × Said) (coded× whos (said_code answers keys)) (λ e. (e.who, e.said)) (λ p. record { who = p.0; said = p.1 }) (λ _. refl)

@@ -2,9 +2,7 @@ pub mod Cell
 pub mod Count
 pub mod Entries
 pub mod Grid
-pub mod Logging
-pub mod Numbers
 pub mod Old
 pub mod Order
-pub mod Phases
 pub mod Shape
+pub mod proofs_only

@@ -10,10 +10,6 @@ use Rattle.ent_cells.specs.declared.who.Who.{Who}
 use Rattle.ent_cells.specs.Cell.{Kept}
 use Rattle.ent_cells.specs.Order.{request_order}
 
--- the answer of a cell, as the old one of its request
-abbrev pub old_of : Kept → OldAnswer Who Answer
-old_of e = record { key = e.who; answer = Some e.said.answer }
-
 -- a table of cells: it has the answer of each, and none of any other request
 pub record IsTableOf (cells : List Kept) (table : Who → Option Answer) : Type 0 where
   pub has : AllByRecursion (λ e. table e.who ≡ Some e.said.answer) cells

@@ -6,7 +6,7 @@ ghost use Rattle.std.specs.List.{filter};
 ghost use Rattle.slab.specs.Slab.{Updates, get};
 ghost use Rattle.ent_log.specs.Tables.{room_of};
 ghost use Rattle.ent_cells.specs.Grid.{times};
-ghost use Rattle.ent_cells.specs.Logging.{Puts, gone_in};
+ghost use Rattle.ent_cells.specs.proofs_only.Logging.{Puts, gone_in};
 ghost use Rattle.ent_cells.specs.Shape.{woven, taken_out, left_of};
 
 use crate::store::Store;

@@ -6,7 +6,7 @@ ghost use Rattle.std.specs.List.{filter, list_any};
 ghost use Rattle.std.specs.Ordering.{is_eq, nat_cmp};
 ghost use Rattle.slab.specs.Slab.{get};
 ghost use Rattle.ent_index.specs.Index.{number_of};
-ghost use Rattle.ent_cells.specs.Numbers.{is_candidate, shares, shares_at};
+ghost use Rattle.ent_cells.specs.proofs_only.Numbers.{is_candidate, shares, shares_at};
 
 use crate::cell::Cell;
 use ent_eval::ReadKey;

@@ -4,7 +4,7 @@ ghost use Rattle.std.specs.Prelude.{◌≡◌, IfOk, OnOk};
 ghost use Rattle.ent_eval.specs.LooksOf.{looks_of};
 ghost use Rattle.ent_cells.specs.Cell.{says};
 ghost use Rattle.ent_cells.specs.Count.{Counts, CountsAtMost};
-ghost use Rattle.ent_cells.specs.Entries.{said_in};
+ghost use Rattle.ent_cells.specs.proofs_only.Entries.{said_in};
 
 use crate::who::Who;
 use ent_eval::{Evaluation, Pdp, Request};

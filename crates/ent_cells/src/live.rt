@@ -38,7 +38,8 @@ impl Model for Live {
     ghost use Rattle.ent_eval.specs.contracts.answer.Answer as answer;
     ghost use Rattle.ent_eval.specs.contracts.key.ReadKey as key;
     ghost use Rattle.ent_cells.specs.contracts.who.Who as whose;
-    ghost use Rattle.ent_cells.specs.Cell.{Kept, kept_code};
+    ghost use Rattle.ent_cells.specs.Cell.{Kept};
+    ghost use Rattle.ent_cells.specs.proofs_only.Codes.{kept_code};
 
     ghost Value = { List Kept };
 

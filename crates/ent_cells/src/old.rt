@@ -2,7 +2,7 @@
 
 ghost use Rattle.std.specs.Prelude.{◌≡◌, IfOk, option_and_then};
 ghost use Rattle.slab.specs.Slab.{get};
-ghost use Rattle.ent_cells.specs.Logging.{answer_in, replaced_in};
+ghost use Rattle.ent_cells.specs.proofs_only.Logging.{answer_in, replaced_in};
 
 use crate::cell::Cell;
 use crate::who::Who;

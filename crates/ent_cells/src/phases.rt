@@ -7,10 +7,11 @@ ghost use Rattle.slab.specs.Slab.{get};
 ghost use Rattle.ent_eval.specs.LooksOf.{looks_of};
 ghost use Rattle.ent_log.specs.Tables.{IsSameLog, room_of};
 ghost use Rattle.ent_cells.specs.Count.{Counts, CountsAtMost};
-ghost use Rattle.ent_cells.specs.Entries.{AreFree, Becomes, IsFree, given_up, settled};
+ghost use Rattle.ent_cells.specs.Entries.{AreFree};
+ghost use Rattle.ent_cells.specs.proofs_only.Entries.{Becomes, IsFree, given_up, settled};
 ghost use Rattle.ent_cells.specs.Grid.{times};
-ghost use Rattle.ent_cells.specs.Logging.{olds_in};
-ghost use Rattle.ent_cells.specs.Phases.{IsPrepared, KeepsCells, changed_at, made_ready};
+ghost use Rattle.ent_cells.specs.proofs_only.Logging.{olds_in};
+ghost use Rattle.ent_cells.specs.proofs_only.Phases.{IsPrepared, KeepsCells, changed_at, made_ready};
 
 use crate::evaluate::evaluate;
 use crate::store::Store;

@@ -2,7 +2,7 @@
 
 ghost use Rattle.std.specs.Prelude.{◌≡◌, IfOk, IfSome};
 ghost use Rattle.slab.specs.Slab.{get};
-ghost use Rattle.ent_cells.specs.Numbers.{numbers_at};
+ghost use Rattle.ent_cells.specs.proofs_only.Numbers.{numbers_at};
 
 use crate::cell::{Cell, Numbered};
 use ent_eval::Answer;

@@ -3,8 +3,9 @@
 ghost use Rattle.std.specs.Prelude.{◌≡◌, IfOk, IsSome, None, OnErr, OnOk, Some, map, option_map};
 ghost use Rattle.slab.specs.Slab.{Updates, get};
 ghost use Rattle.ent_index.specs.Index.{Adds, is_pair_of, number_of};
-ghost use Rattle.ent_cells.specs.Numbers.{AreOfOneKey, ForgetsAt, IsAsBefore, IsStore, IsUnready, next_only};
-ghost use Rattle.ent_cells.specs.Numbers.{replaced, said_only, unready};
+ghost use Rattle.ent_cells.specs.proofs_only.Numbers.{AreOfOneKey, ForgetsAt, IsAsBefore, IsStore};
+ghost use Rattle.ent_cells.specs.proofs_only.Numbers.{IsUnready, next_only, replaced, said_only};
+ghost use Rattle.ent_cells.specs.proofs_only.Numbers.{unready};
 
 use crate::cell::{Cell, Numbered};
 use crate::sharing::{numbers_under, shared_reads};

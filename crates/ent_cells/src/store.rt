@@ -4,12 +4,12 @@ ghost use Rattle.std.specs.Prelude.{◌≡◌, ℕ, cond, IfOk, IsSome, None, On
 ghost use Rattle.std.specs.Prelude.{option_and_then, option_copied, option_map};
 ghost use Rattle.slab.specs.Slab.{Updates, get};
 ghost use Rattle.ent_index.specs.Asked.{asks_policy, asks_row};
-ghost use Rattle.ent_cells.specs.Entries.{Becomes, HasKeysOf, Inserts, IsFree, entry_of_cell, given_up};
-ghost use Rattle.ent_cells.specs.Entries.{no_entries, said_in, settled, touched_at};
+ghost use Rattle.ent_cells.specs.proofs_only.Entries.{Becomes, HasKeysOf, Inserts, IsFree};
+ghost use Rattle.ent_cells.specs.proofs_only.Entries.{entry_of_cell, given_up, no_entries, said_in};
+ghost use Rattle.ent_cells.specs.proofs_only.Entries.{settled, touched_at};
 ghost use Rattle.ent_cells.specs.Grid.{times};
-ghost use Rattle.ent_cells.specs.Logging.{old_at};
-ghost use Rattle.ent_cells.specs.Numbers.{shown, shown_entry};
-ghost use Rattle.ent_cells.specs.Old.{old_of};
+ghost use Rattle.ent_cells.specs.proofs_only.Logging.{old_at, old_of};
+ghost use Rattle.ent_cells.specs.proofs_only.Numbers.{shown, shown_entry};
 
 use crate::cell::{Cell, Numbered};
 use crate::confirm::{candidates, keep_touched, numbers_of};
@@ -41,13 +41,14 @@ impl Model for Store {
     ghost use Rattle.ent_eval.specs.contracts.answer.Answer as answer;
     ghost use Rattle.ent_eval.specs.contracts.key.ReadKey as key;
     ghost use Rattle.ent_cells.specs.contracts.who.Who as whose;
-    ghost use Rattle.ent_cells.specs.Entries.{Entry, entry_code};
+    ghost use Rattle.ent_cells.specs.Entries.{Entry};
+    ghost use Rattle.ent_cells.specs.proofs_only.Codes.{entry_code};
 
     ghost Value = { Slab Entry };
 
     ghost coded = { slab_code (entry_code whose.the_row.coded answer.the_row.coded key.the_row.coded) };
 
-    ghost use Rattle.ent_cells.specs.Numbers.{IsStore, seen};
+    ghost use Rattle.ent_cells.specs.proofs_only.Numbers.{IsStore, seen};
 
     ghost view = { λ s. seen s.index s.slab };
 

@@ -12,7 +12,8 @@ use Rattle.ent_eval.specs.declared.key.ReadKey.{ReadKey}
 use Rattle.std.proofs.lemmas.Bool.{and_parts, cases_eq, true≢false}
 use Rattle.ent_index.proofs.Views.{cell_itself, key_itself, not_cell, not_key, same_cell, same_index, same_key, some_none}
 use Rattle.ent_index.specs.Cells.{has_cell}
-use Rattle.ent_index.specs.Index.{Adds, Forgets, IsSound, KeepsNumbers, ReadIndex, Readers, has, is_at, is_left_pair, is_number, is_numbered, is_numbered_pair, is_pair, is_pair_at, is_pair_of, number_of}
+use Rattle.ent_index.specs.Index.{Adds, Forgets, IsSound, KeepsNumbers, ReadIndex, Readers, has, is_left_pair, is_number, is_numbered, is_numbered_pair, is_pair_of, number_of}
+use Rattle.ent_index.specs.proofs_only.Steps.{is_at, is_pair, is_pair_at}
 
 abbrev pub Pairs : Type 0
 Pairs = ReadKey → ℕ → Bool

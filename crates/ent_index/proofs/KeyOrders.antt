@@ -33,7 +33,8 @@ use Rattle.ent_eval.specs.declared.key.ReadKey.TheVariants.{Attr, Day, Ref, Root
 use Rattle.ent_index.specs.Asked.{asks_policy}
 use Rattle.slab.specs.Slab.{Slab}
 use Rattle.ent_index.proofs.Views.{read_cmp-total}
-use Rattle.ent_index.specs.Layout.{index_of, policy_order, readers_at}
+use Rattle.ent_index.specs.Layout.{index_of, readers_at}
+use Rattle.ent_index.specs.proofs_only.Asked.{policy_order}
 use Rattle.ent_index.specs.declared.entry.Entry.{Entry}
 
 abbrev constraints_cmp : VersionConstraints → VersionConstraints → Ordering

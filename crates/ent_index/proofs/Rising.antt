@@ -13,7 +13,9 @@ use Rattle.std.proofs.lemmas.List.{map-append}
 use Rattle.ent_finder.proofs.Seats.{IsGap, IsThere, found_or_not, nothing_seen, searched}
 use Rattle.ent_finder.proofs.Sorted.{before_at, equal, first, is_true, less, put_new, second}
 use Rattle.ent_finder.specs.proofs_only.Places.{is_at}
-use Rattle.ent_index.specs.Cells.{CellSet, has_cell, in_order, marked, no_cells, with_cell, without_cell}
+use Rattle.ent_index.specs.Cells.{CellSet, has_cell, in_order, no_cells}
+use Rattle.ent_index.specs.proofs_only.Stored.{marked}
+use Rattle.ent_index.specs.proofs_only.Steps.{with_cell, without_cell}
 
 abbrev pub mark : ℕ → ℕ × Unit {0}
 mark cell = (cell, tt)

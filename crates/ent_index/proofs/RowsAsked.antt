@@ -27,7 +27,8 @@ use Rattle.ent_eval.specs.declared.key.ReadKey.{ReadKey}
 use Rattle.ent_eval.specs.declared.key.ReadKey.TheVariants.{Attr, Day, Ref, Root}
 use Rattle.ent_index.proofs.Views.{key_itself, read_cmp-total, same_key}
 use Rattle.ent_index.specs.Asked.{asks_row}
-use Rattle.ent_index.specs.Index.{ReadIndex, Readers, is_read}
+use Rattle.ent_index.specs.Index.{ReadIndex, Readers}
+use Rattle.ent_index.specs.proofs_only.Steps.{is_read}
 
 -- ---- one key or two of a list
 

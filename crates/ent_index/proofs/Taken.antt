@@ -11,9 +11,10 @@ use Rattle.slab.specs.Slab.{Slab, Updates}
 use Rattle.ent_eval.specs.Noted.{read_cmp}
 use Rattle.ent_eval.specs.declared.key.ReadKey.{ReadKey}
 use Rattle.ent_index.proofs.Views.{cell_itself, cells_elsewhere, cells_there, has-index_of, has_cell-none, has_cell-without, key_itself, key_stays, key_turned, not_cell, not_key, number_of-index_of, same_cell, same_key, some_none, under}
-use Rattle.ent_index.specs.Cells.{has_cell, no_cells, without_cell}
+use Rattle.ent_index.specs.Cells.{has_cell, no_cells}
+use Rattle.ent_index.specs.proofs_only.Steps.{with_cells, without_cell}
 use Rattle.ent_index.specs.Index.{Forgets, is_number}
-use Rattle.ent_index.specs.Layout.{IsIndex, entry_cells, index_of, entry_key, number_at, with_cells}
+use Rattle.ent_index.specs.Layout.{IsIndex, entry_cells, index_of, entry_key, number_at}
 use Rattle.ent_index.specs.declared.entry.Entry.{Entry}
 
 -- whether a number is that one, if there is one

@@ -20,9 +20,10 @@ use Rattle.ent_eval.proofs.Keys.{read_cmp-IsAntisymmetric}
 use Rattle.ent_eval.specs.Noted.{read_cmp}
 use Rattle.ent_eval.specs.contracts.key.ReadKeyOrd.TheImpl.Laws.{total-law}
 use Rattle.ent_eval.specs.declared.key.ReadKey.{ReadKey}
-use Rattle.ent_index.specs.Cells.{CellSet, has_cell, in_order, no_cells, with_cell, without_cell}
-use Rattle.ent_index.specs.Index.{Adds, IsSound, ReadIndex, Readers, cells_at, cells_of, has, is_number, is_pair, key_of, number_of}
-use Rattle.ent_index.specs.Layout.{IsIndex, entry_cells, index_of, entry_key, number_at, readers_at, with_cells}
+use Rattle.ent_index.specs.Cells.{CellSet, has_cell, in_order, no_cells}
+use Rattle.ent_index.specs.proofs_only.Steps.{is_pair, with_cell, with_cells, without_cell}
+use Rattle.ent_index.specs.Index.{Adds, IsSound, ReadIndex, Readers, cells_at, cells_of, has, is_number, key_of, number_of}
+use Rattle.ent_index.specs.Layout.{IsIndex, entry_cells, index_of, entry_key, number_at, readers_at}
 use Rattle.ent_index.specs.declared.entry.Entry.{Entry}
 
 -- ---- keys and numbers that tie

@@ -1,8 +1,6 @@
 -- What an index says: which cells read a key, and the number of a key that cells read.
-use Rattle.std.specs.Prelude.{◌≡◌, ℕ, List, [], Bool, false, true, not, ◌&&◌, ◌||◌, Option, Some, None, find, is_some, refl, slice_get}
-use Rattle.std.specs.Coded.{Coded, code_by, coded×, coded_ℕ}
+use Rattle.std.specs.Prelude.{◌≡◌, ℕ, List, [], Bool, false, not, ◌&&◌, ◌||◌, Option, Some, None, find}
 use Rattle.std.specs.FinMap.{FinMap, get, keys}
-use Rattle.std.specs.FinSet.{code}
 use Rattle.std.specs.List.{list_any}
 use Rattle.std.specs.Option.{option_map, option_map_or}
 use Rattle.std.specs.Ordering.{is_eq, nat_cmp}
@@ -19,10 +17,6 @@ pub record Readers : Type 0 where
 abbrev pub ReadIndex : Type 0
 ReadIndex = FinMap read_cmp Readers
 
--- the readers of a key are stored as the pair of both
-abbrev pub readers_code : Coded Readers
-readers_code = code_by (ℕ × CellSet) (coded× coded_ℕ (code coded_ℕ)) (λ r. (r.number, r.cells)) (λ p. record { number = p.0; cells = p.1 }) (λ _. refl)
-
 -- the cell reads the key
 abbrev pub has : ReadIndex → ReadKey → ℕ → Bool
 has index key cell = option_map_or (λ r. has_cell r.cells cell) (get index key) false
@@ -34,10 +28,6 @@ cells_of index key = option_map_or (λ r. in_order r.cells) (get index key) []
 -- the number of the key, if a cell reads it
 abbrev pub number_of : ReadIndex → ReadKey → Option ℕ
 number_of index key = option_map (λ r. r.number) (get index key)
-
--- a cell reads the key
-abbrev pub is_read : ReadIndex → ReadKey → Bool
-is_read index key = is_some (number_of index key)
 
 -- that is the key's number
 abbrev pub is_number : ReadIndex → ℕ → ReadKey → Bool
@@ -57,10 +47,6 @@ is_numbered index numbers key = list_any (λ n. is_number index n key) numbers
 
 -- ---- pairs of a key and a cell
 
--- these are the key and the cell
-abbrev pub is_pair : ReadKey → ℕ → ReadKey → ℕ → Bool
-is_pair key cell k c = is_eq (read_cmp k key) && is_eq (nat_cmp c cell)
-
 -- this is one of the keys, and the cell
 abbrev pub is_pair_of : List ReadKey → ℕ → ReadKey → ℕ → Bool
 is_pair_of keys cell k c = has_key keys k && is_eq (nat_cmp c cell)
@@ -72,18 +58,6 @@ is_numbered_pair index numbers cell k c = is_numbered index numbers k && is_eq (
 -- this is the key of one of the numbers, but of none of those that are kept, and the cell
 abbrev pub is_left_pair : ReadIndex → List ℕ → List ℕ → ℕ → ReadKey → ℕ → Bool
 is_left_pair index numbers kept cell k c = (is_numbered index numbers k && not (is_numbered index kept k)) && is_eq (nat_cmp c cell)
-
--- the key stands at that place of a list
-abbrev pub is_at : List ReadKey → ℕ → ReadKey → Bool
-is_at keys place k = option_map_or (λ key. is_eq (read_cmp k key)) (slice_get keys place) false
-
--- this is the key at one of the places, and the cell
-abbrev pub is_pair_at : List ReadKey → List ℕ → ℕ → ReadKey → ℕ → Bool
-is_pair_at keys places cell k c = list_any (λ place. is_at keys place k) places && is_eq (nat_cmp c cell)
-
--- a test of pairs that is true of none that the index has
-abbrev pub AreNew : ReadIndex → (ReadKey → ℕ → Bool) → Type 0
-AreNew index pairs = (k : ReadKey) (c : ℕ) → pairs k c ≡ true → has index k c ≡ false
 
 -- ---- changes
 

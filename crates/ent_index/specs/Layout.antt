@@ -1,18 +1,13 @@
 -- How an index is laid out: the numbers of its keys, and under each number the key with its cells.
-use Rattle.std.specs.Prelude.{◌≡◌, ℕ, List, Option, None, Some, map}
+use Rattle.std.specs.Prelude.{◌≡◌, ℕ, Option, Some, map}
 use Rattle.std.specs.BTreeMap as tree
 use Rattle.std.specs.BTreeMap.{BTreeMap}
 use Rattle.std.specs.FinMap.{from_entries}
 use Rattle.std.specs.Option.{option_map, option_map_or}
-use Rattle.std.specs.declared.cmp.Ordering.{Ordering}
-use Rattle.std.specs.declared.cmp.Ordering.TheVariants.{Greater, Less}
-use Rattle.slab.specs.Slab.{Slab, Updates, get}
-use Rattle.ent_policy.specs.declared.key.Kind.{Kind}
-use Rattle.ent_finder.specs.proofs_only.Order.{name_cmp}
+use Rattle.slab.specs.Slab.{Slab, get}
 use Rattle.ent_eval.specs.Noted.{read_cmp}
 use Rattle.ent_eval.specs.declared.key.ReadKey.{ReadKey}
-use Rattle.ent_eval.specs.declared.key.ReadKey.TheVariants.{Attr, Day, Ref, Root}
-use Rattle.ent_index.specs.Cells.{CellSet, no_cells, with_cell}
+use Rattle.ent_index.specs.Cells.{CellSet, no_cells}
 use Rattle.ent_index.specs.Index.{ReadIndex, Readers}
 use Rattle.ent_index.specs.declared.entry.Entry.{Entry}
 
@@ -23,19 +18,6 @@ entry_key entries number = option_map (λ e. e.key) (get entries number)
 -- the cells under a number
 abbrev pub entry_cells : Slab Entry → ℕ → CellSet
 entry_cells entries number = option_map_or (λ e. e.cells) (get entries number) no_cells
-
--- an entry, with other cells
-abbrev pub with_cells : (CellSet → CellSet) → Option Entry → Option Entry
-with_cells change None = None
-with_cells change (Some e) = Some (record e { cells = change e.cells })
-
--- the entries with other cells under that number
-abbrev pub ChangesCells : (CellSet → CellSet) → Slab Entry → Slab Entry → ℕ → Type 0
-ChangesCells change old new number = Updates old new number (with_cells change (get old number))
-
--- the entries with one more, of a key that one cell reads
-abbrev pub AddsEntry : ReadKey → ℕ → Slab Entry → Slab Entry → ℕ → Type 0
-AddsEntry key cell old new number = Updates old new number (Some (record { key = key; cells = with_cell no_cells cell }))
 
 -- if there is a key under that number, a cell reads it
 abbrev pub IsRead : Slab Entry → ℕ → Type 0
@@ -56,10 +38,3 @@ pub record IsIndex (numbers : BTreeMap ReadKey ℕ) (entries : Slab Entry) : Typ
   pub there : (k : ReadKey) (n : ℕ) → number_at numbers k ≡ Some n → entry_key entries n ≡ Some k
   pub back : (k : ReadKey) (n : ℕ) → entry_key entries n ≡ Some k → number_at numbers k ≡ Some n
   pub read : (n : ℕ) → IsRead entries n
-
--- how a key stands to the references of a kind and an id
-abbrev pub policy_order : Kind → List ℕ → ReadKey → Ordering
-policy_order kind id Root = Less
-policy_order kind id (Ref reference) = name_cmp (reference.kind, reference.id) (kind, id)
-policy_order kind id (Attr key) = Greater
-policy_order kind id Day = Greater

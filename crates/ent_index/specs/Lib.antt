@@ -3,3 +3,4 @@ pub mod Cells
 pub mod Index
 pub mod Law
 pub mod Layout
+pub mod proofs_only

@@ -5,8 +5,8 @@ ghost use Rattle.std.specs.FinMap.{is_sorted};
 ghost use Rattle.std.specs.List.{filter};
 ghost use Rattle.std.specs.Map.{keys_of};
 ghost use Rattle.ent_eval.specs.Noted.{read_cmp};
-ghost use Rattle.ent_index.specs.Asked.{IsFirst, asks_policy, key_of_row};
-ghost use Rattle.ent_index.specs.Layout.{policy_order};
+ghost use Rattle.ent_index.specs.Asked.{asks_policy};
+ghost use Rattle.ent_index.specs.proofs_only.Asked.{IsFirst, key_of_row, policy_order};
 
 use ent_eval::ReadKey;
 use ent_finder::{AttrKey, RowKey};

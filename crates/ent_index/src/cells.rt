@@ -1,7 +1,8 @@
 //! Cells in rising order.
 
 ghost use Rattle.std.specs.Prelude.{◌≡◌, ◌↔◌, IfOk, IsTrue, OnErr, OnOk, not};
-ghost use Rattle.ent_index.specs.Cells.{has_cell, in_order, no_cells, with_cell, without_cell};
+ghost use Rattle.ent_index.specs.Cells.{has_cell, in_order, no_cells};
+ghost use Rattle.ent_index.specs.proofs_only.Steps.{with_cell, without_cell};
 
 use std::alloc::{AllocError, Global};
 use std::marker::Model;
@@ -18,7 +19,8 @@ impl Model for Cells {
     ghost use Rattle.std.specs.FinSet.{code};
     ghost use Rattle.std.specs.Ordering.{nat_cmp};
     ghost use Rattle.std.specs.Prelude.{T};
-    ghost use Rattle.ent_index.specs.Cells.{CellSet, marked};
+    ghost use Rattle.ent_index.specs.Cells.{CellSet};
+    ghost use Rattle.ent_index.specs.proofs_only.Stored.{marked};
 
     ghost Value = { CellSet };
 

@@ -5,8 +5,9 @@ ghost use Rattle.std.specs.BTreeMap as tree;
 ghost use Rattle.std.specs.Bool.{OnFalse, OnTrue};
 ghost use Rattle.slab.specs.Slab.{SameValues, Updates, get};
 ghost use Rattle.ent_eval.specs.Noted.{read_cmp};
-ghost use Rattle.ent_index.specs.Cells.{has_cell, no_cells, with_cell, without_cell};
-ghost use Rattle.ent_index.specs.Layout.{AddsEntry, ChangesCells, IsRead, entry_cells, number_at};
+ghost use Rattle.ent_index.specs.Cells.{has_cell, no_cells};
+ghost use Rattle.ent_index.specs.proofs_only.Steps.{AddsEntry, ChangesCells, with_cell, without_cell};
+ghost use Rattle.ent_index.specs.Layout.{IsRead, entry_cells, number_at};
 
 use crate::cells::Cells;
 use ent_eval::ReadKey;

@@ -8,10 +8,11 @@ ghost use Rattle.std.specs.Option.{option_copied};
 ghost use Rattle.std.specs.Ordering.{is_eq, nat_cmp};
 ghost use Rattle.std.specs.declared.cmp.Ordering.TheVariants.{Equal};
 ghost use Rattle.ent_index.specs.Asked.{asks_policy, asks_row};
-ghost use Rattle.ent_index.specs.Index.{Adds, AreNew, Forgets, IsSound};
-ghost use Rattle.ent_index.specs.Index.{cells_at, cells_of, has, is_read, key_of, number_of};
-ghost use Rattle.ent_index.specs.Index.{is_at, is_left_pair, is_number, is_numbered_pair};
-ghost use Rattle.ent_index.specs.Index.{is_pair, is_pair_at, is_pair_of};
+ghost use Rattle.ent_index.specs.Index.{Adds, Forgets, IsSound};
+ghost use Rattle.ent_index.specs.proofs_only.Steps.{AreNew, is_at, is_pair, is_pair_at, is_read};
+ghost use Rattle.ent_index.specs.Index.{cells_at, cells_of, has, key_of, number_of};
+ghost use Rattle.ent_index.specs.Index.{is_left_pair, is_number, is_numbered_pair};
+ghost use Rattle.ent_index.specs.Index.{is_pair_of};
 
 use crate::asked::{first_key, key_of_row, references};
 use crate::entry::{Entry, make_entry, put_cell, take_cell};
@@ -36,7 +37,8 @@ pub struct Index {
 impl Model for Index {
     ghost use Rattle.std.specs.FinMap.{code};
     ghost use Rattle.ent_eval.specs.contracts.key.ReadKey as key;
-    ghost use Rattle.ent_index.specs.Index.{ReadIndex, readers_code};
+    ghost use Rattle.ent_index.specs.Index.{ReadIndex};
+    ghost use Rattle.ent_index.specs.proofs_only.Stored.{readers_code};
 
     ghost Value = { ReadIndex };
 

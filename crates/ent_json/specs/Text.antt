@@ -1,15 +1,10 @@
 -- JSON values as they are written into a text.
 use Rattle.std.specs.Prelude.{List}
 use Rattle.json.specs.Token.{Token}
-use Rattle.json.specs.Tree.{items_tokens, json_tokens}
+use Rattle.json.specs.Tree.{json_tokens}
 use Rattle.serde_json.specs.Data.{Data}
-use Rattle.serde_json.specs.View.{items_of}
-use Rattle.serde_json.specs.Written.{items_outline, outline}
+use Rattle.serde_json.specs.Written.{outline}
 
 -- the tokens of a value, in which no float has a text
 abbrev pub tokens_of : Data → List Token
 tokens_of d = json_tokens (outline d)
-
--- the tokens of the items of a list, to its end
-abbrev pub items_tokens_of : List Data → List Token
-items_tokens_of ds = items_tokens (items_outline (items_of ds))

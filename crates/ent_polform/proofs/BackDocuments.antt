@@ -45,7 +45,8 @@ use Rattle.ent_polform.specs.Objects.{◌>>=◌, each_by}
 use Rattle.ent_policy.specs.Values.{child_values, document_values, given_values, policy_values, target_values, values_in_level, values_in_set}
 use Rattle.ent_polform.specs.Targets.{target_or_empty}
 use Rattle.ent_json.specs.Members.{filled_list, only_member, optional}
-use Rattle.ent_polform.specs.Written.{child_step, child_written, policy_written, reference_written, set_with, set_written, target_written, written}
+use Rattle.ent_polform.specs.Written.{child_step, child_written, policy_written, reference_written, set_with, target_written, written}
+use Rattle.ent_polform.specs.proofs_only.Written.{set_written}
 use Rattle.ent_polform.proofs.Back.{Back, Returns, both_readable, each_back, none_there}
 use Rattle.ent_polform.proofs.BackGiven.{advice_of, both_back, given_in, obligations_of}
 use Rattle.ent_polform.proofs.BackPolicies.{policy_back, version_back}

@@ -35,7 +35,8 @@ use Rattle.ent_policy.proofs.Extents.{bad_set}
 use Rattle.ent_policy.proofs.Wholes.{neither, passed}
 use Rattle.ent_json.specs.Members.{filled_list, put_optional}
 use Rattle.ent_polform.specs.Depths.{DocumentsAreShallow}
-use Rattle.ent_polform.specs.Written.{advice_written, assignment_written, child_step, child_written, definition_written, effect_word, expression_written, given_written, obligations_written, policy_written, rule_written, set_with, set_written, target_written, written}
+use Rattle.ent_polform.specs.Written.{advice_written, assignment_written, child_step, child_written, definition_written, effect_word, expression_written, given_written, obligations_written, policy_written, rule_written, set_with, target_written, written}
+use Rattle.ent_polform.specs.proofs_only.Written.{set_written}
 use Rattle.ent_polform.proofs.WrittenLemmas.{set_is_written}
 use Rattle.ent_polform.proofs.Levels.{AreLow, IsLow, both_pass, expression_low, filled_low, leaf_low, maybe_text_low, object_low, one_low, reference_low, target_low}
 

@@ -11,7 +11,8 @@ use Rattle.ent_policy.specs.declared.expression.Expression.TheFolds.{fold-roll-E
 use Rattle.ent_policy.specs.declared.expression.Expression.TheOpen.{Expression-F}
 use Rattle.ent_policy.specs.declared.expression.Expression.TheVariants as expressions
 use Rattle.ent_json.specs.Members.{only_member}
-use Rattle.ent_polform.specs.Written.{apply_written, child_step, child_written, expression_step, expression_written, set_with, set_written}
+use Rattle.ent_polform.specs.Written.{apply_written, child_step, child_written, expression_step, expression_written, set_with}
+use Rattle.ent_polform.specs.proofs_only.Written.{set_written}
 
 pub apply_is_written : (function : Function) (arguments : List Expression) → expression_written (expressions.Apply function arguments) ≡ only_member (codes "Apply") (apply_written function (map expression_written arguments))
 unfolding Rattle.ent_policy.specs.declared.expression.Expression.TheViews.roll-Expression denote.Hole.Carrier.roll

@@ -10,3 +10,4 @@ pub mod Values
 pub mod Written
 pub mod Depths
 pub mod ReadBack
+pub mod proofs_only

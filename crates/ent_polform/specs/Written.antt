@@ -25,7 +25,6 @@ use Rattle.ent_policy.specs.declared.document.Effect.{Effect}
 use Rattle.ent_policy.specs.declared.document.Effect.TheVariants.{Permit, Deny}
 use Rattle.ent_policy.specs.declared.document.Match.{Match}
 use Rattle.ent_policy.specs.declared.document.Policy.{Policy}
-use Rattle.ent_policy.specs.declared.document.PolicySet.{PolicySet}
 use Rattle.ent_policy.specs.declared.document.Rule.{Rule}
 use Rattle.ent_policy.specs.declared.document.Target.{Target}
 use Rattle.ent_policy.specs.declared.document.Tree.{Tree}
@@ -221,7 +220,3 @@ child_written = fold-Child Data Data child_step set_with
 -- the JSON that a document is written as
 abbrev pub written : Tree → Data
 written t = child_written (as_child t)
-
--- a PolicySet
-unfoldable pub set_written : PolicySet → Data
-set_written s = set_with (record { id = s.id; version = s.version; algorithm = s.algorithm; target = s.target; children = map child_written s.children; given = s.given })

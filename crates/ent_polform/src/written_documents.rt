@@ -5,7 +5,8 @@ ghost use Rattle.serde_json.specs.Data.{depth};
 ghost use Rattle.serde_json.specs.View.{view};
 ghost use Rattle.ent_polform.specs.ReadBack.{ReadsBack};
 ghost use Rattle.ent_polform.specs.Written.{child_written, definition_written, policy_written, rule_written};
-ghost use Rattle.ent_polform.specs.Written.{set_written, written};
+ghost use Rattle.ent_polform.specs.Written.{written};
+ghost use Rattle.ent_polform.specs.proofs_only.Written.{set_written};
 
 use crate::written_expressions::{condition, expression};
 use crate::written_given::{advice, effect_word, obligations};
@@ -101,7 +102,7 @@ fn policy(alloc: Global, policy: &Policy) -> Result<Json, AllocError>
 
 /// A PolicySet.
 #[cycle(child)]
-#[tactic(auto, unfolding(crate::specs::Written::set_written), using(crate::proofs::MemberLemmas::set_members))]
+#[tactic(auto, unfolding(crate::specs::proofs_only::Written::set_written), using(crate::proofs::MemberLemmas::set_members))]
 fn set(alloc: Global, set: &PolicySet) -> Result<Json, AllocError>
     ensures { IfOk result (λ v. view v ≡ set_written set.now) }
 {

@@ -4,4 +4,4 @@ pub mod Categories
 pub mod Asks
 pub mod Spelled
 pub mod Response
-pub mod Written
+pub mod proofs_only

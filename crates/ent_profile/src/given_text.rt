@@ -4,10 +4,11 @@ ghost use Rattle.std.specs.Prelude.{◌≡◌, [], ◌∷◌, ◌++◌, OnOk, ma
 ghost use Rattle.json.specs.Token as token;
 ghost use Rattle.serde_json.specs.Data as json;
 ghost use Rattle.serde_json.specs.View.{items_of};
-ghost use Rattle.ent_json.specs.Text.{items_tokens_of, tokens_of};
+ghost use Rattle.ent_json.specs.Text.{tokens_of};
+ghost use Rattle.ent_json.specs.proofs_only.Text.{items_tokens_of};
 ghost use Rattle.ent_polform.specs.Written.{value_written};
 ghost use Rattle.ent_profile.specs.Response.{assignment_written, given_written};
-ghost use Rattle.ent_profile.specs.Written.{optional_tokens};
+ghost use Rattle.ent_profile.specs.proofs_only.Written.{optional_tokens};
 
 use ent_eval::{Assignment, Given};
 use ent_json::JsonText;

@@ -5,7 +5,7 @@ ghost use Rattle.serde_json.specs.Written.{compact_text};
 ghost use Rattle.ent_json.specs.Text.{tokens_of};
 ghost use Rattle.ent_json.specs.Members.{filled_list};
 ghost use Rattle.ent_profile.specs.Response.{given_written, response, result_written, status_written};
-ghost use Rattle.ent_profile.specs.Written.{optional_tokens};
+ghost use Rattle.ent_profile.specs.proofs_only.Written.{optional_tokens};
 
 use crate::given_text::{write_given_text, write_text};
 use crate::included_text::write_categories;

@@ -4,7 +4,7 @@ use Rattle.std.specs.Prelude.{◌&&◌, bytes_eq, filter}
 use Rattle.ent_eval.specs.declared.answer.Answer.{Answer}
 use Rattle.ent_table.specs.Names.{Triple}
 use Rattle.ent_table.specs.Parts.{answers_to, cells_of}
-use Rattle.ent_report.specs.Permitted.{permitted, permitted_people}
+use Rattle.ent_report.specs.proofs_only.Permitted.{permitted, permitted_people}
 use Rattle.ent_report.specs.Reports.{can_in, is_permit, who_in}
 
 -- one test after another

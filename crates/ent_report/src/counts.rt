@@ -1,7 +1,7 @@
 //! How many cells have each decision.
 
 ghost use Rattle.std.specs.Prelude.{◌≡◌, ◌+◌, ◌-◌, ◌<◌, ◌^◌, length};
-ghost use Rattle.ent_report.specs.Counting.{one_more, total};
+ghost use Rattle.ent_report.specs.proofs_only.Counting.{one_more, total};
 ghost use Rattle.ent_report.specs.Reports.{counts_in};
 ghost use Rattle.ent_table.specs.Left.{cells_left};
 

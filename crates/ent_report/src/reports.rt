@@ -3,7 +3,7 @@
 ghost use Rattle.std.specs.Prelude.{◌≡◌, IfOk, option_copied};
 ghost use Rattle.ent_table.specs.Left.{cells_left};
 ghost use Rattle.ent_table.specs.Parts.{column_left};
-ghost use Rattle.ent_report.specs.Permitted.{permitted, permitted_people};
+ghost use Rattle.ent_report.specs.proofs_only.Permitted.{permitted, permitted_people};
 ghost use Rattle.ent_report.specs.Reports.{by_rule_in, is_permit};
 
 use crate::rules::has_rule;

@@ -13,7 +13,7 @@ use Rattle.ent_table.specs.Difference.{differs, changes}
 use Rattle.ent_table.specs.Names.{Names, Triple, triples, is_listed, has_name, list_of, others, with_list, with_name, without_name}
 use Rattle.ent_table.specs.State.{State, answer_to, fresh}
 use Rattle.ent_table.specs.Step.{next}
-use Rattle.ent_table.specs.Table.{requests_with}
+use Rattle.ent_table.specs.proofs_only.Table.{requests_with}
 use Rattle.ent_table.proofs.Counts.{passing, AllPass, none_left, passing-not, passing-same, all_pass, listed_count, has_others, known-own, known-new, known-more, known-others, own_listed}
 use Rattle.ent_table.proofs.Places.{length-all_triples}
 

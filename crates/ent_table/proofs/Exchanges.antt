@@ -14,7 +14,7 @@ use Rattle.ent_finder.proofs.Keys.{key_cmp_antisymmetric}
 use Rattle.ent_finder.proofs.Sorted.{equal}
 use Rattle.ent_table.proofs.Replaced.{get-with}
 use Rattle.ent_table.specs.State.{State}
-use Rattle.ent_table.specs.Review.{policy_at}
+use Rattle.ent_table.specs.proofs_only.Exchange.{policy_at}
 use Rattle.ent_table.specs.Step.{holds, with_policy}
 
 -- as many modules as there are slots

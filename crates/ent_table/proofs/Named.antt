@@ -7,9 +7,9 @@ use Rattle.std.proofs.lemmas.Grind.{flat_map-append}
 use Rattle.ent_table.specs.declared.edit.List.{List as Which}
 use Rattle.ent_table.specs.declared.edit.List.TheVariants as which
 use Rattle.ent_table.specs.Names.{Names, Triple, all_triples, cell_count, list_of, others, triple_of, triples, with_actions, with_list, with_name, with_resources, without_name}
-use Rattle.ent_table.specs.Place.{StandsAt, blocks_of}
+use Rattle.ent_table.specs.proofs_only.Place.{StandsAt, blocks_of}
 use Rattle.ent_cells.specs.Shape.{without, woven}
-use Rattle.ent_table.specs.Table.{behind, requests_with}
+use Rattle.ent_table.specs.proofs_only.Table.{behind, requests_with}
 use Rattle.ent_cells.proofs.Narrowed.{without-map}
 use Rattle.ent_cells.proofs.Shapes.{halves}
 use Rattle.ent_table.proofs.Places.{length-all_triples, length-with_actions}

@@ -25,7 +25,7 @@ use Rattle.ent_finder.proofs.Totals.{key_cmp_total}
 use Rattle.ent_finder.proofs.Keys.{key_cmp_antisymmetric}
 use Rattle.ent_finder.proofs.Latest.{first_found, latest, none_found, none_named}
 use Rattle.ent_finder.proofs.Sorted.{equal}
-use Rattle.ent_table.specs.Seen.{finds_another, is_that}
+use Rattle.ent_table.specs.proofs_only.Seen.{finds_another, is_that}
 
 -- ---- two documents, or none
 

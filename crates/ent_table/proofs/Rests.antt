@@ -27,9 +27,9 @@ use Rattle.ent_cells.specs.Cell.{HasReadKeys, IsRightBut, Kept, cell_of, reads_a
 use Rattle.ent_table.specs.declared.change.Exchange.{Exchange}
 use Rattle.ent_table.specs.declared.change.Exchange.TheVariants.{Document, Row, Root, Day}
 use Rattle.ent_table.specs.Counted.{touched, touched_count}
-use Rattle.ent_table.specs.Exchange.{with_exchange}
+use Rattle.ent_table.specs.proofs_only.Exchange.{with_exchange}
 use Rattle.ent_table.specs.Names.{Names, Triple, is_listed, triples}
-use Rattle.ent_table.specs.Seen.{asks, gives_another}
+use Rattle.ent_table.specs.proofs_only.Seen.{asks, gives_another}
 use Rattle.ent_table.specs.State.{State, fresh_cells}
 use Rattle.ent_table.proofs.Bits.{or_left, or_right, same_test}
 use Rattle.ent_table.proofs.Counts.{own_listed, passing-same}

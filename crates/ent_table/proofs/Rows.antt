@@ -10,7 +10,7 @@ use Rattle.ent_finder.proofs.Totals.{row_cmp_total}
 use Rattle.ent_finder.specs.declared.row.RowKey.{RowKey}
 use Rattle.ent_finder.proofs.Filled.{filled-insert, filled_restored}
 use Rattle.ent_table.specs.State.{State}
-use Rattle.ent_table.specs.Review.{row_at}
+use Rattle.ent_table.specs.proofs_only.Exchange.{row_at}
 use Rattle.ent_table.specs.Step.{with_values}
 
 -- ---- one module

@@ -9,7 +9,7 @@ use Rattle.ent_cells.specs.Cell.{HasReadKeys, Kept}
 use Rattle.ent_eval.specs.Change.{asks_day, asks_root}
 use Rattle.ent_table.specs.declared.change.Exchange.{Exchange}
 use Rattle.ent_table.specs.declared.looked.Seen.{Seen}
-use Rattle.ent_table.specs.Seen.{AreChanged, IsSeen, TellsChange, gives_another, keys_in}
+use Rattle.ent_table.specs.proofs_only.Seen.{AreChanged, IsSeen, TellsChange, gives_another, keys_in}
 use Rattle.ent_table.specs.State.{State}
 use Rattle.ent_table.proofs.ReadKeys.{has_first}
 

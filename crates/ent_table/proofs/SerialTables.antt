@@ -39,8 +39,8 @@ use Rattle.ent_table.specs.Change.{Stays}
 use Rattle.ent_table.specs.Names.{Names, Triple, has_name, is_listed, list_of, triples, with_list, with_name}
 use Rattle.ent_table.specs.Review.{IsFresh, state_of}
 use Rattle.ent_table.specs.State.{State, answer_at, answer_to, fresh_cells}
-use Rattle.ent_table.specs.Table.{requests_with}
-use Rattle.ent_table.specs.Tables.{IsFreshAtSerial, KeepsTables, LeavesTables, Logs, table_at_serial, unanswered}
+use Rattle.ent_table.specs.proofs_only.Table.{requests_with, unanswered}
+use Rattle.ent_table.specs.Tables.{IsFreshAtSerial, KeepsTables, LeavesTables, Logs, table_at_serial}
 use Rattle.ent_table.proofs.AnswerMaps.{get-answers_of, tests}
 use Rattle.ent_table.proofs.Changes.{more_names}
 use Rattle.ent_table.proofs.Counts.{AllPass, own_listed}

@@ -12,7 +12,7 @@ use Rattle.ent_table.specs.declared.change.Exchange.TheVariants.{Row}
 use Rattle.ent_table.specs.declared.edit.EditFault.TheVariants.{NotThere, AlreadyThere, Limit, Reserved, BadValue, UnknownModule}
 use Rattle.ent_table.specs.declared.edit.EditFault.{EditFault}
 use Rattle.ent_table.specs.declared.edit.List.{List as Which}
-use Rattle.ent_table.specs.Exchange.{exchanged}
+use Rattle.ent_table.specs.proofs_only.Exchange.{exchanged}
 use Rattle.ent_table.specs.Names.{has_name, list_of}
 use Rattle.ent_table.specs.State.{State}
 use Rattle.ent_table.specs.Step.{attribute_set, is_bad_row, is_reserved, is_source, next, unless, with_values, name_added, name_dropped, policy_added, policy_replaced, policy_withdrawn, holds, is_last, is_module, module_holds, module_lacks, exceeds}

@@ -8,7 +8,7 @@ use Rattle.ent_table.specs.declared.table.Table.{Table}
 use Rattle.ent_table.specs.Difference.{changes}
 use Rattle.ent_table.specs.Names.{Names, triples, with_name, without_name}
 use Rattle.ent_table.specs.State.{State, answer_to, fresh_cells}
-use Rattle.ent_table.specs.Table.{IsAdded, IsDropped, IsFilled}
+use Rattle.ent_table.specs.proofs_only.Table.{IsAdded, IsDropped, IsFilled}
 use Rattle.ent_table.proofs.Changes.{changes-name_dropped, less_names, more_names}
 
 -- the names of a table and its cells are those of a state

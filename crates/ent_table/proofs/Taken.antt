@@ -4,7 +4,7 @@ use Rattle.std.specs.Prelude.{slice_get}
 use Rattle.std.specs.Cmp.Lexicographic.{pointwise, bytes_decides}
 use Rattle.indexmap.specs.IndexSet.{remove_key}
 use Rattle.ent_table.specs.Names.{has_name, others}
-use Rattle.ent_table.specs.Place.{StandsAt}
+use Rattle.ent_table.specs.proofs_only.Place.{StandsAt}
 
 -- a name that stands in a list
 pub has_at : (name : List ℕ) (xs : List (List ℕ)) (j : ℕ) → slice_get xs j ≡ Some name → has_name name xs ≡ true

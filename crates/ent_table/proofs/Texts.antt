@@ -7,7 +7,7 @@ use Rattle.std.specs.String.{string_eq}
 use Rattle.std.proofs.lemmas.List.{length-map, map-append}
 use Rattle.indexmap.specs.IndexSet.{insert_key, remove_key}
 use Rattle.ent_table.specs.Names.{has_name, texts}
-use Rattle.ent_table.specs.Place.{IsAt}
+use Rattle.ent_table.specs.proofs_only.Place.{IsAt}
 use Rattle.ent_table.proofs.Places.{name_at}
 
 any_of : {A B : Type 0} (p : B → Bool) (f : A → B) (xs : List A) → list_any (λ x. p (f x)) xs ≡ list_any p (map f xs)

@@ -21,8 +21,8 @@ use Rattle.ent_eval.specs.declared.key.ReadKey.TheVariants as keys
 use Rattle.ent_eval.proofs.SameLooks.{same_look-Decides}
 use Rattle.ent_table.specs.declared.change.Exchange.TheVariants.{Document, Row, Root, Day}
 use Rattle.ent_table.specs.declared.looked.Seen.{Seen}
-use Rattle.ent_table.specs.Review.{policy_at}
-use Rattle.ent_table.specs.Seen.{TellsChange, are_other_values, document_before, gives_another, is_other_day, is_other_document, is_other_root, same_date, values_before}
+use Rattle.ent_table.specs.proofs_only.Exchange.{policy_at}
+use Rattle.ent_table.specs.proofs_only.Seen.{TellsChange, are_other_values, document_before, gives_another, is_other_day, is_other_document, is_other_root, same_date, values_before}
 use Rattle.ent_table.specs.State.{State}
 use Rattle.ent_table.specs.Step.{with_day, with_policy, with_root, with_values}
 use Rattle.ent_table.proofs.Replaced.{told}

@@ -10,7 +10,7 @@ use Rattle.ent_table.specs.declared.edit.List.{List as Which}
 use Rattle.ent_table.specs.Counted.{touched, touched_count}
 use Rattle.ent_table.specs.Names.{Triple, has_name, is_listed, list_of, triples}
 use Rattle.ent_table.specs.State.{State}
-use Rattle.ent_table.specs.Table.{requests_with}
+use Rattle.ent_table.specs.proofs_only.Table.{requests_with}
 use Rattle.ent_table.proofs.Changes.{less_names, more_names, new_among, was_listed}
 use Rattle.ent_table.proofs.Counts.{none_left, own_listed, passing, passing-same}
 use Rattle.ent_table.proofs.Told.{itself}

@@ -5,7 +5,7 @@ use Rattle.ent_finder.specs.Slots.{Slots}
 use Rattle.ent_table.specs.declared.change.Exchange.{Exchange}
 use Rattle.ent_table.specs.declared.change.Exchange.TheVariants.{Document, Row, Root, Day}
 use Rattle.ent_table.specs.declared.review.Review.{Review}
-use Rattle.ent_table.specs.Exchange.{IsMade, IsWithin, taken, with_exchange}
+use Rattle.ent_table.specs.proofs_only.Exchange.{IsMade, IsWithin, taken, with_exchange}
 use Rattle.ent_table.specs.Review.{state_of}
 use Rattle.ent_table.specs.State.{State}
 use Rattle.ent_table.proofs.Exchanges.{undone}

@@ -1,6 +1,5 @@
 -- What a call does to a review, in a word each: what becomes of its state, and what an edit of it is answered.
-use Rattle.std.specs.Prelude.{◌≡◌, ◌≤◌, List, Result, Err, IfErr}
-use Rattle.ent_cells.specs.Count.{most}
+use Rattle.std.specs.Prelude.{◌≡◌, List, Result, Err, IfErr}
 use Rattle.ent_finder.specs.Rows.{Source}
 use Rattle.ent_finder.specs.Slots.{Slots}
 use Rattle.ent_table.specs.declared.edit.Accepted.{Accepted}
@@ -8,33 +7,19 @@ use Rattle.ent_table.specs.declared.edit.Edit.{Edit}
 use Rattle.ent_table.specs.declared.edit.Edit.TheVariants.{DropName}
 use Rattle.ent_table.specs.declared.edit.EditFault.{EditFault}
 use Rattle.ent_table.specs.declared.review.Review.{Review}
-use Rattle.ent_table.specs.Counted.{IsCounted}
 use Rattle.ent_table.specs.Review.{state_of}
 use Rattle.ent_table.specs.State.{State}
-use Rattle.ent_table.specs.Step.{IsAnswered, IsTested, name_dropped}
+use Rattle.ent_table.specs.Step.{IsAnswered, name_dropped}
 
 -- a step of the state is made, one review becomes another, and it is answered as that step is
 abbrev pub Edits : {A P : Type 0} → (A → List Source) → (P → List Slots) → (State → Result State EditFault) → Review A P → Review A P → Result Accepted EditFault → Type 0
 Edits sources slots step old new result = IsAnswered (step (state_of sources slots old)) (state_of sources slots old) (state_of sources slots new) result
-
--- a step is tried on the state: it has no fault but want of memory, or the one that is told
-abbrev pub Tries : {A P B : Type 0} → (A → List Source) → (P → List Slots) → (State → Result State EditFault) → Review A P → Result B EditFault → Type 0
-Tries sources slots step v result = IsTested (step (state_of sources slots v)) result
 
 -- an edit that takes no memory is refused as its step is, and never for want of memory
 abbrev pub IsSure : {A P : Type 0} → (A → List Source) → (P → List Slots) → Edit → Review A P → Result Accepted EditFault → Type 0
 IsSure sources slots (DropName list name) old result = IfErr result (λ fault. name_dropped (state_of sources slots old) list name ≡ Err fault)
 IsSure sources slots _ old result = Unit {0}
 
--- the state becomes what a change makes of it
-abbrev pub Becomes : {A P : Type 0} → (A → List Source) → (P → List Slots) → (State → State) → Review A P → Review A P → Type 0
-Becomes sources slots change old new = state_of sources slots new ≡ change (state_of sources slots old)
-
 -- the state stays
 abbrev pub Stays : {A P : Type 0} → (A → List Source) → (P → List Slots) → Review A P → Review A P → Type 0
 Stays sources slots old new = state_of sources slots new ≡ state_of sources slots old
-
--- the count of evaluations rises with an edit as its step says
-abbrev pub Counted : {A P : Type 0} → (A → List Source) → (P → List Slots) → (State → Result State EditFault) → Review A P → Review A P → Result Accepted EditFault → Type 0
-Counted sources slots step old new result =
-    old.pdp.evaluations ≤ most → IsCounted (step (state_of sources slots old)) (state_of sources slots old) old.pdp.evaluations new.pdp.evaluations result

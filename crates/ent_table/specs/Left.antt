@@ -1,5 +1,5 @@
 -- The cells that an iterator has left.
-use Rattle.std.specs.Prelude.{◌≡◌, ◌⊎◌, ℕ, List, [], ◌∷◌, ◌++◌, drop}
+use Rattle.std.specs.Prelude.{ℕ, List, [], ◌∷◌, ◌++◌, drop}
 use Rattle.std.specs.List.{zip}
 use Rattle.ent_cells.specs.Cell.{answers_in}
 use Rattle.ent_eval.specs.declared.answer.Answer.{Answer}
@@ -32,11 +32,3 @@ cells_left c = zip (requests_left c) (answers_left c)
 -- an item as a request with its answer
 abbrev pub cell_of : Bor (List ℕ) × Bor (List ℕ) × Bor (List ℕ) × Bor Answer → Triple × Answer
 cell_of item = (triple_of item.0.now item.1.now item.2.now, item.3.now)
-
--- where no resource is left, no action is, or there are no resources at all
-abbrev pub HasTurnedAction : Cells → Type 0
-HasTurnedAction c = c.resources.now ≡ [] → (c.actions.now ≡ []) ⊎ (c.all_resources.now ≡ [])
-
--- where no resource or no action is left, nothing is
-abbrev pub HasTurned : Cells → Type 0
-HasTurned c = (c.resources.now ≡ []) ⊎ (c.actions.now ≡ []) → requests_left c ≡ []

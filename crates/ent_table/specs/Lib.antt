@@ -4,15 +4,12 @@ pub mod Change
 pub mod Counted
 pub mod Difference
 pub mod Doubles
-pub mod Exchange
 pub mod Left
 pub mod Limits
 pub mod Names
 pub mod Parts
-pub mod Place
 pub mod Review
-pub mod Seen
 pub mod State
 pub mod Step
-pub mod Table
 pub mod Tables
+pub mod proofs_only

@@ -1,5 +1,5 @@
 -- The three lists of names, and the requests that they make.
-use Rattle.std.specs.Prelude.{◌≡◌, ℕ, String, string_bytes, ◌*◌, List, [], ◌∷◌, ◌++◌, Bool, true, false, not, ◌&&◌, filter, length, map, nat_eq, slice_get, Option, Some, None}
+use Rattle.std.specs.Prelude.{ℕ, String, string_bytes, ◌*◌, List, [], ◌∷◌, ◌++◌, Bool, not, ◌&&◌, filter, length, map, nat_eq}
 use Rattle.std.specs.Cmp.Lexicographic.{pointwise}
 use Rattle.std.specs.List.{flat_map, list_any}
 use Rattle.ent_cells.specs.declared.who.Who.{Who}
@@ -77,20 +77,3 @@ is_listed names t = has_name t.person names.people && (has_name t.action names.a
 -- how many cells the lists make
 abbrev pub cell_count : Names → ℕ
 cell_count names = length names.people * (length names.actions * length names.resources)
-
--- the last of some names is taken away
-abbrev pub TakesLastName : List (List ℕ) → List (List ℕ) → Type 0
-TakesLastName old new = (before : List (List ℕ)) (name : List ℕ) → old ≡ before ++ name ∷ [] → new ≡ before
-
--- the last name of a list is taken away
-abbrev pub TakesLast : Which → Names → Names → Type 0
-TakesLast list old new = (before : Names) (name : List ℕ) → old ≡ with_name list name before → new ≡ before
-
--- where a request stands in list order, if it is listed
-abbrev pub IsPlace : Names → Triple → Option ℕ → Type 0
-IsPlace names t None = is_listed names t ≡ false
-IsPlace names t (Some place) = (is_listed names t ≡ true) × (slice_get (triples names) place ≡ Some t)
-
--- how many cells there are with any name more in a list
-abbrev pub CountsWith : Which → Names → ℕ → Type 0
-CountsWith list names count = (name : List ℕ) → count ≡ cell_count (with_name list name names)

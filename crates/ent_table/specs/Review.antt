@@ -1,12 +1,7 @@
 -- The state of a review, and when its cells are right.
-use Rattle.std.specs.Prelude.{◌≡◌, ℕ, ◌≤◌, ◌^◌, List, length, Option}
-use Rattle.std.specs.FinMap.{get}
-use Rattle.ent_policy.specs.declared.document.Tree.{Tree}
-use Rattle.ent_policy.specs.declared.key.DocKey.{DocKey}
-use Rattle.ent_values.specs.declared.value.Value.{Value}
-use Rattle.ent_finder.specs.Rows.{Source, source_at, values_at}
-use Rattle.ent_finder.specs.Slots.{Slots, document_count, module_at}
-use Rattle.ent_finder.specs.declared.row.RowKey.{RowKey}
+use Rattle.std.specs.Prelude.{◌≡◌, ℕ, ◌≤◌, ◌^◌, List, length}
+use Rattle.ent_finder.specs.Rows.{Source}
+use Rattle.ent_finder.specs.Slots.{Slots, document_count}
 use Rattle.ent_eval.specs.LooksOf.{held_by}
 use Rattle.ent_log.specs.Tables.{IsClosed, room_of}
 use Rattle.ent_table.specs.declared.edit.Edit.{Edit}
@@ -41,11 +36,3 @@ OnlyEvaluates old new = new ≡ record old { pdp = record old.pdp { evaluations 
 abbrev pub IsIdle : Edit → ℕ → ℕ → Type 0
 IsIdle (DropName list name) before after = after ≡ before
 IsIdle _ before after = Unit {0}
-
--- the document that the module of that number holds under a key
-abbrev pub policy_at : State → ℕ → DocKey → Option Tree
-policy_at s number key = get (module_at s.held.modules number) key
-
--- the values that the module of that number has in the row of a key
-abbrev pub row_at : State → ℕ → RowKey → List Value
-row_at s number key = values_at (source_at s.held.sources number).rows key

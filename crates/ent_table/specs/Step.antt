@@ -1,5 +1,6 @@
 -- What an edit makes of a state.
-use Rattle.std.specs.Prelude.{◌≡◌, ℕ, ◌+◌, ◌^◌, ◌||◌, ◌&&◌, Bool, false, not, nat_lt, nat_le, bytes_eq, length, List, slice_set, Option, Some, None, Result, Ok, Err, IsOk, if◌then◌else◌}
+use Rattle.std.specs.Prelude.{◌≡◌, ℕ, ◌+◌, ◌^◌, ◌||◌, ◌&&◌, Bool, false, not, nat_lt, nat_le, bytes_eq, length, List, slice_set, Option, Some, None, Result, Ok}
+use Rattle.std.specs.Prelude.{Err, if◌then◌else◌}
 use Rattle.std.specs.List.{list_all}
 use Rattle.std.specs.Option.{option_map_or}
 use Rattle.ent_values.specs.Calendar.{Day}
@@ -182,12 +183,3 @@ IsRefusal r UnknownModule = r ≡ Err UnknownModule
 abbrev pub IsAnswered : Result State EditFault → State → State → Result Accepted EditFault → Type 0
 IsAnswered r s t (Ok accepted) = (r ≡ Ok t) × (accepted.serial ≡ t.serial) × (accepted.changes ≡ changes s t)
 IsAnswered r s t (Err fault) = IsRefusal r fault × (t ≡ s)
-
--- a test found no refusal but want of memory, or the one that stands
-abbrev pub IsTested : {A : Type 0} → Result State EditFault → Result A EditFault → Type 0
-IsTested r (Ok done) = IsOk r
-IsTested r (Err fault) = IsRefusal r fault
-
--- whether any name more would exceed a limit
-abbrev pub Exceeds : State → Which → Bool → Type 0
-Exceeds s list answer = (name : List ℕ) → answer ≡ exceeds s list name

@@ -1,5 +1,5 @@
 -- The tables at serials: what the kept log and the present cells give.
-use Rattle.std.specs.Prelude.{◌≡◌, ℕ, ◌+◌, ◌≤◌, List, map, None}
+use Rattle.std.specs.Prelude.{◌≡◌, ℕ, ◌+◌, ◌≤◌, List, map}
 use Rattle.ent_cells.specs.Order.{request_order}
 use Rattle.ent_cells.specs.declared.who.Who.{Who}
 use Rattle.ent_eval.specs.declared.answer.Answer.{Answer}
@@ -14,7 +14,6 @@ use Rattle.ent_log.specs.declared.log.Log.{Log}
 use Rattle.ent_table.specs.declared.since.Change.{Change}
 use Rattle.ent_table.specs.declared.review.Review.{Review}
 use Rattle.ent_table.specs.AnswerMap.{AnswerMap, answers_of}
-use Rattle.ent_table.specs.Names.{Triple}
 use Rattle.ent_table.specs.Review.{state_of}
 use Rattle.ent_table.specs.State.{State}
 
@@ -47,10 +46,6 @@ abbrev pub changes_from : AnswerMap → State → List Change
 changes_from m s = map change_of (map_difference same_answer m (answers_of s))
 
 -- ---- what is logged
-
--- requests that had no answer
-abbrev pub unanswered : List Triple → List (OldAnswer Who Answer)
-unanswered xs = map (λ x. record { key = x; answer = None }) xs
 
 -- an edit is logged by old answers, and counted
 pub record Logs (olds : List (OldAnswer Who Answer)) (old new : Log Who Answer) : Type 0 where

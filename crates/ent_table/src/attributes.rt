@@ -9,8 +9,10 @@ ghost use Rattle.ent_values.specs.Same.{same_type};
 ghost use Rattle.ent_values.specs.Types.{datatype_of};
 ghost use Rattle.ent_policy.specs.Names.{is_bad_name};
 ghost use Rattle.ent_finder.specs.Rows.{source_at};
-ghost use Rattle.ent_table.specs.Change.{Becomes, Counted, Edits, Stays, Tries};
-ghost use Rattle.ent_table.specs.Review.{IsFresh, row_at, state_of};
+ghost use Rattle.ent_table.specs.Change.{Edits, Stays};
+ghost use Rattle.ent_table.specs.proofs_only.Change.{Becomes, Counted, Tries};
+ghost use Rattle.ent_table.specs.Review.{IsFresh, state_of};
+ghost use Rattle.ent_table.specs.proofs_only.Exchange.{row_at};
 ghost use Rattle.ent_table.specs.Step.{attribute_set, is_bad_row, is_reserved, is_source, with_values};
 ghost use Rattle.ent_table.specs.Tables.{KeepsTables};
 

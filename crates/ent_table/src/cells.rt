@@ -4,7 +4,8 @@ ghost use Rattle.std.specs.Prelude.{◌≡◌, drop};
 ghost use Rattle.std.specs.Iterator.{YieldsFirstBy, item_count};
 ghost use Rattle.std.specs.List.{zip};
 ghost use Rattle.ent_cells.specs.Cell.{answers_in};
-ghost use Rattle.ent_table.specs.Left.{HasTurned, HasTurnedAction, answers_left, cell_of, cells_left};
+ghost use Rattle.ent_table.specs.Left.{answers_left, cell_of, cells_left};
+ghost use Rattle.ent_table.specs.proofs_only.Left.{HasTurned, HasTurnedAction};
 ghost use Rattle.ent_table.specs.Names.{all_triples, texts};
 
 use ent_cells::Live;

@@ -1,8 +1,9 @@
 //! What an edit changes: once it is exchanged, what was there before, so that exchanging it again takes the edit back.
 
 ghost use Rattle.std.specs.Prelude.{◌≡◌, OnErr, OnOk};
-ghost use Rattle.ent_table.specs.Change.{Becomes, Stays};
-ghost use Rattle.ent_table.specs.Exchange.{IsMade, IsThere, IsWithin, OnlyHeld, taken, with_exchange};
+ghost use Rattle.ent_table.specs.Change.{Stays};
+ghost use Rattle.ent_table.specs.proofs_only.Change.{Becomes};
+ghost use Rattle.ent_table.specs.proofs_only.Exchange.{IsMade, IsThere, IsWithin, OnlyHeld, taken, with_exchange};
 ghost use Rattle.ent_table.specs.Review.{state_of};
 
 use crate::review::Review;

@@ -3,9 +3,10 @@
 ghost use Rattle.std.specs.Prelude.{◌≡◌, ◌*◌, ◌<◌, ◌≤◌, false, length, nat_eq, IfSome, OnErr, OnOk};
 ghost use Rattle.std.specs.Cmp.Lexicographic.{pointwise};
 ghost use Rattle.std.specs.List.{IsDistinct};
-ghost use Rattle.ent_table.specs.Names.{CountsWith, IsPlace, TakesLast, has_name, list_of, no_names};
+ghost use Rattle.ent_table.specs.Names.{has_name, list_of, no_names};
+ghost use Rattle.ent_table.specs.proofs_only.Names.{CountsWith, IsPlace, TakesLast};
 ghost use Rattle.ent_table.specs.Names.{texts, triple_of, with_list, with_name};
-ghost use Rattle.ent_table.specs.Place.{IsAt, IsTaken, blocks_of, names_in};
+ghost use Rattle.ent_table.specs.proofs_only.Place.{IsAt, IsTaken, blocks_of, names_in};
 
 use crate::edit::List;
 use crate::name_list::NameList;

@@ -6,11 +6,12 @@ ghost use Rattle.std.specs.Option.{option_copied, option_eq};
 ghost use Rattle.ent_policy.specs.Same.{same_document};
 ghost use Rattle.ent_eval.specs.Held.{looks_in};
 ghost use Rattle.ent_cells.specs.Cell.{HasReadKeys};
-ghost use Rattle.ent_table.specs.Exchange.{IsWithin};
-ghost use Rattle.ent_table.specs.Review.{policy_at, state_of};
-ghost use Rattle.ent_table.specs.Seen.{AreChanged, IsSeen, TellsChange, asks, before_of, is_that, keys_in};
-ghost use Rattle.ent_table.specs.Seen.{are_other_values, document_before, finds_another, finds_other, gives_other};
-ghost use Rattle.ent_table.specs.Seen.{is_other_day, is_other_document, is_other_root, values_before};
+ghost use Rattle.ent_table.specs.proofs_only.Exchange.{IsWithin, policy_at};
+ghost use Rattle.ent_table.specs.Review.{state_of};
+ghost use Rattle.ent_table.specs.proofs_only.Seen.{AreChanged, IsSeen, TellsChange, asks, before_of, is_that, keys_in};
+ghost use Rattle.ent_table.specs.proofs_only.Seen.{are_other_values, document_before, finds_another};
+ghost use Rattle.ent_table.specs.proofs_only.Seen.{finds_other, gives_other};
+ghost use Rattle.ent_table.specs.proofs_only.Seen.{is_other_day, is_other_document, is_other_root, values_before};
 
 use crate::change::Exchange;
 use crate::review::Review;

@@ -3,8 +3,9 @@
 ghost use Rattle.std.specs.Prelude.{◌≡◌, ◌<◌, ◌≤◌, ◌++◌, ◌∷◌, [], false, length, nat_eq, IfSome, OnErr, OnOk};
 ghost use Rattle.std.specs.Cmp.Lexicographic.{pointwise};
 ghost use Rattle.std.specs.List.{IsDistinct};
-ghost use Rattle.ent_table.specs.Names.{TakesLastName, has_name, texts};
-ghost use Rattle.ent_table.specs.Place.{IsAt, IsTaken};
+ghost use Rattle.ent_table.specs.Names.{has_name, texts};
+ghost use Rattle.ent_table.specs.proofs_only.Names.{TakesLastName};
+ghost use Rattle.ent_table.specs.proofs_only.Place.{IsAt, IsTaken};
 
 use ent_values::Text;
 use indexmap::IndexSet;

@@ -1,9 +1,11 @@
 //! Edits of names.
 
 ghost use Rattle.std.specs.Prelude.{◌≡◌, Err, IfErr};
-ghost use Rattle.ent_table.specs.Change.{Counted, Edits, Tries};
+ghost use Rattle.ent_table.specs.Change.{Edits};
+ghost use Rattle.ent_table.specs.proofs_only.Change.{Counted, Tries};
 ghost use Rattle.ent_table.specs.Review.{IsFresh, state_of};
-ghost use Rattle.ent_table.specs.Step.{Exceeds, name_added, name_dropped};
+ghost use Rattle.ent_table.specs.Step.{name_added, name_dropped};
+ghost use Rattle.ent_table.specs.proofs_only.Names.{Exceeds};
 ghost use Rattle.ent_table.specs.Tables.{KeepsTables};
 
 use crate::edit::{Accepted, EditFault, List};

@@ -2,7 +2,7 @@
 
 ghost use Rattle.std.specs.Prelude.{◌≡◌, ◌++◌, IfOk, OnOk};
 ghost use Rattle.ent_table.specs.Names.{triples, with_actions, with_resources};
-ghost use Rattle.ent_table.specs.Place.{names_in};
+ghost use Rattle.ent_table.specs.proofs_only.Place.{names_in};
 
 use crate::lists::Requests;
 use ent_cells::Who;

@@ -4,9 +4,10 @@ ghost use Rattle.std.specs.Prelude.{◌≡◌, ◌+◌, ◌<◌, ◌≤◌, ◌^
 ghost use Rattle.std.specs.Option.{option_copied};
 ghost use Rattle.ent_eval.specs.LooksOf.{held_by};
 ghost use Rattle.ent_log.specs.Tables.{room_of};
-ghost use Rattle.ent_table.specs.Change.{Counted, Edits, IsSure};
+ghost use Rattle.ent_table.specs.Change.{Edits, IsSure};
+ghost use Rattle.ent_table.specs.proofs_only.Change.{Counted};
 ghost use Rattle.ent_table.specs.Counted.{IsCounted};
-ghost use Rattle.ent_table.specs.Exchange.{IsWithin, count_with, exchanged};
+ghost use Rattle.ent_table.specs.proofs_only.Exchange.{IsWithin, count_with, exchanged};
 ghost use Rattle.ent_table.specs.Left.{cells_left};
 ghost use Rattle.ent_table.specs.Limits.{IsStandardAtMost};
 ghost use Rattle.ent_table.specs.Names.{has_name, list_of, triple_of};

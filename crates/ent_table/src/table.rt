@@ -7,8 +7,7 @@ ghost use Rattle.ent_cells.specs.Old.{IsLogged};
 ghost use Rattle.ent_eval.specs.LooksOf.{looks_of};
 ghost use Rattle.ent_table.specs.Names.{has_name, list_of};
 ghost use Rattle.ent_log.specs.Tables.{IsSameLog, room_of};
-ghost use Rattle.ent_table.specs.Table.{Drops, IsAdded, behind, empty_table, requests_with};
-ghost use Rattle.ent_table.specs.Tables.{unanswered};
+ghost use Rattle.ent_table.specs.proofs_only.Table.{Drops, IsAdded, behind, empty_table, requests_with, unanswered};
 
 use crate::edit::List;
 use crate::lists::Lists;

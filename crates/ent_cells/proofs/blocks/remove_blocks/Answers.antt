@@ -1,5 +1,5 @@
 use Rattle.std.proofs.Common.{◌≡◌, ◌+◌, ◌-◌, ◌≤◌, ◌++◌, ℕ, List, length, take, drop, ap, sym, ◌∙◌, arith}
-use Rattle.ent_cells.specs.Logging.{gone_in}
+use Rattle.ent_cells.specs.proofs_only.Logging.{gone_in}
 use Rattle.ent_cells.specs.Grid.{times}
 use Rattle.ent_cells.specs.Shape.{taken_out}
 use Rattle.ent_cells.proofs.Logging.{gone_length, gone_then, puts-append, puts-as}

@@ -4,7 +4,7 @@ use Rattle.ent_log.specs.Tables.{room_of}
 use Rattle.ent_log.specs.declared.log.Log.{Log}
 use Rattle.ent_cells.specs.declared.who.Who.{Who}
 use Rattle.ent_cells.specs.Grid.{times}
-use Rattle.ent_cells.specs.Logging.{Puts, gone_in}
+use Rattle.ent_cells.specs.proofs_only.Logging.{Puts, gone_in}
 use Rattle.ent_cells.specs.Shape.{left_of, taken_out}
 use Rattle.ent_cells.proofs.blocks.remove_blocks.Given as goal
 

@@ -1,6 +1,6 @@
 use Rattle.std.proofs.Common.{◌≡◌, ◌+◌, ◌≤◌, ◌++◌, ◌∷◌, [], ℕ, List, length, take, ap, sym, ◌∙◌, arith, slice_index_or}
 use Rattle.std.proofs.lemmas.List.{length-take, take_more}
-use Rattle.ent_cells.specs.Logging.{gone_in}
+use Rattle.ent_cells.specs.proofs_only.Logging.{gone_in}
 use Rattle.ent_cells.specs.Shape.{left_of}
 use Rattle.ent_cells.proofs.Among.{first_times}
 use Rattle.ent_cells.proofs.Logging.{gone_length, gone_more, gone_one, puts-append, puts-as}

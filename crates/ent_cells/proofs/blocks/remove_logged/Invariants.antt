@@ -1,6 +1,6 @@
 use Rattle.std.proofs.Common.{◌≡◌, ℕ, take}
 use Rattle.slab.specs.Slab.{get}
-use Rattle.ent_cells.specs.Logging.{Puts, gone_in}
+use Rattle.ent_cells.specs.proofs_only.Logging.{Puts, gone_in}
 use Rattle.ent_cells.specs.Shape.{left_of}
 use Rattle.ent_cells.proofs.blocks.remove_logged.Given as goal
 

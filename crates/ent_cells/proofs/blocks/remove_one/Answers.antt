@@ -1,6 +1,6 @@
 use Rattle.std.proofs.Common.{[], ◌∷◌, ap, sym, ◌∙◌, arith}
 use Rattle.std.specs.List.{cons_option}
-use Rattle.ent_cells.specs.Logging.{gone_in}
+use Rattle.ent_cells.specs.proofs_only.Logging.{gone_in}
 use Rattle.ent_cells.proofs.Logging.{puts-as}
 use Rattle.ent_cells.proofs.blocks.remove_one.Goals as goal
 

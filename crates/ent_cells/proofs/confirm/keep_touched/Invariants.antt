@@ -1,7 +1,7 @@
 use Rattle.std.proofs.Common.{◌≡◌, map}
 use Rattle.std.specs.List.{filter}
 use Rattle.slab.specs.Slab.{get}
-use Rattle.ent_cells.specs.Numbers.{shares_at}
+use Rattle.ent_cells.specs.proofs_only.Numbers.{shares_at}
 use Rattle.ent_cells.proofs.confirm.keep_touched.Given as goal
 
 abbrev pub invariant-loop-key : goal.invariant-loop-key

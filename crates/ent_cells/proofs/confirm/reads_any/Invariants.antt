@@ -1,5 +1,5 @@
 use Rattle.std.proofs.Common.{◌≡◌, false, take}
-use Rattle.ent_cells.specs.Numbers.{shares}
+use Rattle.ent_cells.specs.proofs_only.Numbers.{shares}
 use Rattle.ent_cells.proofs.confirm.reads_any.Given as goal
 
 abbrev pub invariant-loop-number : goal.invariant-loop-number

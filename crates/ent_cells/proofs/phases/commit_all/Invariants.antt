@@ -1,7 +1,7 @@
 use Rattle.std.proofs.Common.{◌≡◌, ℕ, take}
 use Rattle.slab.specs.Slab.{get}
-use Rattle.ent_cells.specs.Entries.{settled}
-use Rattle.ent_cells.specs.Phases.{changed_at}
+use Rattle.ent_cells.specs.proofs_only.Entries.{settled}
+use Rattle.ent_cells.specs.proofs_only.Phases.{changed_at}
 use Rattle.ent_cells.proofs.phases.commit_all.Given as goal
 
 abbrev pub invariant-loop-key : goal.invariant-loop-key

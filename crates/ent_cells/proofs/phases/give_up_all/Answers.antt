@@ -1,5 +1,5 @@
 use Rattle.std.proofs.Common.{ℕ, slice_index_or}
-use Rattle.ent_cells.specs.Entries.{given_up}
+use Rattle.ent_cells.specs.proofs_only.Entries.{given_up}
 use Rattle.ent_cells.proofs.Phased.{one_step, still_there}
 use Rattle.ent_cells.proofs.phases.give_up_all.Goals as goal
 

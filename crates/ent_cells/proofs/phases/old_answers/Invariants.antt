@@ -1,5 +1,5 @@
 use Rattle.std.proofs.Common.{◌≡◌, take}
-use Rattle.ent_cells.specs.Logging.{olds_in}
+use Rattle.ent_cells.specs.proofs_only.Logging.{olds_in}
 use Rattle.ent_cells.proofs.phases.old_answers.Given as goal
 
 abbrev pub invariant-loop-key : goal.invariant-loop-key

@@ -2,8 +2,8 @@ use Rattle.std.proofs.Common.{◌≡◌, ℕ, rules, sym, ap, subst, slice_index
 use Rattle.ent_finder.proofs.Refusals.{refused}
 use Rattle.ent_eval.specs.LooksOf.{looks_of}
 use Rattle.ent_eval.specs.Looks.{Looks}
-use Rattle.ent_cells.specs.Entries.{Becomes}
-use Rattle.ent_cells.specs.Phases.{KeepsCells, made_ready}
+use Rattle.ent_cells.specs.proofs_only.Entries.{Becomes}
+use Rattle.ent_cells.specs.proofs_only.Phases.{KeepsCells, made_ready}
 use Rattle.ent_cells.proofs.Phased.{free_here, keeps_cells, one_step}
 use Rattle.ent_cells.proofs.Tally.{counts_more}
 use Rattle.ent_cells.proofs.phases.prepare_all.Goals as goal

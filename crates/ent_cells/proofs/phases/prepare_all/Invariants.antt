@@ -1,7 +1,7 @@
 use Rattle.std.proofs.Common.{◌≡◌, take}
 use Rattle.ent_eval.specs.LooksOf.{looks_of}
 use Rattle.ent_cells.specs.Count.{Counts}
-use Rattle.ent_cells.specs.Phases.{IsPrepared}
+use Rattle.ent_cells.specs.proofs_only.Phases.{IsPrepared}
 use Rattle.ent_cells.proofs.phases.prepare_all.Given as goal
 
 abbrev pub invariant-loop-key : goal.invariant-loop-key

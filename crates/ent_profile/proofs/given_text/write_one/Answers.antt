@@ -1,6 +1,6 @@
 use Rattle.std.proofs.Common.{[], ◌∷◌, codes, map}
 use Rattle.json.specs.Token as token
-use Rattle.ent_json.specs.Text.{items_tokens_of}
+use Rattle.ent_json.specs.proofs_only.Text.{items_tokens_of}
 use Rattle.ent_profile.specs.Response.{assignment_written}
 use Rattle.ent_profile.proofs.TextLemmas.{ends}
 use Rattle.ent_profile.proofs.TokenLemmas.{given_tokens, text_tokens}

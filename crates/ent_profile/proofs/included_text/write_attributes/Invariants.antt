@@ -1,5 +1,5 @@
 use Rattle.std.proofs.Common.{◌≡◌, ◌++◌, drop, filter_map}
-use Rattle.ent_json.specs.Text.{items_tokens_of}
+use Rattle.ent_json.specs.proofs_only.Text.{items_tokens_of}
 use Rattle.ent_profile.specs.Response.{included}
 use Rattle.ent_profile.proofs.included_text.write_attributes.Given as goal
 

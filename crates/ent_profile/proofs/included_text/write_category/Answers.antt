@@ -1,6 +1,6 @@
 use Rattle.std.proofs.Common.{◌≡◌, [], ◌∷◌, ◌∙◌, append-nil, codes, false, filter_map, is_some, sym, true}
 use Rattle.json.specs.Token as token
-use Rattle.ent_json.specs.Text.{items_tokens_of}
+use Rattle.ent_json.specs.proofs_only.Text.{items_tokens_of}
 use Rattle.ent_profile.specs.Response.{category_written, included}
 use Rattle.ent_profile.proofs.TextLemmas.{ends}
 use Rattle.ent_profile.proofs.TokenLemmas.{category_kept, category_tokens, nothing_tokens, text_tokens}

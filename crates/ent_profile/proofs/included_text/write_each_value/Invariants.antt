@@ -1,5 +1,5 @@
 use Rattle.std.proofs.Common.{◌≡◌, ◌++◌, drop, map}
-use Rattle.ent_json.specs.Text.{items_tokens_of}
+use Rattle.ent_json.specs.proofs_only.Text.{items_tokens_of}
 use Rattle.ent_polform.specs.Written.{value_written}
 use Rattle.ent_profile.proofs.included_text.write_each_value.Given as goal
 

@@ -3,7 +3,7 @@ use Rattle.json.specs.Token as token
 use Rattle.ent_json.specs.Text.{tokens_of}
 use Rattle.ent_json.specs.Members.{filled_list}
 use Rattle.ent_profile.specs.Response.{category_written, given_written, status_written}
-use Rattle.ent_profile.specs.Written.{optional_tokens}
+use Rattle.ent_profile.specs.proofs_only.Written.{optional_tokens}
 use Rattle.ent_profile.proofs.TextLemmas.{ends}
 use Rattle.ent_profile.proofs.TokenLemmas.{result_tokens, text_tokens}
 use Rattle.ent_profile.proofs.response_text.write_result.Goals as goal

@@ -1,6 +1,6 @@
 use Rattle.std.proofs.Common.{◌≡◌, ◌+◌, length}
 use Rattle.ent_table.specs.Left.{cells_left}
-use Rattle.ent_report.specs.Counting.{total}
+use Rattle.ent_report.specs.proofs_only.Counting.{total}
 use Rattle.ent_report.specs.Reports.{counted, is_deny, is_indeterminate, is_not_applicable, is_permit}
 use Rattle.ent_report.proofs.counts.counted.Given as goal
 

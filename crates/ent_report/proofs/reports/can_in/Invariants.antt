@@ -1,6 +1,6 @@
 use Rattle.std.proofs.Common.{◌≡◌, ◌++◌}
 use Rattle.ent_table.specs.Left.{cells_left}
-use Rattle.ent_report.specs.Permitted.{permitted}
+use Rattle.ent_report.specs.proofs_only.Permitted.{permitted}
 use Rattle.ent_report.proofs.reports.can_in.Given as goal
 
 abbrev pub invariant-loop-action : goal.invariant-loop-action

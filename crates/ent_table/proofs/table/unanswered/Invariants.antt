@@ -1,5 +1,5 @@
 use Rattle.std.proofs.Common.{◌≡◌, take}
-use Rattle.ent_table.specs.Tables.{unanswered}
+use Rattle.ent_table.specs.proofs_only.Table.{unanswered}
 use Rattle.ent_table.proofs.table.unanswered.Given as goal
 
 abbrev pub invariant-loop-request : goal.invariant-loop-request

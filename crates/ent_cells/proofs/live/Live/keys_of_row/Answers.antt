@@ -2,7 +2,8 @@ use Rattle.std.proofs.Common.{IfOk, List, subst}
 use Rattle.std.proofs.lemmas.Result.{IfOk-weaker}
 use Rattle.ent_index.specs.Asked.{asks_row}
 use Rattle.ent_cells.specs.Cell.{HasReadKeys, Kept}
-use Rattle.ent_cells.specs.Entries.{HasKeysOf, kept_of}
+use Rattle.ent_cells.specs.Entries.{kept_of}
+use Rattle.ent_cells.specs.proofs_only.Entries.{HasKeysOf}
 use Rattle.ent_cells.proofs.Listed.{reads_listed}
 use Rattle.ent_cells.proofs.live.Live.keys_of_row.Goals as goal
 

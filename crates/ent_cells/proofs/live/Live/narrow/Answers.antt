@@ -7,7 +7,7 @@ use Rattle.ent_cells.specs.declared.who.Who.{Who}
 use Rattle.ent_cells.specs.Cell.{Kept}
 use Rattle.ent_cells.specs.Entries.{Entry, kept_of}
 use Rattle.ent_cells.specs.Grid.{IsGrid, times}
-use Rattle.ent_cells.specs.Logging.{Puts, gone_in}
+use Rattle.ent_cells.specs.proofs_only.Logging.{Puts, gone_in}
 use Rattle.ent_cells.specs.Old.{IsLogged, AreOld}
 use Rattle.ent_cells.specs.Shape.{taken_out, without}
 use Rattle.ent_cells.proofs.Gone.{gone_old, gone_rest}

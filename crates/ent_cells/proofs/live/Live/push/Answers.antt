@@ -2,7 +2,8 @@ use Rattle.std.proofs.Common.{◌≡◌, ◌++◌, ◌∷◌, [], ℕ, List, ref
 use Rattle.ent_eval.specs.LooksOf.{looks_of}
 use Rattle.ent_eval.specs.Looks.{Looks}
 use Rattle.ent_cells.specs.Cell.{cell_of, says}
-use Rattle.ent_cells.specs.Entries.{Entry, entry_of_cell, kept_of, said_in}
+use Rattle.ent_cells.specs.Entries.{Entry, kept_of}
+use Rattle.ent_cells.specs.proofs_only.Entries.{entry_of_cell, said_in}
 use Rattle.ent_cells.proofs.Listed.{more_kept, more_live}
 use Rattle.ent_cells.proofs.live.Live.push.Goals as goal
 

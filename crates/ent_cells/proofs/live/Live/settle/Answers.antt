@@ -9,10 +9,11 @@ use Rattle.ent_eval.specs.Looks.{Looks}
 use Rattle.ent_log.specs.declared.entry.OldAnswer.{OldAnswer}
 use Rattle.ent_cells.specs.declared.who.Who.{Who}
 use Rattle.ent_cells.specs.Cell.{IsRightBut, Kept, answers_in, reads_any, renewed, unlike_count}
-use Rattle.ent_cells.specs.Entries.{Entry, IsLive, kept_of, settled}
-use Rattle.ent_cells.specs.Logging.{olds_in}
+use Rattle.ent_cells.specs.Entries.{Entry, IsLive, kept_of}
+use Rattle.ent_cells.specs.proofs_only.Entries.{settled}
+use Rattle.ent_cells.specs.proofs_only.Logging.{olds_in}
 use Rattle.ent_cells.specs.Old.{AreOld}
-use Rattle.ent_cells.specs.Phases.{IsPrepared, changed_at, made_ready}
+use Rattle.ent_cells.specs.proofs_only.Phases.{IsPrepared, changed_at, made_ready}
 use Rattle.ent_cells.proofs.Listed.{kept_long}
 use Rattle.ent_cells.proofs.Olds.{olds_old, olds_unlike}
 use Rattle.ent_cells.proofs.Settled.{AreTouched, kept_there, prepared_there, settled_kept, touched_count, touched_there}

@@ -1,8 +1,8 @@
 use Rattle.std.proofs.Common.{◌≡◌, sym, subst, ◌∙◌}
 use Rattle.ent_index.specs.Index.{Adds, is_pair_of}
 use Rattle.ent_cells.proofs.StoreSteps.{put_seen, put_store, roomier_seen, roomier_store}
-use Rattle.ent_cells.specs.Entries.{Inserts, entry_of_cell}
-use Rattle.ent_cells.specs.Numbers.{seen}
+use Rattle.ent_cells.specs.proofs_only.Entries.{Inserts, entry_of_cell}
+use Rattle.ent_cells.specs.proofs_only.Numbers.{seen}
 use Rattle.ent_cells.proofs.store.Store.insert.Goals as goal
 
 pub invariant_of-self : goal.invariant_of-self

@@ -3,8 +3,8 @@ use Rattle.std.specs.FinMap.{keys}
 use Rattle.std.proofs.lemmas.Result.{IfOk-weaker}
 use Rattle.ent_index.specs.Asked.{asks_row}
 use Rattle.ent_cells.proofs.Confirmed.{asked_keys}
-use Rattle.ent_cells.specs.Entries.{HasKeysOf}
-use Rattle.ent_cells.specs.Numbers.{seen}
+use Rattle.ent_cells.specs.proofs_only.Entries.{HasKeysOf}
+use Rattle.ent_cells.specs.proofs_only.Numbers.{seen}
 use Rattle.ent_cells.proofs.store.Store.keys_of_row.Goals as goal
 
 pub returns : goal.returns

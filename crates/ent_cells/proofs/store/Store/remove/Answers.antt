@@ -3,7 +3,7 @@ use Rattle.slab.specs.Slab.{Updates, get}
 use Rattle.ent_cells.proofs.Held.{gone_answer_seen}
 use Rattle.ent_cells.proofs.Seen.{get_seen}
 use Rattle.ent_cells.proofs.StoreSteps.{given_up_store, given_up_updates, gone_seen, gone_store, unready_is, updates_then}
-use Rattle.ent_cells.specs.Numbers.{IsStore, IsUnready, entry_in, seen}
+use Rattle.ent_cells.specs.proofs_only.Numbers.{IsStore, IsUnready, entry_in, seen}
 use Rattle.ent_cells.proofs.store.Store.remove.Goals as goal
 
 pub invariant_of-self : goal.invariant_of-self

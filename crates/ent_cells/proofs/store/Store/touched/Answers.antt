@@ -4,9 +4,9 @@ use Rattle.std.specs.Ordering.{nat_cmp}
 use Rattle.slab.specs.Slab.{get}
 use Rattle.ent_cells.proofs.Confirmed.{confirmed}
 use Rattle.ent_cells.proofs.StoreSteps.{if_both}
-use Rattle.ent_cells.specs.Entries.{touched_at}
+use Rattle.ent_cells.specs.proofs_only.Entries.{touched_at}
 use Rattle.ent_cells.specs.Grid.{times}
-use Rattle.ent_cells.specs.Numbers.{is_candidate, seen, shares_at}
+use Rattle.ent_cells.specs.proofs_only.Numbers.{is_candidate, seen, shares_at}
 use Rattle.ent_cells.proofs.store.Store.touched.Goals as goal
 
 pub returns : goal.returns

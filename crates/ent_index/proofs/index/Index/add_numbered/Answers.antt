@@ -1,7 +1,8 @@
 use Rattle.std.proofs.Common.{subst}
 use Rattle.ent_index.proofs.Changes.{restored}
 use Rattle.ent_index.proofs.Views.{sound}
-use Rattle.ent_index.specs.Index.{IsSound, is_pair_at}
+use Rattle.ent_index.specs.Index.{IsSound}
+use Rattle.ent_index.specs.proofs_only.Steps.{is_pair_at}
 use Rattle.ent_index.proofs.index.Index.add_numbered.Goals as goal
 
 pub returns-in-Err-clause-err : goal.returns-in-Err-clause-err

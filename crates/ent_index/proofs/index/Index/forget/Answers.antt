@@ -1,6 +1,7 @@
 use Rattle.std.proofs.Common.{◌+◌, take}
 use Rattle.ent_index.proofs.Changes.{forgets_more, pair_more}
-use Rattle.ent_index.specs.Index.{is_pair, is_pair_of}
+use Rattle.ent_index.specs.Index.{is_pair_of}
+use Rattle.ent_index.specs.proofs_only.Steps.{is_pair}
 use Rattle.ent_index.proofs.index.Index.forget.Goals as goal
 
 pub loop-key-preserved : goal.loop-key-preserved

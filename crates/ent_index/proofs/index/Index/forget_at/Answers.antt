@@ -2,7 +2,8 @@ use Rattle.std.proofs.Common.{◌&&◌, ◌+◌, refl, slice_index, subst, take}
 use Rattle.std.specs.Ordering.{is_eq, nat_cmp}
 use Rattle.ent_index.proofs.Changes.{forgets_more, place_more}
 use Rattle.ent_index.proofs.Views.{sound}
-use Rattle.ent_index.specs.Index.{IsSound, is_at, is_pair_at}
+use Rattle.ent_index.specs.Index.{IsSound}
+use Rattle.ent_index.specs.proofs_only.Steps.{is_at, is_pair_at}
 use Rattle.ent_index.proofs.index.Index.forget_at.Goals as goal
 
 pub loop-place-preserved : goal.loop-place-preserved

@@ -4,7 +4,7 @@ use Rattle.std.specs.Ordering.{is_eq, nat_cmp}
 use Rattle.std.proofs.lemmas.Option.{slice_get_past}
 use Rattle.ent_eval.specs.Noted.{read_cmp}
 use Rattle.ent_index.proofs.Changes.{at_place, forgets_nothing, forgets_same}
-use Rattle.ent_index.specs.Index.{is_at, is_pair}
+use Rattle.ent_index.specs.proofs_only.Steps.{is_at, is_pair}
 use Rattle.ent_index.proofs.index.Index.forget_place.Goals as goal
 
 pub returns-in-Some : goal.returns-in-Some

@@ -2,7 +2,7 @@ use Rattle.std.proofs.Common.{◌∷◌, ◌++◌, [], List, Some, ap, if◌then
 use Rattle.ent_eval.specs.declared.key.ReadKey.{ReadKey}
 use Rattle.ent_eval.specs.declared.key.ReadKey.TheVariants.{Attr}
 use Rattle.ent_index.proofs.RowsAsked.{given, row_both, row_plain}
-use Rattle.ent_index.specs.Index.{is_read}
+use Rattle.ent_index.specs.proofs_only.Steps.{is_read}
 use Rattle.ent_index.proofs.index.Index.keys_of_row.Goals as goal
 
 pub returns-in_default : goal.returns-in_default

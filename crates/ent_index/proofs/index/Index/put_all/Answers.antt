@@ -2,7 +2,8 @@ use Rattle.std.proofs.Common.{◌+◌, [], ◌∷◌, ◌++◌, ap, map, sym, ta
 use Rattle.std.proofs.lemmas.List.{map-append, take_more}
 use Rattle.std.proofs.lemmas.Result.{err_from_is_err_and}
 use Rattle.ent_index.proofs.Changes.{added_more, adds_more, adds_new, kept_numbers, new_absent, pair_more}
-use Rattle.ent_index.specs.Index.{has, is_pair, is_pair_at, is_pair_of, number_of}
+use Rattle.ent_index.specs.Index.{has, is_pair_of, number_of}
+use Rattle.ent_index.specs.proofs_only.Steps.{is_pair, is_pair_at}
 use Rattle.ent_index.proofs.index.Index.put_all.Goals as goal
 
 pub returns-in_err-put_next-clause-err : goal.returns-in_err-put_next-clause-err

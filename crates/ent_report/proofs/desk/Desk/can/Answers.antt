@@ -3,7 +3,7 @@ use Rattle.std.specs.Prelude.{if◌then◌else◌, Ok, Err}
 use Rattle.ent_table.specs.Names.{has_name}
 use Rattle.ent_table.specs.Review.{state_of}
 use Rattle.ent_table.specs.State.{table_of}
-use Rattle.ent_report.specs.Permitted.{permitted}
+use Rattle.ent_report.specs.proofs_only.Permitted.{permitted}
 use Rattle.ent_report.specs.Reports.{can_in}
 use Rattle.ent_report.specs.declared.fault.ReportFault.TheVariants.{NotThere}
 use Rattle.ent_report.proofs.Permits.{can_of}

@@ -8,8 +8,7 @@ use Rattle.ent_table.specs.Names.{Names}
 use Rattle.ent_table.specs.Review.{state_of}
 use Rattle.ent_table.specs.State.{State, answer_at}
 use Rattle.ent_table.specs.Step.{name_added, next}
-use Rattle.ent_table.specs.Table.{requests_with}
-use Rattle.ent_table.specs.Tables.{unanswered}
+use Rattle.ent_table.specs.proofs_only.Table.{requests_with, unanswered}
 use Rattle.ent_table.proofs.Changes.{changes-name_added, more_names}
 use Rattle.ent_table.proofs.Counting.{made_counts, wanting_counts}
 use Rattle.ent_table.proofs.SerialTables.{kept_over, undone_more}

@@ -1,5 +1,5 @@
 use Rattle.ent_table.specs.Review.{state_of}
-use Rattle.ent_table.specs.Seen.{AreChanged}
+use Rattle.ent_table.specs.proofs_only.Seen.{AreChanged}
 use Rattle.ent_table.proofs.review.Review.changed.Given as goal
 
 abbrev pub invariant-loop-seen : goal.invariant-loop-seen

@@ -4,7 +4,7 @@ use Rattle.ent_table.specs.Difference.{changes}
 use Rattle.ent_table.specs.Review.{state_of}
 use Rattle.ent_table.specs.State.{State, fresh_cells}
 use Rattle.ent_table.specs.Step.{is_last, name_dropped, next}
-use Rattle.ent_table.specs.Table.{IsDropped}
+use Rattle.ent_table.specs.proofs_only.Table.{IsDropped}
 use Rattle.ent_table.specs.Tables.{Logs}
 use Rattle.ent_table.proofs.Changes.{less_names}
 use Rattle.ent_table.proofs.Counting.{made_counts, raised_none}

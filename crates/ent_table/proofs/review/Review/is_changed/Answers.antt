@@ -1,5 +1,5 @@
 use Rattle.std.proofs.Common.{sym, subst, ◌∙◌}
-use Rattle.ent_table.specs.Exchange.{IsWithin}
+use Rattle.ent_table.specs.proofs_only.Exchange.{IsWithin}
 use Rattle.ent_table.specs.Review.{state_of}
 use Rattle.ent_table.proofs.Told.{if_ok, tells_day, tells_document, tells_root, tells_values}
 use Rattle.ent_table.proofs.review.Review.is_changed.Goals as goal

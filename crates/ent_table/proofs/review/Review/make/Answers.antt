@@ -5,10 +5,10 @@ use Rattle.ent_eval.specs.LooksOf.{held_by}
 use Rattle.ent_finder.specs.Slots.{document_count}
 use Rattle.ent_table.specs.Counted.{touched_count}
 use Rattle.ent_table.specs.Difference.{changes}
-use Rattle.ent_table.specs.Exchange.{with_exchange}
+use Rattle.ent_table.specs.proofs_only.Exchange.{with_exchange}
 use Rattle.ent_table.specs.Limits.{IsStandardAtMost}
 use Rattle.ent_table.specs.Review.{state_of}
-use Rattle.ent_table.specs.Seen.{asks, keys_in}
+use Rattle.ent_table.specs.proofs_only.Seen.{asks, keys_in}
 use Rattle.ent_table.specs.State.{State, fresh_cells}
 use Rattle.ent_table.specs.Step.{next}
 use Rattle.ent_table.proofs.Edited.{fresh_again, unlike_changes}

@@ -4,9 +4,8 @@ use Rattle.ent_cells.specs.Cell.{cell_of}
 use Rattle.ent_cells.specs.Shape.{woven}
 use Rattle.ent_eval.specs.LooksOf.{looks_of}
 use Rattle.ent_table.specs.Names.{Names, triples, with_list}
-use Rattle.ent_table.specs.Place.{blocks_of}
-use Rattle.ent_table.specs.Table.{behind, requests_with}
-use Rattle.ent_table.specs.Tables.{unanswered}
+use Rattle.ent_table.specs.proofs_only.Place.{blocks_of}
+use Rattle.ent_table.specs.proofs_only.Table.{behind, requests_with, unanswered}
 use Rattle.ent_table.proofs.Named.{added_cells, length-woven}
 use Rattle.ent_table.proofs.table.Table.add.Goals as goal
 

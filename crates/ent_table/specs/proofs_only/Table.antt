@@ -2,10 +2,17 @@
 use Rattle.std.specs.Prelude.{◌≡◌, ℕ, ◌+◌, List, [], ◌∷◌, length, map, Option, Some, None, true, false}
 use Rattle.ent_cells.specs.Cell.{Kept}
 use Rattle.ent_cells.specs.declared.blocks.Blocks.{Blocks}
+use Rattle.ent_cells.specs.declared.who.Who.{Who}
+use Rattle.ent_eval.specs.declared.answer.Answer.{Answer}
+use Rattle.ent_log.specs.declared.entry.OldAnswer.{OldAnswer}
 use Rattle.ent_table.specs.declared.edit.List.{List as Which}
 use Rattle.ent_table.specs.declared.edit.List.TheVariants as which
 use Rattle.ent_table.specs.declared.table.Table.{Table}
 use Rattle.ent_table.specs.Names.{Names, Triple, has_name, list_of, no_names, triples, with_list, with_name, without_name}
+
+-- requests that had no answer
+abbrev pub unanswered : List Triple → List (OldAnswer Who Answer)
+unanswered xs = map (λ x. record { key = x; answer = None }) xs
 
 -- no names, and so no cells
 abbrev pub empty_table : Table

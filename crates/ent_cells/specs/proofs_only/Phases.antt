@@ -4,7 +4,8 @@ use Rattle.std.specs.List.{list_any}
 use Rattle.slab.specs.Slab.{Slab, get}
 use Rattle.ent_eval.specs.Looks.{Looks}
 use Rattle.ent_cells.specs.Cell.{says}
-use Rattle.ent_cells.specs.Entries.{Entry, given_up}
+use Rattle.ent_cells.specs.Entries.{Entry}
+use Rattle.ent_cells.specs.proofs_only.Entries.{given_up}
 
 -- whether a number is one of these
 abbrev pub is_among : List ℕ → ℕ → Bool

@@ -7,10 +7,15 @@ use Rattle.ent_log.specs.declared.entry.OldAnswer.{OldAnswer}
 use Rattle.ent_log.specs.declared.log.Log.{Log}
 use Rattle.ent_cells.specs.declared.cell.Cell.{Cell}
 use Rattle.ent_cells.specs.declared.who.Who.{Who}
-use Rattle.ent_cells.specs.Entries.{Entry, changes}
-use Rattle.ent_cells.specs.Numbers.{replaces}
-use Rattle.ent_cells.specs.Old.{old_of}
+use Rattle.ent_cells.specs.Entries.{Entry}
+use Rattle.ent_cells.specs.proofs_only.Entries.{changes}
+use Rattle.ent_cells.specs.proofs_only.Numbers.{replaces}
 use Rattle.ent_cells.specs.Order.{request_order}
+use Rattle.ent_cells.specs.Cell.{Kept}
+
+-- the answer of a cell, as the old one of its request
+abbrev pub old_of : Kept → OldAnswer Who Answer
+old_of e = record { key = e.who; answer = Some e.said.answer }
 
 -- the old answer of a cell of which another one is ready
 abbrev pub old_at : Entry → Option (OldAnswer Who Answer)

@@ -1,18 +1,30 @@
 -- One thing of what is held that is exchanged with what stands there.
-use Rattle.std.specs.Prelude.{◌≡◌, ℕ, ◌<◌, List, length, Some, IsSome, Result, Ok}
+use Rattle.std.specs.Prelude.{◌≡◌, ℕ, ◌<◌, List, length, IsSome, Result, Ok, Option}
 use Rattle.std.specs.FinMap.{get}
 use Rattle.std.specs.Option.{ForSome}
 use Rattle.ent_values.specs.Bags.{AllOfType}
 use Rattle.ent_policy.specs.Key.{key_of}
-use Rattle.ent_finder.specs.Rows.{Source, source_at}
+use Rattle.ent_finder.specs.Rows.{Source, source_at, values_at}
 use Rattle.ent_finder.specs.Slots.{Slots, document_count, module_at}
+use Rattle.ent_policy.specs.declared.document.Tree.{Tree}
+use Rattle.ent_policy.specs.declared.key.DocKey.{DocKey}
+use Rattle.ent_values.specs.declared.value.Value.{Value}
+use Rattle.ent_finder.specs.declared.row.RowKey.{RowKey}
 use Rattle.ent_table.specs.declared.change.Exchange.{Exchange}
 use Rattle.ent_table.specs.declared.change.Exchange.TheVariants.{Document, Row, Root, Day}
 use Rattle.ent_table.specs.declared.edit.EditFault.{EditFault}
 use Rattle.ent_table.specs.declared.review.Review.{Review}
-use Rattle.ent_table.specs.Review.{policy_at, row_at, state_of}
+use Rattle.ent_table.specs.Review.{state_of}
 use Rattle.ent_table.specs.State.{State}
 use Rattle.ent_table.specs.Step.{next, with_day, with_policy, with_root, with_values}
+
+-- the document that the module of that number holds under a key
+abbrev pub policy_at : State → ℕ → DocKey → Option Tree
+policy_at s number key = get (module_at s.held.modules number) key
+
+-- the values that the module of that number has in the row of a key
+abbrev pub row_at : State → ℕ → RowKey → List Value
+row_at s number key = values_at (source_at s.held.sources number).rows key
 
 -- the state after it
 abbrev pub with_exchange : State → Exchange → State

@@ -21,8 +21,7 @@ use Rattle.ent_table.specs.declared.change.Exchange.TheVariants.{Document, Row, 
 use Rattle.ent_table.specs.declared.looked.Before.{Before}
 use Rattle.ent_table.specs.declared.looked.Before.TheVariants.{Found, Given, Other}
 use Rattle.ent_table.specs.declared.looked.Seen.{Seen}
-use Rattle.ent_table.specs.Exchange.{taken, with_exchange}
-use Rattle.ent_table.specs.Review.{policy_at}
+use Rattle.ent_table.specs.proofs_only.Exchange.{policy_at, taken, with_exchange}
 use Rattle.ent_table.specs.State.{State}
 
 -- a key that gives another after one thing is exchanged asks for that
