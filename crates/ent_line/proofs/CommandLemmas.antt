@@ -19,13 +19,13 @@ use Rattle.ent_table.specs.declared.edit.EditFault.{EditFault}
 use Rattle.ent_report.specs.World.{World}
 use Rattle.ent_line.specs.Asked as asked
 use Rattle.ent_line.specs.Asked.{AskedRow, Command, request_of}
-use Rattle.ent_line.specs.Edits.{NoEdit, edit_of, faulty, if_read, no_edit, unreadable, unreadable_row, with_read}
+use Rattle.ent_line.specs.Edits.{NoEdit, edit_of, faulty, if_read, no_edit, root_of, row_read, unread, unread_row, unreadable, unreadable_row, with_read}
 use Rattle.ent_line.specs.Lines.{line_limit}
 use Rattle.ent_line.specs.Replies as replies
 use Rattle.ent_line.specs.Replies.{Answer, accepted, refused, text}
-use Rattle.ent_line.specs.Step.{Answers, attribute_set, data_of, day_or_refusal, day_set, edited, edited_with, name_added, name_dropped, policy_added}
-use Rattle.ent_line.specs.Step.{policy_replaced, policy_withdrawn, requested, root_of, root_set, row_read, row_set, run, settled, step, table_marked, told}
-use Rattle.ent_line.specs.Step.{unread, unread_row, withdrawn}
+use Rattle.ent_line.specs.Commands.{attribute_set, day_or_refusal, day_set, edited, edited_with, name_added, name_dropped, policy_added, policy_replaced}
+use Rattle.ent_line.specs.Commands.{policy_withdrawn, root_set, row_set, run, settled, table_marked, withdrawn}
+use Rattle.ent_line.specs.Step.{Answers, data_of, requested, step, told}
 
 -- ---- what a command comes to
 

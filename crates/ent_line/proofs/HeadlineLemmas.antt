@@ -13,9 +13,10 @@ use Rattle.ent_line.specs.Edits.{NoEdit, edit_of}
 use Rattle.ent_line.specs.Headline.{IsAnswered, IsEdited, IsHeadline, IsHeard}
 use Rattle.ent_line.specs.Lines.{line_limit}
 use Rattle.ent_line.specs.Replies.{refused}
-use Rattle.ent_line.specs.Reports.{can_text, who_text}
-use Rattle.ent_line.specs.Step.{by_rule_told, can_told, cell_or_refusal, cell_told, changes_told, counts_told, data_of, notices_or_refusal}
-use Rattle.ent_line.specs.Step.{report_or_refusal, request_answered, requested, response_or_refusal, run, settled, step, table_marked, table_told, told, who_told, work_told}
+use Rattle.ent_line.specs.Reports.{can_text, changes_told, notices_or_refusal, who_text}
+use Rattle.ent_line.specs.Commands.{by_rule_told, can_told, cell_or_refusal, cell_told, counts_told, report_or_refusal, request_answered, response_or_refusal}
+use Rattle.ent_line.specs.Commands.{run, settled, table_marked, table_told, who_told, work_told}
+use Rattle.ent_line.specs.Step.{data_of, requested, step, told}
 use Rattle.ent_line.proofs.AskedLemmas.{refusal_is}
 use Rattle.ent_line.proofs.CommandLemmas.{made, refusal_keeps, run_made, short_told}
 use Rattle.ent_line.proofs.HistoryLemmas.{led}

@@ -23,18 +23,18 @@ use Rattle.ent_report.specs.World.{World, mark_of}
 use Rattle.ent_report.specs.declared.fault.ReportFault.{ReportFault}
 use Rattle.ent_line.specs.Asked as asked
 use Rattle.ent_line.specs.Asked.{Command, request_of}
-use Rattle.ent_line.specs.Edits.{NoEdit, edit_of, faulty, no_edit, unreadable, unreadable_row}
+use Rattle.ent_line.specs.Edits.{NoEdit, edit_of, faulty, no_edit, refusal_of, unread, unread_row, unreadable, unreadable_row}
 use Rattle.ent_line.specs.Headline.{IsLed}
 use Rattle.ent_line.specs.History as session
 use Rattle.ent_line.specs.History.{Lead, Matter, Seen, accepted_edit, accepted_edits, asked_by, edit_told, history, matter, matter_of, next, seen_by}
 use Rattle.ent_line.specs.Lines.{line_limit}
 use Rattle.ent_line.specs.Replies as replies
 use Rattle.ent_line.specs.Replies.{Answer, accepted, refused, text}
-use Rattle.ent_line.specs.Reports.{can_text, who_text}
+use Rattle.ent_line.specs.Reports.{can_text, changes_told, notices_or_refusal, who_text}
 use Rattle.ent_line.specs.Runs.{Run}
-use Rattle.ent_line.specs.Step.{Answers, by_rule_told, can_told, cell_or_refusal, cell_told, changes_told, counts_told, data_of, notices_or_refusal, refusal_of}
-use Rattle.ent_line.specs.Step.{report_or_refusal, request_answered, requested, response_or_refusal, run, settled, step, table_marked}
-use Rattle.ent_line.specs.Step.{table_told, told, unread, unread_row, who_told, work_told}
+use Rattle.ent_line.specs.Commands.{by_rule_told, can_told, cell_or_refusal, cell_told, counts_told, report_or_refusal, request_answered, response_or_refusal}
+use Rattle.ent_line.specs.Commands.{run, settled, table_marked, table_told, who_told, work_told}
+use Rattle.ent_line.specs.Step.{Answers, data_of, requested, step, told}
 use Rattle.ent_line.proofs.CommandLemmas.{IsNoEdit, IsQuiet, made, nothing, run_made}
 
 -- ---- what a line leads to

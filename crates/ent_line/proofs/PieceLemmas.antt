@@ -8,7 +8,8 @@ use Rattle.std.proofs.lemmas.List.{take_more, length-take}
 use Rattle.std.specs.Io.KnownBytes.{Appends, Keeps, IsAtEnd}
 use Rattle.std.proofs.KnownBytes.{Appends-trans}
 use Rattle.ent_line.specs.Lines.{ended, line_limit}
-use Rattle.ent_line.specs.Pieces.{kept_of, Sends}
+use Rattle.ent_line.specs.Pieces.{Sends}
+use Rattle.ent_line.specs.proofs_only.Pieces.{kept_of}
 use Rattle.ent_line.specs.declared.fault.ServeFault.{ServeFault}
 
 take_twice : (n m : ℕ) (xs : List ℕ) → take n (take m xs) ≡ take (min n m) xs

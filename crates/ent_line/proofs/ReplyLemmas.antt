@@ -25,11 +25,11 @@ use Rattle.ent_line.specs.Edits.{NoEdit, edit_of, faulty, no_edit, unreadable, u
 use Rattle.ent_line.specs.Lines.{IsOneLine, line_limit}
 use Rattle.ent_line.specs.Replies as replies
 use Rattle.ent_line.specs.Replies.{Answer, accepted, line_of, refused, text}
-use Rattle.ent_line.specs.Reports.{by_rule_reply, can_reply, counts_reply, notices_reply, who_reply}
+use Rattle.ent_line.specs.Reports.{by_rule_reply, can_reply, changes_told, counts_reply, notices_or_refusal, notices_reply, who_reply}
 use Rattle.ent_line.specs.Reports.{by_rule_text, can_text, counts_text, notices_text, who_text, work_text}
-use Rattle.ent_line.specs.Step.{Answers, by_rule_told, can_told, cell_or_refusal, cell_told, changes_told, counts_told, data_of, notices_or_refusal}
-use Rattle.ent_line.specs.Step.{report_or_refusal, request_answered, requested, response_or_refusal, run, settled, step}
-use Rattle.ent_line.specs.Step.{table_marked, table_told, told, who_told, work_told}
+use Rattle.ent_line.specs.Commands.{by_rule_told, can_told, cell_or_refusal, cell_told, counts_told, report_or_refusal, request_answered, response_or_refusal}
+use Rattle.ent_line.specs.Commands.{run, settled, table_marked, table_told, who_told, work_told}
+use Rattle.ent_line.specs.Step.{Answers, data_of, requested, step, told}
 use Rattle.ent_line.proofs.CommandLemmas.{IsNoEdit, made, nothing, run_made}
 use Rattle.ent_line.proofs.PrintedLemmas.{ArePrinted, IsPrintedLine, behind, both_printed, decimal_printed, one_line, text_printed, word_printed}
 

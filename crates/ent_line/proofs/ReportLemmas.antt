@@ -6,8 +6,7 @@ use Rattle.ent_report.specs.Notices.{IsNoticed}
 use Rattle.ent_report.specs.declared.fault.NoticeFault.TheVariants.{NoMark}
 use Rattle.ent_report.specs.declared.notices.Notice.{Notice}
 use Rattle.ent_line.specs.Replies.{refused, text}
-use Rattle.ent_line.specs.Reports.{notices_text}
-use Rattle.ent_line.specs.Step.{notices_or_refusal}
+use Rattle.ent_line.specs.Reports.{notices_or_refusal, notices_text}
 
 -- notices of a session that has a mark
 pub noticed : (o : Option AnswerMap) (s : State) (ns : List Notice) → IsNoticed o s (Ok ns) → notices_or_refusal s o ≡ text (notices_text ns)

@@ -9,7 +9,9 @@ use Rattle.ent_line.specs.Asked.{Command, request_of}
 use Rattle.ent_line.specs.History.{asked_by, history, next, seen_by}
 use Rattle.ent_line.specs.Replies.{Answer, refused}
 use Rattle.ent_line.specs.Sessions.{AsksNotices, SessionsAreSeparate}
-use Rattle.ent_line.specs.Step.{Answers, changes_told, data_of, notices_or_refusal, requested, run, told}
+use Rattle.ent_line.specs.Commands.{run}
+use Rattle.ent_line.specs.Reports.{changes_told, notices_or_refusal}
+use Rattle.ent_line.specs.Step.{Answers, data_of, requested, told}
 use Rattle.ent_line.proofs.CommandLemmas.{nothing, short_told}
 use Rattle.ent_line.proofs.HistoryLemmas.{run_seen}
 

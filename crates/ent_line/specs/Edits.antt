@@ -1,15 +1,51 @@
--- Which edit a command makes.
-use Rattle.std.specs.Prelude.{ℕ, Option, Some, None, Result, Ok, Err}
+-- Which edit a command makes, and how one that isn't made is refused.
+use Rattle.std.specs.Prelude.{ℕ, Option, Some, None, Result, Ok, Err, ◌||◌, List, [], ◌∷◌, nat_lt, if◌then◌else◌, option_and_then, option_map}
+use Rattle.serde_json.specs.Data.{Data, Items}
+use Rattle.serde_json.specs.Data as json
+use Rattle.serde_json.specs.Events.{items_len}
 use Rattle.ent_values.specs.Reading.{date_of}
+use Rattle.ent_values.specs.Types.{type_of}
+use Rattle.ent_values.specs.declared.datatype.DataType.{DataType}
+use Rattle.ent_values.specs.declared.value.Value.{Value}
 use Rattle.ent_policy.specs.Fault.{sub_code}
 use Rattle.ent_policy.specs.Versions.{version_of}
 use Rattle.ent_policy.specs.declared.fault.DocFault.{DocFault}
+use Rattle.ent_policy.specs.declared.key.Reference.{Reference}
+use Rattle.ent_polform.specs.Objects.{◌>>=◌}
 use Rattle.ent_polform.specs.Form.{document_of}
+use Rattle.ent_polform.specs.Reference.{reference_of}
+use Rattle.ent_polform.specs.Values.{value_in}
+use Rattle.ent_finder.specs.declared.row.RowKey.{RowKey}
+use Rattle.ent_table.specs.State.{State}
+use Rattle.ent_table.specs.Step as table
 use Rattle.ent_table.specs.declared.edit.Edit.{Edit}
 use Rattle.ent_table.specs.declared.edit.Edit.TheVariants.{AddPolicy, ReplacePolicy, WithdrawPolicy, SetAttribute, AddName, DropName, SetRoot, SetDay}
-use Rattle.ent_line.specs.Asked as asked
+use Rattle.ent_table.specs.declared.edit.EditFault.{EditFault}
+use Rattle.ent_table.specs.declared.edit.EditFault.TheVariants.{NotThere, AlreadyThere, Limit, Reserved, BadValue, UnknownModule, Memory}
 use Rattle.ent_line.specs.Asked.{AskedRow, Command}
-use Rattle.ent_line.specs.Step.{root_of, row_read}
+use Rattle.ent_line.specs.Asked as asked
+
+-- ---- what is read of a command
+
+-- the root that a JSON value names: none for null
+abbrev pub root_of : Data → Result (Option Reference) DocFault
+root_of json.null = Ok None
+root_of d = reference_of d >>= λ reference. Ok (Some reference)
+
+-- the values of that type that a list spells, unless a member spells none
+abbrev pub values_in : DataType → Items → Option (List Value)
+values_in datatype json.no_items = Some []
+values_in datatype (json.item d ds) = option_and_then (λ v. option_map (λ vs. v ∷ vs) (values_in datatype ds)) (value_in datatype d)
+
+-- the key of a row whose type was read
+abbrev pub key_of_row : AskedRow → DataType → RowKey
+key_of_row row datatype = record { category = row.category; entity = row.entity; attribute = row.attribute; datatype = datatype; issuer = row.issuer }
+
+-- the key and the values of a row, unless its type or a value can't be read
+unfoldable pub row_read : AskedRow → Option (RowKey × List Value)
+row_read row = option_and_then (λ datatype. option_map (λ values. (key_of_row row datatype, values)) (values_in datatype row.values)) (type_of row.datatype)
+
+-- ---- the edit
 
 -- why a command makes no edit
 pub data NoEdit : Type 0 where
@@ -45,3 +81,25 @@ edit_of (asked.set_root d) = with_read SetRoot (root_of d)
 edit_of (asked.set_day None) = Ok (SetDay None)
 edit_of (asked.set_day (Some written)) = if_read (λ day. SetDay (Some day)) unreadable (date_of written)
 edit_of question = Err no_edit
+
+-- ---- refusals
+
+-- the number of a refused edit
+abbrev pub refusal_of : EditFault → ℕ
+refusal_of NotThere = 7
+refusal_of AlreadyThere = 8
+refusal_of Limit = 9
+refusal_of Reserved = 10
+refusal_of BadValue = 11
+refusal_of UnknownModule = 13
+refusal_of Memory = 15
+
+-- the refusal of a version or a day that can't be read: a bad value, before which the last serial is told
+abbrev pub unread : State → ℕ
+unread s = if table.is_last s then refusal_of Limit else refusal_of BadValue
+
+-- the refusal of a row that can't be read: a bad value, before which the limits and a reserved attribute are told
+abbrev pub unread_row : State → AskedRow → ℕ
+unread_row s row =
+    if table.is_last s || nat_lt 256 (items_len row.values) then refusal_of Limit
+    else (if table.is_reserved row.category row.attribute then refusal_of Reserved else refusal_of BadValue)

@@ -1,10 +1,12 @@
--- The promise of the service, on the page to be read first.
+-- The promise of the service, on the page to be read first. docs/READING.md says what its words are and what to read after it.
 --
 -- A line asks for one command in one of sixteen sessions. Its reply rests on the world that the accepted edits and marks of the lines before it
 -- left: a state, which is what is held, the three lists and the number of edits, and for each session an optional mark. No reply rests on a
 -- kept cell: each is said by evaluating requests afresh (section 7 of XACML 3.0 core). Only `work` tells how many evaluations were made so far,
 -- which is no part of the world: the run leaves open which number that is, and `Service::handle` says it. After any lines the state is where their
--- accepted edits lead, one after the other, and a session's mark is the fresh table at the place of its last mark among them (`IsLed`). The last
+-- accepted edits lead, one after the other, and a session's mark is the fresh table at the place of its last mark among them (`IsLed`).
+--
+-- What `run` gives for each command need not be read in `Commands`: `IsEdited` and `IsAnswered` say it of every edit, question and mark. The last
 -- words on the page, `Headline`, are what the call `serve_review`, which the program makes, ensures of the bytes that are read and written.
 use Rattle.std.specs.Prelude.{◌≡◌, ◌⊎◌, ℕ, ◌<◌, ◌≤◌, ◌&&◌, false, List, length, fold, Option, Some, None, Result, Ok, Err}
 use Rattle.serde_json.specs.Data.{Data}
@@ -26,7 +28,7 @@ use Rattle.ent_report.specs.Reports as report
 use Rattle.ent_report.specs.World.{World, mark_of, marked}
 use Rattle.ent_line.specs.Asked as asked
 use Rattle.ent_line.specs.Cells.{one_cell_text, response_text, table_text}
-use Rattle.ent_line.specs.Edits.{edit_of, faulty, unreadable, unreadable_row}
+use Rattle.ent_line.specs.Edits.{edit_of, faulty, refusal_of, unread, unread_row, unreadable, unreadable_row}
 use Rattle.ent_line.specs.History.{Lead, accepted_edits, history, next, seen_by}
 use Rattle.ent_line.specs.Lines.{IsOneLine, line_limit}
 use Rattle.ent_line.specs.Replies as replies
@@ -35,7 +37,8 @@ use Rattle.ent_line.specs.Reports.{by_rule_text, can_text, counts_text, notices_
 use Rattle.ent_line.specs.Runs.{Run}
 use Rattle.ent_line.specs.Serving.{Ends, ServesUntil}
 use Rattle.ent_line.specs.Sessions.{SessionsAreSeparate}
-use Rattle.ent_line.specs.Step.{Answers, data_of, refusal_of, run, step, unread, unread_row}
+use Rattle.ent_line.specs.Commands.{run}
+use Rattle.ent_line.specs.Step.{Answers, data_of, step}
 use Rattle.ent_line.specs.declared.fault.ServeFault.{ServeFault}
 
 -- what a line is answered in a world

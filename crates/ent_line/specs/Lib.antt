@@ -1,15 +1,12 @@
 pub mod Asked
 pub mod Cells
-pub mod CommandView
+pub mod Commands
 pub mod Edits
 pub mod Headline
 pub mod History
 pub mod Lines
-pub mod LongLines
 pub mod Pieces
-pub mod Refusals
 pub mod Replies
-pub mod Replying
 pub mod Reports
 pub mod Runs
 pub mod Serving
@@ -17,3 +14,4 @@ pub mod Sessions
 pub mod Step
 pub mod Work
 pub mod World
+pub mod proofs_only

@@ -1,4 +1,4 @@
--- The JSON of reports and notices.
+-- The JSON of reports and notices, and what a session is told of its mark.
 use Rattle.std.specs.Prelude.{ℕ, List, ◌++◌, Option, Some, None, codes, decimal}
 use Rattle.serde_json.specs.Data as json
 use Rattle.serde_json.specs.Data.{Data}
@@ -7,6 +7,11 @@ use Rattle.ent_combine.specs.declared.outcome.Outcome.{Outcome}
 use Rattle.ent_line.specs.Cells.{decision_text, list_data}
 use Rattle.ent_report.specs.declared.counts.Counts.{Counts}
 use Rattle.ent_report.specs.declared.notices.Notice.{Notice}
+use Rattle.ent_report.specs.Notices.{notices}
+use Rattle.ent_report.specs.World.{World, mark_of}
+use Rattle.ent_table.specs.AnswerMap.{AnswerMap}
+use Rattle.ent_table.specs.State.{State}
+use Rattle.ent_line.specs.Replies.{Answer, refused, text}
 
 -- ---- values
 
@@ -102,3 +107,14 @@ notices_text notices = compact_text (notices_reply notices)
 -- the text of the reply to `work`: how many times a request was evaluated
 unfoldable pub work_text : ℕ → List ℕ
 work_text n = codes "{\"evaluations\":" ++ (decimal n ++ codes "}")
+
+-- ---- notices of a session
+
+-- what changed since a mark, or the refusal where there is none
+abbrev pub notices_or_refusal : State → Option AnswerMap → Answer
+notices_or_refusal s None = refused 12 None
+notices_or_refusal s (Some kept) = text (notices_text (notices kept s))
+
+-- what changed since the mark of a session, which stays
+unfoldable pub changes_told : World → ℕ → Answer
+changes_told w session = notices_or_refusal w.state (mark_of w session)

@@ -1,11 +1,10 @@
 -- A run over bytes: what `serve` reads, answers and writes, and how it ends.
-use Rattle.std.specs.Prelude.{◌≡◌, ◌⊎◌, ℕ, List, [], ◌∷◌, ◌++◌, length, Option, OnSome, Result, Ok, Err, ⊤}
+use Rattle.std.specs.Prelude.{◌≡◌, ◌⊎◌, ℕ, List, [], ◌∷◌, ◌++◌, length, Option, OnSome, Result, Ok, Err}
 use Rattle.std.specs.List.{flat_map}
 use Rattle.std.specs.Io.KnownBytes.{Consumes, Appends, IsAtEnd}
 use Rattle.ent_line.specs.declared.fault.ServeFault.{ServeFault}
 use Rattle.ent_line.specs.declared.fault.ServeFault.TheVariants.{Read, Write, Memory}
 use Rattle.ent_line.specs.Lines.{Splits}
-use Rattle.ent_line.specs.Pieces.{Sends}
 use Rattle.ent_line.specs.Replies.{Answer, line_of}
 use Rattle.ent_line.specs.Runs.{Handling, Run}
 
@@ -63,7 +62,3 @@ ServesUntil Answers e (Err Read) = (lines : List (List ℕ)) × (rest : List ℕ
 ServesUntil Answers e (Err Write) = (lines : List (List ℕ)) × (rest : List ℕ) × Breaks Answers e lines rest
 -- nothing was read, handled or written
 ServesUntil Answers e (Err Memory) = (e.end ≡ e.start) × Consumes e.unread e.left [] × Appends e.wrote e.holds []
-
--- one line was handled, and its reply was written, or a front of it
-abbrev pub AnswersLine : {W : Type 0} → Handling W → W → W → List ℕ → Option (List ℕ) → Option (List ℕ) → Result ⊤ ServeFault → Type 0
-AnswersLine Answers w v line before after r = (a : Answer) × Answers w line a v × Sends before after (line_of a) r

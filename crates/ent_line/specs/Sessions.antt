@@ -6,7 +6,8 @@ use Rattle.ent_line.specs.History.{asked_by, history}
 use Rattle.ent_line.specs.Lines.{line_limit}
 use Rattle.ent_line.specs.Replies.{Answer, refused}
 use Rattle.ent_line.specs.Runs.{Run}
-use Rattle.ent_line.specs.Step.{Answers, changes_told}
+use Rattle.ent_line.specs.Reports.{changes_told}
+use Rattle.ent_line.specs.Step.{Answers}
 
 -- two worlds have the same state and the same mark of a session, and each has a place for it
 pub record AreAlikeTo (session : ℕ) (w v : World) : Type 0 where

@@ -5,7 +5,7 @@ ghost use Rattle.std.specs.Option.{option_copied};
 ghost use Rattle.serde_json.specs.Find.{as_array, get};
 ghost use Rattle.serde_json.specs.View.{items_of};
 ghost use Rattle.ent_line.specs.Asked.{attribute_command, category_named, day_command, row_of, text_or_null};
-ghost use Rattle.ent_line.specs.CommandView.{asked_row_view, asked_view};
+ghost use Rattle.ent_line.specs.proofs_only.CommandView.{asked_row_view, asked_view};
 
 use crate::command::{Command, module_number};
 use crate::refusal::SHAPE;

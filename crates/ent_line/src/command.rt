@@ -7,7 +7,7 @@ ghost use Rattle.ent_line.specs.Asked.{replace_command, root_command, table_comm
 ghost use Rattle.ent_line.specs.Asked.{adding_named, dropping_named, setting_named, edit_named, policy_named};
 ghost use Rattle.ent_line.specs.Asked.{report_named, desk_named, kind_named, command_of, document_for, name_for};
 ghost use Rattle.ent_line.specs.Asked.{module_of, request_of, session_of};
-ghost use Rattle.ent_line.specs.CommandView.{asked_view, document_view, name_view, session_view};
+ghost use Rattle.ent_line.specs.proofs_only.CommandView.{asked_view, document_view, name_view, session_view};
 
 use crate::attribute_command::{AskedRow, attribute_command, day_command};
 use crate::refusal::{SHAPE, UNKNOWN_COMMAND, UNKNOWN_SESSION};

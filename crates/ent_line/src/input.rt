@@ -2,7 +2,7 @@
 
 ghost use Rattle.std.specs.Prelude.{◌≡◌, ◌+◌, ◌<◌, ◌≤◌, length, take, slice_index, vec_len, vec_capacity, Result};
 ghost use Rattle.ent_line.specs.Lines.{HasOneSplit, NoNewline, line_limit};
-ghost use Rattle.ent_line.specs.Pieces.{TakesPiece};
+ghost use Rattle.ent_line.specs.proofs_only.Pieces.{TakesPiece};
 
 use crate::fault::ServeFault;
 use memchr::memchr;

@@ -8,8 +8,8 @@ ghost use Rattle.ent_values.specs.Types.{datatype_of};
 ghost use Rattle.ent_values.specs.declared.datatype.DataType.TheVariants as types;
 ghost use Rattle.ent_values.specs.declared.value.Value.TheVariants as values;
 ghost use Rattle.ent_policy.specs.Gives.{Gives};
-ghost use Rattle.ent_line.specs.CommandView.{row_view};
-ghost use Rattle.ent_line.specs.Step.{key_of_row, root_of, row_read, values_in};
+ghost use Rattle.ent_line.specs.proofs_only.CommandView.{row_view};
+ghost use Rattle.ent_line.specs.Edits.{key_of_row, root_of, row_read, values_in};
 
 use crate::attribute_command::AskedRow;
 use ent_finder::RowKey;
@@ -94,7 +94,7 @@ fn key_of_row<J: JsonTree>(
 }
 
 /// The key and the values of a row. `None` if its type or a value can't be read.
-#[tactic(auto, unfolding(crate::specs::Step::row_read))]
+#[tactic(auto, unfolding(crate::specs::Edits::row_read))]
 pub(crate) fn read_row<J: JsonTree>(
     alloc: Global,
     row: &AskedRow<'_, J>,

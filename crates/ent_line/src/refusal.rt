@@ -1,6 +1,6 @@
 //! Refusals by their numbers. Each number stands here alone.
 
-ghost use Rattle.ent_line.specs.Refusals.{DocumentRefused, EditRefused};
+ghost use Rattle.ent_line.specs.proofs_only.Refusals.{DocumentRefused, EditRefused};
 
 use crate::reply::Reply;
 use ent_policy::CheckFault;

@@ -3,7 +3,7 @@
 ghost use Rattle.std.specs.Prelude.{◌≡◌, option_map};
 ghost use Rattle.ent_line.specs.Asked.{by_rule_command, can_command, counts_command, decided_named};
 ghost use Rattle.ent_line.specs.Asked.{mark_command, marking_named, notices_command, who_command, work_command};
-ghost use Rattle.ent_line.specs.CommandView.{asked_view};
+ghost use Rattle.ent_line.specs.proofs_only.CommandView.{asked_view};
 
 use crate::attribute_command::text_or_null;
 use crate::command::Command;

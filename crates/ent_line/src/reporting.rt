@@ -3,8 +3,9 @@
 ghost use Rattle.std.specs.Prelude.{◌≡◌, ◌<◌, IfOk};
 ghost use Rattle.std.specs.Option.{option_copied};
 ghost use Rattle.ent_line.specs.Replies.{reply_view};
-ghost use Rattle.ent_line.specs.Replying.{Replies, Tells};
-ghost use Rattle.ent_line.specs.Step.{by_rule_told, can_told, changes_told, counts_told, table_marked, who_told, work_told};
+ghost use Rattle.ent_line.specs.proofs_only.Replying.{Replies, Tells};
+ghost use Rattle.ent_line.specs.Commands.{by_rule_told, can_told, counts_told, table_marked, who_told, work_told};
+ghost use Rattle.ent_line.specs.Reports.{changes_told};
 ghost use Rattle.ent_line.specs.Work.{count_of};
 ghost use Rattle.ent_line.specs.World.{IsReady};
 
@@ -18,7 +19,7 @@ use std::alloc::AllocError;
 
 impl<A: Attributes, P: Policies> Service<A, P> {
     /// `counts`. They are kept until the next edit.
-    #[tactic(auto, unfolding(crate::specs::Step::counts_told))]
+    #[tactic(auto, unfolding(crate::specs::Commands::counts_told))]
     pub(crate) fn counts(&mut self) -> Result<Reply, AllocError>
         requires { IsReady A.sources P.slots self.old }
         ensures ready { IsReady A.sources P.slots self.new }
@@ -31,7 +32,7 @@ impl<A: Attributes, P: Policies> Service<A, P> {
     }
 
     /// `can`.
-    #[tactic(auto, unfolding(crate::specs::Step::can_told))]
+    #[tactic(auto, unfolding(crate::specs::Commands::can_told))]
     pub(crate) fn can(&self, person: &str) -> Result<Reply, AllocError>
         requires { IsReady A.sources P.slots self.now }
         ensures { Tells A.sources P.slots (λ w. can_told w.state person.now) self.now result }
@@ -47,7 +48,7 @@ impl<A: Attributes, P: Policies> Service<A, P> {
     }
 
     /// `who`.
-    #[tactic(auto, unfolding(crate::specs::Step::who_told))]
+    #[tactic(auto, unfolding(crate::specs::Commands::who_told))]
     pub(crate) fn who(&self, action: &str, resource: &str) -> Result<Reply, AllocError>
         requires { IsReady A.sources P.slots self.now }
         ensures { Tells A.sources P.slots (λ w. who_told w.state action.now resource.now) self.now result }
@@ -63,7 +64,7 @@ impl<A: Attributes, P: Policies> Service<A, P> {
     }
 
     /// `by_rule`.
-    #[tactic(auto, unfolding(crate::specs::Step::by_rule_told))]
+    #[tactic(auto, unfolding(crate::specs::Commands::by_rule_told))]
     pub(crate) fn by_rule(&self, policy: &str, rule: Option<&str>) -> Result<Reply, AllocError>
         requires { IsReady A.sources P.slots self.now }
         ensures { Tells A.sources P.slots (λ w. by_rule_told w.state policy.now (option_copied rule.entry))
@@ -80,7 +81,7 @@ impl<A: Attributes, P: Policies> Service<A, P> {
     }
 
     /// `mark`.
-    #[tactic(auto, unfolding(crate::specs::Step::table_marked))]
+    #[tactic(auto, unfolding(crate::specs::Commands::table_marked))]
     pub(crate) fn mark(&mut self, session: u8) -> Result<Reply, AllocError>
         requires ready { IsReady A.sources P.slots self.old }
         requires session { session < 16 }
@@ -93,7 +94,7 @@ impl<A: Attributes, P: Policies> Service<A, P> {
     }
 
     /// `notices`.
-    #[tactic(auto, using(crate::proofs::ReportLemmas::noticed, crate::proofs::ReportLemmas::unmarked), unfolding(crate::specs::Step::changes_told))]
+    #[tactic(auto, using(crate::proofs::ReportLemmas::noticed, crate::proofs::ReportLemmas::unmarked), unfolding(crate::specs::Reports::changes_told))]
     pub(crate) fn notices(&self, session: u8) -> Result<Reply, AllocError>
         requires ready { IsReady A.sources P.slots self.now }
         requires session { session < 16 }
@@ -110,7 +111,7 @@ impl<A: Attributes, P: Policies> Service<A, P> {
     }
 
     /// `work`.
-    #[tactic(auto, unfolding(crate::specs::Step::work_told))]
+    #[tactic(auto, unfolding(crate::specs::Commands::work_told))]
     pub(crate) fn work(&self) -> Result<Reply, AllocError>
         ensures { IfOk result (λ reply. reply_view reply ≡ work_told (count_of self.now)) }
     {

@@ -7,12 +7,14 @@ ghost use Rattle.ent_table.specs.Names.{triple_of};
 ghost use Rattle.ent_report.specs.World as held;
 ghost use Rattle.ent_line.specs.Asked as asked;
 ghost use Rattle.ent_line.specs.Asked.{request_of};
-ghost use Rattle.ent_line.specs.CommandView.{command_view, row_view};
-ghost use Rattle.ent_line.specs.Replying.{Replies, Tells, Works};
+ghost use Rattle.ent_line.specs.proofs_only.CommandView.{command_view, row_view};
+ghost use Rattle.ent_line.specs.proofs_only.Replying.{Replies, Tells, Works};
 ghost use Rattle.ent_line.specs.History.{asked_by};
-ghost use Rattle.ent_line.specs.Step.{attribute_set, day_set, edited, name_added, name_dropped, root_set};
-ghost use Rattle.ent_line.specs.Step.{policy_added, policy_replaced, policy_withdrawn, unread, unread_row};
-ghost use Rattle.ent_line.specs.Step.{cell_told, data_of, request_answered, requested, run, table_told, told};
+ghost use Rattle.ent_line.specs.Commands.{attribute_set, cell_told, day_set, edited, name_added, name_dropped};
+ghost use Rattle.ent_line.specs.Commands.{policy_added, policy_replaced, policy_withdrawn, request_answered, root_set};
+ghost use Rattle.ent_line.specs.Commands.{run, table_told};
+ghost use Rattle.ent_line.specs.Edits.{unread, unread_row};
+ghost use Rattle.ent_line.specs.Step.{data_of, requested, told};
 ghost use Rattle.ent_line.specs.Work.{asked_work, command_work, count_of, edit_work};
 ghost use Rattle.ent_line.specs.World.{IsReady, world_of};
 
@@ -81,7 +83,7 @@ impl<A: Attributes, P: Policies> Service<A, P> {
     }
 
     /// `person.add`, `action.add` and `resource.add`.
-    #[tactic(auto, unfolding(crate::specs::Step::name_added))]
+    #[tactic(auto, unfolding(crate::specs::Commands::name_added))]
     fn add_name(&mut self, list: List, name: &str) -> Result<Reply, AllocError>
         requires { IsReady A.sources P.slots self.old }
         ensures ready { IsReady A.sources P.slots self.new }
@@ -94,7 +96,7 @@ impl<A: Attributes, P: Policies> Service<A, P> {
     }
 
     /// `person.drop`, `action.drop` and `resource.drop`.
-    #[tactic(auto, unfolding(crate::specs::Step::name_dropped))]
+    #[tactic(auto, unfolding(crate::specs::Commands::name_dropped))]
     fn drop_name(&mut self, list: List, name: &str) -> Result<Reply, AllocError>
         requires { IsReady A.sources P.slots self.old }
         ensures ready { IsReady A.sources P.slots self.new }
@@ -107,7 +109,7 @@ impl<A: Attributes, P: Policies> Service<A, P> {
     }
 
     /// `policy.add`.
-    #[tactic(auto, unfolding(crate::specs::Step::policy_added))]
+    #[tactic(auto, unfolding(crate::specs::Commands::policy_added))]
     fn add_policy<J: JsonTree>(&mut self, number: usize, document: &J) -> Result<Reply, AllocError>
         requires { IsReady A.sources P.slots self.old }
         ensures ready { IsReady A.sources P.slots self.new }
@@ -123,7 +125,7 @@ impl<A: Attributes, P: Policies> Service<A, P> {
     }
 
     /// `policy.replace`.
-    #[tactic(auto, unfolding(crate::specs::Step::policy_replaced))]
+    #[tactic(auto, unfolding(crate::specs::Commands::policy_replaced))]
     fn replace_policy<J: JsonTree>(
         &mut self,
         number: usize,
@@ -154,7 +156,7 @@ impl<A: Attributes, P: Policies> Service<A, P> {
     }
 
     /// `policy.withdraw`.
-    #[tactic(auto, unfolding(crate::specs::Step::policy_withdrawn))]
+    #[tactic(auto, unfolding(crate::specs::Commands::policy_withdrawn))]
     fn withdraw_policy(
         &mut self,
         number: usize,
@@ -191,7 +193,7 @@ impl<A: Attributes, P: Policies> Service<A, P> {
     }
 
     /// `attr.set`.
-    #[tactic(auto, unfolding(crate::specs::Step::attribute_set))]
+    #[tactic(auto, unfolding(crate::specs::Commands::attribute_set))]
     fn set_attribute<J: JsonTree>(
         &mut self,
         number: usize,
@@ -211,7 +213,7 @@ impl<A: Attributes, P: Policies> Service<A, P> {
     }
 
     /// `day.set`.
-    #[tactic(auto, unfolding(crate::specs::Step::day_set))]
+    #[tactic(auto, unfolding(crate::specs::Commands::day_set))]
     fn set_day(&mut self, day: Option<&str>) -> Result<Reply, AllocError>
         requires { IsReady A.sources P.slots self.old }
         ensures ready { IsReady A.sources P.slots self.new }
@@ -229,7 +231,7 @@ impl<A: Attributes, P: Policies> Service<A, P> {
     }
 
     /// `root.set`.
-    #[tactic(auto, unfolding(crate::specs::Step::root_set))]
+    #[tactic(auto, unfolding(crate::specs::Commands::root_set))]
     fn set_root<J: JsonTree>(&mut self, reference: &J) -> Result<Reply, AllocError>
         requires { IsReady A.sources P.slots self.old }
         ensures ready { IsReady A.sources P.slots self.new }
@@ -244,7 +246,7 @@ impl<A: Attributes, P: Policies> Service<A, P> {
     }
 
     /// `table`.
-    #[tactic(auto, unfolding(crate::specs::Step::table_told))]
+    #[tactic(auto, unfolding(crate::specs::Commands::table_told))]
     fn table(&self) -> Result<Reply, AllocError>
         requires { IsReady A.sources P.slots self.now }
         ensures { Tells A.sources P.slots (λ w. table_told w.state) self.now result }
@@ -254,7 +256,7 @@ impl<A: Attributes, P: Policies> Service<A, P> {
     }
 
     /// `cell`.
-    #[tactic(auto, unfolding(crate::specs::Step::cell_told))]
+    #[tactic(auto, unfolding(crate::specs::Commands::cell_told))]
     fn cell(&self, person: &str, action: &str, resource: &str) -> Result<Reply, AllocError>
         requires { IsReady A.sources P.slots self.now }
         ensures { Tells A.sources P.slots (λ w. cell_told w.state (triple_of person.now action.now resource.now))
@@ -270,7 +272,7 @@ impl<A: Attributes, P: Policies> Service<A, P> {
     }
 
     /// `ask`.
-    #[tactic(auto, unfolding(crate::specs::Step::request_answered))]
+    #[tactic(auto, unfolding(crate::specs::Commands::request_answered))]
     fn ask<J: JsonTree>(&mut self, json: &J) -> Result<Reply, AllocError>
         requires { IsReady A.sources P.slots self.old }
         ensures ready { IsReady A.sources P.slots self.new }
@@ -291,7 +293,7 @@ impl<A: Attributes, P: Policies> Service<A, P> {
     }
 
     /// Does what a command of a session asks for.
-    #[tactic(auto, unfolding(crate::specs::Step::run))]
+    #[tactic(auto, unfolding(crate::specs::Commands::run))]
     fn run<J: JsonTree>(
         &mut self,
         session: u8,
@@ -365,7 +367,7 @@ impl<A: Attributes, P: Policies> Answering for Service<A, P> {
     ghost use Rattle.ent_line.specs.Replies.{reply_view};
     ghost use Rattle.ent_line.specs.Step.{Answers, AnswersAfter};
     ghost use Rattle.ent_line.specs.Work.{IsWorked, line_work};
-    ghost use Rattle.ent_line.specs.LongLines.{long_lines_alike};
+    ghost use Rattle.ent_line.specs.proofs_only.LongLines.{long_lines_alike};
 
     ghost World = { World };
 

@@ -2,7 +2,8 @@
 
 ghost use Rattle.std.specs.Prelude.{◌≡◌, ◌≤◌, IfOk};
 ghost use Rattle.ent_line.specs.Headline.{Headline};
-ghost use Rattle.ent_line.specs.Serving.{ServesUntil, AnswersLine};
+ghost use Rattle.ent_line.specs.Serving.{ServesUntil};
+ghost use Rattle.ent_line.specs.proofs_only.Pieces.{AnswersLine};
 ghost use Rattle.ent_line.specs.World.{IsReady, world_of};
 
 use crate::answering::Answering;

@@ -1,5 +1,5 @@
 use Rattle.std.proofs.Common.{◌≡◌, ◌++◌, map}
-use Rattle.ent_json.specs.Text.{items_tokens_of}
+use Rattle.ent_json.specs.proofs_only.Text.{items_tokens_of}
 use Rattle.ent_table.specs.Left.{cells_left}
 use Rattle.ent_line.specs.Cells.{cell_data}
 use Rattle.ent_line.proofs.cell.write_cells.Given as goal

@@ -1,6 +1,6 @@
 use Rattle.std.proofs.Common.{◌≡◌, drop, map}
 use Rattle.serde_json.specs.View.{items_of}
-use Rattle.ent_line.specs.Step.{values_in}
+use Rattle.ent_line.specs.Edits.{values_in}
 use Rattle.ent_line.proofs.ReadLemmas.{with_front}
 use Rattle.ent_line.proofs.reading.read_values.Given as goal
 

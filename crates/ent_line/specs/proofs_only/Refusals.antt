@@ -6,7 +6,7 @@ use Rattle.ent_policy.specs.declared.fault.CheckFault.{CheckFault}
 use Rattle.ent_policy.specs.declared.fault.CheckFault.TheVariants as document
 use Rattle.ent_table.specs.declared.edit.EditFault.{EditFault}
 use Rattle.ent_table.specs.declared.edit.EditFault.TheVariants as edit
-use Rattle.ent_line.specs.Step.{refusal_of}
+use Rattle.ent_line.specs.Edits.{refusal_of}
 use Rattle.ent_line.specs.declared.reply.Reply.{Reply}
 use Rattle.ent_line.specs.declared.reply.Reply.TheVariants.{Refused}
 

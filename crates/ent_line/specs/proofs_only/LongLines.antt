@@ -5,7 +5,7 @@ use Rattle.ent_report.specs.World.{World}
 use Rattle.ent_line.specs.Lines.{line_limit}
 use Rattle.ent_line.specs.Replies.{refused}
 use Rattle.ent_line.specs.Runs.{LongLinesAlike}
-use Rattle.ent_line.specs.Step.{step, Answers}
+use Rattle.ent_line.specs.Step.{Answers, step}
 
 too_long : (n : ℕ) (w : World) (line : List ℕ) → line_limit < length line → step n w line ≡ (refused 1 None, w)
 unfolding step

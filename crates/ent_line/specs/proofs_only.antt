@@ -1,0 +1,5 @@
+pub mod CommandView
+pub mod LongLines
+pub mod Pieces
+pub mod Refusals
+pub mod Replying
