@@ -75,7 +75,7 @@ both true b e = (refl, e)
 both false b e = absurd (true≢false (sym e))
 
 -- a text that is like a form has its length
-form_length : (form text : List ℕ) → has_form form text ≡ true → length form ≡ length text
+pub form_length : (form text : List ℕ) → has_form form text ≡ true → length form ≡ length text
 form_length [] [] e = refl
 form_length [] (byte ∷ text) e = absurd (true≢false (sym e))
 form_length (place ∷ form) [] e = absurd (true≢false (sym e))

@@ -1,4 +1,5 @@
 pub mod Civil
+pub mod Clock
 pub mod Dates
 pub mod Numerals
 pub mod Orders
@@ -6,5 +7,6 @@ pub mod Periods
 pub mod ReadBack
 pub mod Telling
 pub mod Texts
+pub mod Times
 pub mod TypeNames
 pub mod Values

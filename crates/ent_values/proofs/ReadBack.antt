@@ -13,11 +13,13 @@ use Rattle.std.specs.Str.Parse.{IsNumeral, ParsesSigned, signed_digits_value, wi
 use Rattle.ent_values.proofs.Dates.{counted_is}
 use Rattle.ent_values.proofs.Numerals.{both, digits_model, fits, fits_back, is_integer}
 use Rattle.ent_values.proofs.Periods.{duration_back}
-use Rattle.ent_values.proofs.Texts.{date_small}
-use Rattle.ent_values.specs.Calendar.{Day, is_date}
-use Rattle.ent_values.specs.ReadBack.{HasFewYears, IsReadBack, IsReadable, IsReal, TextsReadBack}
-use Rattle.ent_values.specs.Reading.{boolean_of, count_of, date_of, integer_of, is_within_64_bits, value_of}
-use Rattle.ent_values.specs.Writing.{date_text, text_of, two_digits}
+use Rattle.ent_values.proofs.Texts.{date_small, time_small}
+use Rattle.ent_values.proofs.Times.{timed_is}
+use Rattle.ent_values.specs.Calendar.{Day, TimeOfDay, is_date}
+use Rattle.ent_values.specs.ReadBack.{HasFewYears, IsReadBack, IsReadable, IsReal, IsRealDay, IsRealMoment, IsRealTime, TextsReadBack}
+use Rattle.ent_values.specs.Reading.{boolean_of, count_of, date_of, date_time_of, integer_of, is_within_64_bits, time_of, value_of}
+use Rattle.ent_values.specs.Writing.{date_text, date_time_text, text_of, time_text, two_digits}
+use Rattle.ent_values.specs.declared.date_time.DateTime.{DateTime}
 use Rattle.ent_values.specs.declared.value.Value.{Value}
 use Rattle.ent_values.specs.declared.value.Value.TheVariants as values
 
@@ -82,6 +84,21 @@ date_back date real =
     (sym (count_four date.year small.0)) (sym (count_two date.month small.1)) (sym (count_two date.day small.2)))
     ∙ rw real refl
 
+time_back : (time : TimeOfDay) → IsRealTime time → time_of (time_text time) ≡ Some time
+unfolding time_text
+time_back time real =
+    let small = time_small time.hour time.minute time.second real in
+    sym (timed_is (time_text time) (Some time.hour) (Some time.minute) (Some time.second) (omega arith) refl refl refl
+    (sym (count_two time.hour small.0)) (sym (count_two time.minute small.1)) (sym (count_two time.second small.2)))
+    ∙ rw real refl
+
+date_time_back : (moment : DateTime) → IsRealMoment moment → date_time_of (date_time_text moment) ≡ Some moment
+unfolding date_time_of date_time_text date_text
+date_time_back moment real = rw (date_text_back moment.date real.0, time_back moment.time real.1) refl
+  where
+    date_text_back : (date : Day) → IsRealDay date → date_of (date_text date) ≡ Some date
+    date_text_back = date_back
+
 pub read_back : TextsReadBack
 unfolding value_of text_of boolean_of
 read_back (values.Text text) h = refl
@@ -91,6 +108,8 @@ read_back (values.Integer n) h = rw (integer_back n h) refl
 read_back (values.Date date) h = rw (date_back date h) refl
 read_back (values.AnyUri uri) h = refl
 read_back (values.YearMonth months) h = rw (duration_back months h) refl
+read_back (values.Time time) h = rw (time_back time h) refl
+read_back (values.DateTime moment) h = rw (date_time_back moment h) refl
 
 -- such a value is readable, if a duration has few years
 pub readable : (value : Value) → IsReal value → HasFewYears value → IsReadable value
@@ -100,6 +119,8 @@ readable (values.Integer integer) real few = real
 readable (values.Date date) real few = real
 readable (values.AnyUri uri) real few = tt
 readable (values.YearMonth months) real few = few
+readable (values.Time time) real few = real
+readable (values.DateTime moment) real few = real
 
 -- its text reads back
 pub reads_as : {E : Type 0} (value : Value) (r : Result (List ℕ) E) → IsReal value → IfOk r (λ t. t ≡ text_of value) → IfOk r (λ t. IsReadBack value t)

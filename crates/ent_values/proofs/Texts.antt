@@ -7,7 +7,8 @@ use Rattle.std.proofs.lemmas.Bool.Decides.{nat_tests}
 use Rattle.std.proofs.lemmas.Fmt.{decimal_digit, decimal_step}
 use Rattle.std.specs.Fmt.{char_count, format_spec, padded_integral, styled_decimal}
 use Rattle.std.specs.Prelude.{decimal, codes, ◌&&◌, ◌==◌, if◌then◌else◌}
-use Rattle.ent_values.specs.Calendar.{days_of_month, is_date, is_leap_year}
+use Rattle.ent_values.specs.Calendar.{days_of_month, is_date, is_leap_year, is_time}
+use Rattle.ent_values.specs.proofs_only.Clock.{shown}
 use Rattle.ent_values.specs.Writing.{period_text, two_digits}
 
 -- the decimals of numbers of one, two, three and four digits
@@ -76,6 +77,11 @@ date_small year month day real =
     let a = both _ _ b.0 in
     small_parts year month day (days_of_month year month) (leb-true year 9999 a.1) (leb-true month 12 c.1)
     (leb-true day (days_of_month year month) e.1) (days_le year month)
+
+-- and so are those of a time
+pub time_small : (hour minute second : ℕ) → is_time hour minute second ≡ true → (hour < 100) × (minute < 100) × (second < 100)
+time_small hour minute second real =
+    let parts = shown hour minute second real in (omega (arith, parts.0), omega (arith, parts.1), omega (arith, parts.2))
 
 -- the months of a duration as text
 

@@ -1,5 +1,5 @@
--- Days of the Gregorian calendar.
-use Rattle.std.specs.Prelude.{ℕ, Bool, ◌%◌, ◌==◌, ◌||◌, ◌&&◌, not, nat_le, if◌then◌else◌, Option, Some, None}
+-- Days of the Gregorian calendar, and times of a day.
+use Rattle.std.specs.Prelude.{ℕ, Bool, ◌%◌, ◌==◌, ◌||◌, ◌&&◌, not, nat_le, nat_lt, if◌then◌else◌, Option, Some, None}
 use Rattle.std.specs.Ordering.{nat_cmp, on, then_cmp}
 use Rattle.std.specs.declared.cmp.Ordering.{Ordering}
 
@@ -32,3 +32,23 @@ day_of year month day = if is_date year month day then Some (record { year = yea
 -- days by time: by year, then by month, then by day
 abbrev pub day_order : Day → Day → Ordering
 day_order = then_cmp (on (λ day. day.year) nat_cmp) (then_cmp (on (λ day. day.month) nat_cmp) (on (λ day. day.day) nat_cmp))
+
+-- an hour of a day from 0 to 23, a minute of it and a second of that from 0 to 59
+pub record TimeOfDay : Type 0 where
+  pub hour : ℕ
+  pub minute : ℕ
+  pub second : ℕ
+
+-- a clock shows that time, from 00:00:00 to 23:59:59
+abbrev pub is_time : ℕ → ℕ → ℕ → Bool
+is_time hour minute second = nat_lt hour 24 && nat_lt minute 60 && nat_lt second 60
+
+-- the time of an hour, a minute and a second, if a clock shows it
+abbrev pub time_of_day : ℕ → ℕ → ℕ → Option TimeOfDay
+time_of_day hour minute second =
+    if is_time hour minute second then Some (record { hour = hour; minute = minute; second = second }) else None
+
+-- times of a day by hour, then by minute, then by second
+abbrev pub time_order : TimeOfDay → TimeOfDay → Ordering
+time_order =
+    then_cmp (on (λ time. time.hour) nat_cmp) (then_cmp (on (λ time. time.minute) nat_cmp) (on (λ time. time.second) nat_cmp))

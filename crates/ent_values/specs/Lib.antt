@@ -1,6 +1,7 @@
 pub mod Bags
 pub mod Calendar
 pub mod Civil
+pub mod Clock
 pub mod Durations
 pub mod Order
 pub mod ReadBack

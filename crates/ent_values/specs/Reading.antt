@@ -3,9 +3,10 @@ use Rattle.std.specs.Prelude.{ℕ, ◌+◌, ◌*◌, ◌-◌, Bool, true, false,
 use Rattle.std.specs.Char.{is_ascii_digit}
 use Rattle.std.specs.List.{list_all}
 use Rattle.std.specs.Str.Parse.{digits_value, signed_digits_value, without_leading_sign}
-use Rattle.ent_values.specs.Calendar.{Day, day_of}
+use Rattle.ent_values.specs.Calendar.{Day, TimeOfDay, day_of, time_of_day}
 use Rattle.ent_values.specs.declared.datatype.DataType.{DataType}
 use Rattle.ent_values.specs.declared.datatype.DataType.TheVariants as types
+use Rattle.ent_values.specs.declared.date_time.DateTime.{DateTime}
 use Rattle.ent_values.specs.declared.value.Value.{Value}
 use Rattle.ent_values.specs.declared.value.Value.TheVariants as values
 
@@ -46,6 +47,20 @@ date_of text =
     then day_of (digits_value 10 (take 4 text)) (digits_value 10 (take 2 (drop 5 text))) (digits_value 10 (take 2 (drop 8 text)))
     else None
 
+-- a time as hour, minute and second of 2 digits each with `:` between them, with a `Z` at the end or none
+unfoldable pub time_of : List ℕ → Option TimeOfDay
+time_of text =
+    if has_form (codes "00:00:00") (take 8 text) && (bytes_eq (drop 8 text) [] || bytes_eq (drop 8 text) (codes "Z"))
+    then time_of_day (digits_value 10 (take 2 text)) (digits_value 10 (take 2 (drop 3 text))) (digits_value 10 (take 2 (drop 6 text)))
+    else None
+
+-- a date without `Z`, a `T` and a time
+unfoldable pub date_time_of : List ℕ → Option DateTime
+date_time_of text =
+    if bytes_eq (take 1 (drop 10 text)) (codes "T")
+    then option_and_then (λ date. option_map (λ time. record { date = date; time = time }) (time_of (drop 11 text))) (date_of (take 10 text))
+    else None
+
 -- the months of a part `nM`
 unfoldable pub months_part_of : List ℕ → Option ℕ
 months_part_of text =
@@ -81,3 +96,5 @@ value_of types.Integer text = option_map values.Integer (integer_of text)
 value_of types.Date text = option_map values.Date (date_of text)
 value_of types.AnyUri text = Some (values.AnyUri text)
 value_of types.YearMonth text = option_map values.YearMonth (duration_of text)
+value_of types.Time text = option_map values.Time (time_of text)
+value_of types.DateTime text = option_map values.DateTime (date_time_of text)

@@ -13,6 +13,8 @@ uri_of types.Integer = codes "http://www.w3.org/2001/XMLSchema#integer"
 uri_of types.Date = codes "http://www.w3.org/2001/XMLSchema#date"
 uri_of types.AnyUri = codes "http://www.w3.org/2001/XMLSchema#anyURI"
 uri_of types.YearMonth = codes "http://www.w3.org/2001/XMLSchema#yearMonthDuration"
+uri_of types.Time = codes "http://www.w3.org/2001/XMLSchema#time"
+uri_of types.DateTime = codes "http://www.w3.org/2001/XMLSchema#dateTime"
 
 -- the short name of a type, the last word of its URI
 unfoldable pub short_name_of : DataType → List ℕ
@@ -22,6 +24,8 @@ short_name_of types.Integer = codes "integer"
 short_name_of types.Date = codes "date"
 short_name_of types.AnyUri = codes "anyURI"
 short_name_of types.YearMonth = codes "yearMonthDuration"
+short_name_of types.Time = codes "time"
+short_name_of types.DateTime = codes "dateTime"
 
 -- a type whose values are texts, which take memory: a string or a URI
 abbrev pub is_textual : DataType → Bool
@@ -31,7 +35,8 @@ is_textual _ = false
 
 -- every type
 abbrev pub all_types : List DataType
-all_types = types.Text ∷ types.Boolean ∷ types.Integer ∷ types.Date ∷ types.AnyUri ∷ types.YearMonth ∷ []
+all_types =
+    types.Text ∷ types.Boolean ∷ types.Integer ∷ types.Date ∷ types.AnyUri ∷ types.YearMonth ∷ types.Time ∷ types.DateTime ∷ []
 
 -- the type that a full URI or a short name stands for
 unfoldable pub type_of : List ℕ → Option DataType
@@ -45,6 +50,8 @@ datatype_of (values.Integer integer) = types.Integer
 datatype_of (values.Date date) = types.Date
 datatype_of (values.AnyUri uri) = types.AnyUri
 datatype_of (values.YearMonth duration) = types.YearMonth
+datatype_of (values.Time time) = types.Time
+datatype_of (values.DateTime moment) = types.DateTime
 
 -- the names of a type stand for that type
 abbrev pub TypeNamesReadBack : Type 0

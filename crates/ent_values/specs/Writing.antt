@@ -1,7 +1,8 @@
 -- The written text of a value.
 use Rattle.std.specs.Prelude.{ℕ, ◌+◌, ◌/◌, ◌%◌, ◌==◌, List, [], ◌∷◌, ◌++◌, ℤ, pos, int_lt, unsigned_abs, if◌then◌else◌, codes, decimal}
 use Rattle.std.specs.Fmt.{signed_decimal}
-use Rattle.ent_values.specs.Calendar.{Day}
+use Rattle.ent_values.specs.Calendar.{Day, TimeOfDay}
+use Rattle.ent_values.specs.declared.date_time.DateTime.{DateTime}
 use Rattle.ent_values.specs.declared.value.Value.{Value}
 use Rattle.ent_values.specs.declared.value.Value.TheVariants as values
 
@@ -14,6 +15,14 @@ unfoldable pub date_text : Day → List ℕ
 date_text date =
     two_digits (date.year / 100) ++ two_digits (date.year % 100) ++ codes "-" ++ two_digits date.month ++ codes "-"
     ++ two_digits date.day
+
+-- hour, minute and second in 2 digits each, with `:` between them
+unfoldable pub time_text : TimeOfDay → List ℕ
+time_text time = two_digits time.hour ++ codes ":" ++ two_digits time.minute ++ codes ":" ++ two_digits time.second
+
+-- the date, a `T` and the time
+unfoldable pub date_time_text : DateTime → List ℕ
+date_time_text moment = date_text moment.date ++ codes "T" ++ time_text moment.time
 
 -- a number and the letter behind it, and nothing for zero
 abbrev pub part_text : ℕ → List ℕ → List ℕ
@@ -33,7 +42,7 @@ period_text months =
 unfoldable pub duration_text : ℤ → List ℕ
 duration_text months = sign_text months ++ period_text (unsigned_abs months)
 
--- the written text: an integer without `+` and leading zeros, a date without `Z`
+-- the written text: an integer without `+` and leading zeros, a date, a time and a dateTime without `Z`
 unfoldable pub text_of : Value → List ℕ
 text_of (values.Text text) = text
 text_of (values.Boolean boolean) = if boolean then codes "true" else codes "false"
@@ -41,3 +50,5 @@ text_of (values.Integer integer) = signed_decimal integer
 text_of (values.Date date) = date_text date
 text_of (values.AnyUri uri) = uri
 text_of (values.YearMonth duration) = duration_text duration
+text_of (values.Time time) = time_text time
+text_of (values.DateTime moment) = date_time_text moment

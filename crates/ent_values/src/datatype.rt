@@ -19,6 +19,10 @@ pub enum DataType {
     AnyUri,
     /// `http://www.w3.org/2001/XMLSchema#yearMonthDuration`
     YearMonth,
+    /// `http://www.w3.org/2001/XMLSchema#time`, in whole seconds
+    Time,
+    /// `http://www.w3.org/2001/XMLSchema#dateTime`, in the years 1 to 9999 and in whole seconds
+    DateTime,
 }
 
 impl DataType {
@@ -30,6 +34,8 @@ impl DataType {
         DataType::Date,
         DataType::AnyUri,
         DataType::YearMonth,
+        DataType::Time,
+        DataType::DateTime,
     ];
 
     /// The type of that name: a full URI, or the short name of this profile, its last word. None if there is no such
@@ -54,6 +60,8 @@ impl DataType {
             DataType::Date => "http://www.w3.org/2001/XMLSchema#date",
             DataType::AnyUri => "http://www.w3.org/2001/XMLSchema#anyURI",
             DataType::YearMonth => "http://www.w3.org/2001/XMLSchema#yearMonthDuration",
+            DataType::Time => "http://www.w3.org/2001/XMLSchema#time",
+            DataType::DateTime => "http://www.w3.org/2001/XMLSchema#dateTime",
         }
     }
 
@@ -69,6 +77,8 @@ impl DataType {
             DataType::Date => "date",
             DataType::AnyUri => "anyURI",
             DataType::YearMonth => "yearMonthDuration",
+            DataType::Time => "time",
+            DataType::DateTime => "dateTime",
         }
     }
 }
@@ -79,7 +89,7 @@ pub fn type_names_read_back()
 {}
 
 /// A law, with nothing to run: types order as the list of all types has them: string, boolean, integer, date, anyURI,
-/// yearMonthDuration.
+/// yearMonthDuration, time, dateTime.
 pub fn types_order_as_listed()
     ensures { TypesOrderAsListed }
 {}

@@ -2,16 +2,18 @@
 
 ghost use Rattle.std.specs.Prelude.{◌≡◌, ◌^◌, ◌≤◌, ◌<◌, ◌||◌, [], bytes_eq, codes, length, true};
 ghost use Rattle.std.specs.Prelude.{Some, None, IfOk, IfErr, IfSome};
-ghost use Rattle.ent_values.specs.Reading.{boolean_of, count_of, date_of, duration_of, integer_of, months_part_of};
-ghost use Rattle.ent_values.specs.Reading.{period_of, value_of, years_part_of};
+ghost use Rattle.ent_values.specs.Reading.{boolean_of, count_of, date_of, date_time_of, duration_of, integer_of};
+ghost use Rattle.ent_values.specs.Reading.{months_part_of, period_of, time_of, value_of, years_part_of};
 ghost use Rattle.ent_values.specs.declared.fault.ValueFault.TheVariants.{BadValue, Memory};
 ghost use Rattle.ent_values.specs.Types.{is_textual};
 
 use crate::datatype::DataType;
 use crate::date::Date;
+use crate::date_time::DateTime;
 use crate::duration::YearMonth;
 use crate::fault::ValueFault;
 use crate::text::Text;
+use crate::time::Time;
 use crate::value::Value;
 use std::alloc::Global;
 
@@ -22,7 +24,8 @@ impl Value {
     /// The value of a type that a text stands for (appendix A.2). A string and a URI are any text, a boolean is `true`,
     /// `false`, `1` or `0`, an integer has digits with a sign or none in front and is within signed 64 bits, a date
     /// is a day of the calendar as `YYYY-MM-DD` in the years 1 to 9999 with a `Z` behind it or none, a duration is `P`
-    /// with `nY`, `nM` or `nYnM`, each n of 1 to 9 digits, with a `-` in front or none.
+    /// with `nY`, `nM` or `nYnM`, each n of 1 to 9 digits, with a `-` in front or none, a time is `hh:mm:ss` from
+    /// `00:00:00` to `23:59:59` with a `Z` behind it or none, a dateTime is a date without `Z`, a `T` and a time.
     ///
     /// Any other text is a `BadValue`. Memory is asked for the text of a string or a URI alone, so no other type is
     /// refused.
@@ -39,6 +42,8 @@ impl Value {
             DataType::Date => date(text.as_bytes()).map(Value::Date),
             DataType::AnyUri => Some(Value::AnyUri(Text::from_str(alloc, text)?)),
             DataType::YearMonth => duration(text.as_bytes()).map(Value::YearMonth),
+            DataType::Time => time(text.as_bytes()).map(Value::Time),
+            DataType::DateTime => date_time(text.as_bytes()).map(Value::DateTime),
         };
         value.ok_or(ValueFault::BadValue)
     }
@@ -94,7 +99,30 @@ fn date(text: &[u8]) -> Option<Date>
     Date::new(year as u16, month as u8, day as u8)
 }
 
-// Whether the text is what may stand behind a day.
+fn time(text: &[u8]) -> Option<Time>
+    ensures { result ≡ time_of text.now }
+{
+    if text.len() < 8 || text[2] != b':' || text[5] != b':' || !is_zone(&text[8..]) {
+        return None;
+    }
+    let hour = number_of_digits(&text[..2])?;
+    let minute = number_of_digits(&text[3..5])?;
+    let second = number_of_digits(&text[6..8])?;
+    Time::new(hour as u8, minute as u8, second as u8)
+}
+
+fn date_time(text: &[u8]) -> Option<DateTime>
+    ensures { result ≡ date_time_of text.now }
+{
+    if text.len() < 11 || text[10] != b'T' {
+        return None;
+    }
+    let date = date(&text[..10])?;
+    let time = time(&text[11..])?;
+    Some(DateTime::new(date, time))
+}
+
+// Whether the text is what may stand behind a day or a time.
 fn is_zone(text: &[u8]) -> bool
     ensures { result ≡ (bytes_eq text.now [] || bytes_eq text.now (codes "Z")) }
 {
