@@ -37,6 +37,8 @@ is_text (values.Integer v) is = absurd (cc)
 is_text (values.Date v) is = absurd (cc)
 is_text (values.AnyUri v) is = absurd (cc)
 is_text (values.YearMonth v) is = absurd (cc)
+is_text (values.Time v) is = absurd (cc)
+is_text (values.DateTime v) is = absurd (cc)
 
 of_texts_is : (f : List ℕ → List ℕ → Bool) (a b : Value) (first second : List ℕ) → a ≡ values.Text first → b ≡ values.Text second
     → of_texts (λ first second. truth (f first second)) a b ≡ truth (f first second)

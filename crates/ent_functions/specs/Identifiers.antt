@@ -16,12 +16,16 @@ element_word elements.Boolean = codes "boolean"
 element_word elements.Integer = codes "integer"
 element_word elements.Date = codes "date"
 element_word elements.AnyUri = codes "anyURI"
+element_word elements.Time = codes "time"
+element_word elements.DateTime = codes "dateTime"
 
 -- the same for a type with an order
 abbrev pub ordered_word : Ordered → List ℕ
 ordered_word ordered.Integer = codes "integer"
 ordered_word ordered.Text = codes "string"
 ordered_word ordered.Date = codes "date"
+ordered_word ordered.Time = codes "time"
+ordered_word ordered.DateTime = codes "dateTime"
 
 -- how the name of a comparison ends
 abbrev pub comparison_word : Comparison → List ℕ
@@ -94,11 +98,13 @@ id_of function = prefix_of function ++ (type_word_of function ++ operation_of fu
 
 -- every type of the functions on equality, bags and sets
 abbrev pub all_elements : List Element
-all_elements = elements.Text ∷ elements.Boolean ∷ elements.Integer ∷ elements.Date ∷ elements.AnyUri ∷ []
+all_elements =
+    elements.Text ∷ elements.Boolean ∷ elements.Integer ∷ elements.Date ∷ elements.AnyUri
+    ∷ elements.Time ∷ elements.DateTime ∷ []
 
 -- every type with an order
 abbrev pub all_ordered : List Ordered
-all_ordered = ordered.Integer ∷ ordered.Text ∷ ordered.Date ∷ []
+all_ordered = ordered.Integer ∷ ordered.Text ∷ ordered.Date ∷ ordered.Time ∷ ordered.DateTime ∷ []
 
 -- every comparison
 abbrev pub all_comparisons : List Comparison

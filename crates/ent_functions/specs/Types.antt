@@ -21,12 +21,16 @@ element_type elements.Boolean = data_types.Boolean
 element_type elements.Integer = data_types.Integer
 element_type elements.Date = data_types.Date
 element_type elements.AnyUri = data_types.AnyUri
+element_type elements.Time = data_types.Time
+element_type elements.DateTime = data_types.DateTime
 
 -- the data type of a type with an order
 abbrev pub ordered_type : Ordered → DataType
 ordered_type ordered.Integer = data_types.Integer
 ordered_type ordered.Text = data_types.Text
 ordered_type ordered.Date = data_types.Date
+ordered_type ordered.Time = data_types.Time
+ordered_type ordered.DateTime = data_types.DateTime
 
 -- what `==` of two types answers
 abbrev pub same_type : ArgType → ArgType → Bool

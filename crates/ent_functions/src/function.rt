@@ -13,6 +13,10 @@ pub enum Element {
     Date,
     /// `anyURI`
     AnyUri,
+    /// `time`
+    Time,
+    /// `dateTime`
+    DateTime,
 }
 
 /// A type whose values can be compared by order.
@@ -24,6 +28,10 @@ pub enum Ordered {
     Text,
     /// `date`
     Date,
+    /// `time`
+    Time,
+    /// `dateTime`
+    DateTime,
 }
 
 /// How two values are compared: the first against the second.

@@ -21,6 +21,8 @@ impl Element {
             Element::Integer => "integer",
             Element::Date => "date",
             Element::AnyUri => "anyURI",
+            Element::Time => "time",
+            Element::DateTime => "dateTime",
         }
     }
 }
@@ -33,6 +35,8 @@ impl Ordered {
             Ordered::Integer => "integer",
             Ordered::Text => "string",
             Ordered::Date => "date",
+            Ordered::Time => "time",
+            Ordered::DateTime => "dateTime",
         }
     }
 }
@@ -175,6 +179,8 @@ fn of_element(id: &str) -> Option<Function>
         .or(function_at(Element::Integer, id))
         .or(function_at(Element::Date, id))
         .or(function_at(Element::AnyUri, id))
+        .or(function_at(Element::Time, id))
+        .or(function_at(Element::DateTime, id))
 }
 
 /// The same of one type.
@@ -214,6 +220,8 @@ fn comparison(id: &str) -> Option<Function>
     comparison_at(Ordered::Integer, id)
         .or(comparison_at(Ordered::Text, id))
         .or(comparison_at(Ordered::Date, id))
+        .or(comparison_at(Ordered::Time, id))
+        .or(comparison_at(Ordered::DateTime, id))
 }
 
 /// The same at one type.

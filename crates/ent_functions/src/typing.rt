@@ -23,6 +23,8 @@ impl Element {
             Element::Integer => DataType::Integer,
             Element::Date => DataType::Date,
             Element::AnyUri => DataType::AnyUri,
+            Element::Time => DataType::Time,
+            Element::DateTime => DataType::DateTime,
         }
     }
 }
@@ -35,6 +37,8 @@ impl Ordered {
             Ordered::Integer => DataType::Integer,
             Ordered::Text => DataType::Text,
             Ordered::Date => DataType::Date,
+            Ordered::Time => DataType::Time,
+            Ordered::DateTime => DataType::DateTime,
         }
     }
 }

@@ -12,7 +12,11 @@ returns c =
     let two = functions_at elements.Text ++ functions_at elements.Boolean in
     let three = two ++ functions_at elements.Integer in
     let four = three ++ functions_at elements.Date in
-    or_found named four (functions_at elements.AnyUri)
+    let five = four ++ functions_at elements.AnyUri in
+    let six = five ++ functions_at elements.Time in
+    or_found named six (functions_at elements.DateTime)
+    (or_found named five (functions_at elements.Time)
+    (or_found named four (functions_at elements.AnyUri)
     (or_found named three (functions_at elements.Date)
     (or_found named two (functions_at elements.Integer)
     (or_found named (functions_at elements.Text) (functions_at elements.Boolean) c.function_at.ensures c.function_at-2.ensures c.or.ensures)
@@ -21,4 +25,8 @@ returns c =
     c.function_at-4.ensures
     c.or-3.ensures)
     c.function_at-5.ensures
-    c.or-4.ensures
+    c.or-4.ensures)
+    c.function_at-6.ensures
+    c.or-5.ensures)
+    c.function_at-7.ensures
+    c.or-6.ensures
