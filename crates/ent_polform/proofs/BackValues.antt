@@ -30,6 +30,8 @@ value_in_back (values.Integer (negsuc n)) h = refl
 value_in_back (values.Date date) h = read_back (values.Date date) h
 value_in_back (values.AnyUri uri) h = read_back (values.AnyUri uri) h
 value_in_back (values.YearMonth months) h = read_back (values.YearMonth months) h
+value_in_back (values.Time time) h = read_back (values.Time time) h
+value_in_back (values.DateTime moment) h = read_back (values.DateTime moment) h
 
 pub values_back : ValuesReadBack
 values_back value real few = value_in_back value (readable value real few)
@@ -48,6 +50,8 @@ raw_literal (values.Integer integer) = literals.Integer integer
 raw_literal (values.Date date) = literals.Text (text_of (values.Date date))
 raw_literal (values.AnyUri uri) = literals.Text (text_of (values.AnyUri uri))
 raw_literal (values.YearMonth months) = literals.Text (text_of (values.YearMonth months))
+raw_literal (values.Time time) = literals.Text (text_of (values.Time time))
+raw_literal (values.DateTime moment) = literals.Text (text_of (values.DateTime moment))
 
 abbrev raw_value : Value → RawValue
 raw_value value = record { datatype = Some (uri_of (datatype_of value)); literal = raw_literal value }
@@ -63,6 +67,8 @@ type_back types.Integer = refl
 type_back types.Date = refl
 type_back types.AnyUri = refl
 type_back types.YearMonth = refl
+type_back types.Time = refl
+type_back types.DateTime = refl
 
 value_form : (value : Value) → IsReadable value → value_of (literal_written value) ≡ Ok (raw_value value)
 unfolding value_of literal_written value_written
@@ -73,6 +79,8 @@ value_form (values.Integer (negsuc n)) h = refl
 value_form (values.Date date) h = refl
 value_form (values.AnyUri uri) h = refl
 value_form (values.YearMonth months) h = refl
+value_form (values.Time time) h = refl
+value_form (values.DateTime moment) h = refl
 
 literal_holds : (value : Value) → IsReadable value → literal_as (raw_literal value) (datatype_of value) ≡ Some value
 unfolding literal_as
@@ -82,6 +90,8 @@ literal_holds (values.Integer integer) h = rw h refl
 literal_holds (values.Date date) h = read_back (values.Date date) h
 literal_holds (values.AnyUri uri) h = read_back (values.AnyUri uri) h
 literal_holds (values.YearMonth months) h = read_back (values.YearMonth months) h
+literal_holds (values.Time time) h = read_back (values.Time time) h
+literal_holds (values.DateTime moment) h = read_back (values.DateTime moment) h
 
 value_holds : (value : Value) → IsReadable value → value_read (raw_value value) ≡ done value
 unfolding value_read

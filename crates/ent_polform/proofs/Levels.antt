@@ -96,6 +96,8 @@ value_low (values.Integer integer) = leaf_low 0
 value_low (values.Date date) = leaf_low 0
 value_low (values.AnyUri uri) = leaf_low 0
 value_low (values.YearMonth months) = leaf_low 0
+value_low (values.Time time) = leaf_low 0
+value_low (values.DateTime moment) = leaf_low 0
 
 literal_low : (v : Value) → IsLow 1 (literal_written v)
 unfolding literal_written

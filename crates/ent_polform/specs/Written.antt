@@ -50,6 +50,8 @@ value_written (values.Integer integer) = json.number (of_integer integer)
 value_written (values.Date date) = json.string (text_of (values.Date date))
 value_written (values.AnyUri uri) = json.string (text_of (values.AnyUri uri))
 value_written (values.YearMonth duration) = json.string (text_of (values.YearMonth duration))
+value_written (values.Time time) = json.string (text_of (values.Time time))
+value_written (values.DateTime moment) = json.string (text_of (values.DateTime moment))
 
 -- an AttributeValue (section 5.31)
 unfoldable pub literal_written : Value → Data

@@ -1,19 +1,19 @@
--- Every integer in what is read is within signed 64 bits, and every date is real.
+-- Every integer in what is read is within signed 64 bits, and every date and time is real.
 use Rattle.std.specs.Prelude.{if◌then◌else◌}
-use Rattle.std.proofs.Common.{◌≡◌, ℕ, ℤ, List, [], ◌∷◌, ◌++◌, map, Bool, true, false, ◌&&◌, ◌||◌, bytes_eq, codes, take, drop, Option, Some, None, option_and_then, option_map, refl, sym, ap, subst, ◌∙◌}
+use Rattle.std.proofs.Common.{◌≡◌, ℕ, ℤ, List, [], ◌∷◌, ◌++◌, map, Bool, true, false, ◌&&◌, take, drop, Option, Some, None, option_and_then, option_map, refl, sym, ap, subst, ◌∙◌}
 use Rattle.std.proofs.lemmas.List.Folds.{flat_map-map}
 use Rattle.std.specs.List.{AllByRecursion, flat_map}
 use Rattle.std.specs.Option.{option_to_list}
 use Rattle.std.specs.Str.Parse.{digits_value, signed_digits_value}
-use Rattle.ent_values.specs.Calendar.{Day, day_of, is_date}
-use Rattle.ent_values.specs.Reading.{boolean_of, date_of, duration_of, has_form, integer_of, is_within_64_bits, value_of}
+use Rattle.ent_values.specs.Calendar.{Day, TimeOfDay, day_of, is_date, is_time, time_of_day}
+use Rattle.ent_values.specs.Reading.{boolean_of, date_of, date_time_of, duration_of, integer_of, is_within_64_bits, time_of, value_of}
 use Rattle.ent_values.specs.declared.datatype.DataType.{DataType}
 use Rattle.ent_values.specs.declared.datatype.DataType.TheVariants as types
 use Rattle.ent_values.specs.declared.value.Value.{Value}
 use Rattle.ent_values.specs.declared.value.Value.TheVariants as values
 use Rattle.ent_policy.specs.Check.{IsChecked}
 use Rattle.ent_policy.specs.Reading.{all_of_read, any_of_read, assignment_read, boolean_as, child_read, child_step, definition_read, designator_read, document_read, each_read, expression_read, expression_step, function_read, given_expression_read, given_read, integer_as, known, literal_as, match_read, maybe_read, policy_read, reference_read, rule_read, set_read, set_step, target_read, type_of_value, value_read}
-use Rattle.ent_values.specs.ReadBack.{IsReal}
+use Rattle.ent_values.specs.ReadBack.{IsReal, IsRealDay, IsRealMoment, IsRealTime}
 use Rattle.ent_policy.specs.Values.{HoldsWithin, all_of_values, any_of_values, assignment_values, child_values, definition_values, expression_values, given_values, match_values, policy_values, rule_values, target_values, values_given, values_here, values_in_level, values_in_set}
 use Rattle.ent_policy.specs.declared.document.Child.{Child}
 use Rattle.ent_policy.specs.declared.document.Child.TheFolds.{fold-roll-Child, fold_out-PolicySet}
@@ -58,55 +58,81 @@ use Rattle.ent_policy.proofs.Wholes.{passes}
 
 -- ---- a value
 
+-- what is there has that property
+abbrev Maybe : {A : Type 0} → (A → Type 0) → Option A → Type 0
+Maybe Has None = Unit {0}
+Maybe Has (Some x) = Has x
+
 -- what is there is within
 abbrev MaybeWithin : Option Value → Type 0
-MaybeWithin None = Unit {0}
-MaybeWithin (Some v) = IsReal v
+MaybeWithin = Maybe IsReal
 
-if_within : (b : Bool) (o : Option Value) → (b ≡ true → MaybeWithin o) → MaybeWithin (if b then o else None)
-if_within true o h = h refl
-if_within false o h = tt
+if_so : {A : Type 0} (Has : A → Type 0) (b : Bool) (o : Option A) → (b ≡ true → Maybe Has o) → Maybe Has (if b then o else None)
+if_so Has true o h = h refl
+if_so Has false o h = tt
 
-mapped_if : {A : Type 0} (f : A → Value) (b : Bool) (o : Option A) → option_map f (if b then o else None) ≡ (if b then option_map f o else None)
-mapped_if f true o = refl
-mapped_if f false o = refl
+-- the value of what is there
+value_of_it : {A : Type 0} (Has : A → Type 0) (value : A → Value) (o : Option A) → ((x : A) → Has x → IsReal (value x)) → Maybe Has o → MaybeWithin (option_map value o)
+value_of_it Has value None real h = tt
+value_of_it Has value (Some x) real h = real x h
+
+any_value : {A : Type 0} (value : A → Value) (o : Option A) → ((x : A) → IsReal (value x)) → MaybeWithin (option_map value o)
+any_value value None real = tt
+any_value value (Some x) real = real x
 
 both_true : (a b : Bool) → (a && b) ≡ true → b ≡ true
 both_true true b h = h
 both_true false b h = absurd cc
 
-integer_within : (a b : Bool) (n : ℤ) → b ≡ is_within_64_bits n → MaybeWithin (option_map values.Integer (if a && b then Some n else None))
-integer_within a b n same = subst MaybeWithin (sym (mapped_if values.Integer (a && b) (Some n))) (if_within (a && b) (Some (values.Integer n)) (λ h. sym same ∙ both_true a b h))
+-- a number is within 64 bits
+abbrev IsShort : ℤ → Type 0
+IsShort n = is_within_64_bits n ≡ true
 
-day_within : (y m d : ℕ) → MaybeWithin (option_map values.Date (day_of y m d))
-day_within y m d =
-    subst MaybeWithin (sym (mapped_if values.Date (is_date y m d) (Some (record { year = y; month = m; day = d }))))
-    (if_within (is_date y m d) (Some (values.Date (record { year = y; month = m; day = d }))) (λ h. h))
+integer_within : (a b : Bool) (n : ℤ) → b ≡ is_within_64_bits n → Maybe IsShort (if a && b then Some n else None)
+integer_within a b n same = if_so IsShort (a && b) (Some n) (λ h. sym same ∙ both_true a b h)
 
-date_within : (b : Bool) (o : Option Day) → MaybeWithin (option_map values.Date o) → MaybeWithin (option_map values.Date (if b then o else None))
-date_within b o h = subst MaybeWithin (sym (mapped_if values.Date b o)) (if_within b (option_map values.Date o) (λ _. h))
+integer_real : (text : List ℕ) → Maybe IsShort (integer_of text)
+unfolding integer_of
+integer_real text = integer_within _ _ (signed_digits_value 10 text) refl
 
-boolean_within : (o : Option Bool) → MaybeWithin (option_map values.Boolean o)
-boolean_within None = tt
-boolean_within (Some b) = tt
+day_within : (b : Bool) (y m d : ℕ) → Maybe IsRealDay (if b then day_of y m d else None)
+day_within b y m d = if_so IsRealDay b (day_of y m d) (λ _. if_so IsRealDay (is_date y m d) (Some (record { year = y; month = m; day = d })) (λ h. h))
 
-months_within : (o : Option ℤ) → MaybeWithin (option_map values.YearMonth o)
-months_within None = tt
-months_within (Some n) = tt
+day_real : (text : List ℕ) → Maybe IsRealDay (date_of text)
+unfolding date_of
+day_real text = day_within _ (digits_value 10 (take 4 text)) (digits_value 10 (take 2 (drop 5 text))) (digits_value 10 (take 2 (drop 8 text)))
+
+time_within : (b : Bool) (h m s : ℕ) → Maybe IsRealTime (if b then time_of_day h m s else None)
+time_within b h m s = if_so IsRealTime b (time_of_day h m s) (λ _. if_so IsRealTime (is_time h m s) (Some (record { hour = h; minute = m; second = s })) (λ real. real))
+
+time_real : (text : List ℕ) → Maybe IsRealTime (time_of text)
+unfolding time_of
+time_real text = time_within _ (digits_value 10 (take 2 text)) (digits_value 10 (take 2 (drop 3 text))) (digits_value 10 (take 2 (drop 6 text)))
+
+moment_within : (date : Option Day) (time : Option TimeOfDay) → Maybe IsRealDay date → Maybe IsRealTime time
+    → Maybe IsRealMoment (option_and_then (λ date. option_map (λ time. record { date = date; time = time }) time) date)
+moment_within None time of_date of_time = tt
+moment_within (Some date) None of_date of_time = tt
+moment_within (Some date) (Some time) of_date of_time = (of_date, of_time)
+
+moment_real : (text : List ℕ) → Maybe IsRealMoment (date_time_of text)
+unfolding date_time_of
+moment_real text =
+    let date = date_of (take 10 text) in
+    let time = time_of (drop 11 text) in
+    if_so IsRealMoment _ (option_and_then (λ date. option_map (λ time. record { date = date; time = time }) time) date)
+    (λ _. moment_within date time (day_real (take 10 text)) (time_real (drop 11 text)))
 
 text_within : (datatype : DataType) (text : List ℕ) → MaybeWithin (value_of datatype text)
-unfolding value_of integer_of date_of
+unfolding value_of
 text_within types.Text text = tt
-text_within types.Boolean text = boolean_within (boolean_of text)
-text_within types.Integer text = integer_within _ _ (signed_digits_value 10 text) refl
-text_within types.Date text =
-    let form = has_form (codes "0000-00-00") (take 10 text) && (bytes_eq (drop 10 text) [] || bytes_eq (drop 10 text) (codes "Z")) in
-    let year = digits_value 10 (take 4 text) in
-    let month = digits_value 10 (take 2 (drop 5 text)) in
-    let day = digits_value 10 (take 2 (drop 8 text)) in
-    date_within form (day_of year month day) (day_within year month day)
+text_within types.Boolean text = any_value values.Boolean (boolean_of text) (λ _. tt)
+text_within types.Integer text = value_of_it IsShort values.Integer (integer_of text) (λ z h. h) (integer_real text)
+text_within types.Date text = value_of_it IsRealDay values.Date (date_of text) (λ date h. h) (day_real text)
 text_within types.AnyUri text = tt
-text_within types.YearMonth text = months_within (duration_of text)
+text_within types.YearMonth text = any_value values.YearMonth (duration_of text) (λ _. tt)
+text_within types.Time text = value_of_it IsRealTime values.Time (time_of text) (λ time h. h) (time_real text)
+text_within types.DateTime text = value_of_it IsRealMoment values.DateTime (date_time_of text) (λ moment h. h) (moment_real text)
 
 flag_within : (boolean : Bool) (datatype : DataType) → MaybeWithin (boolean_as boolean datatype)
 flag_within boolean types.Text = tt
@@ -115,6 +141,8 @@ flag_within boolean types.Integer = tt
 flag_within boolean types.Date = tt
 flag_within boolean types.AnyUri = tt
 flag_within boolean types.YearMonth = tt
+flag_within boolean types.Time = tt
+flag_within boolean types.DateTime = tt
 
 number_within : (n : ℤ) (datatype : DataType) → is_within_64_bits n ≡ true → MaybeWithin (integer_as n datatype)
 number_within n types.Text h = tt
@@ -123,12 +151,14 @@ number_within n types.Integer h = h
 number_within n types.Date h = tt
 number_within n types.AnyUri h = tt
 number_within n types.YearMonth h = tt
+number_within n types.Time h = tt
+number_within n types.DateTime h = tt
 
 literal_within : (literal : RawLiteral) (datatype : DataType) → MaybeWithin (literal_as literal datatype)
 unfolding literal_as
 literal_within (literals.Text text) datatype = text_within datatype text
 literal_within (literals.Boolean boolean) datatype = flag_within boolean datatype
-literal_within (literals.Integer n) datatype = if_within (is_within_64_bits n) (integer_as n datatype) (number_within n datatype)
+literal_within (literals.Integer n) datatype = if_so IsReal (is_within_64_bits n) (integer_as n datatype) (number_within n datatype)
 
 known_within : (o : Option Value) → MaybeWithin o → IsReal (known (values.Boolean false) faults.«Type» o).value
 known_within None h = tt

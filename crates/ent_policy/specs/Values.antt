@@ -97,6 +97,7 @@ child_values = fold-Child (List Value) (List Value) values_in_level values_in_se
 abbrev pub document_values : Tree → List Value
 document_values t = child_values (as_child t)
 
--- each value of a document is what its type says: an integer is within signed 64 bits, a date is a day of the calendar
+-- each value of a document is what its type says: an integer is within signed 64 bits, a date is a day of the calendar, a time is one of
+-- a day
 abbrev pub HoldsWithin : Tree → Type 0
 HoldsWithin t = AllByRecursion IsReal (document_values t)

@@ -166,7 +166,7 @@ impl Document {
 
     /// The policy or the policy set that the document holds: what the checker passed, within the limits of names,
     /// lists, nodes and depth, each variable defined, and each expression of its type. Each integer in it is within
-    /// signed 64 bits, and each date is a day of the calendar.
+    /// signed 64 bits, each date is a day of the calendar, and each time is one of a day.
     pub fn tree(&self) -> &Tree
         ensures same { result.now ≡ self.now }
         ensures checked { IsChecked result.now }

@@ -5,7 +5,7 @@ use Rattle.serde_json.specs.Data as json
 use Rattle.serde_json.specs.Data.{Data}
 use Rattle.serde_json.specs.Find.{as_i64}
 use Rattle.ent_values.specs.Bags.{AllOfType}
-use Rattle.ent_values.specs.Reading.{boolean_of, date_of, duration_of, integer_of, value_of}
+use Rattle.ent_values.specs.Reading.{boolean_of, date_of, date_time_of, duration_of, integer_of, time_of, value_of}
 use Rattle.ent_values.specs.Types.{datatype_of}
 use Rattle.ent_values.specs.declared.datatype.DataType.{DataType}
 use Rattle.ent_values.specs.declared.datatype.DataType.TheVariants as types
@@ -32,6 +32,8 @@ text_typed types.Integer s v h = mapped types.Integer values.Integer (integer_of
 text_typed types.Date s v h = mapped types.Date values.Date (date_of s) v (λ x. refl) h
 text_typed types.AnyUri s v h = only_that types.AnyUri (values.AnyUri s) v refl h
 text_typed types.YearMonth s v h = mapped types.YearMonth values.YearMonth (duration_of s) v (λ x. refl) h
+text_typed types.Time s v h = mapped types.Time values.Time (time_of s) v (λ x. refl) h
+text_typed types.DateTime s v h = mapped types.DateTime values.DateTime (date_time_of s) v (λ x. refl) h
 
 boolean_typed : (t : DataType) (b : Bool) (v : Value) → boolean_as b t ≡ Some v → datatype_of v ≡ t
 boolean_typed types.Text b v h = absurd cc
@@ -40,6 +42,8 @@ boolean_typed types.Integer b v h = absurd cc
 boolean_typed types.Date b v h = absurd cc
 boolean_typed types.AnyUri b v h = absurd cc
 boolean_typed types.YearMonth b v h = absurd cc
+boolean_typed types.Time b v h = absurd cc
+boolean_typed types.DateTime b v h = absurd cc
 
 integer_typed : (t : DataType) (z : Option ℤ) (v : Value) → option_and_then (λ x. integer_as x t) z ≡ Some v → datatype_of v ≡ t
 integer_typed t None v h = absurd cc
@@ -49,6 +53,8 @@ integer_typed types.Integer (Some z) v h = only_that types.Integer (values.Integ
 integer_typed types.Date (Some z) v h = absurd cc
 integer_typed types.AnyUri (Some z) v h = absurd cc
 integer_typed types.YearMonth (Some z) v h = absurd cc
+integer_typed types.Time (Some z) v h = absurd cc
+integer_typed types.DateTime (Some z) v h = absurd cc
 
 -- a value that JSON spells is of the type that it is read by
 pub value_typed : (t : DataType) (d : Data) (v : Value) → value_in t d ≡ Some v → datatype_of v ≡ t
