@@ -88,6 +88,8 @@ settled_typed f (Known (One (value.Integer t))) types is some = absurd (cc)
 settled_typed f (Known (One (value.Date t))) types is some = absurd (cc)
 settled_typed f (Known (One (value.AnyUri t))) types is some = absurd (cc)
 settled_typed f (Known (One (value.YearMonth t))) types is some = absurd (cc)
+settled_typed f (Known (One (value.Time t))) types is some = absurd (cc)
+settled_typed f (Known (One (value.DateTime t))) types is some = absurd (cc)
 settled_typed f (Known (Many bag)) types is some = absurd (cc)
 settled_typed f (Known (Fun g)) types is some = absurd (cc)
 

@@ -41,6 +41,8 @@ goes-on f (value.Integer t) none = refl
 goes-on f (value.Date t) none = refl
 goes-on f (value.AnyUri t) none = refl
 goes-on f (value.YearMonth t) none = refl
+goes-on f (value.Time t) none = refl
+goes-on f (value.DateTime t) none = refl
 
 -- what is-in comes to for a bag that isn't empty
 found : (e : Element) (d : Designator) (literal : Value) (vs : List Value) → is_empty vs ≡ false → Known (One (value.Boolean (is_among literal vs))) ≡ result_of (functions.IsIn e) (Known (One literal) ∷ bag_of d vs ∷ [])

@@ -17,7 +17,9 @@ use Rattle.ent_policy.specs.declared.key.DocKey.{DocKey}
 use Rattle.ent_eval.specs.declared.answer.Answer.{Answer}
 use Rattle.ent_eval.specs.declared.key.ReadKey.TheVariants as key
 use Rattle.ent_eval.specs.declared.request.Request.{Request}
+use Rattle.ent_values.specs.declared.datatype.DataType.TheVariants as types
 use Rattle.ent_values.specs.declared.value.Value.{Value}
+use Rattle.ent_values.specs.declared.value.Value.TheVariants as value
 use Rattle.ent_eval.specs.declared.target.Targeted.{Targeted}
 use Rattle.ent_eval.specs.declared.target.Targeted.TheVariants as is
 use Rattle.ent_functions.specs.declared.function.Function.{Function}
@@ -46,8 +48,9 @@ use Rattle.ent_eval.specs.Node.{children_after, combined, element, policy_part, 
 use Rattle.ent_eval.specs.Own.{is_empty, own_values}
 use Rattle.ent_eval.specs.Part.{Part, after_look, and_then, mapped, reads_of, seen_parts, values, whole, without_look}
 use Rattle.ent_eval.specs.Rule.{condition_part, decided, rule_after, rule_part, truth_of}
-use Rattle.ent_eval.specs.Sources.{asks_day, day_part, day_values, entity_of, entity_part, key_for, source_part, values_part}
+use Rattle.ent_eval.specs.Sources.{asks_for, date_part, date_time_part, entity_of, entity_part, key_for, known_values, source_part, time_part, values_part}
 use Rattle.ent_eval.specs.Target.{all_match, all_of_part, any_of_part, is_match, is_no_match, match_part, matched, one_matches, target_part}
+use Rattle.ent_eval.specs.Uris as uris
 use Rattle.ent_eval.proofs.Children.{judged_seen}
 
 -- a part is the same over both where its look-ups are
@@ -114,18 +117,26 @@ whole-rests s t stop part of_values enough xs each h =
 -- ---- values of designators
 
 module _ (s t : Looks) (request : Request) (d : Designator) where
-  day-rests : Rests s t day_part
-  day-rests h = ap (λ day. after_look key.Day (without_look (day_values day))) (sym h.0)
+  date-rests : Rests s t date_part
+  date-rests h = ap (λ date. after_look key.CurrentDate (without_look (known_values value.Date date))) (sym h.0)
+
+  time-rests : Rests s t time_part
+  time-rests h = ap (λ time. after_look key.CurrentTime (without_look (known_values value.Time time))) (sym h.0)
+
+  date_time-rests : Rests s t date_time_part
+  date_time-rests h = ap (λ date_time. after_look key.CurrentDateTime (without_look (known_values value.DateTime date_time))) (sym h.0)
 
   entity-rests : (entity : Option (List ℕ)) → Rests s t (λ u. entity_part u d entity)
   entity-rests None h = refl
   entity-rests (Some e) h = ap (λ vs. after_look (key.Attr (key_for d e)) (without_look vs)) (sym h.0)
 
   source-rests : Rests s t (λ u. source_part u request d)
-  source-rests = at (asks_day d) where
-    at : (b : Bool) → Rests s t (λ u. if b then day_part u else entity_part u d (entity_of request d.category))
-    at true = day-rests
-    at false = entity-rests (entity_of request d.category)
+  source-rests = at (asks_for uris.current_date types.Date d) (asks_for uris.current_time types.Time d) (asks_for uris.current_date_time types.DateTime d) where
+    at : (a b c : Bool) → Rests s t (λ u. if a then date_part u else (if b then time_part u else (if c then date_time_part u else entity_part u d (entity_of request d.category))))
+    at true b c = date-rests
+    at false true c = time-rests
+    at false false true = date_time-rests
+    at false false false = entity-rests (entity_of request d.category)
 
   values-rest : Rests s t (λ u. values_part u request d)
   values-rest = at (own_values d request) where

@@ -1,6 +1,5 @@
 -- What is held with one thing changed, and the keys of look-ups that may give another for it.
 use Rattle.std.specs.Prelude.{◌≡◌, ℕ, List, Bool, false, true, Option}
-use Rattle.ent_values.specs.Calendar.{Day}
 use Rattle.ent_values.specs.declared.value.Value.{Value}
 use Rattle.ent_finder.specs.Finding.{is_of}
 use Rattle.ent_finder.specs.Looking.{names_row}
@@ -10,6 +9,7 @@ use Rattle.ent_finder.specs.declared.row.RowKey.{RowKey}
 use Rattle.ent_policy.specs.declared.document.Tree.{Tree}
 use Rattle.ent_policy.specs.declared.key.DocKey.{DocKey}
 use Rattle.ent_policy.specs.declared.key.Reference.{Reference}
+use Rattle.ent_eval.specs.declared.environment.Environment.{Environment}
 use Rattle.ent_eval.specs.declared.key.ReadKey.{ReadKey}
 use Rattle.ent_eval.specs.declared.key.ReadKey.TheVariants as keys
 use Rattle.ent_eval.specs.Held.{Held, looks_in}
@@ -29,39 +29,33 @@ other_document held number key document = record held { modules = with_document_
 abbrev pub other_values : Held → ℕ → RowKey → List Value → Held
 other_values held number row values = record held { sources = with_values_in held.sources number row values }
 
--- another day, or none
-abbrev pub other_day : Held → Option Day → Held
-other_day held day = record held { day = day }
+-- something else known of the time
+abbrev pub other_environment : Held → Environment → Held
+other_environment held environment = record held { environment = environment }
 
 -- ---- the keys for which that may matter
 
 -- a key asks for the root
 abbrev pub asks_root : ReadKey → Bool
 asks_root keys.Root = true
-asks_root (keys.Ref reference) = false
-asks_root (keys.Attr key) = false
-asks_root keys.Day = false
+asks_root _ = false
 
 -- a key asks for a document of the same kind and id as one with this key
 abbrev pub asks_document : DocKey → ReadKey → Bool
-asks_document key keys.Root = false
 asks_document key (keys.Ref reference) = is_of reference key
-asks_document key (keys.Attr other) = false
-asks_document key keys.Day = false
+asks_document key _ = false
 
 -- a key asks for values and names this row
 abbrev pub asks_row : RowKey → ReadKey → Bool
-asks_row row keys.Root = false
-asks_row row (keys.Ref reference) = false
 asks_row row (keys.Attr key) = names_row key row
-asks_row row keys.Day = false
+asks_row row _ = false
 
--- a key asks for the day
-abbrev pub asks_day : ReadKey → Bool
-asks_day keys.Root = false
-asks_day (keys.Ref reference) = false
-asks_day (keys.Attr key) = false
-asks_day keys.Day = true
+-- a key asks for the date, for the time, or for both together
+abbrev pub asks_environment : ReadKey → Bool
+asks_environment keys.CurrentDate = true
+asks_environment keys.CurrentTime = true
+asks_environment keys.CurrentDateTime = true
+asks_environment _ = false
 
 -- ---- every other key gives the same
 
@@ -80,7 +74,7 @@ abbrev pub ValuesLeaveOthers : Type 0
 ValuesLeaveOthers = (held : Held) (number : ℕ) (row : RowKey) (values : List Value) (key : ReadKey) → asks_row row key ≡ false
     → IsSameLook (looks_in held) (looks_in (other_values held number row values)) key
 
--- with another day, each key but that of the day
-abbrev pub DayLeavesOthers : Type 0
-DayLeavesOthers = (held : Held) (day : Option Day) (key : ReadKey) → asks_day key ≡ false
-    → IsSameLook (looks_in held) (looks_in (other_day held day)) key
+-- where something else is known of the time, each key but those of the date, of the time, and of both together
+abbrev pub EnvironmentLeavesOthers : Type 0
+EnvironmentLeavesOthers = (held : Held) (environment : Environment) (key : ReadKey) → asks_environment key ≡ false
+    → IsSameLook (looks_in held) (looks_in (other_environment held environment)) key

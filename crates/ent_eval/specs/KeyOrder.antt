@@ -8,7 +8,7 @@ use Rattle.ent_policy.specs.contracts.key.ReferenceOrd.TheImpl as references
 use Rattle.ent_policy.specs.declared.key.Reference.{Reference}
 use Rattle.ent_eval.specs.Noted.{read_cmp}
 use Rattle.ent_eval.specs.declared.key.ReadKey.{ReadKey}
-use Rattle.ent_eval.specs.declared.key.ReadKey.TheVariants.{Root, Ref, Attr, Day}
+use Rattle.ent_eval.specs.declared.key.ReadKey.TheVariants.{Root, Ref, Attr, CurrentDate, CurrentTime, CurrentDateTime}
 
 -- what `cmp` of two references answers
 abbrev pub reference_cmp : Reference → Reference → Ordering
@@ -23,9 +23,11 @@ abbrev pub place_of : ReadKey → ℕ
 place_of Root = 0
 place_of (Ref reference) = 1
 place_of (Attr key) = 2
-place_of Day = 3
+place_of CurrentDate = 3
+place_of CurrentTime = 4
+place_of CurrentDateTime = 5
 
--- the root, then references as they order, then keys of attributes as they do, then the day
+-- the root, then references as they order, then keys of attributes as they do, then the date, the time, and both together
 abbrev pub key_order : ReadKey → ReadKey → Ordering
 key_order (Ref a) (Ref b) = reference_cmp a b
 key_order (Attr a) (Attr b) = attribute_cmp a b

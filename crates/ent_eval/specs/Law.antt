@@ -2,7 +2,7 @@
 use Rattle.std.specs.Prelude.{◌≡◌, ◌≢◌, ◌↔◌, List, ◌∷◌, ◌++◌}
 use Rattle.std.specs.List.{All, Contains}
 use Rattle.ent_eval.specs.declared.key.ReadKey.{ReadKey}
-use Rattle.ent_eval.specs.declared.key.ReadKey.TheVariants.{Root, Ref, Attr, Day}
+use Rattle.ent_eval.specs.declared.key.ReadKey.TheVariants.{Root, Ref, Attr, CurrentDate, CurrentTime, CurrentDateTime}
 use Rattle.ent_eval.specs.declared.request.Request.{Request}
 use Rattle.ent_eval.specs.Answer.{answer, looked_up, recorded}
 use Rattle.ent_eval.specs.Looks.{Looks}
@@ -12,7 +12,9 @@ abbrev pub IsSameLook : Looks → Looks → ReadKey → Type 0
 IsSameLook s t Root = s.root ≡ t.root
 IsSameLook s t (Ref reference) = s.document reference ≡ t.document reference
 IsSameLook s t (Attr key) = s.values key ≡ t.values key
-IsSameLook s t Day = s.day ≡ t.day
+IsSameLook s t CurrentDate = s.date ≡ t.date
+IsSameLook s t CurrentTime = s.time ≡ t.time
+IsSameLook s t CurrentDateTime = s.date_time ≡ t.date_time
 
 -- where each recorded look-up gives the same in both, the answers are equal, and so are the recorded keys
 abbrev pub EqualLookUpsGiveEqualAnswers : Type 0

@@ -1,5 +1,6 @@
 pub mod Answer
 pub mod Change
+pub mod Environment
 pub mod Expression
 pub mod Given
 pub mod Held

@@ -6,13 +6,13 @@ use Rattle.ent_eval.specs.declared.pdp.Pdp.{Pdp}
 use Rattle.ent_eval.specs.Held.{Held, looks_in}
 use Rattle.ent_eval.specs.Looks.{Looks}
 
--- its root, what its modules hold, where an empty slot or row counts as none, and its day
+-- its root, what its modules hold, where an empty slot or row counts as none, and its environment
 abbrev pub held_by : {A P : Type 0} → (A → List Source) → (P → List Slots) → Pdp A P → Held
 held_by sources slots pdp = record {
   root = pdp.root;
   modules = map held (slots pdp.policies);
   sources = map filled_source (sources pdp.attributes);
-  day = pdp.day;
+  environment = pdp.environment;
 }
 
 -- the look-ups in that

@@ -4,7 +4,6 @@ use Rattle.ent_combine.specs.declared.outcome.RuleAlg.{RuleAlg}
 use Rattle.ent_combine.specs.declared.outcome.PolicyAlg.{PolicyAlg}
 use Rattle.ent_combine.specs.declared.outcome.PolicyAlg.TheVariants.{Shared, OnlyOne}
 use Rattle.ent_policy.specs.declared.document.Policy.{Policy}
-use Rattle.ent_policy.specs.declared.document.PolicySet.{PolicySet}
 use Rattle.ent_policy.specs.declared.document.Rule.{Rule}
 use Rattle.ent_policy.specs.declared.document.Tree.{Tree}
 use Rattle.ent_policy.specs.declared.document.Child.{Child}

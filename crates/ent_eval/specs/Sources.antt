@@ -1,7 +1,7 @@
 -- Where the values of a designator come from (section 7.3.5).
-use Rattle.std.specs.Prelude.{ℕ, List, [], ◌∷◌, Bool, false, ◌&&◌, if◌then◌else◌, is_none, bytes_eq, Option, Some, None, option_and_then}
-use Rattle.ent_values.specs.Calendar.{Day}
+use Rattle.std.specs.Prelude.{ℕ, List, [], ◌∷◌, Bool, false, ◌&&◌, if◌then◌else◌, is_none, bytes_eq, Option, Some, None, option_and_then, option_map, option_to_list}
 use Rattle.ent_values.specs.Same.{same_type}
+use Rattle.ent_values.specs.declared.datatype.DataType.{DataType}
 use Rattle.ent_values.specs.declared.datatype.DataType.TheVariants as types
 use Rattle.ent_values.specs.declared.value.Value.{Value}
 use Rattle.ent_values.specs.declared.value.Value.TheVariants as value
@@ -14,18 +14,25 @@ use Rattle.ent_eval.specs.Own.{is_empty, own_values, sole_value}
 use Rattle.ent_eval.specs.Part.{Part, without_look, after_look}
 use Rattle.ent_eval.specs.Uris as uris
 
--- whether a designator asks for the day: for the date current-date of the environment, without an issuer (appendix B.7 and section 10.2.5)
-abbrev pub asks_day : Designator → Bool
-asks_day d = bytes_eq d.category uris.environment && (bytes_eq d.attribute uris.current_date && (same_type d.datatype types.Date && is_none d.issuer))
+-- whether a designator asks for this attribute of the environment, of this type, without an issuer (section 10.2.5 and appendix B.7)
+abbrev pub asks_for : List ℕ → DataType → Designator → Bool
+asks_for attribute datatype d = bytes_eq d.category uris.environment && (bytes_eq d.attribute attribute && (same_type d.datatype datatype && is_none d.issuer))
 
--- the day, if one is set
-abbrev pub day_values : Option Day → List Value
-day_values None = []
-day_values (Some day) = value.Date day ∷ []
+-- the value of what is known, or none where it isn't
+abbrev pub known_values : {A : Type 0} → (A → Value) → Option A → List Value
+known_values value_of known = option_to_list (option_map value_of known)
 
--- the day, which is looked up
-abbrev pub day_part : Looks → Part (List Value)
-day_part looks = after_look key.Day (without_look (day_values looks.day))
+-- the date, which is looked up
+abbrev pub date_part : Looks → Part (List Value)
+date_part looks = after_look key.CurrentDate (without_look (known_values value.Date looks.date))
+
+-- the time of day, which is looked up
+abbrev pub time_part : Looks → Part (List Value)
+time_part looks = after_look key.CurrentTime (without_look (known_values value.Time looks.time))
+
+-- the date and time, which is looked up
+abbrev pub date_time_part : Looks → Part (List Value)
+date_time_part looks = after_look key.CurrentDateTime (without_look (known_values value.DateTime looks.date_time))
 
 -- the id attribute of a category whose values modules hold: of access-subject, resource or action (appendix B.4 to B.6)
 abbrev pub id_attribute : List ℕ → Option (List ℕ)
@@ -61,9 +68,13 @@ abbrev pub entity_part : Looks → Designator → Option (List ℕ) → Part (Li
 entity_part looks d None = without_look []
 entity_part looks d (Some entity) = after_look (key.Attr (key_for d entity)) (without_look (looks.values (key_for d entity)))
 
--- the values of a designator for which the request has none: the day, or those of the entity of its category
+-- the values of a designator for which the request has none: the date, the time, or both together, or those of the entity of its category
 abbrev pub source_part : Looks → Request → Designator → Part (List Value)
-source_part looks request d = if asks_day d then day_part looks else entity_part looks d (entity_of request d.category)
+source_part looks request d =
+    if asks_for uris.current_date types.Date d then date_part looks
+    else (if asks_for uris.current_time types.Time d then time_part looks
+    else (if asks_for uris.current_date_time types.DateTime d then date_time_part looks
+    else entity_part looks d (entity_of request d.category)))
 
 -- the values of a designator: the request's own, if it has any
 abbrev pub values_part : Looks → Request → Designator → Part (List Value)

@@ -22,9 +22,15 @@ action = codes "urn:oasis:names:tc:xacml:3.0:attribute-category:action"
 abbrev pub action_id : List ℕ
 action_id = codes "urn:oasis:names:tc:xacml:1.0:action:action-id"
 
--- the category of what belongs to none of them, and its attribute of the day (appendix B.2 and B.7)
+-- the category of what belongs to none of them, and its attributes of the date and of the time (appendix B.2 and B.7)
 abbrev pub environment : List ℕ
 environment = codes "urn:oasis:names:tc:xacml:3.0:attribute-category:environment"
 
 abbrev pub current_date : List ℕ
 current_date = codes "urn:oasis:names:tc:xacml:1.0:environment:current-date"
+
+abbrev pub current_time : List ℕ
+current_time = codes "urn:oasis:names:tc:xacml:1.0:environment:current-time"
+
+abbrev pub current_date_time : List ℕ
+current_date_time = codes "urn:oasis:names:tc:xacml:1.0:environment:current-dateTime"

@@ -1,6 +1,6 @@
 //! Laws of the look-ups that one change of what is held may change.
 
-ghost use Rattle.ent_eval.specs.Change.{DayLeavesOthers, DocumentLeavesOthers, RootLeavesOthers, ValuesLeaveOthers};
+ghost use Rattle.ent_eval.specs.Change.{DocumentLeavesOthers, EnvironmentLeavesOthers, RootLeavesOthers, ValuesLeaveOthers};
 
 /// Law: with another root every look-up gives the same but that of the root.
 pub fn root_leaves_others()
@@ -18,7 +18,8 @@ pub fn values_leave_others()
     ensures { ValuesLeaveOthers }
 {}
 
-/// Law: with another day, or none, every look-up gives the same but that of the day.
-pub fn day_leaves_others()
-    ensures { DayLeavesOthers }
+/// Law: where something else is known of the time, every look-up gives the same but those of the date, of the time,
+/// and of both together.
+pub fn environment_leaves_others()
+    ensures { EnvironmentLeavesOthers }
 {}

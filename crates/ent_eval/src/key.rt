@@ -16,12 +16,16 @@ pub enum ReadKey {
     Ref(Reference),
     /// Which values of an entity a key names.
     Attr(AttrKey),
-    /// Which day it is.
-    Day,
+    /// Which date it is.
+    CurrentDate,
+    /// Which time of day it is.
+    CurrentTime,
+    /// Which date and time it is.
+    CurrentDateTime,
 }
 
 impl ReadKey {
-    /// An equal key. Of the root and of the day it takes no memory.
+    /// An equal key. Only that of a reference or of a key of attributes takes memory.
     pub fn copy(&self, alloc: Global) -> Result<ReadKey, AllocError>
         ensures value { IfOk result (λ k. k ≡ self.now) }
         ensures memory { OnErr result (has_texts self.now ≡ true) }
@@ -30,7 +34,9 @@ impl ReadKey {
             ReadKey::Root => Ok(ReadKey::Root),
             ReadKey::Ref(reference) => Ok(ReadKey::Ref(reference.copy(alloc)?)),
             ReadKey::Attr(key) => Ok(ReadKey::Attr(key.copy(alloc)?)),
-            ReadKey::Day => Ok(ReadKey::Day),
+            ReadKey::CurrentDate => Ok(ReadKey::CurrentDate),
+            ReadKey::CurrentTime => Ok(ReadKey::CurrentTime),
+            ReadKey::CurrentDateTime => Ok(ReadKey::CurrentDateTime),
         }
     }
 }

@@ -6,6 +6,7 @@ mod answer;
 mod assignments;
 mod change;
 mod choose;
+mod environment;
 mod evaluated;
 mod expression;
 mod gather;
@@ -41,8 +42,9 @@ mod uris;
 
 pub use answer::{Answer, Status, WhyEntry};
 pub use change::{
-    day_leaves_others, document_leaves_others, root_leaves_others, values_leave_others,
+    document_leaves_others, environment_leaves_others, root_leaves_others, values_leave_others,
 };
+pub use environment::Environment;
 pub use given::{Assignment, Given};
 pub use key::ReadKey;
 pub use law::{

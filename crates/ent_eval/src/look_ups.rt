@@ -6,7 +6,7 @@ ghost use Rattle.ent_eval.specs.Looks.{Looks};
 
 use ent_finder::AttrKey;
 use ent_policy::{Document, Reference};
-use ent_values::{Bag, Date};
+use ent_values::{Bag, Date, DateTime, Time};
 use std::alloc::AllocError;
 
 /// Gives the look-ups of an evaluation, which asks nothing else of what is held.
@@ -28,7 +28,15 @@ pub trait LookUps {
         ensures ok { OnOk result (bag.new ≡ record { datatype = key.now.datatype; values = (looks self.now).values key.now }) }
         ensures err { OnErr result (bag.new ≡ bag.old) };
 
-    /// The day, if one is set.
-    fn day(&self) -> Option<Date>
-        ensures { result ≡ (looks self.now).day };
+    /// The date, if it is known.
+    fn date(&self) -> Option<Date>
+        ensures { result ≡ (looks self.now).date };
+
+    /// The time of day, if it is known.
+    fn time(&self) -> Option<Time>
+        ensures { result ≡ (looks self.now).time };
+
+    /// The date and time, if both are known.
+    fn date_time(&self) -> Option<DateTime>
+        ensures { result ≡ (looks self.now).date_time };
 }

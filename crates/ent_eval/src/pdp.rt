@@ -6,8 +6,10 @@ ghost use Rattle.ent_eval.specs.Answer.{answer, looked_up, recorded};
 ghost use Rattle.ent_eval.specs.Lending.{LendsAttributes, LendsPolicies};
 ghost use Rattle.ent_eval.specs.LooksOf.{looks_of};
 ghost use Rattle.ent_eval.specs.proofs_only.Noted.{noting};
+ghost use Rattle.ent_eval.specs.declared.environment.Environment.TheVariants.{Empty};
 
 use crate::answer::Answer;
+use crate::environment::Environment;
 use crate::look_ups::LookUps;
 use crate::notes::Notes;
 use crate::paths::Paths;
@@ -16,19 +18,19 @@ use crate::request::Request;
 use crate::scene::Scene;
 use ent_finder::{AttrKey, AttributeFinder, Attributes, Policies, PolicyFinder};
 use ent_policy::{Document, Reference};
-use ent_values::{Bag, Date};
+use ent_values::{Bag, Date, DateTime, Time};
 use std::alloc::{AllocError, Global};
 use std::mem;
 
 /// Answers requests by the documents that its policies hold, from the root on, by the values that its attributes hold,
-/// and by the day, and counts the evaluations.
+/// and by what is known of the time, and counts the evaluations.
 #[derive(Drop)]
 pub struct Pdp<A = AttributeFinder, P = PolicyFinder> {
     alloc: Global,
     attributes: A,
     policies: P,
     root: Option<Reference>,
-    day: Option<Date>,
+    environment: Environment,
     evaluations: u128,
     paths: Paths,
 }
@@ -56,19 +58,27 @@ impl<A: Attributes, P: Policies> LookUps for Pdp<A, P> {
         self.attributes.look(key, bag)
     }
 
-    fn day(&self) -> Option<Date> {
-        self.day
+    fn date(&self) -> Option<Date> {
+        self.environment.date()
+    }
+
+    fn time(&self) -> Option<Time> {
+        self.environment.time()
+    }
+
+    fn date_time(&self) -> Option<DateTime> {
+        self.environment.date_time()
     }
 }
 
 impl<A: Attributes, P: Policies> Pdp<A, P> {
-    /// A decision point over these values of attributes and the documents of these policies, without a root and a day.
-    /// Nothing is allocated.
+    /// A decision point over these values of attributes and the documents of these policies, without a root, where
+    /// nothing is known of the time. Nothing is allocated.
     pub fn new(alloc: Global, attributes: A, policies: P) -> Pdp<A, P>
         ensures attributes { result.attributes ≡ attributes }
         ensures policies { result.policies ≡ policies }
         ensures root { result.root ≡ None }
-        ensures day { result.day ≡ None }
+        ensures environment { result.environment ≡ Empty }
         ensures evaluations { result.evaluations ≡ 0 }
     {
         Pdp {
@@ -76,7 +86,7 @@ impl<A: Attributes, P: Policies> Pdp<A, P> {
             attributes,
             policies,
             root: None,
-            day: None,
+            environment: Environment::Empty,
             evaluations: 0,
             paths: Paths::new(alloc),
         }
@@ -144,11 +154,11 @@ impl<A: Attributes, P: Policies> Pdp<A, P> {
         &self.root
     }
 
-    /// The day, if one is set.
-    pub fn day(&self) -> Option<Date>
-        ensures { result ≡ self.now.day }
+    /// What is known of the time.
+    pub fn environment(&self) -> Environment
+        ensures { result ≡ self.now.environment }
     {
-        self.day
+        self.environment
     }
 
     /// Where the values of attributes are held.
@@ -189,11 +199,11 @@ impl<A: Attributes, P: Policies> Pdp<A, P> {
         mem::replace(&mut self.root, root)
     }
 
-    /// Sets the day, or none, and gives the old one back. It takes no memory.
-    pub fn set_day(&mut self, day: Option<Date>) -> Option<Date>
-        ensures old { result ≡ self.old.day }
-        ensures new { self.new ≡ record self.old { day = day } }
+    /// Sets what is known of the time, and gives back what was. It takes no memory.
+    pub fn set_environment(&mut self, environment: Environment) -> Environment
+        ensures old { result ≡ self.old.environment }
+        ensures new { self.new ≡ record self.old { environment = environment } }
     {
-        mem::replace(&mut self.day, day)
+        mem::replace(&mut self.environment, environment)
     }
 }

@@ -15,7 +15,7 @@ pub fn same_key_is_equal()
 {}
 
 /// Law: keys of look-ups order by kind: the root, then references as they order, then keys of attributes as they do,
-/// then the day.
+/// then the date, the time, and both together.
 pub fn keys_order_by_kind()
     ensures { KeysOrderByKind }
 {}

@@ -1,13 +1,13 @@
 //! Where the values of a designator come from.
 
-ghost use Rattle.std.specs.Prelude.{◌≡◌, IfOk, OnOk};
+ghost use Rattle.std.specs.Prelude.{◌≡◌, IfOk, IfSome, OnOk, option_to_list};
 ghost use Rattle.std.specs.Option.{option_copied};
-ghost use Rattle.ent_values.specs.declared.datatype.DataType.TheVariants.{Date};
+ghost use Rattle.ent_values.specs.Types.{datatype_of};
 ghost use Rattle.ent_eval.specs.proofs_only.Comes.{Comes, bag_part, in_scene};
 ghost use Rattle.ent_eval.specs.proofs_only.Noted.{with_note};
-ghost use Rattle.ent_eval.specs.Sources.{asks_day, day_values, entity_of, id_attribute, key_for, only_text};
+ghost use Rattle.ent_eval.specs.Sources.{asks_for, entity_of, id_attribute, key_for, only_text};
 ghost use Rattle.ent_eval.specs.Sources.{source_part, text_of, values_part};
-ghost use Rattle.ent_eval.specs.declared.key.ReadKey.TheVariants.{Attr, Day};
+ghost use Rattle.ent_eval.specs.declared.key.ReadKey.TheVariants.{Attr};
 
 use crate::answer::copied_text;
 use crate::key::ReadKey;
@@ -18,7 +18,8 @@ use crate::own_bag::{is_empty, only_own, own_bag};
 use crate::request::Request;
 use crate::scene::Scene;
 use crate::uris::{
-    ACCESS_SUBJECT, ACTION, ACTION_ID, CURRENT_DATE, ENVIRONMENT, RESOURCE, RESOURCE_ID, SUBJECT_ID,
+    ACCESS_SUBJECT, ACTION, ACTION_ID, CURRENT_DATE, CURRENT_DATE_TIME, CURRENT_TIME, ENVIRONMENT,
+    RESOURCE, RESOURCE_ID, SUBJECT_ID,
 };
 use ent_finder::AttrKey;
 use ent_policy::Designator;
@@ -51,8 +52,22 @@ impl<L: LookUps> Scene<'_, L> {
         ensures comes { IfOk result (Comes (bag_part designator.now.datatype (in_scene L.looks self.now source_part designator.now))
             reads.old reads.new) }
     {
-        if asks_day(designator) {
-            return self.day(reads);
+        if asks_for(designator, CURRENT_DATE, DataType::Date) {
+            let date = self.held.date().map(Value::Date);
+            return self.known(reads, ReadKey::CurrentDate, DataType::Date, date);
+        }
+        if asks_for(designator, CURRENT_TIME, DataType::Time) {
+            let time = self.held.time().map(Value::Time);
+            return self.known(reads, ReadKey::CurrentTime, DataType::Time, time);
+        }
+        if asks_for(designator, CURRENT_DATE_TIME, DataType::DateTime) {
+            let date_time = self.held.date_time().map(Value::DateTime);
+            return self.known(
+                reads,
+                ReadKey::CurrentDateTime,
+                DataType::DateTime,
+                date_time,
+            );
         }
         match entity_of(self.request, &designator.category) {
             None => Ok(Bag::new(self.alloc, designator.datatype)),
@@ -60,15 +75,22 @@ impl<L: LookUps> Scene<'_, L> {
         }
     }
 
-    // The day. The look-up is noted.
-    fn day(&self, reads: &mut Notes) -> Result<Bag, AllocError>
-        ensures value { IfOk result (λ b. b ≡ record { datatype = Date; values = day_values (L.looks self.now.held.now).day }) }
-        ensures reads { OnOk result (reads.new ≡ with_note reads.old Day) }
+    // The value of what is asked of the environment, or none. The look-up is noted, also where nothing is known.
+    fn known(
+        &self,
+        reads: &mut Notes,
+        key: ReadKey,
+        datatype: DataType,
+        value: Option<Value>,
+    ) -> Result<Bag, AllocError>
+        requires { IfSome value (λ v. datatype_of v ≡ datatype) }
+        ensures value { IfOk result (λ b. b ≡ record { datatype = datatype; values = option_to_list value }) }
+        ensures reads { OnOk result (reads.new ≡ with_note reads.old key) }
     {
-        reads.note(ReadKey::Day)?;
-        match self.held.day() {
-            None => Ok(Bag::new(self.alloc, DataType::Date)),
-            Some(day) => Bag::of_one(self.alloc, Value::Date(day)),
+        reads.note(key)?;
+        match value {
+            None => Ok(Bag::new(self.alloc, datatype)),
+            Some(value) => Bag::of_one(self.alloc, value),
         }
     }
 
@@ -93,13 +115,13 @@ impl<L: LookUps> Scene<'_, L> {
     }
 }
 
-// Whether a designator asks for the day.
-fn asks_day(designator: &Designator) -> bool
-    ensures { result ≡ asks_day designator.now }
+// Whether a designator asks for an attribute of the environment, of a type, without an issuer.
+fn asks_for(designator: &Designator, attribute: &str, datatype: DataType) -> bool
+    ensures { result ≡ asks_for attribute.now datatype designator.now }
 {
     designator.category.as_str() == ENVIRONMENT
-        && designator.attribute.as_str() == CURRENT_DATE
-        && designator.datatype == DataType::Date
+        && designator.attribute.as_str() == attribute
+        && designator.datatype == datatype
         && designator.issuer.is_none()
 }
 

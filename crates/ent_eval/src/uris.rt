@@ -18,7 +18,12 @@ pub const ACTION: &str = "urn:oasis:names:tc:xacml:3.0:attribute-category:action
 // Its id attribute.
 pub(crate) const ACTION_ID: &str = "urn:oasis:names:tc:xacml:1.0:action:action-id";
 
-// The category of what belongs to none of them, and its attribute of the day.
+// The category of what belongs to none of them, and its attributes of the date and of the time.
 pub(crate) const ENVIRONMENT: &str = "urn:oasis:names:tc:xacml:3.0:attribute-category:environment";
 
 pub(crate) const CURRENT_DATE: &str = "urn:oasis:names:tc:xacml:1.0:environment:current-date";
+
+pub(crate) const CURRENT_TIME: &str = "urn:oasis:names:tc:xacml:1.0:environment:current-time";
+
+pub(crate) const CURRENT_DATE_TIME: &str =
+    "urn:oasis:names:tc:xacml:1.0:environment:current-dateTime";

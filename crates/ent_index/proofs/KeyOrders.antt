@@ -29,7 +29,7 @@ use Rattle.ent_finder.proofs.Sorted.{both, first, is_true, less, second}
 use Rattle.ent_finder.specs.proofs_only.Order.{Name, kind_cmp, name_cmp}
 use Rattle.ent_eval.specs.Noted.{read_cmp}
 use Rattle.ent_eval.specs.declared.key.ReadKey.{ReadKey}
-use Rattle.ent_eval.specs.declared.key.ReadKey.TheVariants.{Attr, Day, Ref, Root}
+use Rattle.ent_eval.specs.declared.key.ReadKey.TheVariants.{Attr, CurrentDate, CurrentDateTime, CurrentTime, Ref, Root}
 use Rattle.ent_index.specs.Asked.{asks_policy}
 use Rattle.slab.specs.Slab.{Slab}
 use Rattle.ent_index.proofs.Views.{read_cmp-total}
@@ -63,21 +63,41 @@ order_rises kind id (Ref a) (Ref b) l g =
     let rest = constraints_cmp a.constraints b.constraints in
     behind (a.kind, a.id) (b.kind, b.id) (kind, id) (then_less (ordering_then kinds ids) rest (then_assoc kinds ids rest ∙ l)) g
 order_rises kind id (Ref a) (Attr b) l g = refl
-order_rises kind id (Ref a) Day l g = refl
+order_rises kind id (Ref a) CurrentDate l g = refl
+order_rises kind id (Ref a) CurrentTime l g = refl
+order_rises kind id (Ref a) CurrentDateTime l g = refl
 order_rises kind id (Attr a) Root l g = cc
 order_rises kind id (Attr a) (Ref b) l g = cc
 order_rises kind id (Attr a) (Attr b) l g = refl
-order_rises kind id (Attr a) Day l g = refl
-order_rises kind id Day Root l g = cc
-order_rises kind id Day (Ref b) l g = cc
-order_rises kind id Day (Attr b) l g = cc
-order_rises kind id Day Day l g = refl
+order_rises kind id (Attr a) CurrentDate l g = refl
+order_rises kind id (Attr a) CurrentTime l g = refl
+order_rises kind id (Attr a) CurrentDateTime l g = refl
+order_rises kind id CurrentDate Root l g = cc
+order_rises kind id CurrentDate (Ref b) l g = cc
+order_rises kind id CurrentDate (Attr b) l g = refl
+order_rises kind id CurrentDate CurrentDate l g = refl
+order_rises kind id CurrentDate CurrentTime l g = refl
+order_rises kind id CurrentDate CurrentDateTime l g = refl
+order_rises kind id CurrentTime Root l g = cc
+order_rises kind id CurrentTime (Ref b) l g = cc
+order_rises kind id CurrentTime (Attr b) l g = refl
+order_rises kind id CurrentTime CurrentDate l g = refl
+order_rises kind id CurrentTime CurrentTime l g = refl
+order_rises kind id CurrentTime CurrentDateTime l g = refl
+order_rises kind id CurrentDateTime Root l g = cc
+order_rises kind id CurrentDateTime (Ref b) l g = cc
+order_rises kind id CurrentDateTime (Attr b) l g = refl
+order_rises kind id CurrentDateTime CurrentDate l g = refl
+order_rises kind id CurrentDateTime CurrentTime l g = refl
+order_rises kind id CurrentDateTime CurrentDateTime l g = refl
 
 pub order_tied : (kind : Kind) (id : List ℕ) (k : ReadKey) → is_eq (policy_order kind id k) ≡ asks_policy kind id k
 order_tied kind id Root = refl
 order_tied kind id (Ref r) = name_tied (record r { kind = kind; id = id }) (record { kind = r.kind; id = r.id; version = [] })
 order_tied kind id (Attr a) = refl
-order_tied kind id Day = refl
+order_tied kind id CurrentDate = refl
+order_tied kind id CurrentTime = refl
+order_tied kind id CurrentDateTime = refl
 
 -- ---- the first of them
 
@@ -96,14 +116,18 @@ first_of kind id (Ref r) h =
     (λ i. is_le (ordering_then (kinds i) (ordering_then (ids i) (constraints_cmp unconstrained r.constraints))))
     ∙ none_first r.constraints.version r.constraints.earliest r.constraints.latest
 first_of kind id (Attr a) h = cc
-first_of kind id Day h = cc
+first_of kind id CurrentDate h = cc
+first_of kind id CurrentTime h = cc
+first_of kind id CurrentDateTime h = cc
 
 -- every key comes behind the root's
 pub first_at_all : (kind : Kind) (id : List ℕ) (k : ReadKey) → asks_policy kind id k ≡ true → is_le (read_cmp Root k) ≡ true
 first_at_all kind id Root h = cc
 first_at_all kind id (Ref r) h = refl
 first_at_all kind id (Attr a) h = cc
-first_at_all kind id Day h = cc
+first_at_all kind id CurrentDate h = cc
+first_at_all kind id CurrentTime h = cc
+first_at_all kind id CurrentDateTime h = cc
 
 -- ---- keys in their order, one by one
 

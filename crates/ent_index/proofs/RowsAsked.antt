@@ -24,7 +24,7 @@ use Rattle.ent_finder.specs.declared.row.RowKey.{RowKey}
 use Rattle.ent_eval.proofs.Keys.{read_cmp-IsAntisymmetric}
 use Rattle.ent_eval.specs.Noted.{read_cmp}
 use Rattle.ent_eval.specs.declared.key.ReadKey.{ReadKey}
-use Rattle.ent_eval.specs.declared.key.ReadKey.TheVariants.{Attr, Day, Ref, Root}
+use Rattle.ent_eval.specs.declared.key.ReadKey.TheVariants.{Attr, CurrentDate, CurrentDateTime, CurrentTime, Ref, Root}
 use Rattle.ent_index.proofs.Views.{key_itself, read_cmp-total, same_key}
 use Rattle.ent_index.specs.Asked.{asks_row}
 use Rattle.ent_index.specs.Index.{ReadIndex, Readers}
@@ -118,7 +118,9 @@ module _ (row : RowKey) where
       (λ h. let p = given_named key row h in
       key_itself (Attr (given row None)) (Attr key) (ap Attr (sym (p.0 ∙ ap (given row) (wanted_none key.issuer (ap (is_wanted key.issuer) (sym none) ∙ p.1))))))
       (λ h. ap (asks_row row) (sym (same_key (Attr (given row None)) (Attr key) h)) ∙ names_given row None refl)
-  asked_plain none Day = refl
+  asked_plain none CurrentDate = refl
+  asked_plain none CurrentTime = refl
+  asked_plain none CurrentDateTime = refl
 
   pub asked_both : (i : List ℕ) → row.issuer ≡ Some i → (k : ReadKey) → asks_row row k ≡ (is_eq (read_cmp (Attr (given row None)) k) || is_eq (read_cmp (Attr (given row (Some i))) k))
   asked_both i some Root = refl
@@ -138,7 +140,9 @@ module _ (row : RowKey) where
       or_true : (x y : Bool) → y ≡ true → (x || y) ≡ true
       or_true true y h = refl
       or_true false y h = h
-  asked_both i some Day = refl
+  asked_both i some CurrentDate = refl
+  asked_both i some CurrentTime = refl
+  asked_both i some CurrentDateTime = refl
 
 -- ---- the keys of an index
 

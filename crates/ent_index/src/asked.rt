@@ -43,7 +43,8 @@ fn order(key: &ReadKey, kind: Kind, id: &str) -> Ordering
             let ids = reference.id.as_str().cmp(id);
             reference.kind.cmp(&kind).then(ids)
         }
-        ReadKey::Attr(_) | ReadKey::Day => Ordering::Greater,
+        ReadKey::Attr(_) | ReadKey::CurrentDate | ReadKey::CurrentTime | ReadKey::CurrentDateTime =>
+            Ordering::Greater,
     }
 }
 

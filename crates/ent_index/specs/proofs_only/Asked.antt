@@ -7,7 +7,7 @@ use Rattle.ent_policy.specs.declared.key.Kind.{Kind}
 use Rattle.ent_finder.specs.declared.row.RowKey.{RowKey}
 use Rattle.ent_eval.specs.Noted.{read_cmp}
 use Rattle.ent_eval.specs.declared.key.ReadKey.{ReadKey}
-use Rattle.ent_eval.specs.declared.key.ReadKey.TheVariants.{Attr, Day, Ref, Root}
+use Rattle.ent_eval.specs.declared.key.ReadKey.TheVariants.{Attr, Ref, Root}
 use Rattle.ent_finder.specs.proofs_only.Order.{name_cmp}
 use Rattle.ent_index.specs.Asked.{asks_policy}
 
@@ -23,5 +23,4 @@ IsFirst kind id first = (k : ReadKey) → asks_policy kind id k ≡ true → is_
 abbrev pub policy_order : Kind → List ℕ → ReadKey → Ordering
 policy_order kind id Root = Less
 policy_order kind id (Ref reference) = name_cmp (reference.kind, reference.id) (kind, id)
-policy_order kind id (Attr key) = Greater
-policy_order kind id Day = Greater
+policy_order kind id _ = Greater
