@@ -74,6 +74,10 @@ day_named : (d : Data) → IsNamed (asked.day_command d)
 unfolding asked.day_command
 day_named d = must_named _ _ (then_part (option_and_then text_or_null (get (codes "day") d)) _ (λ day. ok_named _))
 
+moment_named : (d : Data) → IsNamed (asked.moment_command d)
+unfolding asked.moment_command
+moment_named d = must_named _ _ (then_part (option_and_then text_or_null (get (codes "moment") d)) _ (λ moment. ok_named _))
+
 document_named : (d : Data) → IsNamed (asked.document_for d)
 unfolding asked.document_for
 document_named d = must_named _ _ (then_part (module_of (get (codes "module") d)) _ (λ number. then_part (get (codes "document") d) _ (λ document. ok_named _)))
@@ -182,7 +186,8 @@ dropping_found name d =
 
 setting_found : (name : List ℕ) (d : Data) → IsFound (asked.setting_named name d)
 unfolding asked.setting_named
-setting_found name d = or_found _ _ _ (root_named d) (or_found _ _ _ (day_named d) (or_found _ _ _ (attribute_named d) none_found))
+setting_found name d =
+    or_found _ _ _ (root_named d) (or_found _ _ _ (day_named d) (or_found _ _ _ (moment_named d) (or_found _ _ _ (attribute_named d) none_found)))
 
 edit_found : (name : List ℕ) (d : Data) → IsFound (asked.edit_named name d)
 unfolding asked.edit_named

@@ -4,7 +4,8 @@ use Rattle.std.specs.Prelude.{if◌then◌else◌, nat_lt}
 use Rattle.std.proofs.lemmas.Bool.{le-ltb}
 use Rattle.serde_json.specs.Data.{Data}
 use Rattle.ent_values.specs.Calendar.{Day}
-use Rattle.ent_values.specs.Reading.{date_of}
+use Rattle.ent_values.specs.Reading.{date_of, date_time_of}
+use Rattle.ent_values.specs.declared.date_time.DateTime.{DateTime}
 use Rattle.ent_values.specs.declared.value.Value.{Value}
 use Rattle.ent_policy.specs.Versions.{version_of}
 use Rattle.ent_policy.specs.declared.fault.DocFault.{DocFault}
@@ -14,7 +15,7 @@ use Rattle.ent_polform.specs.Form.{document_of}
 use Rattle.ent_table.specs.State.{State}
 use Rattle.ent_table.specs.Step as table
 use Rattle.ent_table.specs.declared.edit.Edit.{Edit}
-use Rattle.ent_table.specs.declared.edit.Edit.TheVariants.{AddPolicy, ReplacePolicy, WithdrawPolicy, SetAttribute, SetRoot, SetDay}
+use Rattle.ent_table.specs.declared.edit.Edit.TheVariants.{AddPolicy, ReplacePolicy, WithdrawPolicy, SetAttribute, SetRoot, SetDay, SetMoment}
 use Rattle.ent_table.specs.declared.edit.EditFault.{EditFault}
 use Rattle.ent_report.specs.World.{World}
 use Rattle.ent_line.specs.Asked as asked
@@ -23,9 +24,13 @@ use Rattle.ent_line.specs.Edits.{NoEdit, edit_of, faulty, if_read, no_edit, root
 use Rattle.ent_line.specs.Lines.{line_limit}
 use Rattle.ent_line.specs.Replies as replies
 use Rattle.ent_line.specs.Replies.{Answer, accepted, refused, text}
-use Rattle.ent_line.specs.Commands.{attribute_set, day_or_refusal, day_set, edited, edited_with, name_added, name_dropped, policy_added, policy_replaced}
-use Rattle.ent_line.specs.Commands.{policy_withdrawn, root_set, row_set, run, settled, table_marked, withdrawn}
-use Rattle.ent_line.specs.Step.{Answers, data_of, requested, step, told}
+use Rattle.ent_line.specs.Step.{Answers, data_of}
+use Rattle.ent_line.specs.Commands.{attribute_set, day_or_refusal, day_set, edited, edited_with, moment_or_refusal, moment_set, name_added, name_dropped, policy_added}
+use Rattle.ent_line.specs.Commands.{policy_replaced, policy_withdrawn, root_set, row_set, run, settled, table_marked}
+use Rattle.ent_line.specs.Step.{requested, step, told}
+use Rattle.ent_line.specs.Edits.{root_of, row_read}
+use Rattle.ent_line.specs.Edits.{unread, unread_row}
+use Rattle.ent_line.specs.Commands.{withdrawn}
 
 -- ---- what a command comes to
 
@@ -51,6 +56,7 @@ IsNoEdit (asked.withdraw_policy number kind id version) = ⊥
 IsNoEdit (asked.set_attribute number row) = ⊥
 IsNoEdit (asked.set_root d) = ⊥
 IsNoEdit (asked.set_day day) = ⊥
+IsNoEdit (asked.set_moment moment) = ⊥
 IsNoEdit question = Unit {0}
 
 document_made : {A : Type 0} (w : World) (other : Answer × World) (edit : A → Edit) (r : Result A DocFault) → edited_with w edit r ≡ made w other (with_read edit r)
@@ -76,6 +82,17 @@ unfolding run day_set
 day_made n w session other None = refl
 day_made n w session other (Some written) = read_day_made w other (date_of written)
 
+read_moment_made : (w : World) (other : Answer × World) (moment : Option DateTime)
+    → moment_or_refusal w moment ≡ made w other (if_read (λ x. SetMoment (Some x)) unreadable moment)
+read_moment_made w other None = refl
+read_moment_made w other (Some moment) = refl
+
+moment_made : (n : ℕ) (w : World) (session : ℕ) (other : Answer × World) (moment : Option (List ℕ))
+    → run n w session (asked.set_moment moment) ≡ made w other (edit_of (asked.set_moment moment))
+unfolding run moment_set
+moment_made n w session other None = refl
+moment_made n w session other (Some written) = read_moment_made w other (date_time_of written)
+
 -- a command is answered as the edit that it makes, or the lack of one; what is no edit is answered by what is said beside
 pub run_made : (n : ℕ) (w : World) (session : ℕ) (other : Answer × World) (c : Command) → (IsNoEdit c → run n w session c ≡ other) → run n w session c ≡ made w other (edit_of c)
 unfolding run name_added name_dropped policy_added policy_replaced policy_withdrawn attribute_set root_set
@@ -87,6 +104,7 @@ run_made n w session other (asked.withdraw_policy number kind id version) h = wi
 run_made n w session other (asked.set_attribute number row) h = row_made w other number row (row_read row)
 run_made n w session other (asked.set_root d) h = document_made w other SetRoot (root_of d)
 run_made n w session other (asked.set_day day) h = day_made n w session other day
+run_made n w session other (asked.set_moment moment) h = moment_made n w session other moment
 run_made n w session other asked.table h = h tt
 run_made n w session other (asked.cell x) h = h tt
 run_made n w session other (asked.ask d) h = h tt
@@ -135,6 +153,7 @@ run_keeps k w x (asked.withdraw_policy number kind id version) = edit_keeps k w 
 run_keeps k w x (asked.set_attribute number row) = edit_keeps k w x (asked.set_attribute number row) (λ h. h)
 run_keeps k w x (asked.set_root d) = edit_keeps k w x (asked.set_root d) (λ h. h)
 run_keeps k w x (asked.set_day day) = edit_keeps k w x (asked.set_day day) (λ h. h)
+run_keeps k w x (asked.set_moment moment) = edit_keeps k w x (asked.set_moment moment) (λ h. h)
 run_keeps k w x asked.table = λ n sub e. refl
 run_keeps k w x (asked.cell t) = λ n sub e. refl
 run_keeps k w x (asked.ask d) = λ n sub e. refl

@@ -146,6 +146,7 @@ run_follows i n w x (asked.withdraw_policy number kind id version) = edit_follow
 run_follows i n w x (asked.set_attribute number row) = edit_follows i n w x (asked.set_attribute number row) (λ h. h)
 run_follows i n w x (asked.set_root d) = edit_follows i n w x (asked.set_root d) (λ h. h)
 run_follows i n w x (asked.set_day day) = edit_follows i n w x (asked.set_day day) (λ h. h)
+run_follows i n w x (asked.set_moment moment) = edit_follows i n w x (asked.set_moment moment) (λ h. h)
 run_follows i n w x asked.table = quiet_follows i w (Some (x, asked.table)) (table_told w.state) tt
 run_follows i n w x (asked.cell t) = quiet_follows i w (Some (x, asked.cell t)) (cell_told w.state t) (cell_quiet t (answer_at w.state t))
 run_follows i n w x (asked.ask d) = quiet_follows i w (Some (x, asked.ask d)) (request_answered w.state d) (response_quiet w.state (asks d))

@@ -112,6 +112,7 @@ run_printed n w x (asked.withdraw_policy number kind id version) = edit_printed 
 run_printed n w x (asked.set_attribute number row) = edit_printed n w x (asked.set_attribute number row) (λ h. h)
 run_printed n w x (asked.set_root d) = edit_printed n w x (asked.set_root d) (λ h. h)
 run_printed n w x (asked.set_day day) = edit_printed n w x (asked.set_day day) (λ h. h)
+run_printed n w x (asked.set_moment moment) = edit_printed n w x (asked.set_moment moment) (λ h. h)
 run_printed n w x asked.table = table_printed (table_of w.state)
 run_printed n w x (asked.cell t) = cell_printed t (answer_at w.state t)
 run_printed n w x (asked.ask d) = response_printed w.state (asks d)

@@ -38,6 +38,8 @@ pub data Command : Type 0 where
   set_root : Data → Command
   -- sets the day to what a text writes, or to none
   set_day : Option (List ℕ) → Command
+  -- sets the moment to what a text writes, or to none
+  set_moment : Option (List ℕ) → Command
   -- asks for all cells
   table : Command
   -- asks for one cell
@@ -156,6 +158,12 @@ day_command d = keyed (codes "day" ∷ codes "do" ∷ codes "session" ∷ []) d 
   day ← part (option_and_then text_or_null (get (codes "day") d))
   Ok (set_day day))
 
+-- a moment, or null for none
+unfoldable pub moment_command : Data → Result Command ℕ
+moment_command d = keyed (codes "do" ∷ codes "moment" ∷ codes "session" ∷ []) d (do
+  moment ← part (option_and_then text_or_null (get (codes "moment") d))
+  Ok (set_moment moment))
+
 -- a document, and the number of the module that it is for
 unfoldable pub document_for : Data → Result (ℕ × Data) ℕ
 document_for d = keyed (codes "do" ∷ codes "document" ∷ codes "module" ∷ codes "session" ∷ []) d (do
@@ -262,8 +270,9 @@ unfoldable pub setting_named : List ℕ → Data → Option (Result Command ℕ)
 setting_named name d =
     if bytes_eq name (codes "root.set") then Some (root_command d)
     else (if bytes_eq name (codes "day.set") then Some (day_command d)
+    else (if bytes_eq name (codes "moment.set") then Some (moment_command d)
     else (if bytes_eq name (codes "attr.set") then Some (attribute_command d)
-    else None))
+    else None)))
 
 -- what the edit of names, or of what is set, of that name asks for
 unfoldable pub edit_named : List ℕ → Data → Option (Result Command ℕ)

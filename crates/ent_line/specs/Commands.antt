@@ -3,8 +3,9 @@
 use Rattle.std.specs.Prelude.{ℕ, List, Option, Some, None, Result, Ok, Err}
 use Rattle.serde_json.specs.Data.{Data}
 use Rattle.ent_values.specs.Calendar.{Day}
-use Rattle.ent_values.specs.Reading.{date_of}
+use Rattle.ent_values.specs.Reading.{date_of, date_time_of}
 use Rattle.ent_values.specs.declared.value.Value.{Value}
+use Rattle.ent_values.specs.declared.date_time.DateTime.{DateTime}
 use Rattle.ent_policy.specs.Fault.{sub_code}
 use Rattle.ent_policy.specs.Versions.{version_of}
 use Rattle.ent_policy.specs.declared.fault.DocFault.{DocFault}
@@ -23,7 +24,7 @@ use Rattle.ent_table.specs.Names.{Triple}
 use Rattle.ent_table.specs.State.{State, answer_at, table_of}
 use Rattle.ent_table.specs.Step as table
 use Rattle.ent_table.specs.declared.edit.Edit.{Edit}
-use Rattle.ent_table.specs.declared.edit.Edit.TheVariants.{AddPolicy, ReplacePolicy, WithdrawPolicy, SetAttribute, AddName, DropName, SetRoot, SetDay}
+use Rattle.ent_table.specs.declared.edit.Edit.TheVariants.{AddPolicy, ReplacePolicy, WithdrawPolicy, SetAttribute, AddName, DropName, SetRoot, SetDay, SetMoment}
 use Rattle.ent_table.specs.declared.edit.EditFault.{EditFault}
 use Rattle.ent_table.specs.declared.edit.List.{List as Which}
 use Rattle.ent_line.specs.Asked as asked
@@ -96,6 +97,16 @@ unfoldable pub day_set : World → Option (List ℕ) → Answer × World
 day_set w None = edited w (SetDay None)
 day_set w (Some written) = day_or_refusal w (date_of written)
 
+-- the moment that was read, or the refusal of what couldn't be
+abbrev pub moment_or_refusal : World → Option DateTime → Answer × World
+moment_or_refusal w None = (refused (unread w.state) None, w)
+moment_or_refusal w (Some moment) = edited w (SetMoment (Some moment))
+
+-- the moment set, or none
+unfoldable pub moment_set : World → Option (List ℕ) → Answer × World
+moment_set w None = edited w (SetMoment None)
+moment_set w (Some written) = moment_or_refusal w (date_time_of written)
+
 -- the root set
 unfoldable pub root_set : World → Data → Answer × World
 root_set w d = edited_with w SetRoot (root_of d)
@@ -161,6 +172,7 @@ run n w session (asked.withdraw_policy number kind id version) = policy_withdraw
 run n w session (asked.set_attribute number row) = attribute_set w number row
 run n w session (asked.set_root d) = root_set w d
 run n w session (asked.set_day day) = day_set w day
+run n w session (asked.set_moment moment) = moment_set w moment
 run n w session asked.table = (table_told w.state, w)
 run n w session (asked.cell x) = (cell_told w.state x, w)
 run n w session (asked.ask d) = (request_answered w.state d, w)

@@ -3,7 +3,7 @@ use Rattle.std.specs.Prelude.{ℕ, Option, Some, None, Result, Ok, Err, ◌||◌
 use Rattle.serde_json.specs.Data.{Data, Items}
 use Rattle.serde_json.specs.Data as json
 use Rattle.serde_json.specs.Events.{items_len}
-use Rattle.ent_values.specs.Reading.{date_of}
+use Rattle.ent_values.specs.Reading.{date_of, date_time_of}
 use Rattle.ent_values.specs.Types.{type_of}
 use Rattle.ent_values.specs.declared.datatype.DataType.{DataType}
 use Rattle.ent_values.specs.declared.value.Value.{Value}
@@ -19,7 +19,7 @@ use Rattle.ent_finder.specs.declared.row.RowKey.{RowKey}
 use Rattle.ent_table.specs.State.{State}
 use Rattle.ent_table.specs.Step as table
 use Rattle.ent_table.specs.declared.edit.Edit.{Edit}
-use Rattle.ent_table.specs.declared.edit.Edit.TheVariants.{AddPolicy, ReplacePolicy, WithdrawPolicy, SetAttribute, AddName, DropName, SetRoot, SetDay}
+use Rattle.ent_table.specs.declared.edit.Edit.TheVariants.{AddPolicy, ReplacePolicy, WithdrawPolicy, SetAttribute, AddName, DropName, SetRoot, SetDay, SetMoment}
 use Rattle.ent_table.specs.declared.edit.EditFault.{EditFault}
 use Rattle.ent_table.specs.declared.edit.EditFault.TheVariants.{NotThere, AlreadyThere, Limit, Reserved, BadValue, UnknownModule, Memory}
 use Rattle.ent_line.specs.Asked.{AskedRow, Command}
@@ -53,7 +53,7 @@ pub data NoEdit : Type 0 where
   no_edit : NoEdit
   -- its document or its reference has a fault, the first of which has this sub-code
   faulty : ℕ → NoEdit
-  -- its version or its day can't be read
+  -- its version, its day or its moment can't be read
   unreadable : NoEdit
   -- the type or a value of its row can't be read
   unreadable_row : AskedRow → NoEdit
@@ -80,6 +80,8 @@ edit_of (asked.set_attribute number row) = if_read (λ x. SetAttribute number x.
 edit_of (asked.set_root d) = with_read SetRoot (root_of d)
 edit_of (asked.set_day None) = Ok (SetDay None)
 edit_of (asked.set_day (Some written)) = if_read (λ day. SetDay (Some day)) unreadable (date_of written)
+edit_of (asked.set_moment None) = Ok (SetMoment None)
+edit_of (asked.set_moment (Some written)) = if_read (λ moment. SetMoment (Some moment)) unreadable (date_time_of written)
 edit_of question = Err no_edit
 
 -- ---- refusals
@@ -94,7 +96,7 @@ refusal_of BadValue = 11
 refusal_of UnknownModule = 13
 refusal_of Memory = 15
 
--- the refusal of a version or a day that can't be read: a bad value, before which the last serial is told
+-- the refusal of a version, a day or a moment that can't be read: a bad value, before which the last serial is told
 abbrev pub unread : State → ℕ
 unread s = if table.is_last s then refusal_of Limit else refusal_of BadValue
 

@@ -68,7 +68,7 @@ pub record IsEdited (n : ℕ) (w : World) (session : ℕ) (c : asked.Command) : 
   pub no_step : (edit : Edit) (fault : EditFault) → edit_of c ≡ Ok edit → edits.step w.state edit ≡ Err fault → run n w session c ≡ (refused (refusal_of fault) None, w)
   -- a document or a reference with a fault: the sub-code of the first one
   pub fault : (sub : ℕ) → edit_of c ≡ Err (faulty sub) → run n w session c ≡ (refused 6 (Some sub), w)
-  -- a version, a day or a row that can't be read: a bad value, unless a refusal that comes before it stands
+  -- a version, a day, a moment or a row that can't be read: a bad value, unless a refusal that comes before it stands
   pub no_value : edit_of c ≡ Err unreadable → run n w session c ≡ (refused (unread w.state) None, w)
   pub no_row : (row : asked.AskedRow) → edit_of c ≡ Err (unreadable_row row) → run n w session c ≡ (refused (unread_row w.state row) None, w)
 

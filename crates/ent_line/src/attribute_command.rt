@@ -1,10 +1,11 @@
-//! What a line asks for that sets values of attributes or the day.
+//! What a line asks for that sets values of attributes, the day or the moment.
 
 ghost use Rattle.std.specs.Prelude.{◌≡◌, codes, option_and_then, option_map, map};
 ghost use Rattle.std.specs.Option.{option_copied};
 ghost use Rattle.serde_json.specs.Find.{as_array, get};
 ghost use Rattle.serde_json.specs.View.{items_of};
-ghost use Rattle.ent_line.specs.Asked.{attribute_command, category_named, day_command, row_of, text_or_null};
+ghost use Rattle.ent_line.specs.Asked.{attribute_command, category_named, day_command, moment_command, row_of};
+ghost use Rattle.ent_line.specs.Asked.{text_or_null};
 ghost use Rattle.ent_line.specs.proofs_only.CommandView.{asked_row_view, asked_view};
 
 use crate::command::{Command, module_number};
@@ -114,4 +115,16 @@ pub(crate) fn day_command<J: JsonTree>(object: &J) -> Result<Command<'_, J>, u8>
     }
     let day = object.get("day").and_then(text_or_null).ok_or(SHAPE)?;
     Ok(Command::SetDay(day))
+}
+
+/// `moment.set`.
+#[tactic(auto, unfolding(crate::specs::Asked::moment_command))]
+pub(crate) fn moment_command<J: JsonTree>(object: &J) -> Result<Command<'_, J>, u8>
+    ensures { asked_view J.content result ≡ moment_command (J.content object.now) }
+{
+    if !object.has_only(&["do", "moment", "session"]) {
+        return Err(SHAPE);
+    }
+    let moment = object.get("moment").and_then(text_or_null).ok_or(SHAPE)?;
+    Ok(Command::SetMoment(moment))
 }

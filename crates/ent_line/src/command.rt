@@ -9,7 +9,7 @@ ghost use Rattle.ent_line.specs.Asked.{report_named, desk_named, kind_named, com
 ghost use Rattle.ent_line.specs.Asked.{module_of, request_of, session_of};
 ghost use Rattle.ent_line.specs.proofs_only.CommandView.{asked_view, document_view, name_view, session_view};
 
-use crate::attribute_command::{AskedRow, attribute_command, day_command};
+use crate::attribute_command::{AskedRow, attribute_command, day_command, moment_command};
 use crate::refusal::{SHAPE, UNKNOWN_COMMAND, UNKNOWN_SESSION};
 use crate::report_command::{decided_named, marking_named};
 use ent_json::{JsonTree, text_at};
@@ -36,6 +36,8 @@ pub(crate) enum Command<'a, J> {
     SetRoot(&'a J),
     /// Sets the day to what a text writes, or to none.
     SetDay(Option<&'a str>),
+    /// Sets the moment to what a text writes, or to none.
+    SetMoment(Option<&'a str>),
     /// Asks for all cells.
     Table,
     /// Asks for the cell of a person, an action and a resource.
@@ -280,6 +282,9 @@ fn setting_named<'a, J: JsonTree>(name: &str, object: &'a J) -> Option<Result<Co
     }
     if name == "day.set" {
         return Some(day_command(object));
+    }
+    if name == "moment.set" {
+        return Some(moment_command(object));
     }
     if name == "attr.set" {
         return Some(attribute_command(object));

@@ -17,6 +17,7 @@ mod reporting;
 mod reports;
 mod service;
 mod serving;
+mod setting;
 
 pub use answering::Answering;
 pub use fault::ServeFault;

@@ -3,7 +3,7 @@
 ghost use Rattle.std.specs.Prelude.{◌≡◌, IfOk, IfSome, option_map, map};
 ghost use Rattle.std.specs.Option.{IfNone};
 ghost use Rattle.serde_json.specs.View.{items_of};
-ghost use Rattle.ent_values.specs.Reading.{date_of};
+ghost use Rattle.ent_values.specs.Reading.{date_of, date_time_of};
 ghost use Rattle.ent_values.specs.Types.{datatype_of};
 ghost use Rattle.ent_values.specs.declared.datatype.DataType.TheVariants as types;
 ghost use Rattle.ent_values.specs.declared.value.Value.TheVariants as values;
@@ -16,7 +16,7 @@ use ent_finder::RowKey;
 use ent_json::JsonTree;
 use ent_polform::{read_reference, read_value};
 use ent_policy::{CheckFault, Reference};
-use ent_values::{DataType, Date, Items, Text, Value as AttributeValue, ValueFault};
+use ent_values::{DataType, Date, DateTime, Items, Text, Value as AttributeValue, ValueFault};
 use std::alloc::{AllocError, Global};
 
 /// The root that a JSON value names: none for null.
@@ -49,6 +49,27 @@ pub(crate) fn read_day(alloc: Global, text: &str) -> Option<Date>
 {
     match AttributeValue::parse(alloc, DataType::Date, text) {
         Ok(value) => day_of(&value),
+        Err(_) => None,
+    }
+}
+
+/// The moment that a value is.
+fn moment_of(value: &AttributeValue) -> Option<DateTime>
+    ensures moment { IfSome result (λ moment. value.now ≡ values.DateTime moment) }
+    ensures none { IfNone result (datatype_of value.now ≡ types.DateTime → ⊥) }
+{
+    match value {
+        AttributeValue::DateTime(moment) => Some(*moment),
+        _ => None,
+    }
+}
+
+/// The moment that a text writes.
+pub(crate) fn read_moment(alloc: Global, text: &str) -> Option<DateTime>
+    ensures { result ≡ date_time_of text.now }
+{
+    match AttributeValue::parse(alloc, DataType::DateTime, text) {
+        Ok(value) => moment_of(&value),
         Err(_) => None,
     }
 }

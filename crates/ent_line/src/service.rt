@@ -1,32 +1,29 @@
 //! The service: a desk that answers lines.
 
 ghost use Rattle.std.specs.Prelude.{◌≡◌, ◌<◌, Ok};
-ghost use Rattle.std.specs.Option.{option_copied};
 ghost use Rattle.std.specs.Result.{result_ok};
 ghost use Rattle.ent_table.specs.Names.{triple_of};
 ghost use Rattle.ent_report.specs.World as held;
 ghost use Rattle.ent_line.specs.Asked as asked;
 ghost use Rattle.ent_line.specs.Asked.{request_of};
-ghost use Rattle.ent_line.specs.proofs_only.CommandView.{command_view, row_view};
+ghost use Rattle.ent_line.specs.proofs_only.CommandView.{command_view};
 ghost use Rattle.ent_line.specs.proofs_only.Replying.{Replies, Tells, Works};
 ghost use Rattle.ent_line.specs.History.{asked_by};
-ghost use Rattle.ent_line.specs.Commands.{attribute_set, cell_told, day_set, edited, name_added, name_dropped};
-ghost use Rattle.ent_line.specs.Commands.{policy_added, policy_replaced, policy_withdrawn, request_answered, root_set};
-ghost use Rattle.ent_line.specs.Commands.{run, table_told};
-ghost use Rattle.ent_line.specs.Edits.{unread, unread_row};
+ghost use Rattle.ent_line.specs.Commands.{edited, name_added, name_dropped};
+ghost use Rattle.ent_line.specs.Commands.{policy_added, policy_replaced, policy_withdrawn};
+ghost use Rattle.ent_line.specs.Edits.{unread};
+ghost use Rattle.ent_line.specs.Commands.{cell_told, request_answered, run, table_told};
 ghost use Rattle.ent_line.specs.Step.{data_of, requested, told};
 ghost use Rattle.ent_line.specs.Work.{asked_work, command_work, count_of, edit_work};
 ghost use Rattle.ent_line.specs.World.{IsReady, world_of};
 
 use crate::answering::Answering;
-use crate::attribute_command::AskedRow;
 use crate::cell::{one_cell_text, response_text, table_text};
 use crate::command::{Command, request};
 use crate::input::LINE_LIMIT;
-use crate::reading::{read_day, read_root, read_row};
 use crate::refusal::{
-    BAD_VALUE, LIMIT, NO_MEMORY, NOT_JSON, NOT_THERE, REQUEST, RESERVED, TOO_LONG,
-    refused_document, refused_edit,
+    BAD_VALUE, LIMIT, NO_MEMORY, NOT_JSON, NOT_THERE, REQUEST, TOO_LONG, refused_document,
+    refused_edit,
 };
 use crate::reply::Reply;
 use ent_finder::{AttributeFinder, Attributes, Policies, PolicyFinder};
@@ -35,7 +32,7 @@ use ent_polform::read_document;
 use ent_policy::{DocKey, Kind, Version};
 use ent_profile::{RequestFault, read_request};
 use ent_report::Desk;
-use ent_table::{Edit, LAST_SERIAL, List, MOST_VALUES, is_reserved};
+use ent_table::{Edit, LAST_SERIAL, List};
 use ent_values::Text;
 use json::Scratch;
 use std::alloc::{AllocError, Global};
@@ -46,12 +43,12 @@ use std::alloc::{AllocError, Global};
 /// `session`, a whole number from 0 to 15. The commands are `person.add`, `action.add` and `resource.add`, and the same
 /// with `drop`, with `name`; `policy.add` and `policy.replace` with `document`, and `policy.withdraw` with `kind`, `id`
 /// and `version`, each with an optional `module`, a whole number; `attr.set` with `category`, `entity`, `attribute`,
-/// `type`, an optional `issuer`, `values` and an optional `module`; `root.set` with `reference` and `day.set` with
-/// `day`, or null for none; `table`; `cell` with `person`, `action` and `resource`; `ask` with `request`; `counts`;
-/// `can` with `person`, and `who` with `action` and `resource`; `by_rule` with `policy` and `rule`, or null for a
-/// default; `mark` and `notices`, each of the line's session; and `work`. A line that isn't refused is an edit, a mark,
-/// or a question, which changes nothing but the count of evaluations; a refused line changes nothing, but where memory
-/// is wanting its evaluations may be counted.
+/// `type`, an optional `issuer`, `values` and an optional `module`; `root.set` with `reference`, `day.set` with `day`
+/// and `moment.set` with `moment`, each or null for none; `table`; `cell` with `person`, `action` and `resource`; `ask`
+/// with `request`; `counts`; `can` with `person`, and `who` with `action` and `resource`; `by_rule` with `policy` and
+/// `rule`, or null for a default; `mark` and `notices`, each of the line's session; and `work`. A line that isn't
+/// refused is an edit, a mark, or a question, which changes nothing but the count of evaluations; a refused line
+/// changes nothing, but where memory is wanting its evaluations may be counted.
 #[derive(Drop)]
 pub struct Service<A = AttributeFinder, P = PolicyFinder> {
     pub(crate) alloc: Global,
@@ -70,7 +67,7 @@ impl<A: Attributes, P: Policies> Service<A, P> {
     }
 
     /// Makes an edit.
-    fn edit(&mut self, edit: Edit) -> Result<Reply, AllocError>
+    pub(crate) fn edit(&mut self, edit: Edit) -> Result<Reply, AllocError>
         requires { IsReady A.sources P.slots self.old }
         ensures ready { IsReady A.sources P.slots self.new }
         ensures reply { Replies A.sources P.slots (λ w. edited w edit) self.old self.new result }
@@ -144,8 +141,8 @@ impl<A: Attributes, P: Policies> Service<A, P> {
         }
     }
 
-    /// The refusal of a version or a day that can't be read.
-    fn unread(&self) -> u8
+    /// The refusal of a version, a day or a moment that can't be read.
+    pub(crate) fn unread(&self) -> u8
         ensures { result ≡ unread (world_of A.sources P.slots self.now).state }
     {
         if self.desk.review().serial() >= LAST_SERIAL {
@@ -176,73 +173,6 @@ impl<A: Attributes, P: Policies> Service<A, P> {
         };
         let id = Text::from_str(self.alloc, id)?;
         self.edit(Edit::WithdrawPolicy(number, DocKey { kind, id, version }))
-    }
-
-    /// The refusal of a row whose type or a value can't be read.
-    #[tactic(auto, using(crate::proofs::ReadLemmas::values_counted))]
-    fn unread_row<J: JsonTree>(&self, row: &AskedRow<'_, J>) -> u8
-        ensures { result ≡ unread_row (world_of A.sources P.slots self.now).state (row_view J.content row.now) }
-    {
-        if self.desk.review().serial() >= LAST_SERIAL || row.values.len() > MOST_VALUES {
-            LIMIT
-        } else if is_reserved(row.category, row.attribute) {
-            RESERVED
-        } else {
-            BAD_VALUE
-        }
-    }
-
-    /// `attr.set`.
-    #[tactic(auto, unfolding(crate::specs::Commands::attribute_set))]
-    fn set_attribute<J: JsonTree>(
-        &mut self,
-        number: usize,
-        row: AskedRow<'_, J>,
-    ) -> Result<Reply, AllocError>
-        requires { IsReady A.sources P.slots self.old }
-        ensures ready { IsReady A.sources P.slots self.new }
-        ensures reply { Replies A.sources P.slots (λ w. attribute_set w number (row_view J.content row.entry))
-            self.old self.new result }
-        ensures work { Works A.sources P.slots (λ s. command_work s (asked.set_attribute number (row_view J.content row.entry)))
-            self.old self.new result }
-    {
-        match read_row(self.alloc, &row)? {
-            Some((key, values)) => self.edit(Edit::SetAttribute(number, key, values)),
-            None => Ok(Reply::Refused(self.unread_row(&row), None)),
-        }
-    }
-
-    /// `day.set`.
-    #[tactic(auto, unfolding(crate::specs::Commands::day_set))]
-    fn set_day(&mut self, day: Option<&str>) -> Result<Reply, AllocError>
-        requires { IsReady A.sources P.slots self.old }
-        ensures ready { IsReady A.sources P.slots self.new }
-        ensures reply { Replies A.sources P.slots (λ w. day_set w (option_copied day.entry)) self.old self.new result }
-        ensures work { Works A.sources P.slots (λ s. command_work s (asked.set_day (option_copied day.entry)))
-            self.old self.new result }
-    {
-        let Some(text) = day else {
-            return self.edit(Edit::SetDay(None));
-        };
-        match read_day(self.alloc, text) {
-            Some(day) => self.edit(Edit::SetDay(Some(day))),
-            None => Ok(Reply::Refused(self.unread(), None)),
-        }
-    }
-
-    /// `root.set`.
-    #[tactic(auto, unfolding(crate::specs::Commands::root_set))]
-    fn set_root<J: JsonTree>(&mut self, reference: &J) -> Result<Reply, AllocError>
-        requires { IsReady A.sources P.slots self.old }
-        ensures ready { IsReady A.sources P.slots self.new }
-        ensures reply { Replies A.sources P.slots (λ w. root_set w (J.content reference.now)) self.old self.new result }
-        ensures work { Works A.sources P.slots (λ s. command_work s (asked.set_root (J.content reference.now)))
-            self.old self.new result }
-    {
-        match read_root(self.alloc, reference) {
-            Ok(root) => self.edit(Edit::SetRoot(root)),
-            Err(fault) => refused_document(fault),
-        }
     }
 
     /// `table`.
@@ -318,6 +248,7 @@ impl<A: Attributes, P: Policies> Service<A, P> {
             Command::SetAttribute(number, row) => self.set_attribute(number, row),
             Command::SetRoot(reference) => self.set_root(reference),
             Command::SetDay(day) => self.set_day(day),
+            Command::SetMoment(moment) => self.set_moment(moment),
             Command::Table => self.table(),
             Command::Cell(person, action, resource) => self.cell(person, action, resource),
             Command::Ask(request) => self.ask(request),

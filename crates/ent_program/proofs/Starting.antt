@@ -11,6 +11,7 @@ use Rattle.ent_finder.specs.Slots.{Slots, held, key_cmp}
 use Rattle.ent_finder.proofs.Filled.{entries-filled}
 use Rattle.ent_finder.proofs.Held.{entries-held, filled}
 use Rattle.ent_eval.specs.LooksOf.{held_by}
+use Rattle.ent_eval.specs.declared.environment.Environment.TheVariants.{Empty}
 use Rattle.ent_eval.specs.declared.pdp.Pdp.{Pdp}
 use Rattle.ent_table.specs.Limits.{standard_limits}
 use Rattle.ent_table.specs.State.{initial}
@@ -58,14 +59,14 @@ map-replicate f x y is (suc n) = λ t. is t ∷ map-replicate f x y is n t
 alike : {A B : Type 0} (f : A → B) (x : A) (y : B) → f x ≡ y → (xs : List A) (n count : ℕ) → xs ≡ replicate n x → n ≡ count → map f xs ≡ replicate count y
 alike f x y is xs n count are all = ap (map f) are ∙ map-replicate f x y is n ∙ ap (λ m. replicate m y) all
 
--- a decision point over modules that hold nothing, with no root and no day
+-- a decision point over modules that hold nothing, with no root, where nothing is known of the time
 pub started : {A P : Type 0} (sources : A → List Source) (slots : P → List Slots) (pdp : Pdp A P) (limits : Limits) (attributes : A) (policies : P) (os : List Source) (ms : List Slots) (n m a p : ℕ)
-    → pdp.root ≡ None → pdp.day ≡ None → pdp.attributes ≡ attributes → pdp.policies ≡ policies → sources attributes ≡ os → slots policies ≡ ms
+    → pdp.root ≡ None → pdp.environment ≡ Empty → pdp.attributes ≡ attributes → pdp.policies ≡ policies → sources attributes ≡ os → slots policies ≡ ms
     → os ≡ replicate n no_rows → ms ≡ replicate m empty → n ≡ a → m ≡ p → limits ≡ standard_limits → initial (held_by sources slots pdp) limits ≡ state_at_start a p
-started sources slots pdp limits attributes policies os ms n m a p no_root no_day rows documents rows-seen documents-seen no_row no_document all_a all_p standard =
+started sources slots pdp limits attributes policies os ms n m a p no_root no_time rows documents rows-seen documents-seen no_row no_document all_a all_p standard =
     let rowless : map filled_source (sources pdp.attributes) ≡ replicate a no_rows = ap (λ v. map filled_source (sources v)) rows ∙ ap (map filled_source) rows-seen ∙ alike filled_source no_rows no_rows filled-no_rows os n a no_row all_a in
     let empty_ones : map held (slots pdp.policies) ≡ replicate p empty = ap (λ v. map held (slots v)) documents ∙ ap (map held) documents-seen ∙ alike held empty empty held-empty ms m p no_document all_p in
-    λ t. initial (record { root = no_root t; modules = empty_ones t; sources = rowless t; day = no_day t }) (standard t)
+    λ t. initial (record { root = no_root t; modules = empty_ones t; sources = rowless t; environment = no_time t }) (standard t)
 
 -- where memory was wanting, nothing was served
 pub not_begun : (replies : IsHeadline) (w : World) (unread wrote : Option (List ℕ)) (r : Result ℕ ServeFault) → r ≡ Err Memory → (end : World) × Headline (record { start = w; end = end; unread = unread; left = unread; wrote = wrote; holds = wrote }) r

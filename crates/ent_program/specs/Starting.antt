@@ -4,6 +4,7 @@ use Rattle.std.specs.FinMap.{empty}
 use Rattle.ent_finder.specs.Rows.{Source}
 use Rattle.ent_eval.specs.Held.{Held}
 use Rattle.ent_eval.specs.Uris as uris
+use Rattle.ent_eval.specs.declared.environment.Environment.TheVariants.{Empty}
 use Rattle.ent_table.specs.Limits.{standard_limits}
 use Rattle.ent_table.specs.State.{State, initial}
 use Rattle.ent_report.specs.World.{World, unmarked}
@@ -20,9 +21,9 @@ categories = uris.access_subject ∷ uris.resource ∷ uris.action ∷ []
 abbrev pub no_rows : Source
 no_rows = record { categories = categories; rows = empty }
 
--- that many modules without rows, that many without documents, no root and no day
+-- that many modules without rows, that many without documents, no root, and nothing known of the time
 abbrev pub nothing_held : ℕ → ℕ → Held
-nothing_held attributes policies = record { root = None; modules = replicate policies empty; sources = replicate attributes no_rows; day = None }
+nothing_held attributes policies = record { root = None; modules = replicate policies empty; sources = replicate attributes no_rows; environment = Empty }
 
 -- the same, with no names and the standard limits
 abbrev pub state_at_start : ℕ → ℕ → State

@@ -4,13 +4,14 @@ use Rattle.std.specs.Prelude.{nat_le, nat_lt}
 use Rattle.ent_policy.specs.Key.{key_of}
 use Rattle.ent_policy.specs.Names.{is_bad_name}
 use Rattle.ent_finder.specs.Slots.{document_count}
+use Rattle.ent_eval.specs.Environment.{of_day, of_moment}
 use Rattle.ent_table.specs.Names.{has_name, list_of, with_name, without_name}
 use Rattle.ent_table.specs.State.{State}
 use Rattle.ent_table.specs.Step.{IsAnswered, exceeds, is_bad_row, is_last, is_module, is_reserved, is_source, module_holds, module_lacks}
-use Rattle.ent_table.specs.Step.{next, step, unless, with_day, with_policy, with_root, with_values}
+use Rattle.ent_table.specs.Step.{next, step, unless, with_environment, with_policy, with_root, with_values}
 use Rattle.ent_table.specs.declared.edit.Accepted.{Accepted}
 use Rattle.ent_table.specs.declared.edit.Edit.{Edit}
-use Rattle.ent_table.specs.declared.edit.Edit.TheVariants.{AddPolicy, ReplacePolicy, WithdrawPolicy, SetAttribute, AddName, DropName, SetRoot, SetDay}
+use Rattle.ent_table.specs.declared.edit.Edit.TheVariants.{AddPolicy, ReplacePolicy, WithdrawPolicy, SetAttribute, AddName, DropName, SetRoot, SetDay, SetMoment}
 use Rattle.ent_table.specs.declared.edit.EditFault.{EditFault}
 use Rattle.ent_table.specs.declared.edit.EditFault.TheVariants.{NotThere, AlreadyThere, Limit, Reserved, BadValue, UnknownModule}
 
@@ -50,7 +51,8 @@ step_counts s (AddName list name) = past_three s (next (record s { names = with_
 step_counts s (DropName list name) = past_two s (next (record s { names = without_name list name s.names }))
     (not (has_name name (list_of list s.names))) (is_last s) NotThere Limit refl
 step_counts s (SetRoot root) = past s (is_last s) Limit (Ok (next (with_root s root))) refl
-step_counts s (SetDay day) = past s (is_last s) Limit (Ok (next (with_day s day))) refl
+step_counts s (SetDay day) = past s (is_last s) Limit (Ok (next (with_environment s (of_day day)))) refl
+step_counts s (SetMoment moment) = past s (is_last s) Limit (Ok (next (with_environment s (of_moment moment)))) refl
 
 -- whatever an edit is answered
 pub serial_rises : (s t : State) (edit : Edit) (result : Result Accepted EditFault) → IsAnswered (step s edit) s t result → s.serial ≤ t.serial

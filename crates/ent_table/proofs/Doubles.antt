@@ -5,7 +5,7 @@ use Rattle.std.specs.Cmp.Lexicographic.{bytes_decides, pointwise}
 use Rattle.std.specs.List.{AllByRecursion, IsDistinct}
 use Rattle.ent_table.specs.Doubles.{HasNoDoubles, NoNameIsTwice}
 use Rattle.ent_table.specs.declared.edit.Edit.{Edit}
-use Rattle.ent_table.specs.declared.edit.Edit.TheVariants.{AddPolicy, ReplacePolicy, WithdrawPolicy, SetAttribute, AddName, DropName, SetRoot, SetDay}
+use Rattle.ent_table.specs.declared.edit.Edit.TheVariants.{AddPolicy, ReplacePolicy, WithdrawPolicy, SetAttribute, AddName, DropName, SetRoot, SetDay, SetMoment}
 use Rattle.ent_table.specs.declared.edit.EditFault.{EditFault}
 use Rattle.ent_table.specs.declared.edit.EditFault.TheVariants.{NotThere, AlreadyThere, Limit, BadValue, Reserved, UnknownModule}
 use Rattle.ent_table.specs.declared.edit.List.{List as Which}
@@ -107,6 +107,7 @@ step_keeps s t (AddName list name) h e =
 step_keeps s t (DropName list name) h e = ends _ (allowed _ Limit _ (allowed _ NotThere _ e).1).1 (name_less list name s.names h)
 step_keeps s t (SetRoot root) h e = ends _ (allowed _ Limit _ e).1 h
 step_keeps s t (SetDay day) h e = ends _ (allowed _ Limit _ e).1 h
+step_keeps s t (SetMoment moment) h e = ends _ (allowed _ Limit _ e).1 h
 
 pub no_name_is_twice : NoNameIsTwice
 unfolding IsDistinct

@@ -19,13 +19,13 @@ use Rattle.ent_eval.specs.SameLook.{same_look}
 use Rattle.ent_eval.specs.declared.key.ReadKey.{ReadKey}
 use Rattle.ent_eval.specs.declared.key.ReadKey.TheVariants as keys
 use Rattle.ent_eval.proofs.AnswersRest.{answers-rest}
-use Rattle.ent_eval.proofs.Changes.{day-leaves, document-leaves, root-leaves, values-leave}
+use Rattle.ent_eval.proofs.Changes.{document-leaves, environment-leaves, root-leaves, values-leave}
 use Rattle.ent_eval.proofs.Recorded.{from_recursion}
 use Rattle.ent_eval.proofs.SameLooks.{same_look-Decides}
 use Rattle.ent_index.specs.Asked.{asks_policy}
 use Rattle.ent_cells.specs.Cell.{HasReadKeys, IsRightBut, Kept, cell_of, reads_any, renewed}
 use Rattle.ent_table.specs.declared.change.Exchange.{Exchange}
-use Rattle.ent_table.specs.declared.change.Exchange.TheVariants.{Document, Row, Root, Day}
+use Rattle.ent_table.specs.declared.change.Exchange.TheVariants.{Document, Row, Root, Environment}
 use Rattle.ent_table.specs.Counted.{touched, touched_count}
 use Rattle.ent_table.specs.proofs_only.Exchange.{with_exchange}
 use Rattle.ent_table.specs.Names.{Names, Triple, is_listed, triples}
@@ -48,16 +48,20 @@ same_asked : (key : DocKey) (k : ReadKey) → asks_document key k ≡ asks_polic
 same_asked key keys.Root = refl
 same_asked key (keys.Ref r) = λ i. kinds_swapped r.kind key.kind i && bytes_swapped r.id key.id i
 same_asked key (keys.Attr k) = refl
-same_asked key keys.Day = refl
+same_asked key keys.CurrentDate = refl
+same_asked key keys.CurrentTime = refl
+same_asked key keys.CurrentDateTime = refl
 
 leaves : (s : State) (x : Exchange) (k : ReadKey) → asks x k ≡ false → IsSameLook (looks_in s.held) (looks_in (with_exchange s x).held) k
 leaves s (Document number key document) k off = document-leaves s.held number key document k (same_asked key k ∙ off)
 leaves s (Row number row values) keys.Root off = values-leave s.held number row values keys.Root refl
 leaves s (Row number row values) (keys.Ref r) off = values-leave s.held number row values (keys.Ref r) refl
 leaves s (Row number row values) (keys.Attr key) off = values-leave s.held number row values (keys.Attr key) off
-leaves s (Row number row values) keys.Day off = values-leave s.held number row values keys.Day refl
+leaves s (Row number row values) keys.CurrentDate off = values-leave s.held number row values keys.CurrentDate refl
+leaves s (Row number row values) keys.CurrentTime off = values-leave s.held number row values keys.CurrentTime refl
+leaves s (Row number row values) keys.CurrentDateTime off = values-leave s.held number row values keys.CurrentDateTime refl
 leaves s (Root root) k off = root-leaves s.held root k off
-leaves s (Day day) k off = day-leaves s.held day k off
+leaves s (Environment environment) k off = environment-leaves s.held environment k off
 
 gives_same : (s t : State) (k : ReadKey) → IsSameLook (looks_in s.held) (looks_in t.held) k → gives_another s t k ≡ false
 gives_same s t k same = ap not ((same_look-Decides (looks_in s.held) (looks_in t.held) k).1 same)
@@ -73,7 +77,7 @@ pub names_stay : (s : State) (x : Exchange) → (with_exchange s x).names ≡ s.
 names_stay s (Document number key document) = refl
 names_stay s (Row number row values) = refl
 names_stay s (Root root) = refl
-names_stay s (Day day) = refl
+names_stay s (Environment environment) = refl
 
 -- ---- the cells of a state, and the keys that they read and that an exchange may change
 

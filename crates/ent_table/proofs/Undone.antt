@@ -3,7 +3,7 @@ use Rattle.std.proofs.Common.{◌≡◌, ◌<◌, List, length, refl, ap, subst,
 use Rattle.ent_finder.specs.Rows.{Source}
 use Rattle.ent_finder.specs.Slots.{Slots}
 use Rattle.ent_table.specs.declared.change.Exchange.{Exchange}
-use Rattle.ent_table.specs.declared.change.Exchange.TheVariants.{Document, Row, Root, Day}
+use Rattle.ent_table.specs.declared.change.Exchange.TheVariants.{Document, Row, Root, Environment}
 use Rattle.ent_table.specs.declared.review.Review.{Review}
 use Rattle.ent_table.specs.proofs_only.Exchange.{IsMade, IsWithin, taken, with_exchange}
 use Rattle.ent_table.specs.Review.{state_of}
@@ -17,7 +17,7 @@ exchange-undone s ss (Row number key values) are h = values_undone s ss number k
   within : number < length s.held.sources → number < length (all_filled ss)
   within l = subst (λ n. number < n) (ap length are) l
 exchange-undone s ss (Root root) are h = refl
-exchange-undone s ss (Day day) are h = refl
+exchange-undone s ss (Environment environment) are h = refl
 
 module _ {A P : Type 0} (sources : A → List Source) (slots : P → List Slots) where
   -- where what was exchanged is exchanged with what stood there, the state is as before both

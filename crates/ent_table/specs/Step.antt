@@ -3,7 +3,6 @@ use Rattle.std.specs.Prelude.{◌≡◌, ℕ, ◌+◌, ◌^◌, ◌||◌, ◌&&�
 use Rattle.std.specs.Prelude.{Err, if◌then◌else◌}
 use Rattle.std.specs.List.{list_all}
 use Rattle.std.specs.Option.{option_map_or}
-use Rattle.ent_values.specs.Calendar.{Day}
 use Rattle.ent_values.specs.Same.{same_type}
 use Rattle.ent_values.specs.Types.{datatype_of}
 use Rattle.ent_values.specs.declared.value.Value.{Value}
@@ -16,10 +15,12 @@ use Rattle.ent_finder.specs.Finding.{has_document}
 use Rattle.ent_finder.specs.Rows.{source_at, supports, with_row}
 use Rattle.ent_finder.specs.Slots.{document_count, module_at, with_document}
 use Rattle.ent_finder.specs.declared.row.RowKey.{RowKey}
+use Rattle.ent_eval.specs.Environment.{of_day, of_moment}
 use Rattle.ent_eval.specs.Sources.{id_attribute}
+use Rattle.ent_eval.specs.declared.environment.Environment.{Environment}
 use Rattle.ent_table.specs.declared.edit.Accepted.{Accepted}
 use Rattle.ent_table.specs.declared.edit.Edit.{Edit}
-use Rattle.ent_table.specs.declared.edit.Edit.TheVariants.{AddPolicy, ReplacePolicy, WithdrawPolicy, SetAttribute, AddName, DropName, SetRoot, SetDay}
+use Rattle.ent_table.specs.declared.edit.Edit.TheVariants.{AddPolicy, ReplacePolicy, WithdrawPolicy, SetAttribute, AddName, DropName, SetRoot, SetDay, SetMoment}
 use Rattle.ent_table.specs.declared.edit.EditFault.{EditFault}
 use Rattle.ent_table.specs.declared.edit.EditFault.TheVariants.{NotThere, AlreadyThere, Limit, Reserved, BadValue, UnknownModule, Memory}
 use Rattle.ent_table.specs.declared.edit.List.{List as Which}
@@ -150,13 +151,13 @@ with_root s root = record s { held = record s.held { root = root } }
 abbrev pub root_set : State → Option Reference → Result State EditFault
 root_set s root = unless (is_last s) Limit (Ok (next (with_root s root)))
 
--- another day, or none
-abbrev pub with_day : State → Option Day → State
-with_day s day = record s { held = record s.held { day = day } }
+-- another environment
+abbrev pub with_environment : State → Environment → State
+with_environment s environment = record s { held = record s.held { environment = environment } }
 
--- the day is another, or none
-abbrev pub day_set : State → Option Day → Result State EditFault
-day_set s day = unless (is_last s) Limit (Ok (next (with_day s day)))
+-- the environment is another
+abbrev pub environment_set : State → Environment → Result State EditFault
+environment_set s environment = unless (is_last s) Limit (Ok (next (with_environment s environment)))
 
 -- the first refusal whose condition stands, else the state with one thing changed
 abbrev pub step : State → Edit → Result State EditFault
@@ -167,7 +168,8 @@ step s (SetAttribute number key values) = attribute_set s number key values
 step s (AddName list name) = name_added s list name
 step s (DropName list name) = name_dropped s list name
 step s (SetRoot root) = root_set s root
-step s (SetDay day) = day_set s day
+step s (SetDay day) = environment_set s (of_day day)
+step s (SetMoment moment) = environment_set s (of_moment moment)
 
 -- a fault is the step's, or want of memory
 abbrev pub IsRefusal : Result State EditFault → EditFault → Type 0

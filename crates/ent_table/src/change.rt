@@ -7,9 +7,10 @@ ghost use Rattle.ent_table.specs.proofs_only.Exchange.{IsMade, IsThere, IsWithin
 ghost use Rattle.ent_table.specs.Review.{state_of};
 
 use crate::review::Review;
+use ent_eval::Environment;
 use ent_finder::{Attributes, Policies, RowKey};
 use ent_policy::{DocKey, Document, Reference};
-use ent_values::{Date, Items, Value};
+use ent_values::{Items, Value};
 use std::alloc::AllocError;
 
 /// One thing of what is held, which is to be exchanged with what stands there.
@@ -21,8 +22,8 @@ pub(crate) enum Exchange {
     Row(usize, RowKey, Items<Value>),
     /// The root, or none.
     Root(Option<Reference>),
-    /// The day, or none.
-    Day(Option<Date>),
+    /// The environment.
+    Environment(Environment),
 }
 
 impl<A: Attributes, P: Policies> Review<A, P> {
@@ -48,9 +49,9 @@ impl<A: Attributes, P: Policies> Review<A, P> {
                 *root = before;
                 Ok(())
             }
-            Exchange::Day(day) => {
-                let before = self.pdp.set_day(*day);
-                *day = before;
+            Exchange::Environment(environment) => {
+                let before = self.pdp.set_environment(*environment);
+                *environment = before;
                 Ok(())
             }
         }

@@ -2,7 +2,7 @@
 
 use ent_finder::RowKey;
 use ent_policy::{DocKey, Document, Reference};
-use ent_values::{Date, Items, Text, Value};
+use ent_values::{Date, DateTime, Items, Text, Value};
 use thiserror::Error;
 
 /// One of the three lists whose names together make the requests of the table.
@@ -31,8 +31,10 @@ pub enum Edit {
     DropName(List, Text),
     /// Sets the policy from which every request is evaluated, or none.
     SetRoot(Option<Reference>),
-    /// Sets the day of the environment, or none.
+    /// Makes the environment have that day and no time, or nothing.
     SetDay(Option<Date>),
+    /// Makes the environment have that date and time, or nothing.
+    SetMoment(Option<DateTime>),
 }
 
 /// An edit was made.

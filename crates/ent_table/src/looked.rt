@@ -6,20 +6,21 @@ ghost use Rattle.std.specs.Option.{option_copied, option_eq};
 ghost use Rattle.ent_policy.specs.Same.{same_document};
 ghost use Rattle.ent_eval.specs.Held.{looks_in};
 ghost use Rattle.ent_cells.specs.Cell.{HasReadKeys};
-ghost use Rattle.ent_table.specs.proofs_only.Exchange.{IsWithin, policy_at};
+ghost use Rattle.ent_table.specs.proofs_only.Exchange.{IsWithin};
+ghost use Rattle.ent_table.specs.proofs_only.Exchange.{policy_at};
 ghost use Rattle.ent_table.specs.Review.{state_of};
 ghost use Rattle.ent_table.specs.proofs_only.Seen.{AreChanged, IsSeen, TellsChange, asks, before_of, is_that, keys_in};
-ghost use Rattle.ent_table.specs.proofs_only.Seen.{are_other_values, document_before, finds_another};
-ghost use Rattle.ent_table.specs.proofs_only.Seen.{finds_other, gives_other};
-ghost use Rattle.ent_table.specs.proofs_only.Seen.{is_other_day, is_other_document, is_other_root, values_before};
+ghost use Rattle.ent_table.specs.proofs_only.Seen.{are_other_values, document_before, finds_another, finds_other, gives_other};
+ghost use Rattle.ent_table.specs.proofs_only.Seen.{environment_keys, values_before};
+ghost use Rattle.ent_table.specs.proofs_only.Seen.{is_other_document, is_other_environment, is_other_root};
 
 use crate::change::Exchange;
 use crate::review::Review;
-use ent_eval::ReadKey;
+use ent_eval::{Environment, ReadKey};
 use ent_finder::{AttrKey, Attributes, Policies};
 use ent_policy::{DocKey, Document, Reference};
-use ent_values::{Bag, Date, Items};
-use std::alloc::AllocError;
+use ent_values::{Bag, Items};
+use std::alloc::{AllocError, Global};
 
 /// What is kept of what a key gives before an exchange, to tell afterwards whether it gives another.
 #[derive(Drop)]
@@ -38,6 +39,17 @@ pub(crate) enum Before {
 pub(crate) struct Seen {
     pub(crate) key: ReadKey,
     pub(crate) before: Before,
+}
+
+/// The keys of the environment.
+fn environment_keys(alloc: Global) -> Result<Items<ReadKey>, AllocError>
+    ensures { IfOk result (λ keys. keys ≡ environment_keys) }
+{
+    let mut keys = Items::with_capacity(alloc, 3)?;
+    keys.push(ReadKey::CurrentDate)?;
+    keys.push(ReadKey::CurrentTime)?;
+    keys.push(ReadKey::CurrentDateTime)?;
+    Ok(keys)
 }
 
 /// Whether there are two documents, and they are equal.
@@ -61,8 +73,9 @@ fn is_same(found: Option<&Document>, that: Option<&Document>) -> bool
     }
 }
 
-/// Whether a reference finds another document than before an exchange: `there` stands now where `former` stood, `was_former`
-/// tells whether it found one equal to that, and `was_there` whether what it found equals what stands there now.
+/// Whether a reference finds another document than before an exchange: `there` stands now where `former` stood,
+/// `was_former` tells whether it found one equal to that, and `was_there` whether what it found equals what stands there
+/// now.
 fn finds_another(
     now: Option<&Document>,
     there: Option<&Document>,
@@ -107,7 +120,7 @@ impl<A: Attributes, P: Policies> Review<A, P> {
             }
             Exchange::Row(_, key, _) => self.table.cells.keys_of_row(key),
             Exchange::Root(_) => Items::of_one(self.alloc, ReadKey::Root),
-            Exchange::Day(_) => Items::of_one(self.alloc, ReadKey::Day),
+            Exchange::Environment(_) => environment_keys(self.alloc),
         }
     }
 
@@ -122,7 +135,7 @@ impl<A: Attributes, P: Policies> Review<A, P> {
                 Ok(self.document_before(*number, under, document, key))
             }
             Exchange::Row(_, _, _) => self.values_before(key),
-            Exchange::Root(_) | Exchange::Day(_) => Ok(Before::Other),
+            Exchange::Root(_) | Exchange::Environment(_) => Ok(Before::Other),
         }
     }
 
@@ -143,7 +156,11 @@ impl<A: Attributes, P: Policies> Review<A, P> {
                 let there = self.document_at(number, under);
                 Before::Found(is_that(found, there), is_same(found, document.as_ref()))
             }
-            ReadKey::Root | ReadKey::Attr(_) | ReadKey::Day => Before::Other,
+            ReadKey::Root
+            | ReadKey::Attr(_)
+            | ReadKey::CurrentDate
+            | ReadKey::CurrentTime
+            | ReadKey::CurrentDateTime => Before::Other,
         }
     }
 
@@ -153,7 +170,11 @@ impl<A: Attributes, P: Policies> Review<A, P> {
     {
         match key {
             ReadKey::Attr(key) => Ok(Before::Given(self.given(key)?)),
-            ReadKey::Root | ReadKey::Ref(_) | ReadKey::Day => Ok(Before::Other),
+            ReadKey::Root
+            | ReadKey::Ref(_)
+            | ReadKey::CurrentDate
+            | ReadKey::CurrentTime
+            | ReadKey::CurrentDateTime => Ok(Before::Other),
         }
     }
 
@@ -216,7 +237,7 @@ impl<A: Attributes, P: Policies> Review<A, P> {
             }
             Exchange::Row(_, _, _) => self.are_other_values(seen),
             Exchange::Root(former) => Ok(self.is_other_root(&seen.key, former)),
-            Exchange::Day(former) => Ok(self.is_other_day(&seen.key, *former)),
+            Exchange::Environment(former) => Ok(self.is_other_environment(&seen.key, *former)),
         }
     }
 
@@ -257,7 +278,11 @@ impl<A: Attributes, P: Policies> Review<A, P> {
             ReadKey::Ref(reference) => {
                 finds_another(self.found(reference), there, former, was_former, was_there)
             }
-            ReadKey::Root | ReadKey::Attr(_) | ReadKey::Day => false,
+            ReadKey::Root
+            | ReadKey::Attr(_)
+            | ReadKey::CurrentDate
+            | ReadKey::CurrentTime
+            | ReadKey::CurrentDateTime => false,
         }
     }
 
@@ -280,7 +305,11 @@ impl<A: Attributes, P: Policies> Review<A, P> {
                 let now = self.given(key)?;
                 Ok(before.values() != now.values())
             }
-            ReadKey::Root | ReadKey::Ref(_) | ReadKey::Day => Ok(false),
+            ReadKey::Root
+            | ReadKey::Ref(_)
+            | ReadKey::CurrentDate
+            | ReadKey::CurrentTime
+            | ReadKey::CurrentDateTime => Ok(false),
         }
     }
 
@@ -290,16 +319,23 @@ impl<A: Attributes, P: Policies> Review<A, P> {
     {
         match key {
             ReadKey::Root => *former != *self.pdp.root(),
-            ReadKey::Ref(_) | ReadKey::Attr(_) | ReadKey::Day => false,
+            ReadKey::Ref(_)
+            | ReadKey::Attr(_)
+            | ReadKey::CurrentDate
+            | ReadKey::CurrentTime
+            | ReadKey::CurrentDateTime => false,
         }
     }
 
-    /// The same, once the day was exchanged.
-    fn is_other_day(&self, key: &ReadKey, former: Option<Date>) -> bool
-        ensures { result ≡ is_other_day (state_of A.sources P.slots self.now) key.now former }
+    /// The same, once the environment was exchanged.
+    fn is_other_environment(&self, key: &ReadKey, former: Environment) -> bool
+        ensures { result ≡ is_other_environment (state_of A.sources P.slots self.now) key.now former }
     {
+        let now = self.pdp.environment();
         match key {
-            ReadKey::Day => former != self.pdp.day(),
+            ReadKey::CurrentDate => former.date() != now.date(),
+            ReadKey::CurrentTime => former.time() != now.time(),
+            ReadKey::CurrentDateTime => former.date_time() != now.date_time(),
             ReadKey::Root | ReadKey::Ref(_) | ReadKey::Attr(_) => false,
         }
     }

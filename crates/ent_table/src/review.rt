@@ -7,13 +7,13 @@ ghost use Rattle.ent_log.specs.Tables.{room_of};
 ghost use Rattle.ent_table.specs.Change.{Edits, IsSure};
 ghost use Rattle.ent_table.specs.proofs_only.Change.{Counted};
 ghost use Rattle.ent_table.specs.Counted.{IsCounted};
-ghost use Rattle.ent_table.specs.proofs_only.Exchange.{IsWithin, count_with, exchanged};
+ghost use Rattle.ent_table.specs.proofs_only.Exchange.{IsWithin, count_with, exchanged, exchanged_unless_last};
 ghost use Rattle.ent_table.specs.Left.{cells_left};
 ghost use Rattle.ent_table.specs.Limits.{IsStandardAtMost};
 ghost use Rattle.ent_table.specs.Names.{has_name, list_of, triple_of};
 ghost use Rattle.ent_table.specs.Review.{IsFresh, IsIdle, state_of};
 ghost use Rattle.ent_table.specs.State.{answer_at, initial, table_of};
-ghost use Rattle.ent_table.specs.Step.{day_set, is_last, root_set, step};
+ghost use Rattle.ent_table.specs.Step.{is_last, step};
 ghost use Rattle.ent_table.specs.Tables.{IsFreshAtSerial, KeepsTables, Logs};
 
 use crate::cells::Cells;
@@ -22,11 +22,10 @@ use crate::edit::{Accepted, Edit, EditFault, List};
 use crate::limits::Limits;
 use crate::table::Table;
 use ent_cells::Who;
-use ent_eval::{Answer, Pdp};
+use ent_eval::{Answer, Environment, Pdp};
 use ent_finder::{AttributeFinder, Attributes, Policies, PolicyFinder};
 use ent_log::{Log, OldAnswer};
-use ent_policy::Reference;
-use ent_values::{Date, Items, Shared};
+use ent_values::{Items, Shared};
 use std::alloc::Global;
 
 /// No edit is accepted at this serial.
@@ -66,8 +65,8 @@ impl<A: Attributes, P: Policies> Review<A, P> {
         }
     }
 
-    /// Makes an edit, and keeps the table right. After a refusal everything is as before. The table at each serial so far
-    /// stays what it was, and the one at the new serial is the fresh one.
+    /// Makes an edit, and keeps the table right. After a refusal everything is as before. The table at each serial so
+    /// far stays what it was, and the one at the new serial is the fresh one.
     ///
     /// Dropping a name evaluates nothing and takes no memory.
     pub fn edit(&mut self, edit: Edit) -> Result<Accepted, EditFault>
@@ -90,37 +89,29 @@ impl<A: Attributes, P: Policies> Review<A, P> {
             Edit::SetAttribute(number, key, values) => self.set_attribute(number, key, values),
             Edit::AddName(list, name) => self.add_name(list, name),
             Edit::DropName(list, name) => self.drop_name(list, &name),
-            Edit::SetRoot(root) => self.set_root(root),
-            Edit::SetDay(day) => self.set_day(day),
+            Edit::SetRoot(root) => self.set(Exchange::Root(root)),
+            Edit::SetDay(day) => self.set(Exchange::Environment(Environment::of_day(day))),
+            Edit::SetMoment(moment) => {
+                self.set(Exchange::Environment(Environment::of_moment(moment)))
+            }
         }
     }
 
-    fn set_root(&mut self, root: Option<Reference>) -> Result<Accepted, EditFault>
-        requires { IsFresh A.sources P.slots self.old }
+    /// Makes an exchange that is refused at the last serial alone, and leaves how many documents are held.
+    fn set(&mut self, exchange: Exchange) -> Result<Accepted, EditFault>
+        requires fresh { IsFresh A.sources P.slots self.old }
+        requires within { IsWithin (state_of A.sources P.slots self.old) exchange }
+        requires documents { self.old.documents ≡ count_with (state_of A.sources P.slots self.old) exchange }
         ensures fresh { IsFresh A.sources P.slots self.new }
-        ensures step { Edits A.sources P.slots (λ s. root_set s root) self.old self.new result }
-        ensures counted { Counted A.sources P.slots (λ s. root_set s root) self.old self.new result }
+        ensures step { Edits A.sources P.slots (λ s. exchanged_unless_last s exchange) self.old self.new result }
+        ensures counted { Counted A.sources P.slots (λ s. exchanged_unless_last s exchange) self.old self.new result }
         ensures tables { KeepsTables A.sources P.slots self.old self.new }
     {
         if self.is_last() {
             return Err(EditFault::Limit);
         }
         let documents = self.documents;
-        self.make(Exchange::Root(root), documents)
-    }
-
-    fn set_day(&mut self, day: Option<Date>) -> Result<Accepted, EditFault>
-        requires { IsFresh A.sources P.slots self.old }
-        ensures fresh { IsFresh A.sources P.slots self.new }
-        ensures step { Edits A.sources P.slots (λ s. day_set s day) self.old self.new result }
-        ensures counted { Counted A.sources P.slots (λ s. day_set s day) self.old self.new result }
-        ensures tables { KeepsTables A.sources P.slots self.old self.new }
-    {
-        if self.is_last() {
-            return Err(EditFault::Limit);
-        }
-        let documents = self.documents;
-        self.make(Exchange::Day(day), documents)
+        self.make(exchange, documents)
     }
 
     /// Makes an exchange, after which so many documents are held, and keeps the table right: it evaluates the cells of

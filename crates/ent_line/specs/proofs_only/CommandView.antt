@@ -6,7 +6,7 @@ use Rattle.serde_json.specs.View.{items_of}
 use Rattle.ent_line.specs.Asked as asked
 use Rattle.ent_line.specs.declared.attribute_command.AskedRow.{AskedRow}
 use Rattle.ent_line.specs.declared.command.Command.{Command}
-use Rattle.ent_line.specs.declared.command.Command.TheVariants.{AddName, DropName, AddPolicy, ReplacePolicy, WithdrawPolicy, SetAttribute, SetRoot, SetDay}
+use Rattle.ent_line.specs.declared.command.Command.TheVariants.{AddName, DropName, AddPolicy, ReplacePolicy, WithdrawPolicy, SetAttribute, SetRoot, SetDay, SetMoment}
 use Rattle.ent_line.specs.declared.command.Command.TheVariants.{Table, Cell, Ask, Counts, Can, Who, ByRule, Mark, Notices, Work}
 use Rattle.ent_table.specs.Names.{triple_of}
 
@@ -31,6 +31,7 @@ command_view content (WithdrawPolicy number kind id version) = asked.withdraw_po
 command_view content (SetAttribute number row) = asked.set_attribute number (row_view content row)
 command_view content (SetRoot reference) = asked.set_root (content reference.now)
 command_view content (SetDay day) = asked.set_day (option_copied day)
+command_view content (SetMoment moment) = asked.set_moment (option_copied moment)
 command_view content Table = asked.table
 command_view content (Cell person action resource) = asked.cell (triple_of person.now action.now resource.now)
 command_view content (Ask request) = asked.ask (content request.now)

@@ -11,12 +11,13 @@ use Rattle.ent_policy.specs.declared.key.DocKey.{DocKey}
 use Rattle.ent_values.specs.declared.value.Value.{Value}
 use Rattle.ent_finder.specs.declared.row.RowKey.{RowKey}
 use Rattle.ent_table.specs.declared.change.Exchange.{Exchange}
-use Rattle.ent_table.specs.declared.change.Exchange.TheVariants.{Document, Row, Root, Day}
+use Rattle.ent_table.specs.declared.change.Exchange.TheVariants.{Document, Row, Root, Environment}
 use Rattle.ent_table.specs.declared.edit.EditFault.{EditFault}
+use Rattle.ent_table.specs.declared.edit.EditFault.TheVariants.{Limit}
 use Rattle.ent_table.specs.declared.review.Review.{Review}
 use Rattle.ent_table.specs.Review.{state_of}
 use Rattle.ent_table.specs.State.{State}
-use Rattle.ent_table.specs.Step.{next, with_day, with_policy, with_root, with_values}
+use Rattle.ent_table.specs.Step.{is_last, next, unless, with_environment, with_policy, with_root, with_values}
 
 -- the document that the module of that number holds under a key
 abbrev pub policy_at : State → ℕ → DocKey → Option Tree
@@ -31,32 +32,36 @@ abbrev pub with_exchange : State → Exchange → State
 with_exchange s (Document number key document) = with_policy s number key document
 with_exchange s (Row number key values) = with_values s number key values
 with_exchange s (Root root) = with_root s root
-with_exchange s (Day day) = with_day s day
+with_exchange s (Environment environment) = with_environment s environment
 
 -- what stands there before it, which exchanged takes it back
 abbrev pub taken : State → Exchange → Exchange
 taken s (Document number key document) = Document number key (policy_at s number key)
 taken s (Row number key values) = Row number key (row_at s number key)
 taken s (Root root) = Root s.held.root
-taken s (Day day) = Day s.held.day
+taken s (Environment environment) = Environment s.held.environment
 
 -- the step that it makes, one serial later
 abbrev pub exchanged : State → Exchange → Result State EditFault
 exchanged s x = Ok (next (with_exchange s x))
+
+-- the same, unless the serial is the last
+abbrev pub exchanged_unless_last : State → Exchange → Result State EditFault
+exchanged_unless_last s x = unless (is_last s) Limit (exchanged s x)
 
 -- there is a module of that number, and what is to stand in it is of the key
 abbrev pub IsWithin : State → Exchange → Type 0
 IsWithin s (Document number key document) = (number < length s.held.modules) × ForSome document (λ d. key_of d ≡ key)
 IsWithin s (Row number key values) = (number < length s.held.sources) × AllOfType key.datatype values
 IsWithin s (Root root) = Unit {0}
-IsWithin s (Day day) = Unit {0}
+IsWithin s (Environment environment) = Unit {0}
 
 -- there is a place for it, so that it takes no memory
 abbrev pub IsThere : {A P : Type 0} → (A → List Source) → (P → List Slots) → Review A P → Exchange → Type 0
 IsThere sources slots v (Document number key document) = IsSome (get (module_at (slots v.pdp.policies) number) key)
 IsThere sources slots v (Row number key values) = IsSome (get (source_at (sources v.pdp.attributes) number).rows key)
 IsThere sources slots v (Root root) = Unit {0}
-IsThere sources slots v (Day day) = Unit {0}
+IsThere sources slots v (Environment environment) = Unit {0}
 
 -- how many documents are held after it
 abbrev pub count_with : State → Exchange → ℕ
@@ -65,7 +70,7 @@ count_with s x = document_count (with_exchange s x).held.modules
 -- only what is held changed
 abbrev pub OnlyHeld : {A P : Type 0} → Review A P → Review A P → Type 0
 OnlyHeld old new = new ≡ record old {
-  pdp = record old.pdp { attributes = new.pdp.attributes; policies = new.pdp.policies; root = new.pdp.root; day = new.pdp.day };
+  pdp = record old.pdp { attributes = new.pdp.attributes; policies = new.pdp.policies; root = new.pdp.root; environment = new.pdp.environment };
 }
 
 -- a review became another by an exchange, of which this stood there

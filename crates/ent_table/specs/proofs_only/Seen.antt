@@ -1,23 +1,23 @@
 -- What look-ups give before an exchange, and which of them give another after it.
-use Rattle.std.specs.Prelude.{◌≡◌, ℕ, List, Bool, true, false, not, ◌&&◌, filter, map, Option, Some}
+use Rattle.std.specs.Prelude.{◌≡◌, ℕ, List, [], ◌∷◌, Bool, true, false, not, ◌&&◌, filter, map, Option, Some}
 use Rattle.std.specs.List.{AllByRecursion}
 use Rattle.std.specs.Option.{option_eq}
 use Rattle.ent_values.specs.Bags.{Contents}
-use Rattle.ent_values.specs.Calendar.{Day as Civil}
-use Rattle.ent_values.specs.Same.{same_values}
-use Rattle.ent_values.specs.contracts.date.DatePartialEq.TheImpl as dates
+use Rattle.ent_values.specs.Same.{same_date, same_date_time, same_time, same_values}
 use Rattle.ent_policy.specs.Same.{same_document, same_reference}
 use Rattle.ent_policy.specs.declared.key.DocKey.{DocKey}
 use Rattle.ent_policy.specs.declared.key.Reference.{Reference}
 use Rattle.ent_policy.specs.declared.document.Tree.{Tree}
-use Rattle.ent_eval.specs.Change.{asks_day, asks_root}
+use Rattle.ent_eval.specs.Change.{asks_environment, asks_root}
+use Rattle.ent_eval.specs.Environment.{date_in, date_time_in, time_in}
 use Rattle.ent_eval.specs.Held.{looks_in}
 use Rattle.ent_eval.specs.SameLook.{same_look}
+use Rattle.ent_eval.specs.declared.environment.Environment.{Environment as Surroundings}
 use Rattle.ent_eval.specs.declared.key.ReadKey.{ReadKey}
 use Rattle.ent_eval.specs.declared.key.ReadKey.TheVariants as keys
 use Rattle.ent_index.specs.Asked.{asks_policy, asks_row}
 use Rattle.ent_table.specs.declared.change.Exchange.{Exchange}
-use Rattle.ent_table.specs.declared.change.Exchange.TheVariants.{Document, Row, Root, Day}
+use Rattle.ent_table.specs.declared.change.Exchange.TheVariants.{Document, Row, Root, Environment}
 use Rattle.ent_table.specs.declared.looked.Before.{Before}
 use Rattle.ent_table.specs.declared.looked.Before.TheVariants.{Found, Given, Other}
 use Rattle.ent_table.specs.declared.looked.Seen.{Seen}
@@ -29,7 +29,11 @@ abbrev pub asks : Exchange → ReadKey → Bool
 asks (Document number key document) k = asks_policy key.kind key.id k
 asks (Row number row values) k = asks_row row k
 asks (Root root) k = asks_root k
-asks (Day day) k = asks_day k
+asks (Environment environment) k = asks_environment k
+
+-- the keys of the environment
+abbrev pub environment_keys : List ReadKey
+environment_keys = keys.CurrentDate ∷ keys.CurrentTime ∷ keys.CurrentDateTime ∷ []
 
 -- whether there are two documents, and they are the same
 abbrev pub is_that : Option Tree → Option Tree → Bool
@@ -41,10 +45,6 @@ abbrev pub finds_another : Option Tree → Option Tree → Option Tree → Bool 
 finds_another now there former true was_there = not (option_eq same_document former now)
 finds_another now there former false was_there = is_that now there && not was_there
 
--- what `==` of two days answers
-abbrev pub same_date : Civil → Civil → Bool
-same_date = (dates.ghosts).eq
-
 -- ---- what is kept of what a key gives before an exchange
 
 -- of a reference, before a document is exchanged: whether it finds one like that which stands there, and whether it finds what is to stand there
@@ -52,20 +52,24 @@ abbrev pub document_before : State → ℕ → DocKey → Option Tree → ReadKe
 document_before s number key document (keys.Ref reference) = Found (is_that ((looks_in s.held).document reference) (policy_at s number key)) (option_eq same_document ((looks_in s.held).document reference) document)
 document_before s number key document keys.Root = Other
 document_before s number key document (keys.Attr k) = Other
-document_before s number key document keys.Day = Other
+document_before s number key document keys.CurrentDate = Other
+document_before s number key document keys.CurrentTime = Other
+document_before s number key document keys.CurrentDateTime = Other
 
 -- of a key of values, before a row is exchanged: the values
 abbrev pub values_before : State → ReadKey → Before
 values_before s (keys.Attr key) = Given (record { datatype = key.datatype; values = (looks_in s.held).values key })
 values_before s keys.Root = Other
 values_before s (keys.Ref reference) = Other
-values_before s keys.Day = Other
+values_before s keys.CurrentDate = Other
+values_before s keys.CurrentTime = Other
+values_before s keys.CurrentDateTime = Other
 
 abbrev pub before_of : State → Exchange → ReadKey → Before
 before_of s (Document number key document) k = document_before s number key document k
 before_of s (Row number row values) k = values_before s k
 before_of s (Root root) k = Other
-before_of s (Day day) k = Other
+before_of s (Environment environment) k = Other
 
 -- that is kept of a key
 abbrev pub IsSeen : State → Exchange → Seen → Type 0
@@ -78,7 +82,9 @@ abbrev pub finds_other : State → ReadKey → Option Tree → Option Tree → B
 finds_other t (keys.Ref reference) there former was_former was_there = finds_another ((looks_in t.held).document reference) there former was_former was_there
 finds_other t keys.Root there former was_former was_there = false
 finds_other t (keys.Attr k) there former was_former was_there = false
-finds_other t keys.Day there former was_former was_there = false
+finds_other t keys.CurrentDate there former was_former was_there = false
+finds_other t keys.CurrentTime there former was_former was_there = false
+finds_other t keys.CurrentDateTime there former was_former was_there = false
 
 -- once a document was exchanged, by what was kept of the key
 abbrev pub is_other_document : State → ℕ → DocKey → Option Tree → Before → ReadKey → Bool
@@ -91,7 +97,9 @@ abbrev pub gives_other : State → ReadKey → Contents → Bool
 gives_other t (keys.Attr key) before = not (same_values before.values ((looks_in t.held).values key))
 gives_other t keys.Root before = false
 gives_other t (keys.Ref reference) before = false
-gives_other t keys.Day before = false
+gives_other t keys.CurrentDate before = false
+gives_other t keys.CurrentTime before = false
+gives_other t keys.CurrentDateTime before = false
 
 -- once a row was exchanged, by what was kept of the key
 abbrev pub are_other_values : State → Before → ReadKey → Bool
@@ -104,14 +112,18 @@ abbrev pub is_other_root : State → ReadKey → Option Reference → Bool
 is_other_root t keys.Root former = not (option_eq same_reference former t.held.root)
 is_other_root t (keys.Ref reference) former = false
 is_other_root t (keys.Attr key) former = false
-is_other_root t keys.Day former = false
+is_other_root t keys.CurrentDate former = false
+is_other_root t keys.CurrentTime former = false
+is_other_root t keys.CurrentDateTime former = false
 
--- once the day was exchanged
-abbrev pub is_other_day : State → ReadKey → Option Civil → Bool
-is_other_day t keys.Day former = not (option_eq same_date former t.held.day)
-is_other_day t keys.Root former = false
-is_other_day t (keys.Ref reference) former = false
-is_other_day t (keys.Attr key) former = false
+-- once the environment was exchanged: whether it had another date, another time, or another date and time
+abbrev pub is_other_environment : State → ReadKey → Surroundings → Bool
+is_other_environment t keys.CurrentDate former = not (option_eq same_date (date_in former) (date_in t.held.environment))
+is_other_environment t keys.CurrentTime former = not (option_eq same_time (time_in former) (time_in t.held.environment))
+is_other_environment t keys.CurrentDateTime former = not (option_eq same_date_time (date_time_in former) (date_time_in t.held.environment))
+is_other_environment t keys.Root former = false
+is_other_environment t (keys.Ref reference) former = false
+is_other_environment t (keys.Attr key) former = false
 
 -- the keys of which something is kept
 abbrev pub keys_in : List Seen → List ReadKey

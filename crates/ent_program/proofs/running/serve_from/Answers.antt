@@ -75,7 +75,7 @@ returns g c =
     let rowless : c.loop.counter ≡ c.args.count.attributes = omega (arith, c.loop-test.false, c.loop.auto.counter-end) in
     let empty_ones : c.loop-2.counter ≡ c.args.count.policies = omega (arith, c.loop-2-test.false, c.loop-2.auto.counter-end) in
     let begun = started (attributes.ghosts (own-1, lawful-own-1)).sources (policies.ghosts (own-2, lawful-own-2)).slots c.new-pdp.result c.standard.result _ _ _ _ _ _ _ _
-    c.new-pdp.ensures.root c.new-pdp.ensures.day c.new-pdp.ensures.attributes c.new-pdp.ensures.policies c.new-2.ensures c.new-3.ensures
+    c.new-pdp.ensures.root c.new-pdp.ensures.environment c.new-pdp.ensures.attributes c.new-pdp.ensures.policies c.new-2.ensures c.new-3.ensures
     c.loop.invariant.sources c.loop-2.invariant.slots rowless empty_ones c.standard.ensures in
     let run = rw (c.new-service.ensures.world, c.new-4.ensures.world, c.new-review.ensures.state, begun) at c.serve_review.ensures.headline.bytes in
     (_, record { bytes = run; replies = c.replies_are_fresh.ensures })

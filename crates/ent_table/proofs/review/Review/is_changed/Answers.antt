@@ -1,7 +1,7 @@
 use Rattle.std.proofs.Common.{sym, subst, ◌∙◌}
 use Rattle.ent_table.specs.proofs_only.Exchange.{IsWithin}
 use Rattle.ent_table.specs.Review.{state_of}
-use Rattle.ent_table.proofs.Told.{if_ok, tells_day, tells_document, tells_root, tells_values}
+use Rattle.ent_table.proofs.Told.{if_ok, tells_document, tells_environment, tells_root, tells_values}
 use Rattle.ent_table.proofs.review.Review.is_changed.Goals as goal
 
 pub returns-in-Document : goal.returns-in-Document
@@ -25,7 +25,7 @@ returns-in-Root g c =
     let t = state_of g.A.Attributes.sources g.P.Policies.slots c.args.self.now in
     λ s x now back seen. c.is_other_root.ensures ∙ tells_root t c.in-Root.former c.args.seen.now s x now (sym c.in-Root.is ∙ back) seen
 
-pub returns-in-Day : goal.returns-in-Day
-returns-in-Day g c =
+pub returns-in-Environment : goal.returns-in-Environment
+returns-in-Environment g c =
     let t = state_of g.A.Attributes.sources g.P.Policies.slots c.args.self.now in
-    λ s x now back seen. c.is_other_day.ensures ∙ tells_day t c.in-Day.former c.args.seen.now s x now (sym c.in-Day.is ∙ back) seen
+    λ s x now back seen. c.is_other_environment.ensures ∙ tells_environment t c.in-Environment.former c.args.seen.now s x now (sym c.in-Environment.is ∙ back) seen
