@@ -221,6 +221,12 @@ const VALUES: &[(DataType, &str, Option<&str>)] = &[
     (DataType::Integer, r#""+007""#, Some("7")),
     (DataType::Date, r#""2025-02-28Z""#, Some(r#""2025-02-28""#)),
     (DataType::YearMonth, r#""P14M""#, Some(r#""P1Y2M""#)),
+    (DataType::Time, r#""09:00:00Z""#, Some(r#""09:00:00""#)),
+    (
+        DataType::DateTime,
+        r#""2025-02-28T09:00:00Z""#,
+        Some(r#""2025-02-28T09:00:00""#),
+    ),
     (DataType::Text, "true", None),
     (DataType::Text, "1", None),
     (DataType::Text, "null", None),
@@ -231,6 +237,8 @@ const VALUES: &[(DataType, &str, Option<&str>)] = &[
     (DataType::Integer, r#""-""#, None),
     (DataType::Date, r#""2025-02-29""#, None),
     (DataType::YearMonth, "{}", None),
+    (DataType::Time, "9", None),
+    (DataType::DateTime, r#""2025-02-28""#, None),
 ];
 
 /// What the value that the text spells is written as, if it spells one.

@@ -26,11 +26,11 @@ fn asked(alloc: Global, index: &Index) -> Result<(usize, usize), Fail> {
 fn cells_of_a_key_come_and_go(rt: HostRuntime) -> Result<(), Fail> {
     let alloc = rt.alloc();
     let mut index = Index::new(alloc);
-    index.add(3, &[ReadKey::Root, ReadKey::Day])?;
-    assert!(rt; index.cells_of(&ReadKey::Day) == [3].as_slice());
+    index.add(3, &[ReadKey::Root, ReadKey::CurrentDate])?;
+    assert!(rt; index.cells_of(&ReadKey::CurrentDate) == [3].as_slice());
     assert!(rt; asked(alloc, &index)? == (0, 0));
-    index.forget(3, &[ReadKey::Day]);
-    assert!(rt; index.cells_of(&ReadKey::Day).is_empty());
+    index.forget(3, &[ReadKey::CurrentDate]);
+    assert!(rt; index.cells_of(&ReadKey::CurrentDate).is_empty());
     assert!(rt; index.cells_of(&ReadKey::Root) == [3].as_slice());
     Ok(())
 }

@@ -1,6 +1,6 @@
 //! Values, their texts and their order, and the lists that they stand in.
 
-use ent_values::{Bag, DataType, Date, Items, Shared, Text, Value, YearMonth};
+use ent_values::{Bag, DataType, Date, DateTime, Items, Shared, Text, Time, Value, YearMonth};
 use std::alloc::{AllocError, Global};
 use std::test::Fail;
 
@@ -35,6 +35,30 @@ const WRITTEN: &[(DataType, &str, &str)] = &[
         DataType::YearMonth,
         "P999999999Y999999999M",
         "P1083333332Y3M",
+    ),
+    (DataType::Time, "00:00:00", "00:00:00"),
+    (DataType::Time, "09:59:59Z", "09:59:59"),
+    (DataType::Time, "10:00:00", "10:00:00"),
+    (DataType::Time, "23:59:59Z", "23:59:59"),
+    (
+        DataType::DateTime,
+        "0001-01-01T00:00:00Z",
+        "0001-01-01T00:00:00",
+    ),
+    (
+        DataType::DateTime,
+        "2024-02-29T23:59:59",
+        "2024-02-29T23:59:59",
+    ),
+    (
+        DataType::DateTime,
+        "2024-03-01T00:00:00",
+        "2024-03-01T00:00:00",
+    ),
+    (
+        DataType::DateTime,
+        "9999-12-31T23:59:59Z",
+        "9999-12-31T23:59:59",
     ),
 ];
 
@@ -86,6 +110,27 @@ fn dates_and_durations(rt: HostRuntime) {
     assert!(rt; Date::new(2024, 255, 1).is_none());
     assert!(rt; YearMonth::new(-14).is_some_and(|duration| duration.months() == -14));
     assert!(rt; YearMonth::new(12_999_999_988).is_none());
+}
+
+#[test]
+fn times_of_a_day(rt: HostRuntime) {
+    let last = Time::new(23, 59, 59);
+    assert!(rt;
+        last.is_some_and(|time| (time.hour(), time.minute(), time.second()) == (23, 59, 59))
+    );
+    assert!(rt; Time::new(24, 0, 0).is_none());
+    assert!(rt; Time::new(0, 60, 0).is_none());
+    assert!(rt; Time::new(0, 0, 60).is_none());
+    assert!(rt; Time::new(255, 0, 0).is_none());
+}
+
+#[test]
+fn dates_with_a_time(rt: HostRuntime) -> Result<(), Fail> {
+    let date = Date::new(2024, 2, 29).ok_or("no date")?;
+    let time = Time::new(23, 59, 59).ok_or("no time")?;
+    let moment = DateTime::new(date, time);
+    assert!(rt; moment.date() == date && moment.time() == time);
+    Ok(())
 }
 
 #[test]
