@@ -16,3 +16,4 @@ pub mod BackWhole
 pub mod Levels
 pub mod LevelsOfDocuments
 pub mod IdLemmas
+pub mod TextLemmas

@@ -8,6 +8,11 @@ mod law;
 mod objects;
 mod reference;
 mod target;
+mod text_documents;
+mod text_expressions;
+mod text_given;
+mod text_targets;
+mod text_values;
 mod value;
 mod written_documents;
 mod written_expressions;
@@ -22,6 +27,8 @@ pub use law::{
     values_read_back,
 };
 pub use reference::read_reference;
+pub use text_documents::{write_document_text, write_reference_text};
+pub use text_values::write_value_text;
 pub use value::read_value;
 pub use written_documents::write_document;
 pub use written_references::write_reference;

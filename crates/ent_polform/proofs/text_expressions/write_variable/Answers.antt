@@ -1,0 +1,12 @@
+use Rattle.std.proofs.Common.{[], codes, ◌∷◌}
+use Rattle.json.specs.Token as token
+use Rattle.ent_polform.proofs.TextLemmas.{ends}
+use Rattle.ent_polform.proofs.text_expressions.write_variable.Goals as goal
+
+pub returns : goal.returns
+returns c =
+    (ends _ _ _ _ (token.begin_object ∷ []) _ c.in_ok-begin_object.ensures.ok
+    (ends _ _ _ _ (token.key (codes "VariableReference") ∷ []) _ c.in_ok-key.ensures.ok
+    (ends _ _ _ _ (token.begin_object ∷ []) _ c.in_ok-begin_object-2.ensures.ok
+    (ends _ _ _ _ (token.key (codes "VariableId") ∷ token.string c.args.id.now ∷ []) _ c.in_ok-write_text.ensures
+    (ends _ _ _ _ (token.end_object ∷ []) _ c.in_ok-end_object.ensures.ok c.end_object-2.ensures.ok)))))
