@@ -15,6 +15,7 @@ mod name_list;
 mod names;
 mod parts;
 mod policies;
+mod reading;
 mod requests;
 mod review;
 mod since;
