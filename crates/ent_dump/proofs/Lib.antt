@@ -1,0 +1,5 @@
+pub mod Lining
+pub mod Reading
+pub mod Sending
+pub mod Telling
+pub mod Walks
