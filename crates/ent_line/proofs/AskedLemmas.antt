@@ -7,7 +7,7 @@ use Rattle.ent_polform.specs.Objects.{◌>>=◌, must, text_at}
 use Rattle.ent_table.specs.declared.edit.List.{List as Which}
 use Rattle.ent_table.specs.declared.edit.List.TheVariants as which
 use Rattle.ent_line.specs.Asked as asked
-use Rattle.ent_line.specs.Asked.{Command, category_named, command_of, either_of, kind_named, module_of, or_else, part, request_of, session_of, text_or_null}
+use Rattle.ent_line.specs.Asked.{Command, category_named, command_of, dump_version, either_of, kind_named, module_of, or_else, part, request_of, session_of, text_or_null, version_in}
 
 -- ---- refusals from 3 to 5
 
@@ -146,6 +146,14 @@ work_named : (d : Data) → IsNamed (asked.work_command d)
 unfolding asked.work_command
 work_named d = must_named _ _ (ok_named _)
 
+format_named : (d : Data) → IsNamed (asked.format_command d)
+unfolding asked.format_command
+format_named d = must_named _ _ (then_part (option_and_then version_in (get (codes "version") d)) _ (λ version. ok_named _))
+
+dump_named : (d : Data) → IsNamed (asked.dump_command d)
+unfolding asked.dump_command
+dump_named d = must_named _ _ (then_part (dump_version (get (codes "version") d)) _ (λ version. ok_named _))
+
 -- ---- of a name
 
 abbrev AreNamed : Option (Result Command ℕ) → Type 0
@@ -209,9 +217,13 @@ marking_found : (name : List ℕ) (d : Data) → IsFound (asked.marking_named na
 unfolding asked.marking_named
 marking_found name d = or_found _ _ _ (mark_named d) (or_found _ _ _ (notices_named d) (or_found _ _ _ (work_named d) none_found))
 
+lines_found : (name : List ℕ) (d : Data) → IsFound (asked.lines_named name d)
+unfolding asked.lines_named
+lines_found name d = or_found _ _ _ (format_named d) (or_found _ _ _ (dump_named d) none_found)
+
 desk_found : (name : List ℕ) (d : Data) → IsFound (asked.desk_named name d)
 unfolding asked.desk_named
-desk_found name d = either_found _ _ (report_found name d) (either_found _ _ (decided_found name d) (marking_found name d))
+desk_found name d = either_found _ _ (report_found name d) (either_found _ _ (decided_found name d) (either_found _ _ (marking_found name d) (lines_found name d)))
 
 command_named : (name : List ℕ) (d : Data) → IsNamed (command_of name d)
 unfolding command_of

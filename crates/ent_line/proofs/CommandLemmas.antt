@@ -115,6 +115,8 @@ run_made n w session other (asked.by_rule policy rule) h = h tt
 run_made n w session other asked.mark h = h tt
 run_made n w session other asked.notices h = h tt
 run_made n w session other asked.work h = h tt
+run_made n w session other (asked.format version) h = h tt
+run_made n w session other (asked.dump version) h = h tt
 
 -- ---- a refused line
 
@@ -164,6 +166,8 @@ run_keeps k w x (asked.by_rule policy rule) = λ n sub e. refl
 run_keeps k w x asked.mark = λ n sub e. absurd (subst IsQuiet (sym e) tt)
 run_keeps k w x asked.notices = λ n sub e. refl
 run_keeps k w x asked.work = λ n sub e. refl
+run_keeps k w x (asked.format version) = λ n sub e. refl
+run_keeps k w x (asked.dump version) = λ n sub e. refl
 
 requested_keeps : (k : ℕ) (w : World) (r : Result (ℕ × Command) ℕ) → Keeps w (requested k w r)
 requested_keeps k w (Ok x) = run_keeps k w x.0 x.1

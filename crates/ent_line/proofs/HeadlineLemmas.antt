@@ -4,6 +4,7 @@ use Rattle.std.specs.Prelude.{if◌then◌else◌}
 use Rattle.std.proofs.lemmas.Bool.{lt-ltb}
 use Rattle.ent_table.specs.State.{table_of}
 use Rattle.ent_table.specs.declared.edit.Edit.{Edit}
+use Rattle.ent_dump.specs.Dumped.{dump_text}
 use Rattle.ent_report.specs.Reports as report
 use Rattle.ent_report.proofs.Counted.{are_the_difference}
 use Rattle.ent_report.specs.World.{World}
@@ -12,10 +13,11 @@ use Rattle.ent_line.specs.Asked.{Command}
 use Rattle.ent_line.specs.Edits.{NoEdit, edit_of}
 use Rattle.ent_line.specs.Headline.{IsAnswered, IsEdited, IsHeadline, IsHeard}
 use Rattle.ent_line.specs.Lines.{line_limit}
-use Rattle.ent_line.specs.Replies.{refused}
+use Rattle.ent_line.specs.Replies.{refused, text}
 use Rattle.ent_line.specs.Reports.{can_text, changes_told, notices_or_refusal, who_text}
 use Rattle.ent_line.specs.Commands.{by_rule_told, can_told, cell_or_refusal, cell_told, counts_told, report_or_refusal, request_answered, response_or_refusal}
-use Rattle.ent_line.specs.Commands.{run, settled, table_marked, table_told, who_told, work_told}
+use Rattle.ent_line.specs.Commands.{dump_told, format_told, run, settled, table_marked, table_told, who_told, work_told}
+use Rattle.ent_line.specs.Dumping.{format_text}
 use Rattle.ent_line.specs.Step.{data_of, requested, step, told}
 use Rattle.ent_line.proofs.AskedLemmas.{refusal_is}
 use Rattle.ent_line.proofs.CommandLemmas.{made, refusal_keeps, run_made, short_told}
@@ -54,7 +56,7 @@ edited n w session c = record {
 }
 
 answered : (n : ℕ) (w : World) (session : ℕ) → IsAnswered n w session
-unfolding run table_told cell_told counts_told can_told who_told by_rule_told table_marked changes_told request_answered work_told
+unfolding run table_told cell_told counts_told can_told who_told by_rule_told table_marked changes_told request_answered work_told format_told dump_told
 answered n w session = record {
   table = refl;
   cell = λ x a e i. (cell_or_refusal x (e i), w);
@@ -71,6 +73,10 @@ answered n w session = record {
   notices = λ kept e i. (notices_or_refusal w.state (e i), w);
   no_mark = λ e i. (notices_or_refusal w.state (e i), w);
   work = refl;
+  format = λ version e i. (if e i then text (format_text version) else refused 11 None, w);
+  no_format = λ version e i. (if e i then text (format_text version) else refused 11 None, w);
+  dump = λ version e i. (if e i then text (dump_text version w.state) else refused 11 None, w);
+  no_dump = λ version e i. (if e i then text (dump_text version w.state) else refused 11 None, w);
 }
 
 pub headline : IsHeadline

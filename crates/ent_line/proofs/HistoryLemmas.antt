@@ -18,6 +18,7 @@ use Rattle.ent_table.specs.Step as table
 use Rattle.ent_table.specs.declared.edit.Edit.{Edit}
 use Rattle.ent_table.specs.declared.edit.EditFault.{EditFault}
 use Rattle.ent_table.proofs.Doubles.{no_name_is_twice}
+use Rattle.ent_dump.specs.Dumped.{dump_text}
 use Rattle.ent_report.specs.Reports as report
 use Rattle.ent_report.specs.World.{World, mark_of}
 use Rattle.ent_report.specs.declared.fault.ReportFault.{ReportFault}
@@ -33,7 +34,8 @@ use Rattle.ent_line.specs.Replies.{Answer, accepted, refused, text}
 use Rattle.ent_line.specs.Reports.{can_text, changes_told, notices_or_refusal, who_text}
 use Rattle.ent_line.specs.Runs.{Run}
 use Rattle.ent_line.specs.Commands.{by_rule_told, can_told, cell_or_refusal, cell_told, counts_told, report_or_refusal, request_answered, response_or_refusal}
-use Rattle.ent_line.specs.Commands.{run, settled, table_marked, table_told, who_told, work_told}
+use Rattle.ent_line.specs.Commands.{dump_told, format_told, run, settled, table_marked, table_told, who_told, work_told}
+use Rattle.ent_line.specs.Dumping.{can_tell, format_text, is_version}
 use Rattle.ent_line.specs.Step.{Answers, data_of, requested, step, told}
 use Rattle.ent_line.proofs.CommandLemmas.{IsNoEdit, IsQuiet, made, nothing, run_made}
 
@@ -95,6 +97,10 @@ notices_quiet : (s : State) (o : Option AnswerMap) → IsQuiet (notices_or_refus
 notices_quiet s None = tt
 notices_quiet s (Some kept) = tt
 
+version_quiet : (b : Bool) (written : List ℕ) → IsQuiet (if b then text written else refused 11 None)
+version_quiet true written = tt
+version_quiet false written = tt
+
 -- ---- edits
 
 settled_follows : (i : ℕ) (w : World) (x : ℕ) (c : Command) (edit : Edit) (r : Result State EditFault)
@@ -137,7 +143,7 @@ mark_follows i w x = record { lead = refl; mark = by (eqb_tells x i); places = l
 -- ---- commands, lines and runs
 
 run_follows : (i n : ℕ) (w : World) (x : ℕ) (c : Command) → Follows i w (Some (x, c)) (run n w x c)
-unfolding run cell_told counts_told can_told who_told by_rule_told changes_told table_told request_answered work_told
+unfolding run cell_told counts_told can_told who_told by_rule_told changes_told table_told request_answered work_told format_told dump_told
 run_follows i n w x (asked.add_name list name) = edit_follows i n w x (asked.add_name list name) (λ h. h)
 run_follows i n w x (asked.drop_name list name) = edit_follows i n w x (asked.drop_name list name) (λ h. h)
 run_follows i n w x (asked.add_policy number d) = edit_follows i n w x (asked.add_policy number d) (λ h. h)
@@ -159,6 +165,10 @@ run_follows i n w x (asked.by_rule policy rule) = quiet_follows i w (Some (x, as
 run_follows i n w x asked.mark = mark_follows i w x
 run_follows i n w x asked.notices = quiet_follows i w (Some (x, asked.notices)) (changes_told w x) (notices_quiet w.state (mark_of w x))
 run_follows i n w x asked.work = quiet_follows i w (Some (x, asked.work)) (work_told n) tt
+run_follows i n w x (asked.format version) =
+    quiet_follows i w (Some (x, asked.format version)) (format_told version) (version_quiet (is_version version) (format_text version))
+run_follows i n w x (asked.dump version) =
+    quiet_follows i w (Some (x, asked.dump version)) (dump_told version w.state) (version_quiet (can_tell version w.state.held.environment) (dump_text version w.state))
 
 requested_follows : (i n : ℕ) (w : World) (r : Result (ℕ × Command) ℕ) → Follows i w (result_ok r) (requested n w r)
 requested_follows i n w (Ok x) = run_follows i n w x.0 x.1

@@ -14,6 +14,7 @@ use Rattle.ent_table.specs.State.{State, answer_at, table_of}
 use Rattle.ent_table.specs.Step as table
 use Rattle.ent_table.specs.declared.edit.Edit.{Edit}
 use Rattle.ent_table.specs.declared.edit.EditFault.{EditFault}
+use Rattle.ent_dump.specs.Dumped.{dump_data, dump_text}
 use Rattle.ent_report.specs.Notices.{notices}
 use Rattle.ent_report.specs.Reports as report
 use Rattle.ent_report.specs.World.{World, mark_of}
@@ -28,7 +29,8 @@ use Rattle.ent_line.specs.Replies.{Answer, accepted, line_of, refused, text}
 use Rattle.ent_line.specs.Reports.{by_rule_reply, can_reply, changes_told, counts_reply, notices_or_refusal, notices_reply, who_reply}
 use Rattle.ent_line.specs.Reports.{by_rule_text, can_text, counts_text, notices_text, who_text, work_text}
 use Rattle.ent_line.specs.Commands.{by_rule_told, can_told, cell_or_refusal, cell_told, counts_told, report_or_refusal, request_answered, response_or_refusal}
-use Rattle.ent_line.specs.Commands.{run, settled, table_marked, table_told, who_told, work_told}
+use Rattle.ent_line.specs.Commands.{dump_told, format_told, run, settled, table_marked, table_told, who_told, work_told}
+use Rattle.ent_line.specs.Dumping.{can_tell, format_text, is_version}
 use Rattle.ent_line.specs.Step.{Answers, data_of, requested, step, told}
 use Rattle.ent_line.proofs.CommandLemmas.{IsNoEdit, made, nothing, run_made}
 use Rattle.ent_line.proofs.PrintedLemmas.{ArePrinted, IsPrintedLine, behind, both_printed, decimal_printed, one_line, text_printed, word_printed}
@@ -83,6 +85,20 @@ work_printed n =
     both_printed (codes "{\"evaluations\":") (decimal n ++ codes "}") (word_printed (codes "{\"evaluations\":") refl)
     (both_printed (decimal n) (codes "}") (decimal_printed n) (word_printed (codes "}") refl))
 
+format_printed : (version : ℕ) → ArePrinted (format_text version)
+unfolding format_text
+format_printed version =
+    both_printed (codes "{\"format\":") (decimal version ++ codes "}") (word_printed (codes "{\"format\":") refl)
+    (both_printed (decimal version) (codes "}") (decimal_printed version) (word_printed (codes "}") refl))
+
+dump_printed : (version : ℕ) (s : State) → ArePrinted (dump_text version s)
+unfolding dump_text
+dump_printed version s = text_printed (dump_data version s)
+
+version_printed : (b : Bool) (written : List ℕ) → ArePrinted written → IsPrinted (if b then text written else refused 11 None)
+version_printed true written h = h
+version_printed false written h = tt
+
 -- ---- edits
 
 settled_printed : (w : World) (r : Result State EditFault) → IsPrinted (settled w r).0
@@ -103,7 +119,7 @@ edit_printed n w x c is =
 -- ---- commands and lines
 
 run_printed : (n : ℕ) (w : World) (x : ℕ) (c : Command) → IsPrinted (run n w x c).0
-unfolding run table_told cell_told counts_told can_told who_told by_rule_told table_marked changes_told request_answered work_told counts_text
+unfolding run table_told cell_told counts_told can_told who_told by_rule_told table_marked changes_told request_answered work_told format_told dump_told counts_text
 run_printed n w x (asked.add_name list name) = edit_printed n w x (asked.add_name list name) (λ h. h)
 run_printed n w x (asked.drop_name list name) = edit_printed n w x (asked.drop_name list name) (λ h. h)
 run_printed n w x (asked.add_policy number d) = edit_printed n w x (asked.add_policy number d) (λ h. h)
@@ -123,6 +139,8 @@ run_printed n w x (asked.by_rule policy rule) = by_rule_printed (report.by_rule 
 run_printed n w x asked.mark = tt
 run_printed n w x asked.notices = notices_printed w.state (mark_of w x)
 run_printed n w x asked.work = work_printed n
+run_printed n w x (asked.format version) = version_printed (is_version version) (format_text version) (format_printed version)
+run_printed n w x (asked.dump version) = version_printed (can_tell version w.state.held.environment) (dump_text version w.state) (dump_printed version w.state)
 
 requested_printed : (n : ℕ) (w : World) (r : Result (ℕ × Command) ℕ) → IsPrinted (requested n w r).0
 requested_printed n w (Ok x) = run_printed n w x.0 x.1

@@ -60,6 +60,10 @@ pub data Command : Type 0 where
   notices : Command
   -- asks how many times a request was evaluated
   work : Command
+  -- says of which version the lines behind it are
+  format : ℕ → Command
+  -- asks for the lines of that version that make the state anew
+  dump : ℕ → Command
 
 -- ---- keys and their values
 
@@ -92,6 +96,21 @@ module_number (json.float x) = None
 abbrev pub module_of : Option Data → Option ℕ
 module_of None = Some 0
 module_of (Some d) = option_and_then module_number (as_number d)
+
+-- the version of lines that a whole number names. No lines have the version 0, for which each negative number stands
+abbrev pub version_number : json.Num → Option ℕ
+version_number (json.unsigned n) = Some n
+version_number (json.negative z) = Some 0
+version_number (json.float x) = None
+
+-- the same of a JSON value
+abbrev pub version_in : Data → Option ℕ
+version_in d = option_and_then version_number (as_number d)
+
+-- the same of what stands at the key `version` of a dump; the absent version is 2
+abbrev pub dump_version : Option Data → Option ℕ
+dump_version None = Some 2
+dump_version (Some d) = version_in d
 
 -- the kind of document that a word names
 abbrev pub kind_named : List ℕ → Option Kind
@@ -249,6 +268,18 @@ notices_command d = keyed (codes "do" ∷ codes "session" ∷ []) d (Ok notices)
 unfoldable pub work_command : Data → Result Command ℕ
 work_command d = keyed (codes "do" ∷ codes "session" ∷ []) d (Ok work)
 
+-- a version
+unfoldable pub format_command : Data → Result Command ℕ
+format_command d = keyed (codes "do" ∷ codes "session" ∷ codes "version" ∷ []) d (do
+  version ← part (option_and_then version_in (get (codes "version") d))
+  Ok (format version))
+
+-- a version, or none for the newest
+unfoldable pub dump_command : Data → Result Command ℕ
+dump_command d = keyed (codes "do" ∷ codes "session" ∷ codes "version" ∷ []) d (do
+  version ← part (dump_version (get (codes "version") d))
+  Ok (dump version))
+
 -- what the edit of that name asks for, which adds a name
 unfoldable pub adding_named : List ℕ → Data → Option (Result Command ℕ)
 adding_named name d =
@@ -311,9 +342,16 @@ marking_named name d =
     else (if bytes_eq name (codes "work") then Some (work_command d)
     else None))
 
+-- what the command of that name asks for, which is about the lines that make a state anew
+unfoldable pub lines_named : List ℕ → Data → Option (Result Command ℕ)
+lines_named name d =
+    if bytes_eq name (codes "format") then Some (format_command d)
+    else (if bytes_eq name (codes "dump") then Some (dump_command d)
+    else None)
+
 -- what the command of that name asks for, which changes nothing but a mark
 unfoldable pub desk_named : List ℕ → Data → Option (Result Command ℕ)
-desk_named name d = either_of (report_named name d) (either_of (decided_named name d) (marking_named name d))
+desk_named name d = either_of (report_named name d) (either_of (decided_named name d) (either_of (marking_named name d) (lines_named name d)))
 
 -- what is there, or else this
 abbrev pub or_else : {A : Type 0} → Option A → A → A

@@ -1,6 +1,6 @@
 -- What each command is answered, one by one. A reader may skip this page: the headline (`IsEdited`, `IsAnswered`) fixes what `run` gives for every
 -- command, in the words of `Edits`, `Reports` and the crates below, and nothing else rests on the words that stand here.
-use Rattle.std.specs.Prelude.{ℕ, List, Option, Some, None, Result, Ok, Err}
+use Rattle.std.specs.Prelude.{ℕ, List, if◌then◌else◌, Option, Some, None, Result, Ok, Err}
 use Rattle.serde_json.specs.Data.{Data}
 use Rattle.ent_values.specs.Calendar.{Day}
 use Rattle.ent_values.specs.Reading.{date_of, date_time_of}
@@ -16,6 +16,7 @@ use Rattle.ent_eval.specs.declared.answer.Answer.{Answer as Evaluated}
 use Rattle.ent_eval.specs.declared.request.Request.{Request}
 use Rattle.ent_profile.specs.Asks.{asks}
 use Rattle.ent_table.specs.Ask.{answer_in}
+use Rattle.ent_dump.specs.Dumped.{dump_text}
 use Rattle.ent_report.specs.Reports as report
 use Rattle.ent_report.specs.World.{World, marked}
 use Rattle.ent_report.specs.declared.fault.ReportFault.{ReportFault}
@@ -30,6 +31,7 @@ use Rattle.ent_table.specs.declared.edit.List.{List as Which}
 use Rattle.ent_line.specs.Asked as asked
 use Rattle.ent_line.specs.Asked.{AskedRow, Command}
 use Rattle.ent_line.specs.Cells.{one_cell_text, response_text, table_text}
+use Rattle.ent_line.specs.Dumping.{can_tell, format_text, is_version}
 use Rattle.ent_line.specs.Edits.{refusal_of, root_of, row_read, unread, unread_row}
 use Rattle.ent_line.specs.Replies as replies
 use Rattle.ent_line.specs.Replies.{Answer, accepted, refused, text}
@@ -162,6 +164,14 @@ table_marked w session = (replies.marked w.state.serial, marked w session)
 unfoldable pub work_told : ℕ → Answer
 work_told n = text (work_text n)
 
+-- a version that lines have, or the refusal of one that they haven't
+unfoldable pub format_told : ℕ → Answer
+format_told version = if is_version version then text (format_text version) else refused 11 None
+
+-- the lines of a version that make the state anew, or the refusal where they can't tell it
+unfoldable pub dump_told : ℕ → State → Answer
+dump_told version s = if can_tell version s.held.environment then text (dump_text version s) else refused 11 None
+
 -- what a command of a session is answered after n evaluations, and the world after it. Only `work` tells n
 unfoldable pub run : ℕ → World → ℕ → Command → Answer × World
 run n w session (asked.add_name list name) = name_added w list name
@@ -183,3 +193,5 @@ run n w session (asked.by_rule policy rule) = (by_rule_told w.state policy rule,
 run n w session asked.mark = table_marked w session
 run n w session asked.notices = (changes_told w session, w)
 run n w session asked.work = (work_told n, w)
+run n w session (asked.format version) = (format_told version, w)
+run n w session (asked.dump version) = (dump_told version w.state, w)

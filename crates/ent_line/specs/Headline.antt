@@ -8,7 +8,7 @@
 --
 -- What `run` gives for each command need not be read in `Commands`: `IsEdited` and `IsAnswered` say it of every edit, question and mark. The last
 -- words on the page, `Headline`, are what the call `serve_review`, which the program makes, ensures of the bytes that are read and written.
-use Rattle.std.specs.Prelude.{◌≡◌, ◌⊎◌, ℕ, ◌<◌, ◌≤◌, ◌&&◌, false, List, length, fold, Option, Some, None, Result, Ok, Err}
+use Rattle.std.specs.Prelude.{◌≡◌, ◌⊎◌, ℕ, ◌<◌, ◌≤◌, ◌&&◌, true, false, List, length, fold, Option, Some, None, Result, Ok, Err}
 use Rattle.serde_json.specs.Data.{Data}
 use Rattle.ent_eval.specs.declared.answer.Answer.{Answer as Evaluated}
 use Rattle.ent_eval.specs.declared.request.Request.{Request}
@@ -22,12 +22,14 @@ use Rattle.ent_table.specs.State.{State, answer_at, table_of}
 use Rattle.ent_table.specs.Step as edits
 use Rattle.ent_table.specs.declared.edit.Edit.{Edit}
 use Rattle.ent_table.specs.declared.edit.EditFault.{EditFault}
+use Rattle.ent_dump.specs.Dumped.{dump_text}
 use Rattle.ent_report.specs.Differing.{NoticesAreTheDifference}
 use Rattle.ent_report.specs.Notices.{notices}
 use Rattle.ent_report.specs.Reports as report
 use Rattle.ent_report.specs.World.{World, mark_of, marked}
 use Rattle.ent_line.specs.Asked as asked
 use Rattle.ent_line.specs.Cells.{one_cell_text, response_text, table_text}
+use Rattle.ent_line.specs.Dumping.{can_tell, format_text, is_version}
 use Rattle.ent_line.specs.Edits.{edit_of, faulty, refusal_of, unread, unread_row, unreadable, unreadable_row}
 use Rattle.ent_line.specs.History.{Lead, accepted_edits, history, next, seen_by}
 use Rattle.ent_line.specs.Lines.{IsOneLine, line_limit}
@@ -97,6 +99,12 @@ pub record IsAnswered (n : ℕ) (w : World) (session : ℕ) : Type 0 where
   pub no_mark : mark_of w session ≡ None → run n w session asked.notices ≡ (refused 12 None, w)
   -- the work: the number of evaluations, and the world stays
   pub work : run n w session asked.work ≡ (text (work_text n), w)
+  -- the format: a version that lines have, 1 or 2
+  pub format : (version : ℕ) → is_version version ≡ true → run n w session (asked.format version) ≡ (text (format_text version), w)
+  pub no_format : (version : ℕ) → is_version version ≡ false → run n w session (asked.format version) ≡ (refused 11 None, w)
+  -- the dump: the lines of that version which make the state anew. Those of version 1 can't tell a moment
+  pub dump : (version : ℕ) → can_tell version w.state.held.environment ≡ true → run n w session (asked.dump version) ≡ (text (dump_text version w.state), w)
+  pub no_dump : (version : ℕ) → can_tell version w.state.held.environment ≡ false → run n w session (asked.dump version) ≡ (refused 11 None, w)
 
 -- where lines that were answered so lead, one after the other, from one world to another
 pub record IsLed (w : World) (lines : List (List ℕ)) (answers : List Answer) (v : World) : Type 0 where

@@ -1,6 +1,7 @@
 pub mod Asked
 pub mod Cells
 pub mod Commands
+pub mod Dumping
 pub mod Edits
 pub mod Headline
 pub mod History

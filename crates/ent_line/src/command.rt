@@ -10,6 +10,7 @@ ghost use Rattle.ent_line.specs.Asked.{module_of, request_of, session_of};
 ghost use Rattle.ent_line.specs.proofs_only.CommandView.{asked_view, document_view, name_view, session_view};
 
 use crate::attribute_command::{AskedRow, attribute_command, day_command, moment_command};
+use crate::lines_command::lines_named;
 use crate::refusal::{SHAPE, UNKNOWN_COMMAND, UNKNOWN_SESSION};
 use crate::report_command::{decided_named, marking_named};
 use ent_json::{JsonTree, text_at};
@@ -58,6 +59,10 @@ pub(crate) enum Command<'a, J> {
     Notices,
     /// Asks how many times a request was evaluated.
     Work,
+    /// Says of which version the lines behind it are.
+    Format(u64),
+    /// Asks for the lines of that version that make the state anew.
+    Dump(u64),
 }
 
 /// The number of the session, 0 if the key is absent. `None` if it is no whole number. A negative number is none of the
@@ -351,7 +356,10 @@ fn desk_named<'a, J: JsonTree>(name: &str, object: &'a J) -> Option<Result<Comma
     if let Some(report) = decided_named(name, object) {
         return Some(report);
     }
-    marking_named(name, object)
+    if let Some(command) = marking_named(name, object) {
+        return Some(command);
+    }
+    lines_named(name, object)
 }
 
 /// The command of that name.

@@ -1,13 +1,15 @@
-//! The service over bytes: lines out of a reader, and one reply for each into a writer.
+//! The service over bytes: lines out of a reader, and one reply for each into a writer; and the lines of a dump.
 #![tactic(auto)]
 
 mod answering;
 mod attribute_command;
 mod cell;
 mod command;
+mod dumping;
 mod fault;
 mod input;
 mod law;
+mod lines_command;
 mod output;
 mod reading;
 pub mod refusal;
@@ -20,6 +22,7 @@ mod serving;
 mod setting;
 
 pub use answering::Answering;
+pub use ent_dump::{LinesFault, dump_lines};
 pub use fault::ServeFault;
 pub use input::{LINE_LIMIT, one_split};
 pub use law::{replies_are_fresh, sessions_are_separate};

@@ -46,9 +46,10 @@ use std::alloc::{AllocError, Global};
 /// `type`, an optional `issuer`, `values` and an optional `module`; `root.set` with `reference`, `day.set` with `day`
 /// and `moment.set` with `moment`, each or null for none; `table`; `cell` with `person`, `action` and `resource`; `ask`
 /// with `request`; `counts`; `can` with `person`, and `who` with `action` and `resource`; `by_rule` with `policy` and
-/// `rule`, or null for a default; `mark` and `notices`, each of the line's session; and `work`. A line that isn't
-/// refused is an edit, a mark, or a question, which changes nothing but the count of evaluations; a refused line
-/// changes nothing, but where memory is wanting its evaluations may be counted.
+/// `rule`, or null for a default; `mark` and `notices`, each of the line's session; `work`; and `format` with `version`
+/// and `dump` with an optional `version`, a whole number. A line that isn't refused is an edit, a mark, or a question,
+/// which changes nothing but the count of evaluations; a refused line changes nothing, but where memory is wanting its
+/// evaluations may be counted.
 #[derive(Drop)]
 pub struct Service<A = AttributeFinder, P = PolicyFinder> {
     pub(crate) alloc: Global,
@@ -259,6 +260,8 @@ impl<A: Attributes, P: Policies> Service<A, P> {
             Command::Mark => self.mark(session),
             Command::Notices => self.notices(session),
             Command::Work => self.work(),
+            Command::Format(version) => self.format(version),
+            Command::Dump(version) => self.dump(version),
         }
     }
 

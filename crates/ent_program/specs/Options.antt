@@ -4,7 +4,7 @@ use Rattle.std.specs.Str.Parse.{IsNumeral, digits_value, without_leading_plus}
 use Rattle.clap.specs.Walk.{Row, first_of, one_of}
 use Rattle.ent_program.specs.Starting.{IsFew}
 use Rattle.ent_program.specs.declared.options.Task.{Task}
-use Rattle.ent_program.specs.declared.options.Task.TheVariants.{Serve, Check}
+use Rattle.ent_program.specs.declared.options.Task.TheVariants.{Serve, Check, Lines}
 use Rattle.ent_program.specs.declared.options.Modules.{Modules}
 
 -- where the text of an option writes a number from 1 to 4 in decimal digits, that is the count
@@ -25,6 +25,7 @@ pub record AreModules (options : List Row) (modules : Modules) : Type 0 where
 pub record IsTaskOf (found : Option (List ℕ × List Row)) (task : Option Task) : Type 0 where
   pub serve : (options : List Row) → found ≡ Some (codes "serve", options) → (modules : Modules) × (task ≡ Some (Serve modules)) × AreModules options modules
   pub check : (options : List Row) → found ≡ Some (codes "check", options) → (path : _) × (task ≡ Some (Check path)) × (path.now ≡ unwrap_or (first_of (codes "FILE") options) [])
+  pub lines : (options : List Row) → found ≡ Some (codes "lines", options) → task ≡ Some Lines
 
 -- a task that is served is served by from 1 to 4 modules of each sort
 abbrev pub HasFew : Option Task → Type 0

@@ -2,6 +2,8 @@
 use Rattle.std.specs.Prelude.{ℕ, List, codes}
 use Rattle.ent_policy.specs.declared.fault.DocFault.{DocFault}
 use Rattle.ent_policy.specs.declared.fault.DocFault.TheVariants.{Form, Identifier, Version, Algorithm, Function, Variable, Size, Depth, «Type»}
+use Rattle.ent_dump.specs.declared.fault.LinesFault.{LinesFault}
+use Rattle.ent_dump.specs.declared.fault.LinesFault.TheVariants as dump
 use Rattle.ent_line.specs.declared.fault.ServeFault.{ServeFault}
 use Rattle.ent_line.specs.declared.fault.ServeFault.TheVariants as fault
 use Rattle.ent_program.specs.declared.checking.FileFault.{FileFault}
@@ -14,6 +16,13 @@ abbrev pub fault_sentence : ServeFault → List ℕ
 fault_sentence fault.Read = codes "review: read fault"
 fault_sentence fault.Write = codes "review: write fault"
 fault_sentence fault.Memory = codes "review: out of memory"
+
+-- where the lines of a dump weren't written, or not all
+abbrev pub lines_sentence : LinesFault → List ℕ
+lines_sentence dump.NotDump = codes "review: not a dump"
+lines_sentence dump.Read = codes "review: read fault"
+lines_sentence dump.Write = codes "review: write fault"
+lines_sentence dump.Memory = codes "review: out of memory"
 
 -- where the words of the command line can't be had
 abbrev pub words_sentence : WordsFault → List ℕ

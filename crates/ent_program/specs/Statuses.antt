@@ -1,7 +1,9 @@
 -- The exit statuses of the program.
-use Rattle.std.specs.Prelude.{ℕ, Bool, true, false, Result, Ok, Err}
+use Rattle.std.specs.Prelude.{ℕ, Bool, true, false, Result, Ok, Err, ⊤}
 use Rattle.clap.specs.declared.error.kind.ErrorKind.{ErrorKind}
 use Rattle.clap.specs.declared.error.kind.ErrorKind.TheVariants.{DisplayHelp, DisplayVersion, OutOfMemory}
+use Rattle.ent_dump.specs.declared.fault.LinesFault.{LinesFault}
+use Rattle.ent_dump.specs.declared.fault.LinesFault.TheVariants as dump
 use Rattle.ent_line.specs.declared.fault.ServeFault.{ServeFault}
 use Rattle.ent_line.specs.declared.fault.ServeFault.TheVariants as fault
 use Rattle.ent_program.specs.declared.words.WordsFault.{WordsFault}
@@ -23,6 +25,18 @@ abbrev pub check_status : Result Bool ServeFault → ℕ
 check_status (Ok true) = 0
 check_status (Ok false) = 1
 check_status (Err e) = fault_status e
+
+-- input that is no dump gives 1, a read or write fault 2, want of memory 3
+abbrev pub lines_fault_status : LinesFault → ℕ
+lines_fault_status dump.NotDump = 1
+lines_fault_status dump.Read = 2
+lines_fault_status dump.Write = 2
+lines_fault_status dump.Memory = 3
+
+-- lines of a dump that were all written give 0, and a fault its own status
+abbrev pub lines_status : Result ⊤ LinesFault → ℕ
+lines_status (Ok done) = 0
+lines_status (Err e) = lines_fault_status e
 
 -- a word of the command line that isn't UTF-8 gives 1, want of memory 3
 abbrev pub words_status : WordsFault → ℕ

@@ -26,6 +26,8 @@ pub enum Task<'a> {
     Serve(Modules),
     /// To check the file of this path.
     Check(&'a str),
+    /// To write the lines of the dump on standard input.
+    Lines,
 }
 
 /// The number of modules that an option of `serve` gives. What the command line takes is from 1 to 4.
@@ -56,6 +58,7 @@ pub fn task_of<'a>(matches: &ArgMatches<'a>) -> Option<Task<'a>>
     match name {
         "serve" => Some(Task::Serve(modules_of(options))),
         "check" => Some(Task::Check(options.get_str(FILE).unwrap_or(""))),
+        "lines" => Some(Task::Lines),
         _ => None,
     }
 }

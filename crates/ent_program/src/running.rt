@@ -11,7 +11,9 @@ ghost use Rattle.ent_program.specs.Statuses.{usage_status};
 use crate::checking::{Verdict, check, is_passed};
 use crate::options::{Modules, Task, task_of};
 use crate::sentences::file_sentence;
-use crate::status::{REFUSED, check_status, serve_status, status_of, usage_status, words_status};
+use crate::status::{
+    REFUSED, check_status, lines_status, serve_status, status_of, usage_status, words_status,
+};
 use crate::words::{command, given_words};
 use clap::ArgMatches;
 use clap::error::ErrorKind;
@@ -19,7 +21,7 @@ use ent_eval::{ACCESS_SUBJECT, ACTION, Pdp, RESOURCE};
 use ent_finder::{
     AttributeFinder, AttributeFinderModule, MapDocs, MapRows, PolicyFinder, PolicyFinderModule,
 };
-use ent_line::{ServeFault, Service, replies_are_fresh, serve_review};
+use ent_line::{LinesFault, ServeFault, Service, dump_lines, replies_are_fresh, serve_review};
 use ent_report::Desk;
 use ent_table::{Limits, Review};
 use ent_values::{Items, Text};
@@ -122,6 +124,15 @@ fn serve_input<R: Input + Print + AllocGlobal>(rt: &R, modules: Modules) -> Resu
     serve_from(alloc, modules, &mut reader, &mut writer)
 }
 
+/// Writes the lines of the dump on standard input to standard output.
+fn write_lines<R: Input + Print + AllocGlobal>(rt: &R) -> Result<(), LinesFault> {
+    let alloc = rt.alloc();
+    let Ok(mut writer) = BufWriter::new(alloc, io::writer(rt)) else {
+        return Err(LinesFault::Memory);
+    };
+    dump_lines(alloc, &mut rt.reader(), &mut writer)
+}
+
 /// Says on standard error why a file is refused, if it is.
 fn tell(rt: &impl Eprint, verdict: &Verdict) {
     if let Verdict::Refused(fault) = verdict {
@@ -161,12 +172,14 @@ fn act<R: Files + Input + Print + Eprint + AllocGlobal>(rt: &R, matches: &ArgMat
     match task_of(matches) {
         Some(Task::Serve(modules)) => serve_status(rt, serve_input(rt, modules)),
         Some(Task::Check(path)) => check_status(rt, check_file(rt, path)),
+        Some(Task::Lines) => lines_status(rt, write_lines(rt)),
         None => REFUSED,
     }
 }
 
 /// Runs the program with the words of its command line, and gives its exit status: 0 where all went well, 1 where the
-/// command line can't be used or a file was refused, 2 where reading or writing failed, and 3 for want of memory.
+/// command line can't be used, a file was refused or the input is no dump, 2 where reading or writing failed, and 3 for
+/// want of memory.
 pub fn run<R: Env + Files + Input + Print + Eprint + AllocGlobal>(rt: &R) -> u8 {
     let words = match given_words(rt) {
         Ok(words) => words,

@@ -1,11 +1,11 @@
 //! What is said on standard error.
 
 ghost use Rattle.std.specs.Prelude.{◌≡◌};
-ghost use Rattle.ent_program.specs.Sentences.{document_sentence, fault_sentence, file_sentence, words_sentence};
+ghost use Rattle.ent_program.specs.Sentences.{document_sentence, fault_sentence, file_sentence, lines_sentence, words_sentence};
 
 use crate::checking::{FILE_LIMIT, FileFault};
 use crate::words::WordsFault;
-use ent_line::ServeFault;
+use ent_line::{LinesFault, ServeFault};
 use ent_policy::DocFault;
 
 /// What is said of a fault by which serving or a check ended early.
@@ -16,6 +16,18 @@ pub fn fault_sentence(fault: ServeFault) -> &'static str
         ServeFault::Read => "review: read fault",
         ServeFault::Write => "review: write fault",
         ServeFault::Memory => "review: out of memory",
+    }
+}
+
+/// What is said where the lines of a dump weren't written, or not all.
+pub fn lines_sentence(fault: LinesFault) -> &'static str
+    ensures { result.now ≡ lines_sentence fault }
+{
+    match fault {
+        LinesFault::NotDump => "review: not a dump",
+        LinesFault::Read => fault_sentence(ServeFault::Read),
+        LinesFault::Write => fault_sentence(ServeFault::Write),
+        LinesFault::Memory => fault_sentence(ServeFault::Memory),
     }
 }
 

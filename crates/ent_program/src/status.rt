@@ -2,17 +2,18 @@
 
 ghost use Rattle.std.specs.Prelude.{◌≡◌};
 ghost use Rattle.clap.specs.Values.{kind_of};
-ghost use Rattle.ent_program.specs.Statuses.{check_status, fault_status, serve_status, usage_status, words_status};
+ghost use Rattle.ent_program.specs.Statuses.{check_status, fault_status, lines_fault_status, lines_status, serve_status};
+ghost use Rattle.ent_program.specs.Statuses.{usage_status, words_status};
 
-use crate::sentences::{fault_sentence, words_sentence};
+use crate::sentences::{fault_sentence, lines_sentence, words_sentence};
 use crate::words::WordsFault;
 use clap::error::ErrorKind;
-use ent_line::ServeFault;
+use ent_line::{LinesFault, ServeFault};
 
 /// All went well.
 const OKAY: u8 = 0;
 
-/// The command line can't be used, or a file was refused.
+/// The command line can't be used, a file was refused, or the input is no dump.
 pub(crate) const REFUSED: u8 = 1;
 
 /// Reading or writing failed.
@@ -50,6 +51,28 @@ pub fn check_status(rt: &impl Eprint, checked: Result<bool, ServeFault>) -> u8
         Ok(true) => OKAY,
         Ok(false) => REFUSED,
         Err(fault) => status_of(rt, fault),
+    }
+}
+
+/// Says on standard error why the lines of a dump weren't written, or not all, and gives the exit status for it.
+fn lines_status_of(rt: &impl Eprint, fault: LinesFault) -> u8
+    ensures { result ≡ lines_fault_status fault }
+{
+    let _ = rt.eprintln(lines_sentence(fault));
+    match fault {
+        LinesFault::NotDump => REFUSED,
+        LinesFault::Read | LinesFault::Write => BROKEN,
+        LinesFault::Memory => NO_MEMORY,
+    }
+}
+
+/// The exit status of writing the lines of a dump; a fault is told on standard error.
+pub fn lines_status(rt: &impl Eprint, written: Result<(), LinesFault>) -> u8
+    ensures { result ≡ lines_status written }
+{
+    match written {
+        Ok(()) => OKAY,
+        Err(fault) => lines_status_of(rt, fault),
     }
 }
 

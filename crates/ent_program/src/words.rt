@@ -50,7 +50,7 @@ fn number_of_modules<'a>(alloc: Global, option: &'static str, help: &'static str
         .default_value("2")
 }
 
-/// What the program takes: the subcommands `serve` and `check`.
+/// What the program takes: the subcommands `serve`, `check` and `lines`.
 pub fn command<'a>(alloc: Global) -> Result<Command<'a>, AllocError> {
     let attribute_modules = number_of_modules(
         alloc,
@@ -72,9 +72,13 @@ pub fn command<'a>(alloc: Global) -> Result<Command<'a>, AllocError> {
     let check = Command::new(alloc, "check")
         .about("Says whether the policy in a file may be stored, or why not")
         .arg(file)?;
+    let lines = Command::new(alloc, "lines").about(
+        "Writes the lines of a dump on standard input to standard output",
+    );
     Command::new(alloc, "review")
         .about("Answers XACML requests, and keeps a review table of their answers")
         .subcommand_required(true)
         .subcommand(serve)?
-        .subcommand(check)
+        .subcommand(check)?
+        .subcommand(lines)
 }

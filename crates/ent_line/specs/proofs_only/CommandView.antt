@@ -7,7 +7,7 @@ use Rattle.ent_line.specs.Asked as asked
 use Rattle.ent_line.specs.declared.attribute_command.AskedRow.{AskedRow}
 use Rattle.ent_line.specs.declared.command.Command.{Command}
 use Rattle.ent_line.specs.declared.command.Command.TheVariants.{AddName, DropName, AddPolicy, ReplacePolicy, WithdrawPolicy, SetAttribute, SetRoot, SetDay, SetMoment}
-use Rattle.ent_line.specs.declared.command.Command.TheVariants.{Table, Cell, Ask, Counts, Can, Who, ByRule, Mark, Notices, Work}
+use Rattle.ent_line.specs.declared.command.Command.TheVariants.{Table, Cell, Ask, Counts, Can, Who, ByRule, Mark, Notices, Work, Format, Dump}
 use Rattle.ent_table.specs.Names.{triple_of}
 
 -- a row without where its parts lie in memory
@@ -42,6 +42,8 @@ command_view content (ByRule policy rule) = asked.by_rule policy.now (option_cop
 command_view content Mark = asked.mark
 command_view content Notices = asked.notices
 command_view content Work = asked.work
+command_view content (Format version) = asked.format version
+command_view content (Dump version) = asked.dump version
 
 -- the same, or a refusal
 abbrev pub asked_view : {J : Type 0} → (J → Data) → Result (Command J) ℕ → Result asked.Command ℕ

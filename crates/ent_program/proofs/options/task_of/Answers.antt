@@ -13,4 +13,5 @@ returns-in-check-clause-task c = record {
     argument_found c.get_str.result c.unwrap_or.result _ (found_of c.in_ok-name.options.now) (codes "FILE") (subcommand_rows_of c.args.matches.now) (codes "check") options
         c.unwrap_or.ensures refl c.get_str.ensures c.in_ok-name.ensures.rows found,
   );
+  lines = search rules;
 }

@@ -1,0 +1,78 @@
+//! What the service answers of the lines that make its state anew.
+
+ghost use Rattle.std.specs.Prelude.{◌≡◌, IfOk, string_bytes};
+ghost use Rattle.ent_line.specs.Commands.{dump_told, format_told};
+ghost use Rattle.ent_line.specs.Dumping.{can_tell, format_text, is_moment, is_version};
+ghost use Rattle.ent_line.specs.Replies.{reply_view};
+ghost use Rattle.ent_line.specs.proofs_only.Replying.{Tells};
+ghost use Rattle.ent_line.specs.World.{IsReady};
+
+use crate::refusal::BAD_VALUE;
+use crate::reply::Reply;
+use crate::service::Service;
+use ent_dump::dump_text;
+use ent_eval::Environment;
+use ent_finder::{Attributes, Policies};
+use itoa::Buffer;
+use std::alloc::{AllocError, Global};
+
+/// Whether lines have that version.
+fn is_version(version: u64) -> bool
+    ensures { result ≡ is_version version }
+{
+    version == 1 || version == 2
+}
+
+/// Whether a moment is known, and not only its day.
+fn is_moment(environment: Environment) -> bool
+    ensures { result ≡ is_moment environment }
+{
+    matches!(environment, Environment::Moment(_))
+}
+
+/// Whether lines of that version can tell what is known of the time.
+fn can_tell(version: u64, environment: Environment) -> bool
+    ensures { result ≡ can_tell version environment }
+{
+    version == 2 || version == 1 && !is_moment(environment)
+}
+
+/// The text of the reply to `format`: the version.
+#[tactic(auto, unfolding(crate::specs::Dumping::format_text))]
+fn format_text(alloc: Global, version: u64) -> Result<String, AllocError>
+    ensures { IfOk result (λ s. string_bytes s ≡ format_text version) }
+{
+    let mut number = Buffer::new();
+    let mut text = String::from_str(alloc, "{\"format\":")?;
+    text.push_str(number.format(version))?;
+    text.push_str("}")?;
+    Ok(text)
+}
+
+impl<A: Attributes, P: Policies> Service<A, P> {
+    /// `format`.
+    #[tactic(auto, unfolding(crate::specs::Commands::format_told))]
+    pub(crate) fn format(&self, version: u64) -> Result<Reply, AllocError>
+        ensures { IfOk result (λ reply. reply_view reply ≡ format_told version) }
+    {
+        if !is_version(version) {
+            return Ok(Reply::Refused(BAD_VALUE, None));
+        }
+        let text = format_text(self.alloc, version)?;
+        Ok(Reply::Text(text))
+    }
+
+    /// `dump`.
+    #[tactic(auto, unfolding(crate::specs::Commands::dump_told))]
+    pub(crate) fn dump(&self, version: u64) -> Result<Reply, AllocError>
+        requires { IsReady A.sources P.slots self.now }
+        ensures { Tells A.sources P.slots (λ w. dump_told version w.state) self.now result }
+    {
+        let review = self.desk.review();
+        if !can_tell(version, review.pdp().environment()) {
+            return Ok(Reply::Refused(BAD_VALUE, None));
+        }
+        let text = dump_text(self.alloc, review, version)?;
+        Ok(Reply::Text(text))
+    }
+}
