@@ -27,9 +27,18 @@ const FOREIGN_KEY: &str =
 
 /// A reader that gives its bytes one by one, each behind an interruption, and then fails.
 #[derive(Drop)]
-struct Breaking<'a> {
+pub(crate) struct Breaking<'a> {
     text: &'a [u8],
     interrupted: bool,
+}
+
+impl<'a> Breaking<'a> {
+    pub(crate) fn new(text: &'a [u8]) -> Breaking<'a> {
+        Breaking {
+            text,
+            interrupted: false,
+        }
+    }
 }
 
 impl Read for Breaking<'_> {
@@ -100,10 +109,7 @@ fn a_file_of_the_limit_is_read(rt: HostRuntime) -> Result<(), Fail> {
 
 /// What a check of a text comes to whose reader breaks behind it, and whether nothing is said of it.
 fn broken(alloc: Global, text: &str) -> (Result<bool, ServeFault>, bool) {
-    let mut reader = Breaking {
-        text: text.as_bytes(),
-        interrupted: false,
-    };
+    let mut reader = Breaking::new(text.as_bytes());
     let mut line = Vec::new(alloc);
     let end = check_from(alloc, &mut reader, &mut line);
     (end, line.is_empty())

@@ -19,6 +19,8 @@ mod hostile;
 #[cfg(test)]
 mod index;
 #[cfg(test)]
+mod lines;
+#[cfg(test)]
 mod policies;
 #[cfg(test)]
 mod responses;

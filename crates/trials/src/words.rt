@@ -1,10 +1,10 @@
 //! What the command line takes and asks for, what is said of words that it does not take, and the statuses.
 
-use ent_line::ServeFault;
+use ent_line::{LinesFault, ServeFault};
 use ent_policy::DocFault;
 use ent_program::{
-    FileFault, Modules, Task, WordsFault, command, file_sentence, given_words, status_of, task_of,
-    usage_status, words_status,
+    FileFault, Modules, Task, WordsFault, command, file_sentence, given_words, lines_status,
+    status_of, task_of, usage_status, words_status,
 };
 use std::alloc::{AllocError, Global};
 use std::cell::RefCell;
@@ -22,6 +22,7 @@ Usage: review <COMMAND>
 Commands:
   serve  Serves commands on standard input, one line each, to standard output
   check  Says whether the policy in a file may be stored, or why not
+  lines  Writes the lines of a dump on standard input to standard output
   help   Print this message or the help of the given subcommand(s)
 
 Options:
@@ -51,9 +52,18 @@ Options:
   -h, --help  Print help
 ";
 
+const HELP_OF_LINES: &str = "\
+Writes the lines of a dump on standard input to standard output
+
+Usage: review lines
+
+Options:
+  -h, --help  Print help
+";
+
 const NO_COMMAND: &str = "\
 error: 'review' requires a subcommand but one was not provided
-  [subcommands: serve, check, help]
+  [subcommands: serve, check, lines, help]
 
 Usage: review <COMMAND>
 
@@ -73,6 +83,14 @@ const TWO_FILES: &str = "\
 error: unexpected argument 'b' found
 
 Usage: review check <FILE>
+
+For more information, try '--help'.
+";
+
+const A_DUMP: &str = "\
+error: unexpected argument 'dump.json' found
+
+Usage: review lines
 
 For more information, try '--help'.
 ";
@@ -128,9 +146,11 @@ const SAID: &[(&[&str], &str, u8)] = &[
     (&["--help"], HELP, 0),
     (&["serve", "--help"], HELP_OF_SERVE, 0),
     (&["check", "-h"], HELP_OF_CHECK, 0),
+    (&["lines", "--help"], HELP_OF_LINES, 0),
     (&[], NO_COMMAND, 1),
     (&["check"], NO_FILE, 1),
     (&["check", "a", "b"], TWO_FILES, 1),
+    (&["lines", "dump.json"], A_DUMP, 1),
     (&["serve", "--policy-modules", "5"], FIVE_MODULES, 1),
     (&["surve"], NO_SUCH_COMMAND, 1),
 ];
@@ -175,6 +195,7 @@ const TAKEN: &[(&[&str], Task)] = &[
         }),
     ),
     (&["check", "serve"], Task::Check("serve")),
+    (&["lines"], Task::Lines),
 ];
 
 /// Whether the words ask for that.
@@ -293,6 +314,23 @@ fn each_fault_is_told(rt: HostRuntime) {
     }
     let status = words_status(&ear, WordsFault::NotText);
     assert!(rt; status == 1 && ear.heard("review: a word of the command line isn't UTF-8"));
+}
+
+/// What is said where the lines of a dump weren't written, or not all, and the status.
+const LINES_ENDS: &[(LinesFault, &str, u8)] = &[
+    (LinesFault::NotDump, "review: not a dump", 1),
+    (LinesFault::Read, "review: read fault", 2),
+    (LinesFault::Write, "review: write fault", 2),
+    (LinesFault::Memory, "review: out of memory", 3),
+];
+
+#[test]
+fn each_fault_of_lines_is_told(rt: HostRuntime) {
+    let ear = Ear::new(rt.alloc());
+    for &(fault, line, status) in LINES_ENDS {
+        let given = lines_status(&ear, Err(fault));
+        assert!(rt; given == status && ear.heard(line), "{line}");
+    }
 }
 
 /// What is said of a file that is refused.
