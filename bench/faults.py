@@ -27,9 +27,10 @@ HERE = os.path.dirname(os.path.abspath(__file__))
 sys.path.insert(0, os.path.join(HERE, '..', 'crates', 'conformance'))
 import sessions
 
-# Edits of each kind (names, values, documents, issuers, the root, the day); asks; reports; marks and notices.
+# Edits of each kind (names, values, documents, issuers, the root, the day, the moment); asks; reports; marks and notices; a dump.
 ROWS = ['first_table', 'attribute_arrives', 'the_most_recent_version', 'drop_and_add_again', 'issuers', 'or_stops_early', 'certification_date',
-        'ask_beside_table', 'ask_included', 'reports', 'change_and_back', 'marks_per_session', 'person_dropped', 'evaluations_of_a_withdrawal']
+        'closing_time', 'ask_beside_table', 'ask_included', 'reports', 'change_and_back', 'marks_per_session', 'person_dropped',
+        'evaluations_of_a_withdrawal', 'dump_of_issuers']
 # The fields of the page that the shim shares with this driver, in its order.
 ASKED, FIRST, LAST, REFUSED, WAITING, READ_LIMIT, READ, WRITE_LIMIT, WRITTEN = range(9)
 WANT = b'{"refused":15}'

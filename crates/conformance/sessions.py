@@ -12,7 +12,7 @@ of the time, from 0, №+K that number and K more, and №%K what is left of it 
     «N,TEXT»    N copies joined by commas    №+1    in TEXT: the number of the next copy
     «FF»        the byte of these two hexadecimal digits
 
-The pages of docs/ on commands, on limits, on refusals and on requests have sessions too, in their blocks of the kind `session`. One more session, policies_page, is made from
+The pages of docs/ on commands, on limits, on refusals, on requests and on what isn't here, and the tutorial, have sessions too, in their blocks of the kind `session`. One more session, policies_page, is made from
 docs/POLICIES.md: each example there is added, with the reply that follows from what the page says below it. After `ok KIND ID VERSION` a document of that kind, id and version is there already, and after an example below which its written
 form stands, so is that form. A block `session` below an example has lines and replies as above, of a service to which the example was
 added first: a session of its own, policies_page_ID with the id of that document. The example of README.md, whose lines stand before all replies, is the session readme.
@@ -23,7 +23,7 @@ HERE = os.path.dirname(os.path.abspath(__file__))
 DOCS = os.path.join(HERE, '..', '..', 'docs')
 PAGE = os.path.join(DOCS, 'POLICIES.md')
 README = os.path.join(HERE, '..', '..', 'README.md')
-PAGES = ['COMMANDS.md', 'LIMITS.md', 'REFUSALS.md', 'REQUESTS.md']
+PAGES = ['COMMANDS.md', 'LIMITS.md', 'NOT_HERE.md', 'REFUSALS.md', 'REQUESTS.md', 'TUTORIAL.md']
 
 
 def read(path):

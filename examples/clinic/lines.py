@@ -1,0 +1,58 @@
+#!/usr/bin/env python3
+"""Puts the policies of this folder, each a file that people write, into the lines that are sent: into clinic.jsonl and into the sessions of docs/TUTORIAL.md.
+
+    lines.py [--check]
+
+Each line that adds a document of the kind, id and version of a file gets what stands in that file. With --check nothing is written; the status is then 1 where a line
+is another, or where clinic.jsonl isn't what the tutorial sends first.
+"""
+import json
+import pathlib
+import sys
+
+HERE = pathlib.Path(__file__).resolve().parent
+LINES = HERE / 'clinic.jsonl'
+TUTORIAL = HERE.parents[1] / 'docs' / 'TUTORIAL.md'
+
+
+def key(document):
+    """The kind, id and version of a document."""
+    (kind, body), = document.items()
+    return kind, body[f'{kind}Id'], body['Version']
+
+
+def policies():
+    """The documents of the files, by kind, id and version."""
+    documents = [json.loads(path.read_text(encoding='utf-8')) for path in sorted((HERE / 'policies').glob('*.json'))]
+    return {key(document): document for document in documents}
+
+
+def renewed(line, mark, held):
+    """A line with the document of its file in it; a line of another kind as it is."""
+    if not line.startswith(mark + '{"do":"policy.add"'):
+        return line
+    command = json.loads(line[len(mark):])
+    command['document'] = held.get(key(command['document']), command['document'])
+    return mark + json.dumps(command, separators=(',', ':'), ensure_ascii=False)
+
+
+def main():
+    held, stale = policies(), False
+    for path, mark in ((LINES, ''), (TUTORIAL, '> ')):
+        text = path.read_text(encoding='utf-8')
+        made = ''.join(renewed(line, mark, held) + '\n' for line in text.splitlines())
+        if made != text and sys.argv[1:] == ['--check']:
+            print(f'{path.name} has another policy than {HERE.name}/policies')
+            stale = True
+        elif made != text:
+            path.write_text(made, encoding='utf-8')
+    sent = [line[2:] for line in TUTORIAL.read_text(encoding='utf-8').splitlines() if line.startswith('> ')]
+    first = LINES.read_text(encoding='utf-8').splitlines()
+    if sent[:len(first)] != first:
+        print(f'{TUTORIAL.name} does not begin with the lines of {LINES.name}')
+        stale = True
+    return 1 if stale else 0
+
+
+if __name__ == '__main__':
+    sys.exit(main())
