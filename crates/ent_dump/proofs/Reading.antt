@@ -1,15 +1,15 @@
 -- The whole of an input, and the lines that are written of it.
-use Rattle.std.proofs.Common.{◌≡◌, ◌∙◌, ◌≤◌, inl, inr, ℕ, List, [], ◌∷◌, ◌++◌, Bool, true, false, Option, Some, None, Result, Ok, Err, ap, append-nil}
-use Rattle.std.proofs.Common.{option_map, refl, subst, sym}
+use Rattle.std.proofs.Common.{◌≡◌, ◌∙◌, ◌≤◌, inl, inr, ℕ, List, [], true, false, Option, Some, None, Result, Ok, Err, ap, append-nil}
+use Rattle.std.proofs.Common.{option_map, subst, sym}
 use Rattle.std.specs.Prelude.{⊤, option_and_then}
 use Rattle.std.specs.Io.KnownBytes.{Consumes, Keeps}
 use Rattle.std.proofs.KnownBytes.{Consumes-trans}
 use Rattle.serde_json.specs.Data.{Data}
 use Rattle.ent_json.specs.Line.{data_of}
 use Rattle.ent_dump.specs.Lines.{DumpsLines, IsReadFault, ReadsAll, ReadsMore, Streams, WritesTold}
-use Rattle.ent_dump.specs.Reply.{texts_of, told_lines}
+use Rattle.ent_dump.specs.Reply.{told_lines}
 use Rattle.ent_dump.specs.declared.fault.LinesFault.{LinesFault}
-use Rattle.ent_dump.specs.declared.fault.LinesFault.TheVariants.{NotDump, Write}
+use Rattle.ent_dump.specs.declared.fault.LinesFault.TheVariants.{NotDump}
 
 -- more was read
 pub read_more : (a b c : Option (List ℕ)) (room : ℕ) (old new : List ℕ) → Consumes a b old → ReadsMore b c room old new (Ok true) → Consumes a c new

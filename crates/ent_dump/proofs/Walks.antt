@@ -1,5 +1,5 @@
 -- A walk over entries, modules or names, each of which is written as lines.
-use Rattle.std.proofs.Common.{◌≡◌, ◌==◌, ◌++◌, ◌∙◌, ℕ, zero, suc, ◌+◌, ◌<◌, ◌≤◌, false, List, [], ◌∷◌, Option, Some, None, ap, refl, sym, subst, arith, map}
+use Rattle.std.proofs.Common.{◌≡◌, ◌==◌, ◌++◌, ◌∙◌, ℕ, zero, suc, ◌+◌, ◌<◌, ◌≤◌, false, List, [], ◌∷◌, Option, Some, None, ap, refl, sym, arith, map}
 use Rattle.std.proofs.Common.{drop, drop-cons, get_or, length, append-nil, append_assoc, codes, filter_map, OnOk, Result, Ok, Err}
 use Rattle.std.specs.Prelude.{filter, slice_get, slice_index_or}
 use Rattle.std.specs.List.{enumerate_from, flat_map}

@@ -27,7 +27,11 @@ fn write_line(out: &mut JsonText, line: JsonText) -> Result<(), AllocError>
 }
 
 /// Writes the line of the command `format`.
-pub fn write_format_line(alloc: Global, out: &mut JsonText, version: u64) -> Result<(), AllocError>
+pub(crate) fn write_format_line(
+    alloc: Global,
+    out: &mut JsonText,
+    version: u64,
+) -> Result<(), AllocError>
     ensures { OnOk result (out.new ≡ out.old ++ token.string (compact_text (format_data version)) ∷ []) }
 {
     let mut line = JsonText::with_room(alloc)?;

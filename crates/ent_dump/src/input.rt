@@ -1,7 +1,6 @@
 //! All bytes of a reader.
 
-ghost use Rattle.std.specs.Prelude.{◌≡◌, ◌≤◌, IfErr, IfOk, Result, length};
-ghost use Rattle.std.specs.Io.KnownBytes.{Consumes};
+ghost use Rattle.std.specs.Prelude.{◌≤◌, IfErr, IfOk, Result, length};
 ghost use Rattle.ent_dump.specs.Lines.{IsReadFault, ReadsAll, ReadsMore};
 
 use crate::fault::LinesFault;

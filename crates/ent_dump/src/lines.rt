@@ -1,6 +1,6 @@
 //! The lines of a dump, out of the reply that tells them.
 
-ghost use Rattle.std.specs.Prelude.{Result, map};
+ghost use Rattle.std.specs.Prelude.{Result};
 ghost use Rattle.std.specs.List.{flat_map};
 ghost use Rattle.ent_dump.specs.Lines.{DumpsLines, Sends, WritesTold, ended};
 ghost use Rattle.ent_dump.specs.Reply.{text_of, told_lines};

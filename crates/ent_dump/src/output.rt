@@ -1,6 +1,6 @@
 //! Bytes into a writer.
 
-ghost use Rattle.std.specs.Prelude.{◌≡◌, Result};
+ghost use Rattle.std.specs.Prelude.{Result};
 ghost use Rattle.ent_dump.specs.Lines.{Sends};
 
 use crate::fault::LinesFault;

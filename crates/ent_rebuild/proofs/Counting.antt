@@ -13,7 +13,8 @@ use Rattle.ent_table.specs.declared.edit.Edit.TheVariants.{AddName}
 use Rattle.ent_table.specs.declared.edit.List.TheVariants as which
 use Rattle.ent_table.specs.Names.{Names}
 use Rattle.ent_table.specs.State.{State}
-use Rattle.ent_rebuild.specs.Rebuilding.{all_documents, all_names, all_rows, environment_edits, document_edit, emptied_source, module_edits, name_edits, rebuilding, root_edits, row_edit, source_edits}
+use Rattle.ent_rebuild.specs.Rebuilding.{all_documents, all_names, all_rows, environment_edits, document_edit, emptied_source, module_edits, name_edits}
+use Rattle.ent_rebuild.specs.Rebuilding.{rebuilding, root_edits, row_edit, source_edits}
 
 -- how many rows several modules have
 abbrev pub row_count : List Source → ℕ
@@ -41,10 +42,18 @@ length-names names =
     let es : List Edit = name_edits which.Actions names.actions in
     let fs : List Edit = name_edits which.Resources names.resources in
     length-append ds (es ++ fs)
-    ∙ omega (arith, length-append es fs, length-map names.people (AddName which.People), length-map names.actions (AddName which.Actions), length-map names.resources (AddName which.Resources))
+    ∙ omega (
+      arith,
+      length-append es fs,
+      length-map names.people (AddName which.People),
+      length-map names.actions
+          (AddName which.Actions),
+      length-map names.resources (AddName which.Resources),
+    )
 
 pub length-rebuilding : (s : State) → length (rebuilding s)
-    ≡ document_count s.held.modules + (row_count s.held.sources + (length (environment_edits s.held.environment) + (length (root_edits s.held.root) + (length s.names.people + (length s.names.actions + length s.names.resources)))))
+    ≡ document_count s.held.modules + (row_count s.held.sources + (length (environment_edits s.held.environment) +
+    (length (root_edits s.held.root) + (length s.names.people + (length s.names.actions + length s.names.resources)))))
 length-rebuilding s =
     let ds : List Edit = all_documents s.held.modules in
     let es : List Edit = all_rows s.held.sources in
@@ -52,7 +61,16 @@ length-rebuilding s =
     let gs : List Edit = root_edits s.held.root in
     let hs : List Edit = all_names s.names in
     length-append ds (es ++ (fs ++ (gs ++ hs)))
-    ∙ omega (arith, length-append es (fs ++ (gs ++ hs)), length-append fs (gs ++ hs), length-append gs hs, length-documents 0 s.held.modules, length-rows 0 s.held.sources, length-names s.names)
+    ∙ omega (
+      arith,
+      length-append es (fs ++ (gs ++ hs)),
+      length-append fs
+          (gs ++ hs),
+      length-append gs hs,
+      length-documents 0 s.held.modules,
+      length-rows 0 s.held.sources,
+      length-names s.names,
+    )
 
 pub rows_none : (cs : List Source) → row_count (map emptied_source cs) ≡ 0
 rows_none [] = refl

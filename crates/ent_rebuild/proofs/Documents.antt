@@ -36,7 +36,8 @@ count_none (m ∷ modules) = sum_by-cons len empty (emptied_modules modules) ∙
 
 -- ---- one document
 
-document_step : (s : State) (front : List Docs) (m : Docs) (back : List Docs) (i n : ℕ) (e : DocKey × Tree) → length front ≡ i → key_of e.1 ≡ e.0 → get m e.0 ≡ None
+document_step : (s : State) (front : List Docs) (m : Docs) (back : List Docs) (i n : ℕ) (e : DocKey × Tree) → length front ≡ i → key_of e.1 ≡ e.0
+    → get m e.0 ≡ None
     → document_count (front ++ m ∷ back) < s.limits.documents → n < 2 ^ 63
     → step (holding s (front ++ m ∷ back) n) (document_edit i e) ≡ Ok (holding s (front ++ insert m e.0 e.1 ∷ back) (n + 1))
 document_step s front m back i n e at own new few below =
@@ -52,12 +53,14 @@ document_step s front m back i n e at own new few below =
 abbrev pub AreOwn : List (DocKey × Tree) → Type 0
 AreOwn es = AllByRecursion (λ e. key_of e.1 ≡ e.0) es
 
-count_more : (front : List Docs) (m : Docs) (back : List Docs) (k : DocKey) (d : Tree) → get m k ≡ None → document_count (front ++ insert m k d ∷ back) ≡ document_count (front ++ m ∷ back) + 1
+count_more : (front : List Docs) (m : Docs) (back : List Docs) (k : DocKey) (d : Tree) → get m k ≡ None
+    → document_count (front ++ insert m k d ∷ back) ≡ document_count (front ++ m ∷ back) + 1
 count_more front m back k d new =
     let longer : len (insert m k d) ≡ len m + 1 = len-insert key_cmp_total m k d ∙ ap (λ o. cond (is_some o) (len m) (len m + 1)) new in
     omega (arith, count_at front m back, count_at front (insert m k d) back)
 
-documents_added : (s : State) (front back : List Docs) (i : ℕ) → length front ≡ i → (es : List (DocKey × Tree)) (m : Docs) (n k : ℕ) → n + length es ≡ k → T (is_sorted key_cmp es) → AreNew m es → AreOwn es
+documents_added : (s : State) (front back : List Docs) (i : ℕ) → length front ≡ i → (es : List (DocKey × Tree)) (m : Docs) (n k : ℕ) → n + length es ≡ k
+    → T (is_sorted key_cmp es) → AreNew m es → AreOwn es
     → document_count (front ++ m ∷ back) + length es ≤ s.limits.documents → k ≤ 2 ^ 63
     → stepped (holding s (front ++ m ∷ back) n) (map (document_edit i) es) ≡ Ok (holding s (front ++ put_all m es ∷ back) k)
 documents_added s front back i at [] m n k count sorted new own few below =
@@ -80,7 +83,8 @@ module_added s front back i at d n k count own few below =
 
 -- ---- the documents of all modules
 
-pub modules_added : (s : State) (all ms front : List Docs) (i n k : ℕ) → length front ≡ i → front ++ ms ≡ all → n + length (flat_map module_edits (enumerate_from i ms)) ≡ k
+pub modules_added : (s : State) (all ms front : List Docs) (i n k : ℕ) → length front ≡ i → front ++ ms ≡ all
+    → n + length (flat_map module_edits (enumerate_from i ms)) ≡ k
     → AllByRecursion (λ d. AreOwn (entries d)) ms → document_count all ≤ s.limits.documents → k ≤ 2 ^ 63
     → stepped (holding s (front ++ emptied_modules ms) n) (flat_map module_edits (enumerate_from i ms)) ≡ Ok (holding s all k)
 modules_added s all [] front i n k at whole count own few below =
@@ -94,7 +98,9 @@ modules_added s all (d ∷ ms) front i n k at whole count own few below =
     let counted : document_count (front ++ d ∷ ms) ≤ s.limits.documents = subst (λ (l : List Docs). document_count l ≤ s.limits.documents) (sym whole) few in
     let room : document_count (front ++ empty ∷ emptied_modules ms) + length (entries d) ≤ s.limits.documents =
     omega (arith, count_at front d ms, count_at front empty (emptied_modules ms), count_none ms, len-empty key_cmp Tree, len-entries d) in
-    stepped_all (holding s (front ++ empty ∷ emptied_modules ms) n) (holding s ((front ++ d ∷ []) ++ emptied_modules ms) (n + length (entries d))) (module_edits (i, d)) rest _
+    stepped_all (holding s (front ++ empty ∷ emptied_modules ms) n) (holding s ((front ++ d ∷ []) ++ emptied_modules ms) (n + length (entries d)))
+    (module_edits (i, d)) rest _
     (module_added s front (emptied_modules ms) i at d n (n + length (entries d)) refl own.0 room (omega arith)
     ∙ ap (λ (l : List Docs). Ok (holding s l (n + length (entries d)))) (passed front d (emptied_modules ms)))
-    (modules_added s all ms (front ++ d ∷ []) (i + 1) (n + length (entries d)) k (next_place front d i at) (sym (passed front d ms) ∙ whole) (omega arith) own.1 few below)
+    (modules_added s all ms (front ++ d ∷ []) (i + 1) (n + length (entries d)) k (next_place front d i at) (sym (passed front d ms) ∙ whole)
+    (omega arith) own.1 few below)

@@ -1,5 +1,6 @@
 -- What modules hold stays sound.
-use Rattle.std.proofs.Common.{◌≡◌, ℕ, zero, suc, ◌+◌, ◌-◌, ◌<◌, ◌≤◌, Bool, true, false, List, [], ◌∷◌, length, Option, Some, None, refl, sym, ap, subst, ◌∙◌, arith}
+use Rattle.std.proofs.Common.{◌≡◌, ℕ, zero, suc, ◌+◌, ◌-◌, ◌<◌, ◌≤◌, Bool, true, false, List, [], ◌∷◌, length, Option, Some, None, refl, sym, ap, subst, ◌∙◌}
+use Rattle.std.proofs.Common.{arith}
 use Rattle.std.specs.Prelude.{cond, map, slice_index_or, slice_set}
 use Rattle.std.specs.Cmp.{IsTotalOrder}
 use Rattle.std.specs.FinMap.{FinMap, IsAntisymmetric, contains_key, empty, get, get-empty, get-insert, get-remove, insert, len, len-insert, len-remove, remove}
@@ -57,7 +58,8 @@ module _ {K X : Type 0} {R : K → K → Ordering} (o : IsTotalOrder R) (same : 
       by false e = omega arith
 
 -- what holds of each module, with another in place of one
-pub set_each : {A : Type 0} (P : A → Type 0) (d : A) (xs : List A) (n : ℕ) (y : A) → P y → ((i : ℕ) → P (slice_index_or xs i d)) → (i : ℕ) → P (slice_index_or (slice_set xs n y) i d)
+pub set_each : {A : Type 0} (P : A → Type 0) (d : A) (xs : List A) (n : ℕ) (y : A) → P y → ((i : ℕ) → P (slice_index_or xs i d)) → (i : ℕ)
+    → P (slice_index_or (slice_set xs n y) i d)
 set_each P d [] n y here rest i = rest i
 set_each P d (x ∷ xs) zero y here rest zero = here
 set_each P d (x ∷ xs) zero y here rest (suc i) = rest (suc i)
@@ -108,11 +110,13 @@ abbrev pub IsSoundWith : Source → RowKey → List Value → Type 0
 IsSoundWith c key [] = Unit {0}
 IsSoundWith c key (v ∷ vs) = IsSoundRow c key (v ∷ vs)
 
-rows_kept : (c : Source) (key : RowKey) (values : List Value) → IsSoundSource c → IsSoundWith c key values → (q : RowKey) (vs : List Value) → get (with_row c.rows key values) q ≡ Some vs → IsSoundRow c q vs
+rows_kept : (c : Source) (key : RowKey) (values : List Value) → IsSoundSource c → IsSoundWith c key values → (q : RowKey) (vs : List Value)
+    → get (with_row c.rows key values) q ≡ Some vs → IsSoundRow c q vs
 rows_kept c key [] sound here = remove_keeps row_cmp_total row_cmp_antisymmetric (IsSoundRow c) c.rows key sound
 rows_kept c key (v ∷ vs) sound here = insert_keeps row_cmp_total row_cmp_antisymmetric (IsSoundRow c) c.rows key (v ∷ vs) here sound
 
-pub source_kept : (c : Source) (key : RowKey) (values : List Value) → IsSoundSource c → IsSoundWith c key values → IsSoundSource (record c { rows = with_row c.rows key values })
+pub source_kept : (c : Source) (key : RowKey) (values : List Value) → IsSoundSource c → IsSoundWith c key values
+    → IsSoundSource (record c { rows = with_row c.rows key values })
 source_kept c key values sound here q vs is = moved c (with_row c.rows key values) q vs (rows_kept c key values sound here q vs is)
 
 pub no_rows : (cs : List Source) (i : ℕ) → (source_at (map emptied_source cs) i).rows ≡ empty
@@ -125,7 +129,8 @@ no_row_sound cs i key values is =
     let none : get (source_at (map emptied_source cs) i).rows key ≡ None = ap (λ (m : Rows). get m key) (no_rows cs i) ∙ get-empty row_cmp key in
     cc
 
-pub same_sources : (cs : List Source) (n : ℕ) (rows : Rows) → map emptied_source (slice_set cs n (record (source_at cs n) { rows = rows })) ≡ map emptied_source cs
+pub same_sources : (cs : List Source) (n : ℕ) (rows : Rows) → map emptied_source
+    (slice_set cs n (record (source_at cs n) { rows = rows })) ≡ map emptied_source cs
 same_sources [] n rows = refl
 same_sources (c ∷ cs) zero rows = refl
 same_sources (c ∷ cs) (suc n) rows = ap (λ (l : List Source). emptied_source c ∷ l) (same_sources cs n rows)
@@ -138,4 +143,9 @@ len-with_row rows key (v ∷ vs) = len-insert-le row_cmp_total row_cmp_antisymme
 pub row_count_more : (cs : List Source) (n : ℕ) (key : RowKey) (values : List Value) → n < length cs
     → row_count (slice_set cs n (record (source_at cs n) { rows = with_row (source_at cs n).rows key values })) ≤ row_count cs + 1
 row_count_more cs n key values h =
-    omega (arith, len-with_row (source_at cs n).rows key values, sum_by-set (λ (c : Source). len c.rows) cs n (record (source_at cs n) { rows = with_row (source_at cs n).rows key values }) (record { categories = []; rows = empty }) h)
+    omega (
+      arith,
+      len-with_row (source_at cs n).rows key values,
+      sum_by-set (λ (c : Source). len c.rows) cs n
+          (record (source_at cs n) { rows = with_row (source_at cs n).rows key values }) (record { categories = []; rows = empty }) h,
+    )

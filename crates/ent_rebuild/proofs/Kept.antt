@@ -1,5 +1,6 @@
 -- Soundness at the start and behind a step.
-use Rattle.std.proofs.Common.{◌≡◌, ℕ, ◌+◌, ◌<◌, ◌≤◌, ◌^◌, Bool, true, false, List, [], ◌∷◌, length, Option, Some, None, Result, Ok, Err, refl, sym, ap, subst, ◌∙◌, arith}
+use Rattle.std.proofs.Common.{◌≡◌, ℕ, ◌+◌, ◌<◌, ◌≤◌, ◌^◌, Bool, true, false, List, [], ◌∷◌, length, Option, Some, None, Result, Ok, Err, refl, sym, ap, subst}
+use Rattle.std.proofs.Common.{◌∙◌, arith}
 use Rattle.std.specs.Prelude.{◌||◌, ◌&&◌, cond, map, nat_le, nat_lt, not, slice_set}
 use Rattle.std.specs.FinMap.{contains_key, empty, insert, len, len-insert, remove}
 use Rattle.std.specs.List.{AllByRecursion}
@@ -25,20 +26,23 @@ use Rattle.ent_eval.specs.declared.environment.Environment.{Environment}
 use Rattle.ent_eval.specs.declared.environment.Environment.TheVariants as environments
 use Rattle.ent_table.proofs.Changes.{less_names, more_names}
 use Rattle.ent_table.specs.declared.edit.Edit.{Edit}
-use Rattle.ent_table.specs.declared.edit.Edit.TheVariants.{AddPolicy, ReplacePolicy, WithdrawPolicy, SetAttribute, AddName, DropName, SetRoot, SetDay, SetMoment}
+use Rattle.ent_table.specs.declared.edit.Edit.TheVariants.{AddPolicy, ReplacePolicy, WithdrawPolicy, SetAttribute, AddName, DropName, SetRoot, SetDay}
+use Rattle.ent_table.specs.declared.edit.Edit.TheVariants.{SetMoment}
 use Rattle.ent_table.specs.declared.edit.EditFault.{EditFault}
 use Rattle.ent_table.specs.declared.edit.EditFault.TheVariants.{NotThere, AlreadyThere, Limit, Reserved, BadValue, UnknownModule}
 use Rattle.ent_table.specs.declared.edit.List.{List as Which}
 use Rattle.ent_table.specs.declared.edit.List.TheVariants as which
 use Rattle.ent_table.specs.Names.{Names, cell_count, has_name, list_of, others, with_name, without_name}
 use Rattle.ent_table.specs.State.{State}
-use Rattle.ent_table.specs.Step.{attribute_set, exceeds, holds, is_bad_row, is_last, is_module, is_reserved, is_source, next, policy_added, policy_replaced, policy_withdrawn, step, unless, with_environment, with_policy, with_values}
+use Rattle.ent_table.specs.Step.{attribute_set, exceeds, holds, is_bad_row, is_last, is_module, is_reserved, is_source, next, policy_added, policy_replaced}
+use Rattle.ent_table.specs.Step.{policy_withdrawn, step, unless, with_environment, with_policy, with_values}
 use Rattle.ent_rebuild.specs.Laws.{ReachedStatesAreRebuilt, SoundnessIsKept}
 use Rattle.ent_rebuild.specs.Rebuilding.{edited, emptied, emptied_modules, emptied_source, environment_edits, reached, rebuilding, root_edits, stepped}
 use Rattle.ent_rebuild.specs.Sound.{AreSoundNames, IsSound, IsSoundEdit}
 use Rattle.ent_rebuild.proofs.Counting.{length-rebuilding, row_count, rows_none}
 use Rattle.ent_rebuild.proofs.Documents.{count_none}
-use Rattle.ent_rebuild.proofs.HeldKept.{IsSoundModule, IsSoundSource, IsSoundUnder, IsSoundWith, len-remove-le, module_kept, no_document_sound, no_row_sound, row_count_more, same_modules, same_sources, set_each, source_kept}
+use Rattle.ent_rebuild.proofs.HeldKept.{IsSoundModule, IsSoundSource, IsSoundUnder, IsSoundWith, len-remove-le, module_kept, no_document_sound, no_row_sound}
+use Rattle.ent_rebuild.proofs.HeldKept.{row_count_more, same_modules, same_sources, set_each, source_kept}
 use Rattle.ent_rebuild.proofs.Named.{fewer_cells}
 use Rattle.ent_rebuild.proofs.NamesKept.{both_false, fewer_left, name_less_sound, name_more_sound, no_name_sound}
 use Rattle.ent_rebuild.proofs.Rebuilt.{states_rebuilt}
@@ -60,8 +64,10 @@ start_sound s = record {
 
 -- ---- one part is another
 
-with_names_sound : (s : State) (names : Names) → IsSound s → s.serial < 2 ^ 63 → AreSoundNames names.people s.limits.people → AreSoundNames names.actions s.limits.actions → AreSoundNames names.resources s.limits.resources
-    → cell_count names ≤ s.limits.cells → length names.people + (length names.actions + length names.resources) ≤ length s.names.people + (length s.names.actions + length s.names.resources) + 1
+with_names_sound : (s : State) (names : Names) → IsSound s → s.serial < 2 ^ 63 → AreSoundNames names.people s.limits.people
+    → AreSoundNames names.actions s.limits.actions → AreSoundNames names.resources s.limits.resources
+    → cell_count names ≤ s.limits.cells → length names.people + (length names.actions + length names.resources) ≤ length s.names.people +
+    (length s.names.actions + length s.names.resources) + 1
     → IsSound (next (record s { names = names }))
 with_names_sound s names sound below people actions resources cells more = record {
   people = people;
@@ -75,7 +81,8 @@ with_names_sound s names sound below people actions resources cells more = recor
   serial = omega arith;
 }
 
-with_modules_sound : (s : State) (modules : List Docs) → IsSound s → s.serial < 2 ^ 63 → ((i : ℕ) → IsSoundModule (module_at modules i)) → document_count modules ≤ s.limits.documents
+with_modules_sound : (s : State) (modules : List Docs) → IsSound s → s.serial < 2 ^ 63 → ((i : ℕ) → IsSoundModule (module_at modules i))
+    → document_count modules ≤ s.limits.documents
     → document_count modules ≤ document_count s.held.modules + 1 → IsSound (next (record s { held = record s.held { modules = modules } }))
 with_modules_sound s modules sound below documents count more = record {
   people = sound.people;
@@ -89,7 +96,8 @@ with_modules_sound s modules sound below documents count more = record {
   serial = omega arith;
 }
 
-with_sources_sound : (s : State) (sources : List Source) → IsSound s → s.serial < 2 ^ 63 → ((i : ℕ) → IsSoundSource (source_at sources i)) → row_count sources ≤ row_count s.held.sources + 1
+with_sources_sound : (s : State) (sources : List Source) → IsSound s → s.serial < 2 ^ 63 → ((i : ℕ) → IsSoundSource (source_at sources i))
+    → row_count sources ≤ row_count s.held.sources + 1
     → IsSound (next (record s { held = record s.held { sources = sources } }))
 with_sources_sound s sources sound below rows more = record {
   people = sound.people;
@@ -168,7 +176,8 @@ arrived s u t e kept = let same : u ≡ t = cc in subst (λ (v : State). IsKept 
 
 -- ---- names
 
-more_kept : (s : State) (list : Which) (name : List ℕ) → IsSound s → s.serial < 2 ^ 63 → has_name name (list_of list s.names) ≡ false → exceeds s list name ≡ false → is_bad_name name ≡ false → IsKept s (more_names s list name)
+more_kept : (s : State) (list : Which) (name : List ℕ) → IsSound s → s.serial < 2 ^ 63 → has_name name (list_of list s.names) ≡ false
+    → exceeds s list name ≡ false → is_bad_name name ≡ false → IsKept s (more_names s list name)
 more_kept s which.People name sound below new limits good =
     let room = both_false (nat_le s.limits.people (length s.names.people)) (nat_lt s.limits.cells (cell_count (with_name which.People name s.names))) limits in
     let people = name_more_sound s.names.people s.limits.people name sound.people new good (leb-false s.limits.people (length s.names.people) room.0) in (
@@ -178,7 +187,8 @@ more_kept s which.People name sound below new limits good =
       refl,
     )
 more_kept s which.Actions name sound below new limits good =
-    let room = both_false (nat_le s.limits.actions (length s.names.actions)) (nat_lt s.limits.cells (cell_count (with_name which.Actions name s.names))) limits in
+    let room = both_false (nat_le s.limits.actions (length s.names.actions))
+    (nat_lt s.limits.cells (cell_count (with_name which.Actions name s.names))) limits in
     let actions = name_more_sound s.names.actions s.limits.actions name sound.actions new good (leb-false s.limits.actions (length s.names.actions) room.0) in (
       with_names_sound s (with_name which.Actions name s.names) sound below sound.people actions sound.resources
           (ltb-false s.limits.cells (cell_count (with_name which.Actions name s.names)) room.1)
@@ -186,8 +196,10 @@ more_kept s which.Actions name sound below new limits good =
       refl,
     )
 more_kept s which.Resources name sound below new limits good =
-    let room = both_false (nat_le s.limits.resources (length s.names.resources)) (nat_lt s.limits.cells (cell_count (with_name which.Resources name s.names))) limits in
-    let resources = name_more_sound s.names.resources s.limits.resources name sound.resources new good (leb-false s.limits.resources (length s.names.resources) room.0) in (
+    let room = both_false (nat_le s.limits.resources (length s.names.resources))
+    (nat_lt s.limits.cells (cell_count (with_name which.Resources name s.names))) limits in
+    let resources = name_more_sound s.names.resources s.limits.resources name sound.resources new good
+    (leb-false s.limits.resources (length s.names.resources) room.0) in (
       with_names_sound s (with_name which.Resources name s.names) sound below sound.people sound.actions resources
           (ltb-false s.limits.cells (cell_count (with_name which.Resources name s.names)) room.1)
           (omega (arith, length-append s.names.resources (name ∷ []))),
@@ -197,19 +209,22 @@ more_kept s which.Resources name sound below new limits good =
 less_kept : (s : State) (list : Which) (name : List ℕ) → IsSound s → s.serial < 2 ^ 63 → IsKept s (less_names s list name)
 less_kept s which.People name sound below =
     let fewer : length (others name s.names.people) ≤ length s.names.people = fewer_left _ s.names.people in (
-      with_names_sound s (without_name which.People name s.names) sound below (name_less_sound s.names.people s.limits.people name sound.people) sound.actions sound.resources
+      with_names_sound s (without_name which.People name s.names) sound below
+          (name_less_sound s.names.people s.limits.people name sound.people) sound.actions sound.resources
           (le_trans (fewer_cells which.People (others name s.names.people) s.names.people s.names fewer) sound.cells) (omega arith),
       refl,
     )
 less_kept s which.Actions name sound below =
     let fewer : length (others name s.names.actions) ≤ length s.names.actions = fewer_left _ s.names.actions in (
-      with_names_sound s (without_name which.Actions name s.names) sound below sound.people (name_less_sound s.names.actions s.limits.actions name sound.actions) sound.resources
+      with_names_sound s (without_name which.Actions name s.names) sound below sound.people
+          (name_less_sound s.names.actions s.limits.actions name sound.actions) sound.resources
           (le_trans (fewer_cells which.Actions (others name s.names.actions) s.names.actions s.names fewer) sound.cells) (omega arith),
       refl,
     )
 less_kept s which.Resources name sound below =
     let fewer : length (others name s.names.resources) ≤ length s.names.resources = fewer_left _ s.names.resources in (
-      with_names_sound s (without_name which.Resources name s.names) sound below sound.people sound.actions (name_less_sound s.names.resources s.limits.resources name sound.resources)
+      with_names_sound s (without_name which.Resources name s.names) sound below sound.people sound.actions
+          (name_less_sound s.names.resources s.limits.resources name sound.resources)
           (le_trans (fewer_cells which.Resources (others name s.names.resources) s.names.resources s.names fewer) sound.cells) (omega arith),
       refl,
     )
@@ -223,13 +238,15 @@ put_kept : (s : State) (number : ℕ) (key : DocKey) (o : Option Tree) → IsSou
 put_kept s number key o sound below here count more =
     let m = with_document (module_at s.held.modules number) key o in (
       with_modules_sound s (slice_set s.held.modules number m) sound below
-          (set_each IsSoundModule empty s.held.modules number m (module_kept (module_at s.held.modules number) key o (sound.documents number) here) sound.documents)
+          (set_each IsSoundModule empty s.held.modules number m (module_kept (module_at s.held.modules number) key o
+          (sound.documents number) here) sound.documents)
           count more,
       ap (λ (l : List Docs). record (emptied s) { held = record (emptied s).held { modules = l } }) (same_modules s.held.modules number m),
     )
 
 -- how many documents there are with another module in place of one
-counted : (s : State) (number : ℕ) (m : Docs) → number < length s.held.modules → document_count (slice_set s.held.modules number m) + len (module_at s.held.modules number) ≡ document_count s.held.modules + len m
+counted : (s : State) (number : ℕ) (m : Docs) → number < length s.held.modules
+    → document_count (slice_set s.held.modules number m) + len (module_at s.held.modules number) ≡ document_count s.held.modules + len m
 counted s number m h = sum_by-set len s.held.modules number m empty h
 
 longer : (m : Docs) (key : DocKey) (d : Tree) (b : Bool) → contains_key m key ≡ b → len (insert m key d) ≡ cond b (len m) (len m + 1)
@@ -248,7 +265,8 @@ added_kept s number d t sound checked h =
     let count = counted s number (insert m (key_of d) d) (ltb-true number (length s.held.modules) is) in
     let long = longer m (key_of d) d false new in
     arrived s (next (with_policy s number (key_of d) (Some d))) t c.1
-    (put_kept s number (key_of d) (Some d) sound (below_last s limits.0) (record { own = refl; checked = checked }) (omega (arith, count, long, room)) (omega (arith, count, long)))
+    (put_kept s number (key_of d) (Some d) sound (below_last s limits.0) (record { own = refl; checked = checked }) (omega (arith, count, long, room))
+    (omega (arith, count, long)))
 
 replaced_kept : (s : State) (number : ℕ) (d : Tree) (t : State) → IsSound s → IsChecked d → policy_replaced s number d ≡ Ok t → IsKept s t
 replaced_kept s number d t sound checked h =
@@ -261,7 +279,8 @@ replaced_kept s number d t sound checked h =
     let count = counted s number (insert m (key_of d) d) (ltb-true number (length s.held.modules) is) in
     let long = longer m (key_of d) d true old in
     arrived s (next (with_policy s number (key_of d) (Some d))) t c.1
-    (put_kept s number (key_of d) (Some d) sound (below_last s b.0) (record { own = refl; checked = checked }) (omega (arith, count, long, sound.count)) (omega (arith, count, long)))
+    (put_kept s number (key_of d) (Some d) sound (below_last s b.0) (record { own = refl; checked = checked }) (omega (arith, count, long, sound.count))
+    (omega (arith, count, long)))
 
 withdrawn_kept : (s : State) (number : ℕ) (key : DocKey) (t : State) → IsSound s → policy_withdrawn s number key ≡ Ok t → IsKept s t
 withdrawn_kept s number key t sound h =
@@ -278,7 +297,8 @@ withdrawn_kept s number key t sound h =
 
 -- ---- rows
 
-can_be_set : (c : Source) (key : RowKey) (values : List Value) → length values ≤ 256 → is_reserved key.category key.attribute ≡ false → is_bad_row key values ≡ false → supports key.category c ≡ true → IsSoundWith c key values
+can_be_set : (c : Source) (key : RowKey) (values : List Value) → length values ≤ 256 → is_reserved key.category key.attribute ≡ false
+    → is_bad_row key values ≡ false → supports key.category c ≡ true → IsSoundWith c key values
 can_be_set c key [] most free good supported = tt
 can_be_set c key (v ∷ vs) most free good supported = record { filled = refl; most = most; free = free; good = good; supported = supported }
 
@@ -295,9 +315,11 @@ set_kept s number key values t sound h =
     let can = can_be_set old key values (ltb-false 256 (length values) limits.1) b.0 c.0 is.1 in
     arrived s (next (with_values s number key values)) t e.1 (
       with_sources_sound s (slice_set s.held.sources number new) sound (below_last s limits.0)
-          (set_each IsSoundSource (record { categories = []; rows = empty }) s.held.sources number new (source_kept old key values (sound.rows number) can) sound.rows)
+          (set_each IsSoundSource (record { categories = []; rows = empty }) s.held.sources number new
+          (source_kept old key values (sound.rows number) can) sound.rows)
           (row_count_more s.held.sources number key values (ltb-true number (length s.held.sources) is.0)),
-      ap (λ (l : List Source). record (emptied s) { held = record (emptied s).held { sources = l } }) (same_sources s.held.sources number (with_row old.rows key values)),
+      ap (λ (l : List Source). record (emptied s) { held = record (emptied s).held { sources = l } })
+          (same_sources s.held.sources number (with_row old.rows key values)),
     )
 
 -- ---- any edit

@@ -26,7 +26,8 @@ use Rattle.ent_eval.specs.declared.environment.Environment.{Environment}
 use Rattle.ent_eval.specs.declared.environment.Environment.TheVariants as environments
 use Rattle.ent_table.proofs.Changes.{less_names, more_names}
 use Rattle.ent_table.specs.declared.edit.Edit.{Edit}
-use Rattle.ent_table.specs.declared.edit.Edit.TheVariants.{AddPolicy, ReplacePolicy, WithdrawPolicy, SetAttribute, AddName, DropName, SetRoot, SetDay, SetMoment}
+use Rattle.ent_table.specs.declared.edit.Edit.TheVariants.{AddPolicy, ReplacePolicy, WithdrawPolicy, SetAttribute, AddName, DropName, SetRoot, SetDay}
+use Rattle.ent_table.specs.declared.edit.Edit.TheVariants.{SetMoment}
 use Rattle.ent_table.specs.declared.edit.EditFault.{EditFault}
 use Rattle.ent_table.specs.declared.edit.EditFault.TheVariants.{NotThere, AlreadyThere, Limit, Reserved, BadValue, UnknownModule}
 use Rattle.ent_table.specs.declared.edit.List.{List as Which}
@@ -35,7 +36,8 @@ use Rattle.ent_table.specs.Names.{has_name, list_of}
 use Rattle.ent_table.specs.State.{State}
 use Rattle.ent_table.specs.Step.{exceeds, holds, is_bad_row, is_last, is_module, is_reserved, is_source, next, step, with_environment, with_policy, with_values}
 use Rattle.ent_rebuild.specs.Laws.{ReachedEditsWereMade}
-use Rattle.ent_rebuild.specs.Rebuilding.{all_documents, all_rows, as_added, document_edit, edited, emptied, emptied_modules, emptied_source, environment_edits, module_edits, name_edits, reached, rebuilding, root_edits, row_edit, source_edits}
+use Rattle.ent_rebuild.specs.Rebuilding.{all_documents, all_rows, as_added, document_edit, edited, emptied, emptied_modules, emptied_source, environment_edits}
+use Rattle.ent_rebuild.specs.Rebuilding.{module_edits, name_edits, reached, rebuilding, root_edits, row_edit, source_edits}
 use Rattle.ent_rebuild.proofs.HeldKept.{insert_keeps, no_module, no_rows, remove_keeps}
 use Rattle.ent_rebuild.proofs.Kept.{allowed}
 use Rattle.ent_rebuild.proofs.Maps.{got_all}
@@ -54,7 +56,8 @@ all_from_map P f [] h = tt
 all_from_map P f (x ∷ xs) h = (h.0, all_from_map P f xs h.1)
 
 -- what holds of each module and its number, with another module in place of one
-set_at_each : {A : Type 0} (P : ℕ → A → Type 0) (d : A) (xs : List A) (n : ℕ) (y : A) → P n y → ((i : ℕ) → P i (slice_index_or xs i d)) → (i : ℕ) → P i (slice_index_or (slice_set xs n y) i d)
+set_at_each : {A : Type 0} (P : ℕ → A → Type 0) (d : A) (xs : List A) (n : ℕ) (y : A) → P n y → ((i : ℕ) → P i (slice_index_or xs i d)) → (i : ℕ)
+    → P i (slice_index_or (slice_set xs n y) i d)
 set_at_each P d [] n y here rest i = rest i
 set_at_each P d (x ∷ xs) zero y here rest zero = here
 set_at_each P d (x ∷ xs) zero y here rest (suc i) = rest (suc i)
@@ -62,7 +65,8 @@ set_at_each P d (x ∷ xs) (suc n) y here rest zero = rest 0
 set_at_each P d (x ∷ xs) (suc n) y here rest (suc i) = set_at_each (λ j. P (suc j)) d xs n y here (λ j. rest (suc j)) i
 
 -- what holds of each module and its number, by number
-all_numbered : {A : Type 0} (P : ℕ → A → Type 0) (d : A) (i : ℕ) (xs : List A) → ((j : ℕ) → P (i + j) (slice_index_or xs j d)) → AllByRecursion (λ m. P m.0 m.1) (enumerate_from i xs)
+all_numbered : {A : Type 0} (P : ℕ → A → Type 0) (d : A) (i : ℕ) (xs : List A) → ((j : ℕ) → P (i + j) (slice_index_or xs j d))
+    → AllByRecursion (λ m. P m.0 m.1) (enumerate_from i xs)
 all_numbered P d i [] h = tt
 all_numbered P d i (x ∷ xs) h =
     let here : i + 0 ≡ i = omega arith in (
@@ -70,14 +74,16 @@ all_numbered P d i (x ∷ xs) h =
       all_numbered P d (i + 1) xs (λ j. let later : i + suc j ≡ (i + 1) + j = omega arith in subst (λ n. P n (slice_index_or xs j d)) later (h (suc j))),
     )
 
-all_flat_map : {A B : Type 0} (P : B → Type 0) (f : A → List B) (xs : List A) → AllByRecursion (λ x. AllByRecursion P (f x)) xs → AllByRecursion P (flat_map f xs)
+all_flat_map : {A B : Type 0} (P : B → Type 0) (f : A → List B) (xs : List A) → AllByRecursion (λ x. AllByRecursion P (f x)) xs
+    → AllByRecursion P (flat_map f xs)
 all_flat_map P f [] h = tt
 all_flat_map P f (x ∷ xs) h = all_append P (f x) (flat_map f xs) h.0 (all_flat_map P f xs h.1)
 
 -- everything in a state could come from an edit of which P holds
 pub record IsMadeOf (P : Edit → Type 0) (s : State) : Type 0 where
   pub documents : (number : ℕ) (key : DocKey) (document : Tree) → get (module_at s.held.modules number) key ≡ Some document → P (AddPolicy number document)
-  pub rows : (number : ℕ) (key : RowKey) (values : List Value) → get (source_at s.held.sources number).rows key ≡ Some values → P (SetAttribute number key values)
+  pub rows : (number : ℕ) (key : RowKey) (values : List Value) → get (source_at s.held.sources number).rows key ≡ Some values
+      → P (SetAttribute number key values)
   pub environment : AllByRecursion P (environment_edits s.held.environment)
   pub root : (root : Reference) → s.held.root ≡ Some root → P (SetRoot (Some root))
   pub people : AllByRecursion (λ name. P (AddName which.People name)) s.names.people
@@ -87,9 +93,12 @@ pub record IsMadeOf (P : Edit → Type 0) (s : State) : Type 0 where
 module _ (P : Edit → Type 0) where
   nothing_made : (s : State) → IsMadeOf P (emptied s)
   nothing_made s = record {
-    documents = λ number key document is. let none : get (module_at (emptied_modules s.held.modules) number) key ≡ None = ap (λ (m : Docs). get m key) (no_module s.held.modules number) ∙ get-empty key_cmp key in cc;
+    documents =
+        λ number key document is. let none : get (module_at (emptied_modules s.held.modules) number) key ≡ None = ap (λ (m : Docs). get m key)
+        (no_module s.held.modules number) ∙ get-empty key_cmp key in cc;
     rows = λ number key values is.
-        let none : get (source_at (map emptied_source s.held.sources) number).rows key ≡ None = ap (λ m. get m key) (no_rows s.held.sources number) ∙ get-empty row_cmp key in
+        let none : get (source_at (map emptied_source s.held.sources) number).rows key ≡ None = ap (λ m. get m key) (no_rows s.held.sources number)
+        ∙ get-empty row_cmp key in
         cc;
     environment = tt;
     root = λ root is. cc;
@@ -100,10 +109,12 @@ module _ (P : Edit → Type 0) where
 
   -- ---- the edits that make it anew
 
-  each_document : (number : ℕ) (m : Docs) → ((key : DocKey) (document : Tree) → get m key ≡ Some document → P (AddPolicy number document)) → AllByRecursion P (module_edits (number, m))
+  each_document : (number : ℕ) (m : Docs) → ((key : DocKey) (document : Tree) → get m key ≡ Some document → P (AddPolicy number document))
+      → AllByRecursion P (module_edits (number, m))
   each_document number m h = all_map P (document_edit number) (entries m) (got_all key_cmp_total (λ key document. P (AddPolicy number document)) m h)
 
-  each_row : (number : ℕ) (c : Source) → ((key : RowKey) (values : List Value) → get c.rows key ≡ Some values → P (SetAttribute number key values)) → AllByRecursion P (source_edits (number, c))
+  each_row : (number : ℕ) (c : Source) → ((key : RowKey) (values : List Value) → get c.rows key ≡ Some values → P (SetAttribute number key values))
+      → AllByRecursion P (source_edits (number, c))
   each_row number c h = all_map P (row_edit number) (entries c.rows) (got_all row_cmp_total (λ key values. P (SetAttribute number key values)) c.rows h)
 
   the_root : (o : Option Reference) → ((root : Reference) → o ≡ Some root → P (SetRoot (Some root))) → AllByRecursion P (root_edits o)
@@ -115,11 +126,13 @@ module _ (P : Edit → Type 0) where
       all_append P (all_documents s.held.modules) _
       (all_flat_map P module_edits (enumerate_from 0 s.held.modules)
       (all_numbered (λ n m. AllByRecursion P (module_edits (n, m))) empty 0 s.held.modules
-      (λ j. let same : j ≡ 0 + j = omega arith in subst (λ n. AllByRecursion P (module_edits (n, module_at s.held.modules j))) same (each_document j (module_at s.held.modules j) (made.documents j)))))
+      (λ j. let same : j ≡ 0 + j = omega arith in subst (λ n. AllByRecursion P (module_edits (n, module_at s.held.modules j))) same
+      (each_document j (module_at s.held.modules j) (made.documents j)))))
       (all_append P (all_rows s.held.sources) _
       (all_flat_map P source_edits (enumerate_from 0 s.held.sources)
       (all_numbered (λ n c. AllByRecursion P (source_edits (n, c))) (record { categories = []; rows = empty }) 0 s.held.sources
-      (λ j. let same : j ≡ 0 + j = omega arith in subst (λ n. AllByRecursion P (source_edits (n, source_at s.held.sources j))) same (each_row j (source_at s.held.sources j) (made.rows j)))))
+      (λ j. let same : j ≡ 0 + j = omega arith in subst (λ n. AllByRecursion P (source_edits (n, source_at s.held.sources j))) same
+      (each_row j (source_at s.held.sources j) (made.rows j)))))
       (all_append P (environment_edits s.held.environment) _ made.environment
       (all_append P (root_edits s.held.root) _ (the_root s.held.root made.root)
       (all_append P (name_edits which.People s.names.people) _ (all_map P (AddName which.People) s.names.people made.people)
@@ -142,7 +155,9 @@ module _ (P : Edit → Type 0) where
 
   policy_made : (s : State) (number : ℕ) (key : DocKey) (o : Option Tree) → IsMadeOf P s → IsUnder number o → IsMadeOf P (next (with_policy s number key o))
   policy_made s number key o made here = record {
-    documents = set_at_each (λ i m. (q : DocKey) (d : Tree) → get m q ≡ Some d → P (AddPolicy i d)) empty s.held.modules number (with_document (module_at s.held.modules number) key o)
+    documents =
+        set_at_each (λ i m. (q : DocKey) (d : Tree) → get m q ≡ Some d → P (AddPolicy i d)) empty s.held.modules number
+        (with_document (module_at s.held.modules number) key o)
         (put_in number (module_at s.held.modules number) key o (made.documents number) here) made.documents;
     rows = made.rows;
     environment = made.environment;
@@ -152,18 +167,23 @@ module _ (P : Edit → Type 0) where
     resources = made.resources;
   }
 
-  put_row : (number : ℕ) (c : Source) (key : RowKey) (values : List Value) → ((q : RowKey) (vs : List Value) → get c.rows q ≡ Some vs → P (SetAttribute number q vs)) → P (SetAttribute number key values)
+  put_row : (number : ℕ) (c : Source) (key : RowKey) (values : List Value)
+      → ((q : RowKey) (vs : List Value) → get c.rows q ≡ Some vs → P (SetAttribute number q vs)) → P (SetAttribute number key values)
       → (q : RowKey) (vs : List Value) → get (with_row c.rows key values) q ≡ Some vs → P (SetAttribute number q vs)
   put_row number c key [] rest here = remove_keeps row_cmp_total row_cmp_antisymmetric (λ q vs. P (SetAttribute number q vs)) c.rows key rest
-  put_row number c key (v ∷ vs) rest here = insert_keeps row_cmp_total row_cmp_antisymmetric (λ q vs. P (SetAttribute number q vs)) c.rows key (v ∷ vs) here rest
+  put_row number c key (v ∷ vs) rest here =
+      insert_keeps row_cmp_total row_cmp_antisymmetric (λ q vs. P (SetAttribute number q vs)) c.rows key (v ∷ vs) here rest
 
-  row_made : (s : State) (number : ℕ) (key : RowKey) (values : List Value) → IsMadeOf P s → P (SetAttribute number key values) → IsMadeOf P (next (with_values s number key values))
+  row_made : (s : State) (number : ℕ) (key : RowKey) (values : List Value) → IsMadeOf P s → P (SetAttribute number key values)
+      → IsMadeOf P (next (with_values s number key values))
   row_made s number key values made here =
       let old = source_at s.held.sources number in
       let new : Source = record old { rows = with_row old.rows key values } in
       record {
         documents = made.documents;
-        rows = set_at_each (λ i (c : Source). (q : RowKey) (vs : List Value) → get c.rows q ≡ Some vs → P (SetAttribute i q vs)) (record { categories = []; rows = empty }) s.held.sources number new
+        rows =
+            set_at_each (λ i (c : Source). (q : RowKey) (vs : List Value) → get c.rows q ≡ Some vs → P (SetAttribute i q vs))
+            (record { categories = []; rows = empty }) s.held.sources number new
             (put_row number old key values (made.rows number) here) made.rows;
         environment = made.environment;
         root = made.root;
@@ -242,7 +262,8 @@ module _ (P : Edit → Type 0) where
   the_moment None here = tt
   the_moment (Some moment) here = (here, tt)
 
-  environment_made : (s : State) (environment : Environment) → IsMadeOf P s → AllByRecursion P (environment_edits environment) → IsMadeOf P (next (with_environment s environment))
+  environment_made : (s : State) (environment : Environment) → IsMadeOf P s → AllByRecursion P (environment_edits environment)
+      → IsMadeOf P (next (with_environment s environment))
   environment_made s environment made here = record {
     documents = made.documents;
     rows = made.rows;

@@ -21,7 +21,8 @@ use Rattle.ent_table.specs.Names.{Names, no_names}
 use Rattle.ent_table.specs.State.{State}
 use Rattle.ent_table.specs.Step.{next, step, with_environment, with_root}
 use Rattle.ent_rebuild.specs.Laws.{StatesAreRebuilt}
-use Rattle.ent_rebuild.specs.Rebuilding.{all_documents, all_names, all_rows, emptied, emptied_source, environment_edits, name_edits, rebuilding, root_edits, stepped}
+use Rattle.ent_rebuild.specs.Rebuilding.{all_documents, all_names, all_rows, emptied, emptied_source, environment_edits, name_edits, rebuilding, root_edits}
+use Rattle.ent_rebuild.specs.Rebuilding.{stepped}
 use Rattle.ent_rebuild.specs.Sound.{IsSound, IsSoundRow}
 use Rattle.ent_rebuild.proofs.Chains.{stepped_all, stepped_one}
 use Rattle.ent_rebuild.proofs.Documents.{AreOwn, modules_added}
@@ -34,7 +35,8 @@ use Rattle.ent_rebuild.proofs.Rowed.{AreSoundRows, sources_added}
 day_passes : (s : State) (day : Day) → s.serial < 2 ^ 63 → step s (SetDay (Some day)) ≡ Ok (next (with_environment s (environments.Day day)))
 day_passes s day below = rw (lt-leb (2 ^ 63) s.serial below) refl
 
-moment_passes : (s : State) (moment : DateTime) → s.serial < 2 ^ 63 → step s (SetMoment (Some moment)) ≡ Ok (next (with_environment s (environments.Moment moment)))
+moment_passes : (s : State) (moment : DateTime) → s.serial < 2 ^ 63 → step s (SetMoment (Some moment)) ≡ Ok
+    (next (with_environment s (environments.Moment moment)))
 moment_passes s moment below = rw (lt-leb (2 ^ 63) s.serial below) refl
 
 root_passes : (s : State) (root : Option Reference) → s.serial < 2 ^ 63 → step s (SetRoot root) ≡ Ok (next (with_root s root))
@@ -43,7 +45,8 @@ root_passes s root below = rw (lt-leb (2 ^ 63) s.serial below) refl
 module _ (s : State) where
   -- a state with these parts
   abbrev made : List Docs → List Source → Environment → Option Reference → Names → ℕ → State
-  made modules sources environment root names n = record { held = record { root = root; modules = modules; sources = sources; environment = environment }; names = names; serial = n; limits = s.limits }
+  made modules sources environment root names n =
+      record { held = record { root = root; modules = modules; sources = sources; environment = environment }; names = names; serial = n; limits = s.limits }
 
   -- ---- the environment and the root
 
@@ -55,16 +58,19 @@ module _ (s : State) where
       ap (λ j. Ok (made modules sources environments.Empty None names j)) same
   environment_added modules sources (environments.Day day) names n k count below =
       let same : n + 1 ≡ k = omega arith in
-      stepped_one (made modules sources environments.Empty None names n) (made modules sources (environments.Day day) None names (n + 1)) (SetDay (Some day)) [] _
+      stepped_one (made modules sources environments.Empty None names n) (made modules sources (environments.Day day) None names (n + 1))
+      (SetDay (Some day)) [] _
       (day_passes (made modules sources environments.Empty None names n) day (omega arith))
       (ap (λ j. Ok (made modules sources (environments.Day day) None names j)) same)
   environment_added modules sources (environments.Moment moment) names n k count below =
       let same : n + 1 ≡ k = omega arith in
-      stepped_one (made modules sources environments.Empty None names n) (made modules sources (environments.Moment moment) None names (n + 1)) (SetMoment (Some moment)) [] _
+      stepped_one (made modules sources environments.Empty None names n) (made modules sources (environments.Moment moment) None names (n + 1))
+      (SetMoment (Some moment)) [] _
       (moment_passes (made modules sources environments.Empty None names n) moment (omega arith))
       (ap (λ j. Ok (made modules sources (environments.Moment moment) None names j)) same)
 
-  root_added : (modules : List Docs) (sources : List Source) (environment : Environment) (root : Option Reference) (names : Names) (n k : ℕ) → n + length (root_edits root) ≡ k → k ≤ 2 ^ 63
+  root_added : (modules : List Docs) (sources : List Source) (environment : Environment) (root : Option Reference) (names : Names) (n k : ℕ)
+      → n + length (root_edits root) ≡ k → k ≤ 2 ^ 63
       → stepped (made modules sources environment None names n) (root_edits root) ≡ Ok (made modules sources environment root names k)
   root_added modules sources environment None names n k count below =
       let same : n ≡ k = omega arith in
@@ -87,7 +93,8 @@ module _ (s : State) where
 
   -- ---- the names of the three lists
 
-  names_made : (modules : List Docs) (sources : List Source) (environment : Environment) (root : Option Reference) (n k : ℕ) → IsSound s → n + length (all_names s.names) ≡ k → k ≤ 2 ^ 63
+  names_made : (modules : List Docs) (sources : List Source) (environment : Environment) (root : Option Reference) (n k : ℕ) → IsSound s
+      → n + length (all_names s.names) ≡ k → k ≤ 2 ^ 63
       → stepped (made modules sources environment root no_names n) (all_names s.names) ≡ Ok (made modules sources environment root s.names k)
   names_made modules sources environment root n k sound count below =
       let ps = s.names.people in
@@ -101,12 +108,23 @@ module _ (s : State) where
       let fs : List Edit = name_edits which.Resources rs in
       let n1 = n + length ps in
       let n2 = n1 + length as_ in
-      let long : length (ds ++ (es ++ fs)) ≡ length ps + (length as_ + length rs) = length-append ds (es ++ fs) ∙ omega (arith, length-append es fs, length-map ps (AddName which.People), length-map as_ (AddName which.Actions), length-map rs (AddName which.Resources)) in
+      let long : length (ds ++ (es ++ fs)) ≡ length ps + (length as_ + length rs) = length-append ds (es ++ fs)
+      ∙ omega (
+        arith,
+        length-append es fs,
+        length-map ps (AddName which.People),
+        length-map as_ (AddName which.Actions),
+        length-map rs
+            (AddName which.Resources),
+      ) in
       stepped_all bare (made modules sources environment root people n1) ds (es ++ fs) _
       (names_added bare which.People ps ps [] n n1 refl refl sound.people.distinct sound.people.good sound.people.most (omega arith) (omega arith))
       (stepped_all (made modules sources environment root people n1) (made modules sources environment root actions n2) es fs _
-      (names_added (made modules sources environment root people n1) which.Actions as_ as_ [] n1 n2 refl refl sound.actions.distinct sound.actions.good sound.actions.most (omega arith) (omega arith))
-      (names_added (made modules sources environment root actions n2) which.Resources rs rs [] n2 k refl (omega arith) sound.resources.distinct sound.resources.good sound.resources.most sound.cells below))
+      (names_added
+      (made modules sources environment root people n1) which.Actions as_ as_ [] n1 n2 refl refl
+      sound.actions.distinct sound.actions.good sound.actions.most (omega arith) (omega arith))
+      (names_added (made modules sources environment root actions n2) which.Resources rs rs [] n2 k refl
+      (omega arith) sound.resources.distinct sound.resources.good sound.resources.most sound.cells below))
 
   -- ---- all of it
 

@@ -13,12 +13,22 @@ use Rattle.ent_rebuild.specs.Rebuilding.{emptied, emptied_modules, emptied_sourc
 -- a number of modules without documents and of modules without rows, all with the same categories
 abbrev pub started : ℕ → ℕ → List (List ℕ) → Limits → State
 started policies attributes categories limits =
-    initial (record { root = None; modules = replicate policies empty; sources = replicate attributes (record { categories = categories; rows = empty }); environment = environments.Empty }) limits
+    initial (record {
+      root = None;
+      modules = replicate policies empty;
+      sources = replicate attributes
+          (record { categories = categories; rows = empty });
+      environment = environments.Empty;
+    }) limits
 
 -- it is as it is emptied
-pub emptied-started : (policies attributes : ℕ) (categories : List (List ℕ)) (limits : Limits) → emptied (started policies attributes categories limits) ≡ started policies attributes categories limits
+pub emptied-started : (policies attributes : ℕ) (categories : List (List ℕ)) (limits : Limits)
+    → emptied (started policies attributes categories limits) ≡ started policies attributes categories limits
 emptied-started policies attributes categories limits =
-    λ i. record (started policies attributes categories limits) { held = record (started policies attributes categories limits).held { modules = no_modules policies i; sources = no_sources attributes i } }
+    λ i. record (started policies attributes categories limits) {
+      held = record
+          (started policies attributes categories limits).held { modules = no_modules policies i; sources = no_sources attributes i };
+    }
   where
     no_modules : (n : ℕ) → emptied_modules (replicate n empty) ≡ replicate n empty
     no_modules zero = refl

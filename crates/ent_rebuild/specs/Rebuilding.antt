@@ -46,7 +46,12 @@ emptied_modules modules = map (λ _. empty) modules
 -- the modules and the limits alone: nothing is held, listed or set, at serial 0
 abbrev pub emptied : State → State
 emptied s =
-    initial (record { root = None; modules = emptied_modules s.held.modules; sources = map emptied_source s.held.sources; environment = environments.Empty }) s.limits
+    initial (record {
+      root = None;
+      modules = emptied_modules s.held.modules;
+      sources = map emptied_source s.held.sources;
+      environment = environments.Empty;
+    }) s.limits
 
 -- ---- the edits
 
@@ -95,7 +100,8 @@ all_names names = name_edits which.People names.people ++ (name_edits which.Acti
 
 -- the documents, the rows, the environment, the root and the names of a state
 abbrev pub rebuilding : State → List Edit
-rebuilding s = all_documents s.held.modules ++ (all_rows s.held.sources ++ (environment_edits s.held.environment ++ (root_edits s.held.root ++ all_names s.names)))
+rebuilding s =
+    all_documents s.held.modules ++ (all_rows s.held.sources ++ (environment_edits s.held.environment ++ (root_edits s.held.root ++ all_names s.names)))
 
 -- ---- edits of which some are refused
 

@@ -3,8 +3,8 @@
 ghost use Rattle.ent_rebuild.specs.Laws.{ReachedEditsWereMade, ReachedStatesAreRebuilt, SoundnessIsKept};
 ghost use Rattle.ent_rebuild.specs.Laws.{StatesAreRebuilt};
 
-/// A law, with nothing to run: a sound state is made anew by its documents, rows, environment, root and names as edits in that
-/// order. None of them is refused, and only the serial is another than before.
+/// A law, with nothing to run: a sound state is made anew by its documents, rows, environment, root and names as edits
+/// in that order. None of them is refused, and only the serial is another than before.
 pub fn states_are_rebuilt()
     ensures { StatesAreRebuilt }
 {}

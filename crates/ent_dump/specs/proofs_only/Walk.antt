@@ -4,7 +4,6 @@ use Rattle.json.specs.Token as token
 use Rattle.json.specs.Token.{Token}
 use Rattle.ent_values.specs.declared.value.Value.{Value}
 use Rattle.ent_policy.specs.declared.document.Tree.{Tree}
-use Rattle.ent_policy.specs.declared.key.DocKey.{DocKey}
 use Rattle.ent_finder.specs.declared.row.RowKey.{RowKey}
 use Rattle.ent_eval.specs.Held.{Held}
 use Rattle.ent_table.specs.declared.edit.Edit.{Edit}

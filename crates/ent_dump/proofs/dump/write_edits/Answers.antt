@@ -1,6 +1,6 @@
 use Rattle.ent_table.specs.declared.edit.List.TheVariants as which
 use Rattle.ent_table.specs.Review.{state_of}
-use Rattle.ent_rebuild.specs.Rebuilding.{name_edits, rebuilding}
+use Rattle.ent_rebuild.specs.Rebuilding.{name_edits}
 use Rattle.ent_dump.specs.proofs_only.Walk.{held_edits}
 use Rattle.ent_dump.proofs.Walks.{lines_end, rebuilding_is}
 use Rattle.ent_dump.proofs.dump.write_edits.Goals as goal

@@ -1,6 +1,5 @@
 use Rattle.std.proofs.Common.{◌++◌, ◌∙◌, ap, arith, sym}
 use Rattle.std.specs.FinMap.{empty}
-use Rattle.std.specs.List.{enumerate_from, flat_map}
 use Rattle.ent_finder.specs.Slots.{held}
 use Rattle.ent_rebuild.specs.Rebuilding.{module_edits}
 use Rattle.ent_dump.specs.proofs_only.Walk.{line_tokens}

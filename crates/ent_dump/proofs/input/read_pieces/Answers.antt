@@ -1,4 +1,4 @@
-use Rattle.std.proofs.Common.{◌≡◌, ◌++◌, ◌∙◌, Ok, ap, arith, drop, length, length-append, length-drop, length-take-le, subst}
+use Rattle.std.proofs.Common.{◌++◌, ◌∙◌, Ok, ap, arith, drop, length, length-append, length-drop, length-take-le, subst}
 use Rattle.ent_dump.proofs.Reading.{read_last, read_more}
 use Rattle.ent_dump.specs.Lines.{ReadsMore}
 use Rattle.ent_dump.proofs.input.read_pieces.Goals as goal

@@ -16,8 +16,9 @@ returns-in_err-all g c =
 pub returns-in_err-read_json : goal.returns-in_err-read_json
 returns-in_err-read_json g c =
     let p = err_from_is_err_and c.from_residual-in_err-read_json.result c.from_residual-in_err-read_json.ensures.1 in
+    let remaining = g.R.Read.remaining in
     let before = g.W.Write.contents c.args.writer.now in
-    let streams : Streams = record { unread = g.R.Read.remaining c.args.reader.now; left = g.R.Read.remaining c.read_all.new.reader; wrote = before; holds = before } in
+    let streams : Streams = record { unread = remaining c.args.reader.now; left = remaining c.read_all.new.reader; wrote = before; holds = before } in
     rw (p.1, p.2) (not_read streams Memory (inr refl) (Keeps-refl before))
 
 pub returns-in-None : goal.returns-in-None
@@ -28,6 +29,5 @@ returns-in-None g c =
 pub returns : goal.returns
 returns g c =
     all_told _ c.in_ok-all.all.items (content_of (value_view c.in-Some.value)) _ _ refl
-    (some_there
-    (λ v. content_of
-    (value_view v)) _ c.in-Some.value _ _ c.as_slice.ensures.value c.in_ok-read_json.ensures.read c.in-Some.is) c.in_ok-all.ensures.all c.write_told.ensures
+    (some_there (λ v. content_of (value_view v)) _ c.in-Some.value _ _ c.as_slice.ensures.value c.in_ok-read_json.ensures.read c.in-Some.is)
+    c.in_ok-all.ensures.all c.write_told.ensures

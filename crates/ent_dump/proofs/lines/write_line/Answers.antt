@@ -1,6 +1,5 @@
-use Rattle.std.proofs.Common.{[], ◌∷◌, ◌∙◌, subst}
+use Rattle.std.proofs.Common.{[], ◌∷◌}
 use Rattle.std.proofs.lemmas.Result.{err_from_is_err_and}
-use Rattle.ent_dump.specs.Lines.{Sends, ended}
 use Rattle.ent_dump.specs.Reply.{text_of}
 use Rattle.ent_dump.proofs.Sending.{both_sent, first_sent}
 use Rattle.ent_dump.proofs.lines.write_line.Goals as goal

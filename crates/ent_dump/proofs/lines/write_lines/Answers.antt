@@ -10,4 +10,5 @@ returns-in_err-write_line g c =
     let contents = g.W.Write.contents in
     rw (p.1, p.2)
     (front_sent (λ j. ended (text_of (g.J.JsonTree.content j))) (contents c.args.writer.now) (contents c.loop-line.writer) (contents c.write_line.new.writer)
-    c.args.lines.now c.loop-line.line-index c.line-item.result c.in_err-write_line.field-0.0 c.loop-line-test.true c.line-item.is c.loop-line.invariant c.in_err-write_line.ensures)
+    c.args.lines.now c.loop-line.line-index c.line-item.result c.in_err-write_line.field-0.0
+    c.loop-line-test.true c.line-item.is c.loop-line.invariant c.in_err-write_line.ensures)

@@ -1,4 +1,3 @@
-use Rattle.std.proofs.Common.{subst}
 use Rattle.ent_dump.proofs.Telling.{one_more, one_stops}
 use Rattle.ent_dump.proofs.told.are_lines.Goals as goal
 
