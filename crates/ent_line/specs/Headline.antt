@@ -8,6 +8,7 @@
 --
 -- What `run` gives for each command need not be read in `Commands`: `IsEdited` and `IsAnswered` say it of every edit, question and mark. The last
 -- words on the page, `Headline`, are what the call `serve_review`, which the program makes, ensures of the bytes that are read and written.
+-- What `dump` tells brings a new service to the same state: that is a law of `ent_restart` (Restart), over the runs of this page.
 use Rattle.std.specs.Prelude.{◌≡◌, ◌⊎◌, ℕ, ◌<◌, ◌≤◌, ◌&&◌, true, false, List, length, fold, Option, Some, None, Result, Ok, Err}
 use Rattle.serde_json.specs.Data.{Data}
 use Rattle.ent_eval.specs.declared.answer.Answer.{Answer as Evaluated}

@@ -1,0 +1,15 @@
+pub mod Asked
+pub mod Categories
+pub mod Fitting
+pub mod FittingDocuments
+pub mod FittingEdits
+pub mod FittingParts
+pub mod Lines
+pub mod Moves
+pub mod Read
+pub mod References
+pub mod Reply
+pub mod Restart
+pub mod Sized
+pub mod Start
+pub mod Texts
