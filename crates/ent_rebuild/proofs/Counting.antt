@@ -28,12 +28,12 @@ length-documents i (m ∷ ms) =
     ∙ omega (arith, length-map (entries m) (document_edit i), length-documents (i + 1) ms, len-entries m)
     ∙ sym (sum_by-cons len m ms)
 
-length-rows : (i : ℕ) (cs : List Source) → length (flat_map source_edits (enumerate_from i cs)) ≡ row_count cs
-length-rows i [] = refl
-length-rows i (c ∷ cs) =
+length-row_edits : (i : ℕ) (cs : List Source) → length (flat_map source_edits (enumerate_from i cs)) ≡ row_count cs
+length-row_edits i [] = refl
+length-row_edits i (c ∷ cs) =
     let rest : List Edit = flat_map source_edits (enumerate_from (i + 1) cs) in
     length-append (source_edits (i, c)) rest
-    ∙ omega (arith, length-map (entries c.rows) (row_edit i), length-rows (i + 1) cs, len-entries c.rows)
+    ∙ omega (arith, length-map (entries c.rows) (row_edit i), length-row_edits (i + 1) cs, len-entries c.rows)
     ∙ sym (sum_by-cons (λ (c : Source). len c.rows) c cs)
 
 length-names : (names : Names) → length (all_names names) ≡ length names.people + (length names.actions + length names.resources)
@@ -68,7 +68,7 @@ length-rebuilding s =
           (gs ++ hs),
       length-append gs hs,
       length-documents 0 s.held.modules,
-      length-rows 0 s.held.sources,
+      length-row_edits 0 s.held.sources,
       length-names s.names,
     )
 
