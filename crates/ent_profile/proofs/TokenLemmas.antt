@@ -1,13 +1,11 @@
 -- The tokens of what is written, part for part in the order in which it is written.
-use Rattle.std.proofs.Common.{◌≡◌, ℕ, ◌+◌, ◌<◌, List, [], ◌∷◌, ◌++◌, ◌∙◌, ℤ, pos, negsuc, suc, add-one, ap, append_assoc, codes, drop, drop-cons, filter_map, get_or, length, map, refl, sym, true, false, Bool, if◌then◌else◌, is_some, Option, None, Some, option_map}
-use Rattle.std.specs.Fmt.{signed_decimal}
+use Rattle.std.proofs.Common.{◌≡◌, ℕ, ◌+◌, ◌<◌, List, [], ◌∷◌, ◌++◌, ◌∙◌, suc, add-one, ap, append_assoc, codes, drop, drop-cons, filter_map, get_or, length, map, refl, sym, true, false, Bool, if◌then◌else◌, is_some, Option, None, Some, option_map}
 use Rattle.std.specs.List.{cons_option, list_any}
 use Rattle.json.specs.Token as token
 use Rattle.json.specs.Token.{Token}
 use Rattle.json.specs.Tree.{members_tokens}
 use Rattle.serde_json.specs.Data as json
 use Rattle.serde_json.specs.Data.{Data, Members}
-use Rattle.serde_json.specs.Find.{of_integer}
 use Rattle.serde_json.specs.Written.{members_outline}
 use Rattle.ent_values.specs.Types.{datatype_of, uri_of}
 use Rattle.ent_json.specs.Text.{tokens_of}
@@ -22,13 +20,6 @@ use Rattle.ent_eval.specs.declared.request.Category.{Category}
 use Rattle.ent_eval.specs.declared.request.Request.{Request}
 use Rattle.ent_profile.specs.Response.{assignment_written, attribute_written, category_with, category_written, decision_word, given_written, included, response, result_written, status_written, values_written}
 use Rattle.ent_profile.specs.proofs_only.Written.{optional_tokens, tokens_if_any}
-
--- ---- values
-
--- a whole number is written by its digits
-pub integer_tokens : (i : ℤ) → token.number (signed_decimal i) ∷ [] ≡ tokens_of (json.number (of_integer i))
-integer_tokens (pos n) = refl
-integer_tokens (negsuc n) = refl
 
 -- ---- members
 

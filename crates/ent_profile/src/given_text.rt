@@ -6,13 +6,13 @@ ghost use Rattle.serde_json.specs.Data as json;
 ghost use Rattle.serde_json.specs.View.{items_of};
 ghost use Rattle.ent_json.specs.Text.{tokens_of};
 ghost use Rattle.ent_json.specs.proofs_only.Text.{items_tokens_of};
-ghost use Rattle.ent_polform.specs.Written.{value_written};
 ghost use Rattle.ent_profile.specs.Response.{assignment_written, given_written};
 ghost use Rattle.ent_profile.specs.proofs_only.Written.{optional_tokens};
 
 use ent_eval::{Assignment, Given};
 use ent_json::JsonText;
-use ent_values::{Text, Value};
+use ent_polform::write_value_text;
+use ent_values::Text;
 use std::alloc::{AllocError, Global};
 
 /// Writes a text at a key.
@@ -37,25 +37,6 @@ pub(crate) fn write_optional(
     }
 }
 
-/// Writes a value: an integer as a number, a boolean as a boolean, every other value as its written text.
-#[tactic(auto, unfolding(ent_polform::specs::Written::value_written), using(crate::proofs::TokenLemmas::integer_tokens))]
-pub(crate) fn write_value(
-    alloc: Global,
-    out: &mut JsonText,
-    value: &Value,
-) -> Result<(), AllocError>
-    ensures { OnOk result (out.new ≡ out.old ++ tokens_of (value_written value.now)) }
-{
-    match value {
-        Value::Boolean(flag) => out.boolean(*flag),
-        Value::Integer(integer) => out.integer(*integer),
-        _ => {
-            let text = value.text(alloc)?;
-            out.string(text.as_str())
-        }
-    }
-}
-
 /// Writes an AttributeAssignment.
 fn write_assignment(
     alloc: Global,
@@ -70,7 +51,7 @@ fn write_assignment(
     write_text(out, "DataType", assignment.value.datatype().uri())?;
     write_optional(out, "Issuer", &assignment.issuer)?;
     out.key("Value")?;
-    write_value(alloc, out, &assignment.value)?;
+    write_value_text(alloc, out, &assignment.value)?;
     out.end_object()
 }
 

@@ -9,9 +9,10 @@ ghost use Rattle.ent_polform.specs.Written.{value_written};
 ghost use Rattle.ent_profile.specs.Response.{attribute_written, category_written, included, values_written};
 ghost use Rattle.ent_profile.specs.proofs_only.Written.{optional_tokens, tokens_if_any};
 
-use crate::given_text::{write_optional, write_text, write_value};
+use crate::given_text::{write_optional, write_text};
 use ent_eval::{Attribute, Category};
 use ent_json::JsonText;
+use ent_polform::write_value_text;
 use ent_values::Value;
 use std::alloc::{AllocError, Global};
 
@@ -20,7 +21,7 @@ fn write_each_value(alloc: Global, out: &mut JsonText, values: &[Value]) -> Resu
     ensures { OnOk result (out.new ≡ out.old ++ items_tokens_of (map value_written values.now)) }
 {
     for value in values {
-        write_value(alloc, out, value)?;
+        write_value_text(alloc, out, value)?;
     }
     out.end_array()
 }
@@ -30,7 +31,7 @@ fn write_values(alloc: Global, out: &mut JsonText, values: &[Value]) -> Result<(
     ensures { OnOk result (out.new ≡ out.old ++ tokens_of (values_written values.now)) }
 {
     match values {
-        [value] => write_value(alloc, out, value),
+        [value] => write_value_text(alloc, out, value),
         [] | [_, _, ..] => {
             out.begin_array()?;
             write_each_value(alloc, out, values)

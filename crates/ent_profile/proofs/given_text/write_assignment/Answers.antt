@@ -23,4 +23,4 @@ returns c =
     (ends _ _ _ _ named _ c.in_ok-write_text-2.ensures
     (ends _ _ _ _ issuer _ c.in_ok-write_optional-2.ensures
     (ends _ _ _ _ (token.key (codes "Value") ∷ []) _ c.in_ok-key.ensures.ok
-    (ends _ _ _ _ value _ c.in_ok-write_value.ensures c.end_object.ensures.ok)))))))
+    (ends _ _ _ _ value _ c.in_ok-write_value_text.ensures c.end_object.ensures.ok)))))))
