@@ -26,11 +26,8 @@ use Rattle.ent_line.specs.Replies as replies
 use Rattle.ent_line.specs.Replies.{Answer, accepted, refused, text}
 use Rattle.ent_line.specs.Step.{Answers, data_of}
 use Rattle.ent_line.specs.Commands.{attribute_set, day_or_refusal, day_set, edited, edited_with, moment_or_refusal, moment_set, name_added, name_dropped, policy_added}
-use Rattle.ent_line.specs.Commands.{policy_replaced, policy_withdrawn, root_set, row_set, run, settled, table_marked}
+use Rattle.ent_line.specs.Commands.{policy_replaced, policy_withdrawn, root_set, row_set, run, settled, table_marked, withdrawn}
 use Rattle.ent_line.specs.Step.{requested, step, told}
-use Rattle.ent_line.specs.Edits.{root_of, row_read}
-use Rattle.ent_line.specs.Edits.{unread, unread_row}
-use Rattle.ent_line.specs.Commands.{withdrawn}
 
 -- ---- what a command comes to
 
