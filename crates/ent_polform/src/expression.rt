@@ -30,12 +30,9 @@ fn literal<J: JsonTree>(alloc: Global, value: &J) -> Result<RawLiteral, CheckFau
     Ok(RawLiteral::Integer(integer))
 }
 
-/// An AttributeValue.
+/// An AttributeValue (section 5.31), as read. The only fault that is found here is one of its form.
 #[tactic(auto, unfolding(crate::specs::Expressions::value_of))]
-pub(crate) fn attribute_value<J: JsonTree>(
-    alloc: Global,
-    object: &J,
-) -> Result<RawValue, CheckFault>
+pub fn attribute_value<J: JsonTree>(alloc: Global, object: &J) -> Result<RawValue, CheckFault>
     ensures { Gives result (value_of (J.content object.now)) }
 {
     if !object.has_only(&["DataType", "Value"]) {
@@ -47,12 +44,9 @@ pub(crate) fn attribute_value<J: JsonTree>(
     Ok(RawValue { datatype, literal })
 }
 
-/// An AttributeDesignator.
+/// An AttributeDesignator (section 5.29), as read. The only fault that is found here is one of its form.
 #[tactic(auto, unfolding(crate::specs::Expressions::designator_of))]
-pub(crate) fn designator<J: JsonTree>(
-    alloc: Global,
-    object: &J,
-) -> Result<RawDesignator, CheckFault>
+pub fn designator<J: JsonTree>(alloc: Global, object: &J) -> Result<RawDesignator, CheckFault>
     ensures { Gives result (designator_of (J.content object.now)) }
 {
     let keys = [
@@ -101,10 +95,10 @@ fn nested_expression<J: JsonTree>(alloc: Global, json: &J) -> Result<RawExpressi
     named(alloc, key, body)
 }
 
-/// The expression of that key.
+/// The expression that has that body at that key, as read. The only fault that is found here is one of its form.
 #[cycle(expression)]
 #[tactic(auto, unfolding(crate::specs::Expressions::expression_named))]
-fn named<J: JsonTree>(alloc: Global, key: &str, body: &J) -> Result<RawExpression, CheckFault>
+pub fn named<J: JsonTree>(alloc: Global, key: &str, body: &J) -> Result<RawExpression, CheckFault>
     ensures { Gives result (expression_named expression_of key.now (J.content body.now)) }
 {
     if key == "AttributeValue" {
@@ -154,8 +148,8 @@ fn expressions<J: JsonTree>(alloc: Global, values: &[J]) -> Result<Items<RawExpr
     Ok(all)
 }
 
-/// An expression.
-pub(crate) fn expression<J: JsonTree>(alloc: Global, json: &J) -> Result<RawExpression, CheckFault>
+/// An expression (section 5.25), as read. The only fault that is found here is one of its form.
+pub fn expression<J: JsonTree>(alloc: Global, json: &J) -> Result<RawExpression, CheckFault>
     ensures { Gives result (expression_of (J.content json.now)) }
 {
     nested_expression(alloc, json)

@@ -22,9 +22,12 @@ use ent_policy::{
 use ent_values::Items;
 use std::alloc::Global;
 
-/// A VariableDefinition.
+/// A VariableDefinition (section 5.23), as read. The only fault that is found here is one of its form.
 #[tactic(auto, unfolding(crate::specs::Form::definition_of))]
-fn definition<J: JsonTree>(alloc: Global, object: &J) -> Result<RawVariableDefinition, CheckFault>
+pub fn definition<J: JsonTree>(
+    alloc: Global,
+    object: &J,
+) -> Result<RawVariableDefinition, CheckFault>
     ensures { Gives result (definition_of (J.content object.now)) }
 {
     if !object.has_only(&["Expression", "VariableId"]) {
@@ -50,9 +53,9 @@ fn definitions<J: JsonTree>(
     Ok(all)
 }
 
-/// A Rule.
+/// A Rule (section 5.21), as read. The only fault that is found here is one of its form.
 #[tactic(auto, unfolding(crate::specs::Form::rule_of))]
-fn rule<J: JsonTree>(alloc: Global, object: &J) -> Result<RawRule, CheckFault>
+pub fn rule<J: JsonTree>(alloc: Global, object: &J) -> Result<RawRule, CheckFault>
     ensures { Gives result (rule_of (J.content object.now)) }
 {
     let keys = [
@@ -94,9 +97,9 @@ fn rules<J: JsonTree>(alloc: Global, values: &[J]) -> Result<Items<RawRule>, Che
     Ok(all)
 }
 
-/// A Policy.
+/// A Policy (section 5.14), as read. The only fault that is found here is one of its form.
 #[tactic(auto, unfolding(crate::specs::Form::policy_of, crate::specs::Form::id_named))]
-fn policy<J: JsonTree>(alloc: Global, object: &J) -> Result<RawPolicy, CheckFault>
+pub fn policy<J: JsonTree>(alloc: Global, object: &J) -> Result<RawPolicy, CheckFault>
     ensures read { Gives result (policy_of (J.content object.now)) }
     ensures memory { IfErr result (λ e. e ≡ Memory
         → IsTrue (has_form (id_named (codes "Policy") (J.content object.now)))) }
@@ -134,10 +137,10 @@ fn policy<J: JsonTree>(alloc: Global, object: &J) -> Result<RawPolicy, CheckFaul
     })
 }
 
-/// A PolicySet.
+/// A PolicySet (section 5.1), as read. The only fault that is found here is one of its form.
 #[cycle(child)]
 #[tactic(auto, unfolding(crate::specs::Form::set_by, crate::specs::Form::id_named))]
-fn set<J: JsonTree>(alloc: Global, object: &J) -> Result<RawPolicySet, CheckFault>
+pub fn set<J: JsonTree>(alloc: Global, object: &J) -> Result<RawPolicySet, CheckFault>
     ensures read { Gives result (set_by child_of (J.content object.now)) }
     ensures memory { IfErr result (λ e. e ≡ Memory
         → IsTrue (has_form (id_named (codes "PolicySet") (J.content object.now)))) }
@@ -186,9 +189,9 @@ fn children<J: JsonTree>(alloc: Global, values: &[J]) -> Result<Items<RawChild>,
     Ok(all)
 }
 
-/// One level of a child: a reference or a document.
+/// A child of a set, a reference or a document, as read. The only fault that is found here is one of its form.
 #[cycle(child)]
-fn child<J: JsonTree>(alloc: Global, json: &J) -> Result<RawChild, CheckFault>
+pub fn child<J: JsonTree>(alloc: Global, json: &J) -> Result<RawChild, CheckFault>
     ensures { Gives result (child_by child_of (J.content json.now)) }
 {
     let Some((key, body)) = json.one_member() else {
@@ -219,9 +222,9 @@ fn document<J: JsonTree>(alloc: Global, key: &str, body: &J) -> Result<RawDocume
     Err(CheckFault::Doc(DocFault::Form))
 }
 
-/// The document that a JSON value spells, as read. The only fault that is found here is that of its form.
+/// The document that a JSON value spells, as read. The only fault that is found here is one of its form.
 #[tactic(auto, unfolding(crate::specs::Form::raw_of, crate::specs::Form::id_of))]
-fn raw_document<J: JsonTree>(alloc: Global, json: &J) -> Result<RawDocument, CheckFault>
+pub fn raw_document<J: JsonTree>(alloc: Global, json: &J) -> Result<RawDocument, CheckFault>
     ensures read { Gives result (raw_of (J.content json.now)) }
     ensures memory { IfErr result (λ e. e ≡ Memory → IsTrue (has_form (id_of (J.content json.now)))) }
 {

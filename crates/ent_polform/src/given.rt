@@ -28,9 +28,9 @@ pub(crate) fn effect(word: &str) -> Option<Effect>
     None
 }
 
-/// An AttributeAssignmentExpression.
+/// An AttributeAssignmentExpression (section 5.41), as read. The only fault that is found here is one of its form.
 #[tactic(auto, unfolding(crate::specs::Given::assignment_of))]
-fn assignment<J: JsonTree>(alloc: Global, object: &J) -> Result<RawAssignment, CheckFault>
+pub fn assignment<J: JsonTree>(alloc: Global, object: &J) -> Result<RawAssignment, CheckFault>
     ensures { Gives result (assignment_of (J.content object.now)) }
 {
     let keys = ["AttributeId", "Category", "Expression", "Issuer"];
@@ -61,9 +61,10 @@ fn assignments<J: JsonTree>(alloc: Global, values: &[J]) -> Result<Items<RawAssi
     Ok(all)
 }
 
-/// An ObligationExpression or an AdviceExpression, by the keys of its id and of its effect.
+/// An ObligationExpression (section 5.39) or an AdviceExpression (section 5.40), by the keys of its id and of its
+/// effect, as read. The only fault that is found here is one of its form.
 #[tactic(auto, unfolding(crate::specs::Given::given_by))]
-fn given_expression<J: JsonTree>(
+pub fn given_expression<J: JsonTree>(
     alloc: Global,
     object: &J,
     id_key: &str,

@@ -22,7 +22,7 @@ pub(crate) fn reference_key(kind: Kind) -> &'static str
 }
 
 /// The kind of document to which a reference of that key leads.
-pub(crate) fn kind(key: &str) -> Option<Kind>
+pub fn kind(key: &str) -> Option<Kind>
     ensures { result ≡ kind_of key.now }
 {
     if key == reference_key(Kind::Policy) {
@@ -44,9 +44,10 @@ fn has_reference_form<J: JsonTree>(body: &J) -> bool
         && text_or_absent(body, "Version")
 }
 
-/// A reference to a document of that kind, as read.
+/// A reference to a document of that kind (sections 5.10 and 5.11), as read. The only fault that is found here is one of
+/// its form.
 #[tactic(auto, unfolding(crate::specs::Reference::reference_by))]
-pub(crate) fn reference<J: JsonTree>(
+pub fn reference<J: JsonTree>(
     alloc: Global,
     kind: Kind,
     body: &J,

@@ -14,9 +14,9 @@ use ent_policy::{CheckFault, DocFault, RawAllOf, RawAnyOf, RawMatch, RawTarget};
 use ent_values::Items;
 use std::alloc::Global;
 
-/// A Match.
+/// A Match (section 5.9), as read. The only fault that is found here is one of its form.
 #[tactic(auto, unfolding(crate::specs::Targets::match_of))]
-fn one_match<J: JsonTree>(alloc: Global, object: &J) -> Result<RawMatch, CheckFault>
+pub fn one_match<J: JsonTree>(alloc: Global, object: &J) -> Result<RawMatch, CheckFault>
     ensures { Gives result (match_of (J.content object.now)) }
 {
     if !object.has_only(&["AttributeDesignator", "AttributeValue", "MatchId"]) {
@@ -45,9 +45,9 @@ fn matches<J: JsonTree>(alloc: Global, values: &[J]) -> Result<Items<RawMatch>, 
     Ok(all)
 }
 
-/// A member of AllOf.
+/// A member of AllOf (section 5.8), as read. The only fault that is found here is one of its form.
 #[tactic(auto, unfolding(crate::specs::Targets::one_all_of))]
-fn all_of<J: JsonTree>(alloc: Global, object: &J) -> Result<RawAllOf, CheckFault>
+pub fn all_of<J: JsonTree>(alloc: Global, object: &J) -> Result<RawAllOf, CheckFault>
     ensures { Gives result (one_all_of (J.content object.now)) }
 {
     if !object.has_only(&["Match"]) {
@@ -69,9 +69,9 @@ fn all_of_list<J: JsonTree>(alloc: Global, values: &[J]) -> Result<Items<RawAllO
     Ok(all)
 }
 
-/// A member of AnyOf.
+/// A member of AnyOf (section 5.7), as read. The only fault that is found here is one of its form.
 #[tactic(auto, unfolding(crate::specs::Targets::one_any_of))]
-fn any_of<J: JsonTree>(alloc: Global, object: &J) -> Result<RawAnyOf, CheckFault>
+pub fn any_of<J: JsonTree>(alloc: Global, object: &J) -> Result<RawAnyOf, CheckFault>
     ensures { Gives result (one_any_of (J.content object.now)) }
 {
     if !object.has_only(&["AllOf"]) {
@@ -93,9 +93,9 @@ fn any_of_list<J: JsonTree>(alloc: Global, values: &[J]) -> Result<Items<RawAnyO
     Ok(all)
 }
 
-/// A Target.
+/// A Target (section 5.6), as read. The only fault that is found here is one of its form.
 #[tactic(auto, unfolding(crate::specs::Targets::target_of))]
-fn target<J: JsonTree>(alloc: Global, object: &J) -> Result<RawTarget, CheckFault>
+pub fn target<J: JsonTree>(alloc: Global, object: &J) -> Result<RawTarget, CheckFault>
     ensures { Gives result (target_of (J.content object.now)) }
 {
     if !object.has_only(&["AnyOf"]) {
