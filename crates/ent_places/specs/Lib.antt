@@ -1,0 +1,5 @@
+pub mod Led
+pub mod Parts
+pub mod Places
+pub mod Told
+pub mod Views

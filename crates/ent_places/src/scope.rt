@@ -1,0 +1,174 @@
+//! The variable definitions around a part of a document.
+
+ghost use Rattle.std.specs.Prelude.{◌≡◌, IfOk, get_or, map, option_map, true};
+ghost use Rattle.std.specs.Option.{option_copied};
+ghost use Rattle.ent_policy.specs.Gives.{Gives};
+ghost use Rattle.ent_places.specs.Places.{listed};
+ghost use Rattle.ent_places.specs.Told.{id_or_dash, nowhere, set_aside, standing_with, standing_without};
+ghost use Rattle.ent_places.specs.Told.{variable_at, variables_in, variables_of};
+ghost use Rattle.ent_places.specs.Views.{scope_of};
+
+use crate::led::led;
+use crate::members::listed;
+use ent_json::{JsonTree, text_at};
+use ent_polform::raw_definition;
+use ent_policy::{
+    CheckFault, RawExpression, RawLiteral, RawValue, RawVariableDefinition, is_bad_name,
+};
+use ent_values::{Items, Text};
+use std::alloc::{AllocError, Global};
+
+/// The variable definitions of the policy around a part, of which one may be set aside: the one that the part belongs
+/// to. Then those to which it doesn't lead are set aside too. One that is set aside isn't looked into.
+#[derive(Drop)]
+pub struct Scope<'a, J> {
+    /// The definitions as they stand in the policy.
+    pub definitions: &'a [J],
+    /// The number of the one that is set aside.
+    pub aside: Option<usize>,
+}
+
+impl<'a, J: JsonTree> Scope<'a, J> {
+    /// The scope of what stands in no policy.
+    pub fn nowhere() -> Scope<'a, J>
+        ensures { scope_of J.content result ≡ nowhere }
+    {
+        Scope {
+            definitions: &[],
+            aside: None,
+        }
+    }
+
+    /// The scope of the definitions that this array has, of which one may be set aside; without one it has none.
+    pub(crate) fn of(json: Option<&'a J>, aside: Option<usize>) -> Scope<'a, J>
+        ensures definitions { map J.content result.definitions.now ≡ listed (option_map J.content (option_copied json.entry)) }
+        ensures aside { result.aside ≡ aside }
+    {
+        Scope {
+            definitions: listed(json),
+            aside,
+        }
+    }
+
+    /// The same scope.
+    pub fn copied(&self) -> Scope<'a, J>
+        ensures { scope_of J.content result ≡ scope_of J.content self.now }
+    {
+        Scope {
+            definitions: self.definitions,
+            aside: self.aside,
+        }
+    }
+
+    /// Which definitions stand together with the one that is set aside: those to which it leads. Without one all do.
+    fn standing_with(&self, alloc: Global) -> Result<Vec<bool>, AllocError>
+        ensures { IfOk result (λ all. all.items ≡ standing_with (map J.content self.now.definitions.now) self.now.aside) }
+    {
+        match self.aside {
+            None => Ok(Vec::new(alloc)),
+            Some(number) => led(alloc, self.definitions, number),
+        }
+    }
+
+    /// Which definitions stand without it.
+    fn standing_without(&self, alloc: Global) -> Result<Vec<bool>, AllocError>
+        ensures { IfOk result (λ all. all.items ≡ standing_without (map J.content self.now.definitions.now) self.now.aside) }
+    {
+        let mut standing = self.standing_with(alloc)?;
+        if let Some(number) = self.aside {
+            if let Some(own) = standing.get_mut(number) {
+                *own = false;
+            }
+        }
+        Ok(standing)
+    }
+
+    /// The variables of the scope, as read.
+    #[tactic(auto, unfolding(crate::specs::Told::variables_in))]
+    pub(crate) fn variables(
+        &self,
+        alloc: Global,
+    ) -> Result<Items<RawVariableDefinition>, CheckFault>
+        ensures { Gives result (variables_in (scope_of J.content self.now)) }
+    {
+        let standing = self.standing_without(alloc)?;
+        variables_of(alloc, standing.as_slice(), self.definitions)
+    }
+
+    /// The definition that is set aside and those to which it leads, as read, and no other.
+    pub(crate) fn definition(
+        &self,
+        alloc: Global,
+    ) -> Result<Items<RawVariableDefinition>, CheckFault>
+        ensures { Gives result (variables_of (standing_with (map J.content self.now.definitions.now) self.now.aside)
+            (map J.content self.now.definitions.now)) }
+    {
+        let standing = self.standing_with(alloc)?;
+        variables_of(alloc, standing.as_slice(), self.definitions)
+    }
+}
+
+/// Whether the definition of that number stands.
+fn stands(standing: &[bool], number: usize) -> bool
+    ensures { result ≡ get_or standing.now number true }
+{
+    match standing.get(number) {
+        Some(stands) => *stands,
+        None => true,
+    }
+}
+
+/// The definition of that number, as read; one that doesn't stand is set aside.
+fn variable<J: JsonTree>(
+    alloc: Global,
+    standing: &[bool],
+    number: usize,
+    json: &J,
+) -> Result<RawVariableDefinition, CheckFault>
+    ensures { Gives result (variable_at standing.now number (J.content json.now)) }
+{
+    if stands(standing, number) {
+        raw_definition(alloc, json)
+    } else {
+        Ok(set_aside(alloc, json)?)
+    }
+}
+
+/// Some definitions as read, by which of them stand.
+#[tactic(auto, unfolding(crate::specs::Told::variables_of))]
+fn variables_of<J: JsonTree>(
+    alloc: Global,
+    standing: &[bool],
+    definitions: &[J],
+) -> Result<Items<RawVariableDefinition>, CheckFault>
+    ensures { Gives result (variables_of standing.now (map J.content definitions.now)) }
+{
+    let mut all = Items::with_capacity(alloc, definitions.len())?;
+    for (number, json) in definitions.iter().enumerate() {
+        all.push(variable(alloc, standing, number, json)?)?;
+    }
+    Ok(all)
+}
+
+/// A definition that isn't looked into.
+#[tactic(auto, unfolding(crate::specs::Told::set_aside))]
+fn set_aside<J: JsonTree>(alloc: Global, json: &J) -> Result<RawVariableDefinition, AllocError>
+    ensures { IfOk result (λ v. v ≡ set_aside (J.content json.now)) }
+{
+    let id = Text::from_str(alloc, id_or_dash(text_at(json, "VariableId")))?;
+    let expression = RawExpression::Value(RawValue {
+        datatype: None,
+        literal: RawLiteral::Boolean(true),
+    });
+    Ok(RawVariableDefinition { id, expression })
+}
+
+/// The id, or a dash where it can't be one.
+fn id_or_dash(id: Option<&str>) -> &str
+    ensures { result.now ≡ id_or_dash (option_copied id.entry) }
+{
+    match id {
+        Some(id) if !is_bad_name(id) => id,
+        _ => "-",
+    }
+}
