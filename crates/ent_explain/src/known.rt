@@ -1,0 +1,168 @@
+//! Which known identifier is nearest to one that isn't known. Identifiers are compared by their last words.
+
+use crate::near::{near, nearest};
+use crate::words::last_word;
+use ent_combine::{PolicyAlg, RuleAlg};
+use ent_functions::{Comparison, Element, Function, Ordered};
+use ent_values::{DataType, Text};
+use std::alloc::{AllocError, Global};
+
+const ELEMENTS: &[Element] = &[
+    Element::Text,
+    Element::Boolean,
+    Element::Integer,
+    Element::Date,
+    Element::AnyUri,
+    Element::Time,
+    Element::DateTime,
+];
+
+const ORDERED: &[Ordered] = &[
+    Ordered::Integer,
+    Ordered::Text,
+    Ordered::Date,
+    Ordered::Time,
+    Ordered::DateTime,
+];
+
+const COMPARISONS: &[Comparison] = &[
+    Comparison::GreaterThan,
+    Comparison::GreaterThanOrEqual,
+    Comparison::LessThan,
+    Comparison::LessThanOrEqual,
+];
+
+const OTHERS: &[Function] = &[
+    Function::Add,
+    Function::Subtract,
+    Function::Multiply,
+    Function::Divide,
+    Function::Mod,
+    Function::Abs,
+    Function::Or,
+    Function::And,
+    Function::Not,
+    Function::Concatenate,
+    Function::StartsWith,
+    Function::EndsWith,
+    Function::Contains,
+    Function::DateAdd,
+    Function::DateSubtract,
+    Function::AnyOf,
+    Function::AllOf,
+];
+
+/// The functions on values and bags of that type.
+fn functions_on(element: Element) -> [Function; 10] {
+    [
+        Function::Equal(element),
+        Function::OneAndOnly(element),
+        Function::BagSize(element),
+        Function::IsIn(element),
+        Function::Bag(element),
+        Function::Intersection(element),
+        Function::Union(element),
+        Function::AtLeastOneMemberOf(element),
+        Function::Subset(element),
+        Function::SetEquals(element),
+    ]
+}
+
+/// The identifiers of all functions.
+fn function_ids(alloc: Global) -> Result<Vec<Text>, AllocError> {
+    let mut ids = Vec::new(alloc);
+    for element in ELEMENTS {
+        for function in functions_on(*element) {
+            ids.push(function.id(alloc)?)?;
+        }
+    }
+    for order in ORDERED {
+        for comparison in COMPARISONS {
+            ids.push(Function::Compare(*comparison, *order).id(alloc)?)?;
+        }
+    }
+    for function in OTHERS {
+        ids.push(function.id(alloc)?)?;
+    }
+    Ok(ids)
+}
+
+/// The identifier of the function whose name is nearest, if one is near.
+pub(crate) fn nearest_function(alloc: Global, id: &str) -> Result<Option<Text>, AllocError> {
+    let word = last_word(id);
+    let mut best = None;
+    let mut least = usize::MAX;
+    for candidate in function_ids(alloc)? {
+        if let Some(far) = near(alloc, word, last_word(candidate.as_str()))?
+            && far < least
+        {
+            least = far;
+            best = Some(candidate);
+        }
+    }
+    Ok(best)
+}
+
+const RULE_ALGORITHMS: &[RuleAlg] = &[
+    RuleAlg::DenyOverrides,
+    RuleAlg::PermitOverrides,
+    RuleAlg::OrderedDenyOverrides,
+    RuleAlg::OrderedPermitOverrides,
+    RuleAlg::DenyUnlessPermit,
+    RuleAlg::PermitUnlessDeny,
+    RuleAlg::FirstApplicable,
+];
+
+/// The one of these identifiers whose last word is nearest, if one is near.
+fn nearest_id(
+    alloc: Global,
+    id: &str,
+    known: &[&'static str],
+) -> Result<Option<&'static str>, AllocError> {
+    let word = last_word(id);
+    let mut best = None;
+    let mut least = usize::MAX;
+    for candidate in known {
+        if let Some(far) = near(alloc, word, last_word(candidate))?
+            && far < least
+        {
+            least = far;
+            best = Some(*candidate);
+        }
+    }
+    Ok(best)
+}
+
+/// The identifier of the rule combining algorithm whose name is nearest, if one is near.
+pub(crate) fn nearest_rule_algorithm(
+    alloc: Global,
+    id: &str,
+) -> Result<Option<&'static str>, AllocError> {
+    let mut known = Vec::new(alloc);
+    for algorithm in RULE_ALGORITHMS {
+        known.push(algorithm.rule_id())?;
+    }
+    nearest_id(alloc, id, known.as_slice())
+}
+
+/// The identifier of the policy combining algorithm whose name is nearest, if one is near.
+pub(crate) fn nearest_policy_algorithm(
+    alloc: Global,
+    id: &str,
+) -> Result<Option<&'static str>, AllocError> {
+    let mut known = Vec::new(alloc);
+    for algorithm in RULE_ALGORITHMS {
+        known.push(PolicyAlg::Shared(*algorithm).id())?;
+    }
+    known.push(PolicyAlg::OnlyOne.id())?;
+    nearest_id(alloc, id, known.as_slice())
+}
+
+/// The short name of the data type that is nearest, if one is near.
+pub(crate) fn nearest_type(alloc: Global, name: &str) -> Result<Option<&'static str>, AllocError> {
+    let mut known = Vec::new(alloc);
+    for datatype in DataType::ALL {
+        known.push(datatype.short_name())?;
+    }
+    nearest(alloc, last_word(name), known.as_slice())
+}
