@@ -1,0 +1,4 @@
+mod Depths
+mod Listed
+mod Places
+mod Walks

@@ -1,0 +1,4 @@
+pub mod Attributes
+pub mod Asked
+pub mod Undeclared
+pub mod Saying

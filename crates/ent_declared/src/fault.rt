@@ -1,0 +1,64 @@
+//! What may be wrong with a file that declares attributes.
+
+ghost use Rattle.std.specs.Prelude.{◌≡◌, IfOk, string_bytes};
+ghost use Rattle.ent_declared.specs.Attributes.{place_in, pointer_of};
+
+use std::alloc::{AllocError, Global};
+
+/// What is wrong with a declaration.
+#[derive(Clone, Copy, Debug, PartialEq, Eq)]
+pub enum AttributeFault {
+    /// It isn't an object, or it has another key than Category, AttributeId, DataType and Issuer.
+    Form,
+    /// Its Category isn't a text of 1 to 256 bytes.
+    Category,
+    /// Its AttributeId isn't a text of 1 to 256 bytes.
+    AttributeId,
+    /// Its DataType isn't the name of a data type.
+    DataType,
+    /// Its Issuer isn't a text of 1 to 256 bytes.
+    Issuer,
+}
+
+/// What is wrong with a file that declares attributes.
+#[derive(Clone, Copy, Debug, PartialEq, Eq)]
+pub enum AttributesFault {
+    /// It isn't an object whose only key is Attributes, with a list there.
+    NoList,
+    /// This is wrong with the declaration of that number, from 0 on.
+    Member(usize, AttributeFault),
+}
+
+impl AttributeFault {
+    /// The key at which the fault stands, as a JSON pointer inside of the declaration.
+    fn place(self) -> &'static str
+        ensures { result.now ≡ place_in self }
+    {
+        match self {
+            AttributeFault::Form => "",
+            AttributeFault::Category => "/Category",
+            AttributeFault::AttributeId => "/AttributeId",
+            AttributeFault::DataType => "/DataType",
+            AttributeFault::Issuer => "/Issuer",
+        }
+    }
+}
+
+impl AttributesFault {
+    /// Where the fault stands in the file, as a JSON pointer (RFC 6901).
+    ///
+    /// # Errors
+    ///
+    /// `AllocError` if memory runs out.
+    pub fn pointer(self, alloc: Global) -> Result<String, AllocError>
+        ensures { IfOk result (λ p. string_bytes p ≡ pointer_of self) }
+    {
+        match self {
+            AttributesFault::NoList => String::from_str(alloc, "/Attributes"),
+            AttributesFault::Member(number, fault) => {
+                let place = fault.place();
+                format!(in alloc; "/Attributes/{number}{place}")
+            }
+        }
+    }
+}
