@@ -1,0 +1,7 @@
+pub mod Brackets
+pub mod Cut
+pub mod Lines
+pub mod Numbers
+pub mod Sessions
+pub mod Standing
+pub mod Texts
