@@ -20,12 +20,10 @@ Writes: behind each byte of the replies the output fails: the program ends with 
 
 The last line printed is `N tries, M wrong`.
 """
-import json, mmap, os, select, struct, subprocess, sys, tempfile
+import json, mmap, os, re, select, struct, subprocess, sys, tempfile
 from concurrent.futures import ProcessPoolExecutor
 
 HERE = os.path.dirname(os.path.abspath(__file__))
-sys.path.insert(0, os.path.join(HERE, '..', 'crates', 'conformance'))
-import sessions
 
 # Edits of each kind (names, values, documents, issuers, the root, the day, the moment); asks; reports; marks and notices; a dump.
 ROWS = ['first_table', 'attribute_arrives', 'the_most_recent_version', 'drop_and_add_again', 'issuers', 'or_stops_early', 'certification_date',
@@ -36,7 +34,7 @@ ASKED, FIRST, LAST, REFUSED, WAITING, READ_LIMIT, READ, WRITE_LIMIT, WRITTEN = r
 WANT = b'{"refused":15}'
 PROBES = [b'{"do":"table"}', b'{"do":"counts"}'] + [b'{"do":"notices","session":%d}' % number for number in range(16)]
 STATUS = {'read': 2, 'write': 2, 'memory': 3}
-SAID = {'read': b'review: read fault\n', 'write': b'review: write fault\n', 'memory': b'review: out of memory\n'}
+SAID = {'read': b'review: read fault\nstandard input: Input/output error (os error 5)\n', 'write': b'review: write fault\n', 'memory': b'review: out of memory\n'}
 
 
 class Program:
@@ -258,11 +256,12 @@ def named(name):
         return '2', [step['line'].encode() for step in steps if 'line' in step]
     folder = os.path.join(HERE, '..', 'crates', 'conformance', 'sessions')
     for file in sorted(os.listdir(folder)):
-        path = os.path.join(folder, file)
-        for heading, pairs in sessions.sessions_of(path, sessions.read(path)):
-            word, _, modules = heading.partition(' ')
-            if word == name:
-                return modules or '2', [line for line, _ in pairs]
+        with open(os.path.join(folder, file), encoding='utf-8', newline='') as opened:
+            found = re.search(f'^# {re.escape(name)}(?: ([1-4]))?\n(.*?)(?=^# |\\Z)', opened.read(), re.M | re.S)
+        if found and ('«' in found[2] or re.search('^\\*', found[2], re.M)):
+            sys.exit(f'{name} has copies, or lines that come many times, which are not written out here')
+        if found:
+            return found[1] or '2', [line.encode() for line in re.findall('^> (.*)', found[2], re.M)]
     sys.exit(f'there is no session {name}')
 
 

@@ -125,7 +125,7 @@ def faults(program):
     with open('/dev/full', 'wb') as full:
         found.append(('a full disk', ended(program, input=b'{"dump":["a"]}', stdout=full), (2, b'', b'review: write fault\n')))
     folder = os.open('/', os.O_RDONLY)
-    found.append(('a folder', ended(program, stdin=folder, stdout=subprocess.PIPE), (2, b'', b'review: read fault\n')))
+    found.append(('a folder', ended(program, stdin=folder, stdout=subprocess.PIPE), (2, b'', b'review: read fault\nstandard input: Is a directory (os error 21)\n')))
     os.close(folder)
     return [f'{what}: review lines ends with {end}, not {wanted}' for what, end, wanted in found if end != wanted]
 

@@ -1,5 +1,5 @@
 -- The verdict on a file, and on its front.
-use Rattle.std.proofs.Common.{◌≡◌, ◌<◌, ◌+◌, ◌++◌, ℕ, List, [], length, take, nat_lt, Bool, true, false, Option, Some, None, IfSome, option_map, refl, sym, ap, subst, ◌∙◌, arith, append-nil, ◌≢◌, Ok, Err}
+use Rattle.std.proofs.Common.{◌≡◌, ◌<◌, ◌+◌, ◌++◌, ℕ, List, [], length, take, nat_lt, Bool, true, false, Option, Some, None, IfSome, option_map, refl, sym, ap, subst, ◌∙◌, arith, append-nil, ◌≢◌, Result, Ok, Err}
 use Rattle.std.proofs.lemmas.Bool.{lt-ltb, ltb-false, ltb-true}
 use Rattle.std.proofs.lemmas.List.{length-take-le, take_all}
 use Rattle.std.specs.Io.KnownBytes.{Appends, Keeps}
@@ -38,9 +38,17 @@ pub front_read : (known left : Option (List ℕ)) (bytes items : List ℕ) (limi
 front_read known left bytes items limit same l n is = at_known known bytes items limit l n (subst (λ k. IfSome (option_map (take limit) k) (λ xs. bytes ≡ items ++ xs)) same is)
 
 -- the verdict on what was read of a reader is that on all that it had
-pub judged : (unread : Option (List ℕ)) (bytes items : List ℕ) (v : Verdict) → v ≡ verdict_of bytes → bytes ≡ items → IfSome unread (λ all. items ≡ take (line_limit + 1) all) → IsVerdictOn unread v
-judged None bytes items v is same front = tt
-judged (Some all) bytes items v is same front = is ∙ ap verdict_of (same ∙ front) ∙ verdict_of_front all
+judged : (unread : Option (List ℕ)) (bytes items : List ℕ) (v : Verdict) → bytes ≡ items → IfSome unread (λ all. items ≡ take (line_limit + 1) all) → v ≡ verdict_of bytes → IsVerdictOn unread v
+judged None bytes items v same front is = tt
+judged (Some all) bytes items v same front is = is ∙ ap verdict_of (same ∙ front) ∙ verdict_of_front all
+
+-- what a check of what was read gives and writes is what one of all that there was does
+pub of_front : (unread before after : Option (List ℕ)) (bytes items : List ℕ) (r : Result Verdict ServeFault)
+    → bytes ≡ items → IfSome unread (λ all. items ≡ take (line_limit + 1) all) → Judges (Some bytes) before after r → Judges unread before after r
+of_front unread before after bytes items (Ok v) same front j = (judged unread bytes items v same front j.0, j.1)
+of_front unread before after bytes items (Err fault.Read) same front j = j
+of_front unread before after bytes items (Err fault.Write) same front j = (j.0, judged unread bytes items j.0 same front j.1, j.2, j.3, j.4, j.5)
+of_front unread before after bytes items (Err fault.Memory) same front j = j
 
 nothing : (known : Option (List ℕ)) → Appends known known []
 nothing None = tt
@@ -57,9 +65,5 @@ pub cut : (unread before after : Option (List ℕ)) (v : Verdict) (e : ServeFaul
 cut unread before after v e on sent = subst (λ x. Judges unread before after (Err x)) (sym sent.0) (v, on, sent.1, sent.2, sent.3, sent.4)
 
 -- a writer that can't be flushed holds the line
-pub unflushed : (unread before mid after : Option (List ℕ)) (v : Verdict) → IsVerdictOn unread v → Appends before mid (line_of v) → Keeps mid after → Judges unread before after (Err fault.Write)
-unflushed unread before mid after v on sent kept = (v, on, line_of v, [], sym (append-nil (line_of v)), Appends-kept before mid after (line_of v) sent kept)
-
--- the line was written
-pub told : (unread before mid after : Option (List ℕ)) (v : Verdict) → IsVerdictOn unread v → Appends before mid (line_of v) → Keeps mid after → Judges unread before after (Ok v)
-told unread before mid after v on sent kept = (on, Appends-kept before mid after (line_of v) sent kept)
+pub unflushed : (before mid after : Option (List ℕ)) (line : List ℕ) → Appends before mid line → Keeps mid after → Sends before after line (Err fault.Write)
+unflushed before mid after line sent kept = (refl, line, [], sym (append-nil line), Appends-kept before mid after line sent kept)

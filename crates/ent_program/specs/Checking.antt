@@ -1,5 +1,5 @@
 -- What is said of a document in a file.
-use Rattle.std.specs.Prelude.{◌≡◌, ℕ, List, [], ◌++◌, length, nat_lt, if◌then◌else◌, Bool, true, false, Option, Some, None, IfSome, Result, Ok, Err, codes, decimal}
+use Rattle.std.specs.Prelude.{◌≡◌, ℕ, List, [], ◌++◌, length, nat_lt, if◌then◌else◌, Bool, true, false, not, ◌&&◌, Option, Some, None, is_some, IfSome, Result, Ok, Err, codes, decimal}
 use Rattle.std.specs.Io.KnownBytes.{Appends}
 use Rattle.serde_json.specs.Data.{Data}
 use Rattle.ent_policy.specs.Fault.{sub_code}
@@ -8,11 +8,13 @@ use Rattle.ent_policy.specs.Versions.{version_text}
 use Rattle.ent_policy.specs.declared.document.Tree.{Tree}
 use Rattle.ent_policy.specs.declared.fault.DocFault.{DocFault}
 use Rattle.ent_polform.specs.Form.{document_of}
+use Rattle.ent_explain.specs.Told.{IsExplained}
 use Rattle.ent_line.specs.Lines.{line_limit}
 use Rattle.ent_line.specs.Step.{data_of}
 use Rattle.ent_line.specs.declared.fault.ServeFault.{ServeFault}
 use Rattle.ent_line.specs.declared.fault.ServeFault.TheVariants as fault
 use Rattle.ent_program.specs.declared.checking.FileFault.TheVariants.{TooLong, NotJson, Document}
+use Rattle.ent_program.specs.declared.checking.Judged.{Judged}
 use Rattle.ent_program.specs.declared.checking.Verdict.{Verdict}
 use Rattle.ent_program.specs.declared.checking.Verdict.TheVariants.{Passed, Refused}
 
@@ -70,3 +72,18 @@ Judges unread before after (Err fault.Memory) = Appends before after []
 abbrev pub Checks : Option (List ℕ) → Option (List ℕ) → Option (List ℕ) → Result Bool ServeFault → Type 0
 Checks unread before after (Ok passed) = (v : Verdict) × Judges unread before after (Ok v) × (passed ≡ is_passed v)
 Checks unread before after (Err e) = Judges unread before after (Err e)
+
+-- the verdict of what a check comes to
+abbrev pub verdict_in : Result Judged ServeFault → Result Verdict ServeFault
+verdict_in (Ok j) = Ok j.verdict
+verdict_in (Err e) = Err e
+
+-- whether nothing is wrong with a file: its document may be stored, and nothing is told of it
+abbrev pub is_fine : Judged → Bool
+is_fine j = is_passed j.verdict && not (is_some j.told)
+
+-- what is told of a verdict on JSON, or on what is none, beside its line: of the first fault of a document its place, of what isn't JSON one line, else nothing
+abbrev pub IsToldOf : Verdict → Option Data → Option (List ℕ) → Type 0
+IsToldOf (Refused NotJson) d told = IsExplained d told
+IsToldOf (Refused (Document e)) d told = IsExplained d told
+IsToldOf verdict d told = told ≡ None

@@ -1,10 +1,11 @@
 -- What the command line asks for, by what is found in its words.
-use Rattle.std.specs.Prelude.{◌≡◌, ⊤, ℕ, List, [], Option, Some, codes, unwrap_or}
+use Rattle.std.specs.Prelude.{◌≡◌, ⊤, ℕ, List, [], Option, Some, codes, map, option_map, unwrap_or}
 use Rattle.std.specs.Str.Parse.{IsNumeral, digits_value, without_leading_plus}
-use Rattle.clap.specs.Walk.{Row, first_of, one_of}
+use Rattle.clap.specs.Walk.{Row, all_of, first_of, one_of}
+use Rattle.ent_program.specs.Sources.{path_named, path_of}
 use Rattle.ent_program.specs.Starting.{IsFew}
 use Rattle.ent_program.specs.declared.options.Task.{Task}
-use Rattle.ent_program.specs.declared.options.Task.TheVariants.{Serve, Check, Lines}
+use Rattle.ent_program.specs.declared.options.Task.TheVariants.{Serve, Check, Lines, Test}
 use Rattle.ent_program.specs.declared.options.Modules.{Modules}
 
 -- where the text of an option writes a number from 1 to 4 in decimal digits, that is the count
@@ -24,8 +25,10 @@ pub record AreModules (options : List Row) (modules : Modules) : Type 0 where
 -- what is asked for, by the subcommand that was found, with its options and arguments
 pub record IsTaskOf (found : Option (List ℕ × List Row)) (task : Option Task) : Type 0 where
   pub serve : (options : List Row) → found ≡ Some (codes "serve", options) → (modules : Modules) × (task ≡ Some (Serve modules)) × AreModules options modules
-  pub check : (options : List Row) → found ≡ Some (codes "check", options) → (path : _) × (task ≡ Some (Check path)) × (path.now ≡ unwrap_or (first_of (codes "FILE") options) [])
+  pub check : (options : List Row) → found ≡ Some (codes "check", options) → (source attributes : _) × (task ≡ Some (Check source attributes)) × (path_of source ≡ path_named (unwrap_or (first_of (codes "FILE") options) []))
+      × (option_map path_of attributes ≡ option_map path_named (first_of (codes "attributes") options))
   pub lines : (options : List Row) → found ≡ Some (codes "lines", options) → task ≡ Some Lines
+  pub test : (options : List Row) → found ≡ Some (codes "test", options) → (texts : List (List ℕ)) → all_of (codes "FILE") options ≡ Some texts → (words : _) × (task ≡ Some (Test words)) × (map (λ w. w.now) words.now ≡ texts)
 
 -- a task that is served is served by from 1 to 4 modules of each sort
 abbrev pub HasFew : Option Task → Type 0

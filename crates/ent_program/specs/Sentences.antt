@@ -8,6 +8,8 @@ use Rattle.ent_line.specs.declared.fault.ServeFault.{ServeFault}
 use Rattle.ent_line.specs.declared.fault.ServeFault.TheVariants as fault
 use Rattle.ent_program.specs.declared.checking.FileFault.{FileFault}
 use Rattle.ent_program.specs.declared.checking.FileFault.TheVariants.{TooLong, NotJson, Document}
+use Rattle.ent_program.specs.declared.declaring.DeclaredFault.{DeclaredFault}
+use Rattle.ent_program.specs.declared.declaring.DeclaredFault.TheVariants as declared
 use Rattle.ent_program.specs.declared.words.WordsFault.{WordsFault}
 use Rattle.ent_program.specs.declared.words.WordsFault.TheVariants as words
 
@@ -46,3 +48,17 @@ abbrev pub file_sentence : FileFault → List ℕ
 file_sentence TooLong = codes "review: the file has more than 1048576 bytes"
 file_sentence NotJson = codes "review: the file isn't JSON"
 file_sentence (Document e) = document_sentence e
+
+-- of a document that asks for an attribute which isn't declared
+abbrev pub undeclared_sentence : List ℕ
+undeclared_sentence = codes "review: the document asks for an attribute that isn't declared"
+
+-- of a file of declared attributes that can't be used
+abbrev pub declared_sentence : DeclaredFault → List ℕ
+declared_sentence declared.TooLong = codes "review: the file of attributes has more than 1048576 bytes"
+declared_sentence declared.NotJson = codes "review: the file of attributes isn't JSON"
+declared_sentence (declared.Attributes e) = codes "review: the file of attributes hasn't the form of one"
+
+-- to somebody who serves lines that are typed at a terminal
+abbrev pub terminal_sentence : List ℕ
+terminal_sentence = codes "review: one command a line, as docs/COMMANDS.md says; Ctrl-D at the beginning of a line ends; a terminal cuts lines at 4,095 bytes"

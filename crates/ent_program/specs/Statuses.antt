@@ -1,11 +1,12 @@
 -- The exit statuses of the program.
-use Rattle.std.specs.Prelude.{ℕ, Bool, true, false, Result, Ok, Err, ⊤}
+use Rattle.std.specs.Prelude.{ℕ, ◌==◌, Bool, true, false, Result, Ok, Err, ⊤, if◌then◌else◌}
 use Rattle.clap.specs.declared.error.kind.ErrorKind.{ErrorKind}
 use Rattle.clap.specs.declared.error.kind.ErrorKind.TheVariants.{DisplayHelp, DisplayVersion, OutOfMemory}
 use Rattle.ent_dump.specs.declared.fault.LinesFault.{LinesFault}
 use Rattle.ent_dump.specs.declared.fault.LinesFault.TheVariants as dump
 use Rattle.ent_line.specs.declared.fault.ServeFault.{ServeFault}
 use Rattle.ent_line.specs.declared.fault.ServeFault.TheVariants as fault
+use Rattle.ent_program.specs.declared.testing.Tally.{Tally}
 use Rattle.ent_program.specs.declared.words.WordsFault.{WordsFault}
 use Rattle.ent_program.specs.declared.words.WordsFault.TheVariants as words
 
@@ -37,6 +38,11 @@ lines_fault_status dump.Memory = 3
 abbrev pub lines_status : Result ⊤ LinesFault → ℕ
 lines_status (Ok done) = 0
 lines_status (Err e) = lines_fault_status e
+
+-- tests that all passed give 0, any that failed 1, and a fault its own status
+abbrev pub test_status : Result Tally ServeFault → ℕ
+test_status (Ok tally) = if tally.failed == 0 then 0 else 1
+test_status (Err e) = fault_status e
 
 -- a word of the command line that isn't UTF-8 gives 1, want of memory 3
 abbrev pub words_status : WordsFault → ℕ

@@ -1,12 +1,15 @@
 //! `review check`: what is said of a policy in a file.
 
-ghost use Rattle.std.specs.Prelude.{◌≡◌, ◌+◌, Result, Some, None, IfErr, IfOk, IfSome, take, ◌≢◌};
+ghost use Rattle.std.specs.Prelude.{◌≡◌, ◌+◌, Result, Some, None, IfErr, IfOk, IfSome, option_map, string_bytes, take, ◌≢◌};
 ghost use Rattle.ent_line.specs.Lines.{line_limit};
 ghost use Rattle.ent_line.specs.Pieces.{Sends};
+ghost use Rattle.ent_line.specs.Step.{data_of};
 ghost use Rattle.ent_line.specs.declared.fault.ServeFault.TheVariants.{Write};
-ghost use Rattle.ent_program.specs.Checking.{Checks, Judges, is_passed, line_of, passed_of, refusal_line, verdict_of};
+ghost use Rattle.ent_program.specs.Checking.{Checks, IsToldOf, Judges, is_fine, is_passed, line_of, passed_of, refusal_line};
+ghost use Rattle.ent_program.specs.Checking.{verdict_in, verdict_of};
 ghost use Rattle.ent_program.specs.declared.checking.Verdict.TheVariants.{Passed};
 
+use ent_explain::explain;
 use ent_json::read_json;
 use ent_line::refusal::{DOCUMENT, NOT_JSON, TOO_LONG};
 use ent_line::{LINE_LIMIT, ServeFault, send_all};
@@ -16,6 +19,7 @@ use ent_values::Text;
 use itoa::Buffer;
 use json::Scratch;
 use std::alloc::{AllocError, Global};
+use std::io;
 use std::io::{ErrorKind, Read, Write};
 
 /// The most bytes that the file of a document may have: as many as a line.
@@ -41,6 +45,25 @@ pub(crate) enum Verdict {
     Refused(FileFault),
 }
 
+/// What a check comes to.
+#[derive(Drop)]
+pub(crate) struct Judged {
+    /// The verdict on the file.
+    pub(crate) verdict: Verdict,
+    /// Where in the file what is wrong, if that can be said: why it is refused, or else that an attribute isn't declared.
+    pub(crate) told: Option<String>,
+}
+
+/// The fault that the error of a reader is.
+pub(crate) fn read_fault(error: &io::Error) -> ServeFault
+    ensures { result ≢ Write }
+{
+    match error.kind() {
+        ErrorKind::OutOfMemory => ServeFault::Memory,
+        _ => ServeFault::Read,
+    }
+}
+
 /// The bytes that the reader has, of which one more is read than a file may have.
 fn read_front<R: Read>(alloc: Global, reader: &mut R) -> Result<Vec<u8>, ServeFault>
     ensures front { IfOk result (λ v. IfSome (R.remaining reader.old) (λ all. v.items ≡ take (line_limit + 1) all)) }
@@ -50,8 +73,7 @@ fn read_front<R: Read>(alloc: Global, reader: &mut R) -> Result<Vec<u8>, ServeFa
     let mut front = reader.take(FILE_LIMIT as u64 + 1);
     match front.read_to_end(&mut bytes) {
         Ok(_) => Ok(bytes),
-        Err(e) if e.kind() == ErrorKind::OutOfMemory => Err(ServeFault::Memory),
-        Err(_) => Err(ServeFault::Read),
+        Err(e) => Err(read_fault(&e)),
     }
 }
 
@@ -83,6 +105,27 @@ fn verdict_on(alloc: Global, bytes: &[u8]) -> Result<Verdict, AllocError>
     }
 }
 
+/// Where in a file that is refused what is wrong, if that can be said.
+fn told_of(alloc: Global, bytes: &[u8], verdict: &Verdict) -> Result<Option<String>, AllocError>
+    ensures { IfOk result (λ told. IsToldOf verdict.now (data_of bytes.now) (option_map string_bytes told)) }
+{
+    match verdict {
+        Verdict::Refused(FileFault::NotJson) => explain(alloc, bytes),
+        Verdict::Refused(FileFault::Document(_)) => explain(alloc, bytes),
+        _ => Ok(None),
+    }
+}
+
+/// The verdict on the bytes of a file, and what is told of them.
+pub(crate) fn judge(alloc: Global, bytes: &[u8]) -> Result<Judged, AllocError>
+    ensures verdict { IfOk result (λ j. j.verdict ≡ verdict_of bytes.now) }
+    ensures told { IfOk result (λ j. IsToldOf j.verdict (data_of bytes.now) (option_map string_bytes j.told)) }
+{
+    let verdict = verdict_on(alloc, bytes)?;
+    let told = told_of(alloc, bytes, &verdict)?;
+    Ok(Judged { verdict, told })
+}
+
 /// Whether the document may be stored.
 pub(crate) fn is_passed(verdict: &Verdict) -> bool
     ensures { result ≡ is_passed verdict.now }
@@ -91,6 +134,13 @@ pub(crate) fn is_passed(verdict: &Verdict) -> bool
         Verdict::Passed(_, _, _) => true,
         Verdict::Refused(_) => false,
     }
+}
+
+/// Whether nothing is wrong with a file: its document may be stored, and nothing is told of it.
+pub(crate) fn is_fine(judged: &Judged) -> bool
+    ensures { result ≡ is_fine judged.now }
+{
+    is_passed(&judged.verdict) && judged.told.is_none()
 }
 
 /// Writes the line of a document that may be stored.
@@ -152,23 +202,31 @@ fn send_verdict<W: Write>(writer: &mut W, verdict: &Verdict) -> Result<(), Serve
     }
 }
 
-/// Does what `check_from` does, and gives the verdict.
-pub(crate) fn check<R: Read, W: Write>(
-    alloc: Global,
-    reader: &mut R,
-    writer: &mut W,
-) -> Result<Verdict, ServeFault>
-    ensures { Judges (R.remaining reader.old) (W.contents writer.old) (W.contents writer.new) result }
+/// Writes the line of a verdict, or a front of it where the writer fails, and flushes the writer. Takes no memory.
+pub(crate) fn write_verdict<W: Write>(writer: &mut W, verdict: &Verdict) -> Result<(), ServeFault>
+    ensures { Sends (W.contents writer.old) (W.contents writer.new) (line_of verdict.now) result }
 {
-    let bytes = read_front(alloc, reader)?;
-    let Ok(verdict) = verdict_on(alloc, bytes.as_slice()) else {
-        return Err(ServeFault::Memory);
-    };
-    send_verdict(writer, &verdict)?;
+    send_verdict(writer, verdict)?;
     match writer.flush() {
-        Ok(()) => Ok(verdict),
+        Ok(()) => Ok(()),
         Err(_) => Err(ServeFault::Write),
     }
+}
+
+/// Does what `check_from` does with a reader of these bytes, and gives what the check comes to.
+pub(crate) fn check<W: Write>(
+    alloc: Global,
+    bytes: &[u8],
+    writer: &mut W,
+) -> Result<Judged, ServeFault>
+    ensures judges { Judges (Some bytes.now) (W.contents writer.old) (W.contents writer.new) (verdict_in result) }
+    ensures told { IfOk result (λ j. IsToldOf j.verdict (data_of bytes.now) (option_map string_bytes j.told)) }
+{
+    let Ok(judged) = judge(alloc, bytes) else {
+        return Err(ServeFault::Memory);
+    };
+    write_verdict(writer, &judged.verdict)?;
+    Ok(judged)
 }
 
 /// Reads the JSON of one document, of at most `FILE_LIMIT` bytes, and writes one line of what is said of it. Gives
@@ -184,6 +242,7 @@ pub fn check_from<R: Read, W: Write>(
 ) -> Result<bool, ServeFault>
     ensures { Checks (R.remaining reader.old) (W.contents writer.old) (W.contents writer.new) result }
 {
-    let verdict = check(alloc, reader, writer)?;
-    Ok(is_passed(&verdict))
+    let bytes = read_front(alloc, reader)?;
+    let judged = check(alloc, bytes.as_slice(), writer)?;
+    Ok(is_passed(&judged.verdict))
 }

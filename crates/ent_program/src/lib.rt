@@ -1,19 +1,31 @@
-//! The program as a library: what `review serve`, `review check FILE` and `review lines` do, and the exit statuses that
-//! they end with.
+//! The program as a library: what `review serve`, `review check FILE`, `review lines` and `review test FILE..` do, and
+//! the exit statuses that they end with.
 #![tactic(auto)]
 
+mod acting;
 mod checking;
+mod declaring;
 mod options;
 mod running;
 mod sentences;
+mod sources;
 mod status;
+mod testing;
+mod watching;
 mod words;
 
+pub use acting::run;
 pub use checking::{FILE_LIMIT, FileFault, check_from};
+pub use declaring::DeclaredFault;
 pub use options::{Modules, Task, task_of};
-pub use running::{run, serve_from};
+pub use running::serve_from;
 pub use sentences::{
-    document_sentence, fault_sentence, file_sentence, lines_sentence, words_sentence,
+    declared_sentence, document_sentence, fault_sentence, file_sentence, lines_sentence,
+    terminal_sentence, undeclared_sentence, words_sentence,
 };
-pub use status::{check_status, lines_status, serve_status, status_of, usage_status, words_status};
+pub use sources::Source;
+pub use status::{
+    check_status, lines_status, serve_status, status_of, test_status, usage_status, words_status,
+};
+pub use testing::{Tally, send_tally, test_from};
 pub use words::{WordsFault, command, given_words};

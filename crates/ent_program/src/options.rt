@@ -1,13 +1,15 @@
 //! What the command line asks for.
 
-ghost use Rattle.std.specs.Prelude.{◌≡◌};
+ghost use Rattle.std.specs.Prelude.{◌≡◌, [], codes, option_map, unwrap_or};
 ghost use Rattle.clap.specs.Matches.{found_of, one_text};
 ghost use Rattle.clap.specs.Simple.{subcommand_rows_of};
-ghost use Rattle.clap.specs.Walk.{rows_of};
+ghost use Rattle.clap.specs.Walk.{first_of, rows_of};
 ghost use Rattle.ent_program.specs.Options.{AreFew, AreModules, HasFew, IsTaskOf, IsWritten};
+ghost use Rattle.ent_program.specs.Sources.{path_named, path_of};
 ghost use Rattle.ent_program.specs.Starting.{IsFew};
 
-use crate::words::{ATTRIBUTE_MODULES, FILE, POLICY_MODULES};
+use crate::sources::Source;
+use crate::words::{ATTRIBUTE_MODULES, ATTRIBUTES, FILE, POLICY_MODULES};
 use clap::ArgMatches;
 
 /// How many modules hold what a service answers by.
@@ -21,13 +23,15 @@ pub struct Modules {
 
 /// What the command line asks for.
 #[derive(Clone, Copy, Debug, PartialEq, Eq)]
-pub enum Task<'a> {
+pub enum Task<'m, 'a> {
     /// To serve standard input by a service over that many modules.
     Serve(Modules),
-    /// To check the file of this path.
-    Check(&'a str),
+    /// To check the document of the first source, by the attributes that the second declares, if there is one.
+    Check(Source<'a>, Option<Source<'a>>),
     /// To write the lines of the dump on standard input.
     Lines,
+    /// To run the tests in the sources that these words name.
+    Test(&'m [&'a str]),
 }
 
 /// The number of modules that an option of `serve` gives. What the command line takes is from 1 to 4.
@@ -49,16 +53,34 @@ fn modules_of(options: &ArgMatches<'_>) -> Modules
     }
 }
 
-/// What is asked for by words that the command line takes: which subcommand, with how many modules or on which file.
-pub fn task_of<'a>(matches: &ArgMatches<'a>) -> Option<Task<'a>>
+/// The source that the file of `check` names.
+fn file_of<'a>(options: &ArgMatches<'a>) -> Source<'a>
+    ensures { path_of result ≡ path_named (unwrap_or (first_of (codes "FILE") (rows_of (found_of options.now))) []) }
+{
+    Source::named(options.get_str(FILE).unwrap_or(""))
+}
+
+/// The source that the option of `check` for declared attributes names, if it is given.
+fn attributes_of<'a>(options: &ArgMatches<'a>) -> Option<Source<'a>>
+    ensures { option_map path_of result ≡ option_map path_named (first_of (codes "attributes") (rows_of (found_of options.now))) }
+{
+    match options.get_str(ATTRIBUTES) {
+        Some(word) => Some(Source::named(word)),
+        None => None,
+    }
+}
+
+/// What is asked for by words that the command line takes: which subcommand, with how many modules or on which files.
+pub fn task_of<'m, 'a: 'm>(matches: &'m ArgMatches<'a>) -> Option<Task<'m, 'a>>
     ensures few { HasFew result }
     ensures task { IsTaskOf (subcommand_rows_of matches.now) result }
 {
     let (name, options) = matches.subcommand()?;
     match name {
         "serve" => Some(Task::Serve(modules_of(options))),
-        "check" => Some(Task::Check(options.get_str(FILE).unwrap_or(""))),
+        "check" => Some(Task::Check(file_of(options), attributes_of(options))),
         "lines" => Some(Task::Lines),
+        "test" => Some(Task::Test(options.get_strs(FILE)?)),
         _ => None,
     }
 }

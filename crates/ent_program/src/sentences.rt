@@ -1,9 +1,11 @@
 //! What is said on standard error.
 
 ghost use Rattle.std.specs.Prelude.{◌≡◌};
-ghost use Rattle.ent_program.specs.Sentences.{document_sentence, fault_sentence, file_sentence, lines_sentence, words_sentence};
+ghost use Rattle.ent_program.specs.Sentences.{declared_sentence, document_sentence, fault_sentence, file_sentence};
+ghost use Rattle.ent_program.specs.Sentences.{lines_sentence, terminal_sentence, undeclared_sentence, words_sentence};
 
 use crate::checking::{FILE_LIMIT, FileFault};
+use crate::declaring::DeclaredFault;
 use crate::words::WordsFault;
 use ent_line::{LinesFault, ServeFault};
 use ent_policy::DocFault;
@@ -80,4 +82,29 @@ pub fn file_sentence(fault: FileFault) -> &'static str
         FileFault::NotJson => "review: the file isn't JSON",
         FileFault::Document(fault) => document_sentence(fault),
     }
+}
+
+/// What is said of a document that asks for an attribute which isn't declared.
+pub fn undeclared_sentence() -> &'static str
+    ensures { result.now ≡ undeclared_sentence }
+{
+    "review: the document asks for an attribute that isn't declared"
+}
+
+/// What is said of a file of declared attributes that can't be used.
+pub fn declared_sentence(fault: DeclaredFault) -> &'static str
+    ensures { result.now ≡ declared_sentence fault }
+{
+    match fault {
+        DeclaredFault::TooLong => "review: the file of attributes has more than 1048576 bytes",
+        DeclaredFault::NotJson => "review: the file of attributes isn't JSON",
+        DeclaredFault::Attributes(_) => "review: the file of attributes hasn't the form of one",
+    }
+}
+
+/// What somebody is told who serves lines that are typed at a terminal.
+pub fn terminal_sentence() -> &'static str
+    ensures { result.now ≡ terminal_sentence }
+{
+    "review: one command a line, as docs/COMMANDS.md says; Ctrl-D at the beginning of a line ends; a terminal cuts lines at 4,095 bytes"
 }

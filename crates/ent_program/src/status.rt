@@ -3,9 +3,10 @@
 ghost use Rattle.std.specs.Prelude.{◌≡◌};
 ghost use Rattle.clap.specs.Values.{kind_of};
 ghost use Rattle.ent_program.specs.Statuses.{check_status, fault_status, lines_fault_status, lines_status, serve_status};
-ghost use Rattle.ent_program.specs.Statuses.{usage_status, words_status};
+ghost use Rattle.ent_program.specs.Statuses.{test_status, usage_status, words_status};
 
 use crate::sentences::{fault_sentence, lines_sentence, words_sentence};
+use crate::testing::Tally;
 use crate::words::WordsFault;
 use clap::error::ErrorKind;
 use ent_line::{LinesFault, ServeFault};
@@ -13,7 +14,7 @@ use ent_line::{LinesFault, ServeFault};
 /// All went well.
 const OKAY: u8 = 0;
 
-/// The command line can't be used, a file was refused, or the input is no dump.
+/// The command line can't be used, a file was refused, the input is no dump, or a test failed.
 pub(crate) const REFUSED: u8 = 1;
 
 /// Reading or writing failed.
@@ -73,6 +74,17 @@ pub fn lines_status(rt: &impl Eprint, written: Result<(), LinesFault>) -> u8
     match written {
         Ok(()) => OKAY,
         Err(fault) => lines_status_of(rt, fault),
+    }
+}
+
+/// The exit status of tests, by how many passed and how many failed; a fault is told on standard error.
+pub fn test_status(rt: &impl Eprint, tested: Result<Tally, ServeFault>) -> u8
+    ensures { result ≡ test_status tested }
+{
+    match tested {
+        Ok(tally) if tally.failed == 0 => OKAY,
+        Ok(_) => REFUSED,
+        Err(fault) => status_of(rt, fault),
     }
 }
 

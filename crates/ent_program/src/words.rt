@@ -31,8 +31,15 @@ pub fn given_words<R: Env + AllocGlobal>(rt: &R) -> Result<Vec<String>, WordsFau
     Ok(words)
 }
 
-/// The argument of `check`: the file that is read.
+/// What `review --version` says behind the program's name: the version, and the toolchain that it is proved with, as
+/// `rt version` names it.
+const VERSION: &str = "1.0.0 (rattle-kit-13f logic dac8208d650f15bf)";
+
+/// The argument of `check`, and of `test`: what is read.
 pub const FILE: &str = "FILE";
+
+/// The option of `check` that names a file of declared attributes.
+pub const ATTRIBUTES: &str = "attributes";
 
 /// The option of `serve` that says how many modules hold values of attributes.
 pub const ATTRIBUTE_MODULES: &str = "attribute-modules";
@@ -50,8 +57,8 @@ fn number_of_modules<'a>(alloc: Global, option: &'static str, help: &'static str
         .default_value("2")
 }
 
-/// What the program takes: the subcommands `serve`, `check` and `lines`.
-pub fn command<'a>(alloc: Global) -> Result<Command<'a>, AllocError> {
+/// The subcommand `serve`.
+fn serve<'a>(alloc: Global) -> Result<Command<'a>, AllocError> {
     let attribute_modules = number_of_modules(
         alloc,
         ATTRIBUTE_MODULES,
@@ -62,23 +69,53 @@ pub fn command<'a>(alloc: Global) -> Result<Command<'a>, AllocError> {
         POLICY_MODULES,
         "How many modules hold policies, from 1 to 4",
     );
-    let serve = Command::new(alloc, "serve")
+    Command::new(alloc, "serve")
         .about("Serves commands on standard input, one line each, to standard output")
         .arg(attribute_modules)?
-        .arg(policy_modules)?;
+        .arg(policy_modules)
+}
+
+/// The subcommand `check`.
+fn check<'a>(alloc: Global) -> Result<Command<'a>, AllocError> {
     let file = Arg::new(alloc, FILE)
-        .help("A policy or policy set in JSON, of at most 1048576 bytes")
+        .help("A policy or policy set in JSON, of at most 1048576 bytes; - is standard input")
         .required(true);
-    let check = Command::new(alloc, "check")
+    let attributes = Arg::new(alloc, ATTRIBUTES)
+        .long(ATTRIBUTES)
+        .value_name("DECLARED")
+        .help("The attributes that the policy may ask for, in JSON");
+    Command::new(alloc, "check")
         .about("Says whether the policy in a file may be stored, or why not")
-        .arg(file)?;
-    let lines = Command::new(alloc, "lines").about(
+        .arg(attributes)?
+        .arg(file)
+}
+
+/// The subcommand `lines`.
+fn lines<'a>(alloc: Global) -> Command<'a> {
+    Command::new(alloc, "lines").about(
         "Writes the lines of a dump on standard input to standard output",
-    );
+    )
+}
+
+/// The subcommand `test`.
+fn test<'a>(alloc: Global) -> Result<Command<'a>, AllocError> {
+    let files = Arg::new(alloc, FILE)
+        .help("Tests: lines with the replies that are expected; - is standard input")
+        .num_args(1..)
+        .required(true);
+    Command::new(alloc, "test")
+        .about("Runs the tests in files, and says which replies are not as expected")
+        .arg(files)
+}
+
+/// What the program takes: the subcommands `serve`, `check`, `lines` and `test`.
+pub fn command<'a>(alloc: Global) -> Result<Command<'a>, AllocError> {
     Command::new(alloc, "review")
         .about("Answers XACML requests, and keeps a review table of their answers")
+        .version(VERSION)
         .subcommand_required(true)
-        .subcommand(serve)?
-        .subcommand(check)?
-        .subcommand(lines)
+        .subcommand(serve(alloc)?)?
+        .subcommand(check(alloc)?)?
+        .subcommand(lines(alloc))?
+        .subcommand(test(alloc)?)
 }

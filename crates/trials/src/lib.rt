@@ -15,13 +15,19 @@ mod evaluation;
 #[cfg(test)]
 mod functions;
 #[cfg(test)]
+mod help;
+#[cfg(test)]
 mod hostile;
 #[cfg(test)]
 mod index;
 #[cfg(test)]
 mod lines;
 #[cfg(test)]
+mod machine;
+#[cfg(test)]
 mod policies;
+#[cfg(test)]
+mod program;
 #[cfg(test)]
 mod responses;
 #[cfg(test)]
@@ -30,6 +36,8 @@ mod rows;
 mod serving;
 #[cfg(test)]
 mod table;
+#[cfg(test)]
+mod told;
 #[cfg(test)]
 mod values;
 #[cfg(test)]

@@ -1,10 +1,12 @@
 //! What the command line takes and asks for, what is said of words that it does not take, and the statuses.
 
+use crate::help::SAID;
+use clap::ArgMatches;
 use ent_line::{LinesFault, ServeFault};
 use ent_policy::DocFault;
 use ent_program::{
-    FileFault, Modules, Task, WordsFault, command, file_sentence, given_words, lines_status,
-    status_of, task_of, usage_status, words_status,
+    FileFault, WordsFault, command, file_sentence, given_words, lines_status, status_of, task_of,
+    usage_status, words_status,
 };
 use std::alloc::{AllocError, Global};
 use std::cell::RefCell;
@@ -13,103 +15,6 @@ use std::fmt::Display;
 use std::io;
 use std::rt::Env;
 use std::test::Fail;
-
-const HELP: &str = "\
-Answers XACML requests, and keeps a review table of their answers
-
-Usage: review <COMMAND>
-
-Commands:
-  serve  Serves commands on standard input, one line each, to standard output
-  check  Says whether the policy in a file may be stored, or why not
-  lines  Writes the lines of a dump on standard input to standard output
-  help   Print this message or the help of the given subcommand(s)
-
-Options:
-  -h, --help  Print help
-";
-
-const HELP_OF_SERVE: &str = "\
-Serves commands on standard input, one line each, to standard output
-
-Usage: review serve [OPTIONS]
-
-Options:
-      --attribute-modules <N>  How many modules hold values of attributes, from 1 to 4 [default: 2]
-      --policy-modules <N>     How many modules hold policies, from 1 to 4 [default: 2]
-  -h, --help                   Print help
-";
-
-const HELP_OF_CHECK: &str = "\
-Says whether the policy in a file may be stored, or why not
-
-Usage: review check <FILE>
-
-Arguments:
-  <FILE>  A policy or policy set in JSON, of at most 1048576 bytes
-
-Options:
-  -h, --help  Print help
-";
-
-const HELP_OF_LINES: &str = "\
-Writes the lines of a dump on standard input to standard output
-
-Usage: review lines
-
-Options:
-  -h, --help  Print help
-";
-
-const NO_COMMAND: &str = "\
-error: 'review' requires a subcommand but one was not provided
-  [subcommands: serve, check, lines, help]
-
-Usage: review <COMMAND>
-
-For more information, try '--help'.
-";
-
-const NO_FILE: &str = "\
-error: the following required arguments were not provided:
-  <FILE>
-
-Usage: review check <FILE>
-
-For more information, try '--help'.
-";
-
-const TWO_FILES: &str = "\
-error: unexpected argument 'b' found
-
-Usage: review check <FILE>
-
-For more information, try '--help'.
-";
-
-const A_DUMP: &str = "\
-error: unexpected argument 'dump.json' found
-
-Usage: review lines
-
-For more information, try '--help'.
-";
-
-const FIVE_MODULES: &str = "\
-error: invalid value '5' for '--policy-modules <N>': 5 is not in 1..=4
-
-For more information, try '--help'.
-";
-
-const NO_SUCH_COMMAND: &str = "\
-error: unrecognized subcommand 'surve'
-
-  tip: a similar subcommand exists: 'serve'
-
-Usage: review <COMMAND>
-
-For more information, try '--help'.
-";
 
 /// Puts a word behind the others.
 fn push_word(alloc: Global, all: &mut Vec<String>, word: &str) -> Result<(), AllocError> {
@@ -141,20 +46,6 @@ fn said(alloc: Global, words: &[&str]) -> Result<Option<(String, u8)>, Fail> {
     }
 }
 
-/// Words that ask for help or that can't be used, with what is said of them and the status.
-const SAID: &[(&[&str], &str, u8)] = &[
-    (&["--help"], HELP, 0),
-    (&["serve", "--help"], HELP_OF_SERVE, 0),
-    (&["check", "-h"], HELP_OF_CHECK, 0),
-    (&["lines", "--help"], HELP_OF_LINES, 0),
-    (&[], NO_COMMAND, 1),
-    (&["check"], NO_FILE, 1),
-    (&["check", "a", "b"], TWO_FILES, 1),
-    (&["lines", "dump.json"], A_DUMP, 1),
-    (&["serve", "--policy-modules", "5"], FIVE_MODULES, 1),
-    (&["surve"], NO_SUCH_COMMAND, 1),
-];
-
 /// Whether that text is said of these words, with that status.
 fn is_said(alloc: Global, words: &[&str], text: &str, status: u8) -> Result<bool, Fail> {
     match said(alloc, words)? {
@@ -172,43 +63,46 @@ fn words_that_are_not_taken(rt: HostRuntime) -> Result<(), Fail> {
 }
 
 /// Words that the program takes, with what they ask for.
-const TAKEN: &[(&[&str], Task)] = &[
-    (
-        &["serve"],
-        Task::Serve(Modules {
-            attributes: 2,
-            policies: 2,
-        }),
-    ),
+const TAKEN: &[(&[&str], &str)] = &[
+    (&["serve"], "Serve(Modules { attributes: 2, policies: 2 })"),
     (
         &["serve", "--attribute-modules", "1"],
-        Task::Serve(Modules {
-            attributes: 1,
-            policies: 2,
-        }),
+        "Serve(Modules { attributes: 1, policies: 2 })",
     ),
     (
         &["serve", "--policy-modules=4", "--attribute-modules", "3"],
-        Task::Serve(Modules {
-            attributes: 3,
-            policies: 4,
-        }),
+        "Serve(Modules { attributes: 3, policies: 4 })",
     ),
-    (&["check", "serve"], Task::Check("serve")),
-    (&["lines"], Task::Lines),
+    (&["check", "serve"], "Check(File(\"serve\"), None)"),
+    (&["check", "-"], "Check(Input, None)"),
+    (&["check", "--", "-"], "Check(Input, None)"),
+    (
+        &["check", "--attributes", "-", "a"],
+        "Check(File(\"a\"), Some(Input))",
+    ),
+    (&["lines"], "Lines"),
+    (&["test", "a", "-", "b"], "Test([\"a\", \"-\", \"b\"])"),
 ];
 
+/// Whether what was found asks for that.
+fn is_task(alloc: Global, matches: &ArgMatches<'_>, want: &str) -> Result<bool, AllocError> {
+    match task_of(matches) {
+        Some(task) => Ok(format!(in alloc; "{task:?}")?.as_str() == want),
+        None => Ok(false),
+    }
+}
+
 /// Whether the words ask for that.
-fn is_asked(alloc: Global, words: &[&str], task: Task<'_>) -> Result<bool, Fail> {
+fn is_asked(alloc: Global, words: &[&str], want: &str) -> Result<bool, Fail> {
     let all = line_of(alloc, words)?;
     let matches = command(alloc)?.try_get_matches_from(all.as_slice())?;
-    Ok(task_of(&matches) == Some(task))
+    Ok(is_task(alloc, &matches, want)?)
 }
 
 #[test]
 fn words_that_are_taken(rt: HostRuntime) -> Result<(), Fail> {
-    for &(words, task) in TAKEN {
-        assert!(rt; is_asked(rt.alloc(), words, task)?, "{words:?}");
+    for &(words, want) in TAKEN {
+        assert!(rt; is_asked(rt.alloc(), words, want)?, "{want}");
     }
     Ok(())
 }

@@ -1,17 +1,45 @@
-use Rattle.std.proofs.Common.{rules, refl, codes}
+use Rattle.std.proofs.Common.{◌∙◌, ap, codes, refl, rules}
+use Rattle.std.specs.Prelude.{[], option_map, unwrap_or}
 use Rattle.clap.specs.Matches.{found_of}
 use Rattle.clap.specs.Simple.{subcommand_rows_of}
-use Rattle.ent_program.proofs.Rows.{argument_found}
+use Rattle.clap.specs.Walk.{first_of, rows_of}
+use Rattle.ent_program.proofs.Rows.{arguments_found, arguments_missing, rows_found}
+use Rattle.ent_program.specs.Sources.{path_named}
 use Rattle.ent_program.proofs.options.task_of.Goals as goal
 
 pub returns-in-check-clause-task : goal.returns-in-check-clause-task
 returns-in-check-clause-task c = record {
   serve = search rules;
-  check = λ options found. (
-    c.unwrap_or.result,
-    refl,
-    argument_found c.get_str.result c.unwrap_or.result _ (found_of c.in_ok-name.options.now) (codes "FILE") (subcommand_rows_of c.args.matches.now) (codes "check") options
-        c.unwrap_or.ensures refl c.get_str.ensures c.in_ok-name.ensures.rows found,
-  );
+  check = λ options found.
+      let rows = rows_found (rows_of (found_of c.in_ok-name.options.now)) options (subcommand_rows_of c.args.matches.now) (codes "check") c.in_ok-name.ensures.rows found in (
+        c.file_of.result,
+        c.attributes_of.result,
+        refl,
+        c.file_of.ensures ∙ ap (λ rs. path_named (unwrap_or (first_of (codes "FILE") rs) [])) rows,
+        c.attributes_of.ensures ∙ ap (λ rs. option_map path_named (first_of (codes "attributes") rs)) rows,
+      );
   lines = search rules;
+  test = search rules;
+}
+
+pub returns-in_ok-get_strs-in-test-clause-task : goal.returns-in_ok-get_strs-in-test-clause-task
+returns-in_ok-get_strs-in-test-clause-task c = record {
+  serve = search rules;
+  check = search rules;
+  lines = search rules;
+  test = λ options found texts is. (
+    c.in_ok-get_strs-in-test.field-0,
+    refl,
+    arguments_found c.in_ok-get_strs-in-test.field-0 c.get_strs.result (found_of c.in_ok-name.options.now) (codes "FILE") options texts c.in_ok-get_strs-in-test.was c.get_strs.ensures
+        (rows_found (rows_of (found_of c.in_ok-name.options.now)) options (subcommand_rows_of c.args.matches.now) (codes "test") c.in_ok-name.ensures.rows found) is,
+  );
+}
+
+pub returns-in_err-get_strs-in-test-clause-task : goal.returns-in_err-get_strs-in-test-clause-task
+returns-in_err-get_strs-in-test-clause-task c = record {
+  serve = search rules;
+  check = search rules;
+  lines = search rules;
+  test = λ options found texts is. absurd (arguments_missing c.get_strs.result (found_of c.in_ok-name.options.now) (codes "FILE") options texts c.in_err-get_strs-in-test.was c.get_strs.ensures
+      (rows_found (rows_of (found_of c.in_ok-name.options.now)) options (subcommand_rows_of c.args.matches.now) (codes "test") c.in_ok-name.ensures.rows found) is);
 }

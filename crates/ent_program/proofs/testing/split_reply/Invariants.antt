@@ -1,0 +1,7 @@
+use Rattle.std.proofs.Common.{◌≡◌, false, ℕ, ◌<◌, get_or}
+use Rattle.ent_program.specs.Testing.{is_newline}
+use Rattle.ent_program.proofs.testing.split_reply.Given as goal
+
+-- no byte so far is a newline
+abbrev pub invariant-loop-i : goal.invariant-loop-i
+invariant-loop-i l = (k d : ℕ) → k < l.i → is_newline (get_or l.replies k d) ≡ false

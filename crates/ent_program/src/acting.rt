@@ -1,0 +1,288 @@
+//! What the program does, over the runtime that it is started with.
+
+ghost use Rattle.std.specs.Prelude.{◌≡◌, IfOk};
+ghost use Rattle.clap.specs.Values.{kind_of};
+ghost use Rattle.ent_program.specs.Starting.{IsFew};
+ghost use Rattle.ent_program.specs.Statuses.{usage_status};
+
+use crate::checking::{FILE_LIMIT, Judged, Verdict, check, is_fine, read_fault};
+use crate::declaring::{Declared, check_declared, declared_in};
+use crate::options::{Modules, Task, task_of};
+use crate::running::serve_from;
+use crate::sentences::{declared_sentence, file_sentence, terminal_sentence, undeclared_sentence};
+use crate::sources::Source;
+use crate::status::{
+    REFUSED, check_status, lines_status, serve_status, status_of, test_status, usage_status,
+    words_status,
+};
+use crate::testing::{Tally, send_tally, test_from};
+use crate::watching::Watched;
+use crate::words::{command, given_words};
+use clap::ArgMatches;
+use clap::error::ErrorKind;
+use ent_declared::Attribute;
+use ent_line::{LinesFault, ServeFault, dump_lines};
+use ent_values::Items;
+use std::fs::File;
+use std::io;
+use std::io::{BufReader, BufWriter, Read, Write};
+use std::rt::{Env, Files};
+
+/// Says on standard error which source can't be read, and why, if that is known.
+fn tell_cause(rt: &impl Eprint, source: Source<'_>, cause: Option<io::Error>) {
+    if let Some(cause) = cause {
+        let _ = eprintln!(rt; "{}: {cause}", source.name());
+    }
+}
+
+/// Says on standard error that a source can't be read, and why, and gives the exit status for it.
+fn tell_unread(rt: &impl Eprint, source: Source<'_>, cause: io::Error) -> u8 {
+    let status = status_of(rt, read_fault(&cause));
+    tell_cause(rt, source, Some(cause));
+    status
+}
+
+/// Serves standard input to standard output, with modules of those numbers, and gives the exit status. Somebody at a
+/// terminal is told on standard error how to use it.
+fn serve_input<R: Input + Print + Eprint + AllocGlobal>(
+    rt: &R,
+    modules: Modules,
+    is_terminal: bool,
+) -> u8
+    requires attributes { IsFew modules.attributes }
+    requires policies { IsFew modules.policies }
+{
+    if is_terminal {
+        let _ = rt.eprintln(terminal_sentence());
+    }
+    let alloc = rt.alloc();
+    let Ok(mut reader) = BufReader::new(alloc, Watched::new(rt.reader())) else {
+        return status_of(rt, ServeFault::Memory);
+    };
+    let Ok(mut writer) = BufWriter::new(alloc, io::writer(rt)) else {
+        return status_of(rt, ServeFault::Memory);
+    };
+    let served = serve_from(alloc, modules, &mut reader, &mut writer);
+    let status = serve_status(rt, served);
+    tell_cause(rt, Source::Input, reader.get_ref().cause());
+    status
+}
+
+/// Writes the lines of the dump on standard input to standard output, and gives the exit status.
+fn write_lines<R: Input + Print + Eprint + AllocGlobal>(rt: &R) -> u8 {
+    let alloc = rt.alloc();
+    let Ok(mut writer) = BufWriter::new(alloc, io::writer(rt)) else {
+        return status_of(rt, ServeFault::Memory);
+    };
+    let mut reader = Watched::new(rt.reader());
+    let written = dump_lines(alloc, &mut reader, &mut writer);
+    let status = lines_status(rt, written);
+    tell_cause(rt, Source::Input, reader.cause());
+    status
+}
+
+/// The bytes of a reader, at most so many, or the exit status of a fault, which is told on standard error.
+fn read_from<R: Eprint + AllocGlobal, S: Read + Drop>(
+    rt: &R,
+    source: Source<'_>,
+    reader: S,
+    most: u64,
+) -> Result<Vec<u8>, u8> {
+    let mut bytes = Vec::new(rt.alloc());
+    let mut front = reader.take(most);
+    match front.read_to_end(&mut bytes) {
+        Ok(_) => Ok(bytes),
+        Err(cause) => Err(tell_unread(rt, source, cause)),
+    }
+}
+
+/// The bytes of a source, at most so many, or the exit status of a fault, which is told on standard error.
+fn read_source<R: Files + Input + Eprint + AllocGlobal>(
+    rt: &R,
+    source: Source<'_>,
+    most: u64,
+) -> Result<Vec<u8>, u8> {
+    match source {
+        Source::Input => read_from(rt, source, rt.reader(), most),
+        Source::File(path) => match File::open(rt, path) {
+            Ok(file) => read_from(rt, source, file, most),
+            Err(cause) => Err(tell_unread(rt, source, cause)),
+        },
+    }
+}
+
+/// Says on standard error where in a source what is wrong, if that can be said.
+fn tell_place(rt: &impl Eprint, source: Source<'_>, told: &Option<String>) {
+    if let Some(told) = told {
+        let _ = eprintln!(rt; "{}: {told}", source.name());
+    }
+}
+
+/// Says on standard error what is wrong with a file, if anything is, and where in it.
+fn tell_refused(rt: &impl Eprint, source: Source<'_>, judged: &Judged) {
+    if !is_fine(judged) {
+        let sentence = match judged.verdict {
+            Verdict::Passed(_, _, _) => undeclared_sentence(),
+            Verdict::Refused(fault) => file_sentence(fault),
+        };
+        let _ = rt.eprintln(sentence);
+    }
+    tell_place(rt, source, &judged.told);
+}
+
+/// The exit status of a check of that source. Why it is refused, if it is, is told on standard error.
+fn checked_status(rt: &impl Eprint, source: Source<'_>, checked: Result<Judged, ServeFault>) -> u8 {
+    match checked {
+        Ok(judged) => {
+            tell_refused(rt, source, &judged);
+            check_status(rt, Ok(is_fine(&judged)))
+        }
+        Err(fault) => check_status(rt, Err(fault)),
+    }
+}
+
+/// The attributes that a source declares, or the exit status where they can't be had, which is told on standard error.
+fn read_declared<R: Files + Input + Eprint + AllocGlobal>(
+    rt: &R,
+    source: Source<'_>,
+) -> Result<Items<Attribute>, u8> {
+    let bytes = read_source(rt, source, FILE_LIMIT as u64 + 1)?;
+    match declared_in(rt.alloc(), bytes.as_slice()) {
+        Ok(Declared::Attributes(attributes)) => Ok(attributes),
+        Ok(Declared::Refused(fault, told)) => {
+            let _ = rt.eprintln(declared_sentence(fault));
+            tell_place(rt, source, &told);
+            Err(REFUSED)
+        }
+        Err(_) => Err(status_of(rt, ServeFault::Memory)),
+    }
+}
+
+/// Writes to standard output what is said of the document of that source, and gives the exit status.
+fn check_any<R: Files + Input + Print + Eprint + AllocGlobal>(
+    rt: &R,
+    source: Source<'_>,
+) -> Result<u8, u8> {
+    let bytes = read_source(rt, source, FILE_LIMIT as u64 + 1)?;
+    let checked = check(rt.alloc(), bytes.as_slice(), &mut io::writer(rt));
+    Ok(checked_status(rt, source, checked))
+}
+
+/// Does the same where the other source declares the attributes that the document may ask for.
+fn check_by<R: Files + Input + Print + Eprint + AllocGlobal>(
+    rt: &R,
+    source: Source<'_>,
+    declared: Source<'_>,
+) -> Result<u8, u8> {
+    let attributes = read_declared(rt, declared)?;
+    let bytes = read_source(rt, source, FILE_LIMIT as u64 + 1)?;
+    let checked = check_declared(
+        rt.alloc(),
+        bytes.as_slice(),
+        attributes.as_slice(),
+        &mut io::writer(rt),
+    );
+    Ok(checked_status(rt, source, checked))
+}
+
+/// Checks the document of that source, by the attributes that the other declares, if there is one, and gives the exit
+/// status.
+fn check_source<R: Files + Input + Print + Eprint + AllocGlobal>(
+    rt: &R,
+    source: Source<'_>,
+    declared: Option<Source<'_>>,
+) -> u8 {
+    let checked = match declared {
+        None => check_any(rt, source),
+        Some(declared) => check_by(rt, source, declared),
+    };
+    match checked {
+        Ok(status) => status,
+        Err(status) => status,
+    }
+}
+
+/// Runs the tests of each source that the words name, in turn, and writes each reply that isn't as expected. Gives how
+/// many passed, or the exit status of a fault, which is told on standard error.
+fn test_each<R: Files + Input + Eprint + AllocGlobal, W: Write>(
+    rt: &R,
+    words: &[&str],
+    writer: &mut W,
+) -> Result<Tally, u8> {
+    let mut all = Tally::none();
+    for &word in words {
+        let source = Source::named(word);
+        let bytes = read_source(rt, source, u64::MAX)?;
+        match test_from(rt.alloc(), source.name(), &mut bytes.as_slice(), writer) {
+            Ok(tally) => all = all.and(tally),
+            Err(fault) => return Err(status_of(rt, fault)),
+        }
+    }
+    Ok(all)
+}
+
+/// Writes how many tests passed, and flushes the writer.
+fn write_tally<W: Write>(writer: &mut W, tally: Tally) -> Result<Tally, ServeFault>
+    ensures { IfOk result (λ t. t ≡ tally) }
+{
+    send_tally(writer, tally)?;
+    match writer.flush() {
+        Ok(()) => Ok(tally),
+        Err(_) => Err(ServeFault::Write),
+    }
+}
+
+/// Runs the tests of the sources that the words name, writes to standard output each reply that isn't as expected and
+/// how many tests passed, and gives the exit status.
+fn test_words<R: Files + Input + Print + Eprint + AllocGlobal>(rt: &R, words: &[&str]) -> u8 {
+    let Ok(mut writer) = BufWriter::new(rt.alloc(), io::writer(rt)) else {
+        return status_of(rt, ServeFault::Memory);
+    };
+    match test_each(rt, words, &mut writer) {
+        Ok(tally) => test_status(rt, write_tally(&mut writer, tally)),
+        Err(status) => status,
+    }
+}
+
+/// Says what the command line asks to be told, or why it can't be used, and gives the exit status for it.
+fn tell_usage(rt: &(impl Print + Eprint), error: &clap::Error) -> u8
+    ensures { result ≡ usage_status (kind_of error.now) }
+{
+    if error.kind() == ErrorKind::OutOfMemory {
+        return status_of(rt, ServeFault::Memory);
+    }
+    let _ = error.print(rt);
+    usage_status(error)
+}
+
+/// Does what the words of the command line ask for, and gives the exit status.
+fn act<R: Files + Input + Print + Eprint + AllocGlobal>(
+    rt: &R,
+    matches: &ArgMatches<'_>,
+    is_terminal: bool,
+) -> u8 {
+    match task_of(matches) {
+        Some(Task::Serve(modules)) => serve_input(rt, modules, is_terminal),
+        Some(Task::Check(source, declared)) => check_source(rt, source, declared),
+        Some(Task::Lines) => write_lines(rt),
+        Some(Task::Test(words)) => test_words(rt, words),
+        None => REFUSED,
+    }
+}
+
+/// Runs the program with the words of its command line, where standard input is a terminal or not, and gives its exit
+/// status: 0 where all went well, 1 where the command line can't be used, a file was refused, the input is no dump or a
+/// test failed, 2 where reading or writing failed, and 3 for want of memory.
+pub fn run<R: Env + Files + Input + Print + Eprint + AllocGlobal>(rt: &R, is_terminal: bool) -> u8 {
+    let words = match given_words(rt) {
+        Ok(words) => words,
+        Err(fault) => return words_status(rt, fault),
+    };
+    let Ok(command) = command(rt.alloc()) else {
+        return status_of(rt, ServeFault::Memory);
+    };
+    match command.try_get_matches_from(words.as_slice()) {
+        Ok(matches) => act(rt, &matches, is_terminal),
+        Err(e) => tell_usage(rt, &e),
+    }
+}

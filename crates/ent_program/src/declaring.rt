@@ -1,0 +1,132 @@
+//! `review check --attributes`: documents that may ask for no attributes but those that a file declares.
+
+ghost use Rattle.std.specs.Prelude.{◌≡◌, IfOk, IfSome, Some, option_map, string_bytes, true};
+ghost use Rattle.ent_line.specs.Step.{data_of};
+ghost use Rattle.ent_places.specs.Places.{whole};
+ghost use Rattle.ent_program.specs.Checking.{Judges, is_passed, verdict_in, verdict_of};
+ghost use Rattle.ent_program.specs.Declaring.{AsksDeclared, TellsUndeclared, declared_of, seen};
+
+use crate::checking::{FILE_LIMIT, Judged, is_passed, judge, write_verdict};
+use ent_declared::{Attribute, AttributesFault, read_attributes, undeclared};
+use ent_explain::{explain_text, line_and_column};
+use ent_json::read_json;
+use ent_line::ServeFault;
+use ent_values::Items;
+use json::Scratch;
+use std::alloc::{AllocError, Global};
+use std::io::Write;
+
+/// Why a file of declared attributes can't be used.
+#[derive(Clone, Copy, Debug, PartialEq, Eq)]
+pub enum DeclaredFault {
+    /// It has more than `FILE_LIMIT` bytes.
+    TooLong,
+    /// It isn't JSON.
+    NotJson,
+    /// Its JSON isn't a list of attributes, by this fault.
+    Attributes(AttributesFault),
+}
+
+/// What a file of declared attributes comes to.
+#[derive(Drop)]
+pub(crate) enum Declared {
+    /// It declares these; those that each request has stand first.
+    Attributes(Items<Attribute>),
+    /// It can't be used, by this fault; and where in it what is wrong, if that can be said.
+    Refused(DeclaredFault, Option<String>),
+}
+
+/// Where in a file of declared attributes which fault stands.
+fn told_fault(
+    alloc: Global,
+    bytes: &[u8],
+    fault: AttributesFault,
+) -> Result<Option<String>, AllocError> {
+    let pointer = fault.pointer(alloc)?;
+    let position = line_and_column(alloc, bytes, pointer.as_str())?;
+    let told = fault.told(alloc, Some((position.line, position.column)))?;
+    Ok(Some(told))
+}
+
+/// The attributes that the bytes of a file declare, or why they don't.
+#[tactic(auto, unfolding(crate::specs::Declaring::declared_of))]
+pub(crate) fn declared_in(alloc: Global, bytes: &[u8]) -> Result<Declared, AllocError>
+    ensures { IfOk result (λ d. seen d ≡ declared_of bytes.now) }
+{
+    if bytes.len() > FILE_LIMIT {
+        return Ok(Declared::Refused(DeclaredFault::TooLong, None));
+    }
+    let mut scratch = Scratch::new(alloc);
+    let Some(json) = read_json(alloc, bytes, &mut scratch)? else {
+        let told = explain_text(alloc, bytes)?;
+        return Ok(Declared::Refused(DeclaredFault::NotJson, Some(told)));
+    };
+    match read_attributes(alloc, &json)? {
+        Ok(attributes) => Ok(Declared::Attributes(attributes)),
+        Err(fault) => {
+            let told = told_fault(alloc, bytes, fault)?;
+            Ok(Declared::Refused(DeclaredFault::Attributes(fault), told))
+        }
+    }
+}
+
+/// Where a document first asks for an attribute that isn't declared, and for which.
+fn told_undeclared(
+    alloc: Global,
+    bytes: &[u8],
+    attributes: &[Attribute],
+) -> Result<Option<String>, AllocError>
+    ensures { IfOk result (λ told. IfSome (data_of bytes.now) (λ d. TellsUndeclared attributes.now (whole d) (option_map string_bytes told))) }
+{
+    let mut scratch = Scratch::new(alloc);
+    let Some(json) = read_json(alloc, bytes, &mut scratch)? else {
+        return Ok(None);
+    };
+    let Some(found) = undeclared(alloc, &json, attributes)? else {
+        return Ok(None);
+    };
+    let position = line_and_column(alloc, bytes, found.pointer.as_str())?;
+    let told = found.told(alloc, attributes, Some((position.line, position.column)))?;
+    Ok(Some(told))
+}
+
+/// The verdict on the bytes of a file, and what is told of it where these attributes are declared: of a document that may
+/// be stored, where it first asks for another one.
+fn judge_declared(
+    alloc: Global,
+    bytes: &[u8],
+    attributes: &[Attribute],
+) -> Result<Judged, AllocError>
+    ensures verdict { IfOk result (λ j. j.verdict ≡ verdict_of bytes.now) }
+    ensures declared { is_passed (verdict_of bytes.now) ≡ true → IfOk result (λ j. AsksDeclared attributes.now (data_of bytes.now) j) }
+{
+    let judged = judge(alloc, bytes)?;
+    if !is_passed(&judged.verdict) {
+        return Ok(judged);
+    }
+    match told_undeclared(alloc, bytes, attributes)? {
+        None => Ok(judged),
+        Some(told) => Ok(Judged {
+            verdict: judged.verdict,
+            told: Some(told),
+        }),
+    }
+}
+
+/// Writes the line of the verdict on the bytes of a file, as `check` does, flushes the writer, and gives the verdict and
+/// what is told of it where these attributes are declared.
+pub(crate) fn check_declared<W: Write>(
+    alloc: Global,
+    bytes: &[u8],
+    attributes: &[Attribute],
+    writer: &mut W,
+) -> Result<Judged, ServeFault>
+    ensures judges { Judges (Some bytes.now) (W.contents writer.old) (W.contents writer.new) (verdict_in result) }
+    ensures declared { is_passed (verdict_of bytes.now) ≡ true → IfOk result (λ j. AsksDeclared attributes.now (data_of bytes.now) j) }
+{
+    let Ok(judged) = judge_declared(alloc, bytes, attributes) else {
+        return Err(ServeFault::Memory);
+    };
+    write_verdict(writer, &judged.verdict)?;
+    Ok(judged)
+}

@@ -1,0 +1,128 @@
+//! What is said of words that ask for help, and of words that the program doesn't take.
+
+const HELP: &str = "\
+Answers XACML requests, and keeps a review table of their answers
+
+Usage: review <COMMAND>
+
+Commands:
+  serve  Serves commands on standard input, one line each, to standard output
+  check  Says whether the policy in a file may be stored, or why not
+  lines  Writes the lines of a dump on standard input to standard output
+  test   Runs the tests in files, and says which replies are not as expected
+  help   Print this message or the help of the given subcommand(s)
+
+Options:
+  -h, --help     Print help
+  -V, --version  Print version
+";
+
+const HELP_OF_SERVE: &str = "\
+Serves commands on standard input, one line each, to standard output
+
+Usage: review serve [OPTIONS]
+
+Options:
+      --attribute-modules <N>  How many modules hold values of attributes, from 1 to 4 [default: 2]
+      --policy-modules <N>     How many modules hold policies, from 1 to 4 [default: 2]
+  -h, --help                   Print help
+";
+
+const HELP_OF_CHECK: &str = "\
+Says whether the policy in a file may be stored, or why not
+
+Usage: review check [OPTIONS] <FILE>
+
+Arguments:
+  <FILE>  A policy or policy set in JSON, of at most 1048576 bytes; - is standard input
+
+Options:
+      --attributes <DECLARED>  The attributes that the policy may ask for, in JSON
+  -h, --help                   Print help
+";
+
+const HELP_OF_LINES: &str = "\
+Writes the lines of a dump on standard input to standard output
+
+Usage: review lines
+
+Options:
+  -h, --help  Print help
+";
+
+const HELP_OF_TEST: &str = "\
+Runs the tests in files, and says which replies are not as expected
+
+Usage: review test <FILE>...
+
+Arguments:
+  <FILE>...  Tests: lines with the replies that are expected; - is standard input
+
+Options:
+  -h, --help  Print help
+";
+
+const NO_COMMAND: &str = "\
+error: 'review' requires a subcommand but one was not provided
+  [subcommands: serve, check, lines, test, help]
+
+Usage: review <COMMAND>
+
+For more information, try '--help'.
+";
+
+const NO_FILE: &str = "\
+error: the following required arguments were not provided:
+  <FILE>
+
+Usage: review check <FILE>
+
+For more information, try '--help'.
+";
+
+const TWO_FILES: &str = "\
+error: unexpected argument 'b' found
+
+Usage: review check [OPTIONS] <FILE>
+
+For more information, try '--help'.
+";
+
+const A_DUMP: &str = "\
+error: unexpected argument 'dump.json' found
+
+Usage: review lines
+
+For more information, try '--help'.
+";
+
+const FIVE_MODULES: &str = "\
+error: invalid value '5' for '--policy-modules <N>': 5 is not in 1..=4
+
+For more information, try '--help'.
+";
+
+const NO_SUCH_COMMAND: &str = "\
+error: unrecognized subcommand 'surve'
+
+  tip: a similar subcommand exists: 'serve'
+
+Usage: review <COMMAND>
+
+For more information, try '--help'.
+";
+
+/// Words that ask for help or that can't be used, with what is said of them and the status.
+pub(crate) const SAID: &[(&[&str], &str, u8)] = &[
+    (&["--help"], HELP, 0),
+    (&["serve", "--help"], HELP_OF_SERVE, 0),
+    (&["check", "-h"], HELP_OF_CHECK, 0),
+    (&["lines", "--help"], HELP_OF_LINES, 0),
+    (&["test", "--help"], HELP_OF_TEST, 0),
+    (&[], NO_COMMAND, 1),
+    (&["check"], NO_FILE, 1),
+    (&["check", "a", "b"], TWO_FILES, 1),
+    (&["lines", "dump.json"], A_DUMP, 1),
+    (&["serve", "--policy-modules", "5"], FIVE_MODULES, 1),
+    (&["surve"], NO_SUCH_COMMAND, 1),
+];

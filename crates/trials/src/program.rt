@@ -1,0 +1,288 @@
+//! The whole program: what it writes, what it says on standard error, and its status.
+
+use crate::machine::{Machine, is_all, is_front};
+use ent_program::run;
+use std::alloc::Global;
+
+/// A policy of one rule.
+const POLICY: &str = r#"{"Policy":{"PolicyId":"p3","Version":"1",
+       "RuleCombiningAlgId":"urn:oasis:names:tc:xacml:3.0:rule-combining-algorithm:deny-overrides",
+       "Rule":[{"RuleId":"ok","Effect":"Permit"}]}}"#;
+
+/// Words, with what is written for them, what is said, and the status. The input and the file hold the policy.
+const RUNS: &[(&[&str], &str, &str, u8)] = &[
+    (
+        &["review", "--version"],
+        "review 1.0.0 (rattle-kit-13f logic dac8208d650f15bf)\n",
+        "",
+        0,
+    ),
+    (
+        &["review", "-V"],
+        "review 1.0.0 (rattle-kit-13f logic dac8208d650f15bf)\n",
+        "",
+        0,
+    ),
+    (&["review", "check", "whole"], "ok Policy p3 1\n", "", 0),
+    (&["review", "check", "-"], "ok Policy p3 1\n", "", 0),
+    (
+        &["review", "check", "none"],
+        "",
+        "review: read fault\nnone: No such file or directory (os error 2)\n",
+        2,
+    ),
+    (
+        &["review", "check", "broken"],
+        "",
+        "review: read fault\nbroken: Input/output error (os error 5)\n",
+        2,
+    ),
+    (&["review", "lines"], "", "review: not a dump\n", 1),
+];
+
+/// Whether the machine has written and said that and no more, and the status is that.
+fn has_run(
+    machine: &Machine<'_>,
+    is_terminal: bool,
+    written: &str,
+    told: &str,
+    status: u8,
+) -> bool {
+    let its_status = run(machine, is_terminal);
+    its_status == status && is_all(&machine.written, written) && is_all(&machine.told, told)
+}
+
+/// Whether words have that end where the input and the file hold the policy.
+fn is_run(alloc: Global, words: &[&str], written: &str, told: &str, status: u8) -> bool {
+    let machine = Machine::new(alloc, words, POLICY, POLICY);
+    has_run(&machine, false, written, told, status)
+}
+
+#[test]
+fn what_is_written_and_said(rt: HostRuntime) {
+    for &(words, written, told, status) in RUNS {
+        assert!(rt;
+            is_run(rt.alloc(), words, written, told, status),
+            "{words:?}"
+        );
+    }
+}
+
+/// A policy whose effect has a small letter.
+const SMALL_LETTER: &str = r#"{"Policy":{"PolicyId":"p3","Version":"1",
+ "RuleCombiningAlgId":"urn:oasis:names:tc:xacml:3.0:rule-combining-algorithm:deny-overrides",
+ "Rule":[{"RuleId":"ok","Effect":"permit"}]}}"#;
+
+/// What is said of it.
+const SMALL_LETTER_TOLD: &str = "\
+review: a key is unknown or missing, or what stands at it has the wrong form
+whole: /Policy/Rule/0/Effect: line 3, column 34: `Effect` is `permit`, and not `Permit` or `Deny`; \
+did you mean `Permit`?
+";
+
+/// A policy that asks for an attribute of the resource.
+const ASKING: &str = r#"{"Policy":{"PolicyId":"p","Version":"1",
+ "RuleCombiningAlgId":"urn:oasis:names:tc:xacml:3.0:rule-combining-algorithm:deny-overrides",
+ "Target":{"AnyOf":[{"AllOf":[{"Match":[{"MatchId":"urn:oasis:names:tc:xacml:1.0:function:string-equal",
+  "AttributeValue":{"Value":"plan"},"AttributeDesignator":
+  {"Category":"urn:oasis:names:tc:xacml:3.0:attribute-category:resource",
+   "AttributeId":"kind","DataType":"string"}}]}]}]},
+ "Rule":[{"RuleId":"ok","Effect":"Permit"}]}}"#;
+
+/// A list with that attribute.
+const DECLARED: &str =
+    r#"{"Attributes":[{"Category":"urn:oasis:names:tc:xacml:3.0:attribute-category:resource",
+ "AttributeId":"kind","DataType":"string"}]}"#;
+
+/// A list without attributes.
+const NONE_DECLARED: &str = r#"{"Attributes":[]}"#;
+
+/// Words that check the file or the input, with the file and the input, what is written, what is said at the beginning,
+/// and the status.
+const CHECKED: &[(&[&str], &str, &str, &str, &str, u8)] = &[
+    (
+        &["review", "check", "whole"],
+        SMALL_LETTER,
+        "",
+        "refused 6 9\n",
+        SMALL_LETTER_TOLD,
+        1,
+    ),
+    (
+        &["review", "check", "-"],
+        "",
+        "{\"Policy\":",
+        "refused 2\n",
+        "review: the file isn't JSON\nstandard input: line 1, column 11: ",
+        1,
+    ),
+    (
+        &["review", "check", "--attributes", "whole", "-"],
+        DECLARED,
+        ASKING,
+        "ok Policy p 1\n",
+        "",
+        0,
+    ),
+    (
+        &["review", "check", "--attributes", "whole", "-"],
+        NONE_DECLARED,
+        ASKING,
+        "ok Policy p 1\n",
+        "review: the document asks for an attribute that isn't declared\nstandard input: ",
+        1,
+    ),
+    (
+        &["review", "check", "--attributes", "whole", "-"],
+        "{}",
+        ASKING,
+        "",
+        "review: the file of attributes hasn't the form of one\nwhole: ",
+        1,
+    ),
+];
+
+/// Whether a check has that end.
+fn is_checked(
+    alloc: Global,
+    words: &[&str],
+    file: &str,
+    input: &str,
+    written: &str,
+    told: &str,
+    status: u8,
+) -> bool {
+    let machine = Machine::new(alloc, words, input, file);
+    let its_status = run(&machine, false);
+    its_status == status
+        && is_all(&machine.written, written)
+        && is_front(&machine.told, told)
+        && told.is_empty() == is_all(&machine.told, "")
+}
+
+#[test]
+fn what_is_said_of_documents(rt: HostRuntime) {
+    for &(words, file, input, written, told, status) in CHECKED {
+        assert!(rt;
+            is_checked(rt.alloc(), words, file, input, written, told, status),
+            "{told}"
+        );
+    }
+}
+
+/// Words that read an input which breaks behind one line.
+const BROKEN: &[(&[&str], &str)] = &[
+    (&["review", "serve"], "{\"changes\":0,\"serial\":1}\n"),
+    (&["review", "check", "-"], ""),
+    (&["review", "lines"], ""),
+];
+
+/// Whether the cause of the fault is told of an input that breaks, behind what is written.
+fn is_broken(alloc: Global, words: &[&str], written: &str) -> bool {
+    let mut machine = Machine::new(
+        alloc,
+        words,
+        "{\"do\":\"person.add\",\"name\":\"ann\"}\n",
+        "",
+    );
+    machine.breaks = true;
+    let told = "review: read fault\nstandard input: Input/output error (os error 5)\n";
+    has_run(&machine, false, written, told, 2)
+}
+
+#[test]
+fn why_an_input_is_not_read(rt: HostRuntime) {
+    for &(words, written) in BROKEN {
+        assert!(rt; is_broken(rt.alloc(), words, written), "{words:?}");
+    }
+}
+
+/// What is said at a terminal.
+const AT_A_TERMINAL: &str =
+    "review: one command a line, as docs/COMMANDS.md says; Ctrl-D at the beginning of a line \
+ends; a terminal cuts lines at 4,095 bytes\n";
+
+/// Whether that is said by a service at a terminal or elsewhere, beside its reply.
+fn is_served(alloc: Global, is_terminal: bool, told: &str) -> bool {
+    let machine = Machine::new(alloc, &["review", "serve"], "{\"do\":\"counts\"}\n", "");
+    let status = run(&machine, is_terminal);
+    status == 0 && is_all(&machine.told, told)
+}
+
+#[test]
+fn a_service_at_a_terminal_says_how_to_end_it(rt: HostRuntime) {
+    assert!(rt; is_served(rt.alloc(), true, AT_A_TERMINAL));
+    assert!(rt; is_served(rt.alloc(), false, ""));
+}
+
+/// Two tests, of which the second expects another reply.
+const TESTS: &str = "\
+# passes
+> {\"do\":\"person.add\",\"name\":\"ann\"}
+< {\"changes\":0,\"serial\":1}
+# fails
+> {\"do\":\"person.add\",\"name\":\"ann\"}
+< {\"changes\":0,\"serial\":2}
+";
+
+/// What is written of them.
+const DIFFERENCE: &str = "\
+whole:5: expected {\"changes\":0,\"serial\":2}
+whole:5: replied {\"changes\":0,\"serial\":1}
+1 passed, 1 failed
+";
+
+/// What is written of them twice where the second file can't be opened.
+const BEFORE_THE_FAULT: &str = "\
+whole:5: expected {\"changes\":0,\"serial\":2}
+whole:5: replied {\"changes\":0,\"serial\":1}
+";
+
+/// Words that ask for tests, with the tests of the file and the input, what is written, what is said, and the status.
+const TESTED: &[(&[&str], &str, &str, &str, u8)] = &[
+    (&["review", "test", "whole"], TESTS, DIFFERENCE, "", 1),
+    (
+        &["review", "test", "whole", "-"],
+        "# passes\n> {\"do\":\"table\"}\n< {\"table\":[]}\n",
+        "2 passed, 0 failed\n",
+        "",
+        0,
+    ),
+    (
+        &["review", "test", "-"],
+        "> {\"do\":\"table\"}\n",
+        "standard input:1: this line can't stand here\n0 passed, 1 failed\n",
+        "",
+        1,
+    ),
+    (
+        &["review", "test", "whole", "none"],
+        TESTS,
+        BEFORE_THE_FAULT,
+        "review: read fault\nnone: No such file or directory (os error 2)\n",
+        2,
+    ),
+];
+
+/// Whether tests have that end.
+fn is_tested(
+    alloc: Global,
+    words: &[&str],
+    tests: &str,
+    written: &str,
+    told: &str,
+    status: u8,
+) -> bool {
+    let machine = Machine::new(alloc, words, tests, tests);
+    has_run(&machine, false, written, told, status)
+}
+
+#[test]
+fn tests_of_files(rt: HostRuntime) {
+    for &(words, tests, written, told, status) in TESTED {
+        assert!(rt;
+            is_tested(rt.alloc(), words, tests, written, told, status),
+            "{words:?}"
+        );
+    }
+}
