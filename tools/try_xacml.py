@@ -1,0 +1,239 @@
+#!/usr/bin/python3
+"""Tries xacml.py with the review program.
+
+    try_xacml.py PROGRAM [--documents N]
+
+It brings in the three policies of xacml_form/examples and asks them what was reckoned; compares each rewriting with a direct
+reading of the standard's function; takes documents with each function, those of the repository's sessions and N random ones
+(1,000) to XML and back; takes requests and responses over; and gives it files that are made to hurt. The status is 0 where all is
+as it should be, 1 where something isn't, and 3 where lxml (python3-lxml of Debian) isn't there."""
+import argparse
+import json
+import pathlib
+import subprocess
+import sys
+import tempfile
+
+try:
+    from lxml import etree
+except ImportError:
+    print('tools/xacml.py was not tried: there is no lxml (python3-lxml of Debian)')
+    sys.exit(3)
+from xacml_form import driver, names, try_documents, try_hostile, try_rewriting
+
+HERE = pathlib.Path(__file__).resolve().parent
+TOOL, SCHEMA, EXAMPLES = HERE / 'xacml.py', HERE / 'xacml_form' / 'xacml.rng', HERE / 'xacml_form' / 'examples'
+SUBJECT, RESOURCE, ENVIRONMENT = (names.CATEGORIES[key] for key in ('AccessSubject', 'Resource', 'Environment'))
+NOW = 'urn:oasis:names:tc:xacml:1.0:environment:current-'
+RESOURCE_ID = 'urn:oasis:names:tc:xacml:1.0:resource:resource-id'
+
+# What is told of each policy: how often each weight; and what its mended form answers: attributes and the decision.
+RECORD = (RESOURCE, 'kind', 'string', ['record'])
+TOLD = {'records': {'rewritten': 5}, 'market': {'by hand': 4}, 'night': {'rewritten': 3, 'by hand': 2}}
+ANSWERS = {
+    'records': [
+        ([], 'NotApplicable'),
+        ([RECORD], 'Deny'),
+        (
+            [
+                RECORD,
+                (SUBJECT, 'department', 'string', ['surgery', 'heart']),
+                (RESOURCE, 'department', 'string', ['eyes', 'heart']),
+            ],
+            'Permit',
+        ),
+        (
+            [RECORD, (SUBJECT, 'department', 'string', ['surgery']), (RESOURCE, 'department', 'string', ['eyes'])],
+            'Deny',
+        ),
+        ([RECORD, (SUBJECT, 'role', 'string', ['desk']), (ENVIRONMENT, NOW + 'time', 'time', ['08:00:00'])], 'Permit'),
+        ([RECORD, (SUBJECT, 'role', 'string', ['desk']), (ENVIRONMENT, NOW + 'time', 'time', ['18:00:01'])], 'Deny'),
+        ([RECORD, (SUBJECT, 'role', 'string', ['desk'])], 'Deny'),
+    ],
+    'market': [
+        (
+            [
+                (SUBJECT, 'mail', 'string', ['ann@example.org']),
+                (RESOURCE, 'amount', 'integer', [100]),
+                (RESOURCE, RESOURCE_ID, 'string', ['food/bread']),
+            ],
+            'Permit',
+        ),
+        (
+            [
+                (SUBJECT, 'mail', 'string', ['ann@example.org']),
+                (RESOURCE, 'amount', 'integer', [101]),
+                (RESOURCE, RESOURCE_ID, 'string', ['food/bread']),
+            ],
+            'Deny',
+        ),
+        (
+            [
+                (SUBJECT, 'mail', 'string', ['ann@example.org']),
+                (RESOURCE, 'amount', 'integer', [5]),
+                (RESOURCE, RESOURCE_ID, 'string', ['cars']),
+            ],
+            'NotApplicable',
+        ),
+        ([(SUBJECT, 'mail', 'string', ['ann@example.org'])], 'Indeterminate'),
+        ([(SUBJECT, 'mail', 'string', ['bob@example.com']), (RESOURCE, 'amount', 'integer', [101])], 'NotApplicable'),
+    ],
+    'night': [
+        (
+            [
+                (ENVIRONMENT, NOW + 'dateTime', 'dateTime', ['2025-12-31T23:29:59']),
+                (ENVIRONMENT, NOW + 'time', 'time', ['23:29:59']),
+            ],
+            'Deny',
+        ),
+        (
+            [
+                (ENVIRONMENT, NOW + 'dateTime', 'dateTime', ['2025-12-31T23:30:00']),
+                (ENVIRONMENT, NOW + 'time', 'time', ['23:30:00']),
+                (SUBJECT, 'role', 'string', ['guard']),
+            ],
+            'Permit',
+        ),
+        (
+            [
+                (ENVIRONMENT, NOW + 'dateTime', 'dateTime', ['2026-06-01T12:00:00']),
+                (ENVIRONMENT, NOW + 'time', 'time', ['12:00:00']),
+                (SUBJECT, 'role', 'string', ['guard']),
+            ],
+            'NotApplicable',
+        ),
+        (
+            [
+                (ENVIRONMENT, NOW + 'dateTime', 'dateTime', ['2026-06-01T12:00:00']),
+                (ENVIRONMENT, NOW + 'time', 'time', ['12:00:00']),
+                (SUBJECT, 'role', 'string', ['guard']),
+                (SUBJECT, 'carries', 'string', ['badge']),
+            ],
+            'Permit',
+        ),
+        ([], 'Indeterminate'),
+    ],
+}
+
+
+def ran(*words, given=None):
+    return subprocess.run([sys.executable, str(TOOL), *words], capture_output=True, text=True, input=given)
+
+
+def examples(program):
+    """The three policies: what is told of them, and what they answer once they are mended."""
+    wrong, count = [], 0
+    for stem, answers in ANSWERS.items():
+        first = ran('policy', str(EXAMPLES / f'{stem}.xml'))
+        told = {}
+        for line in first.stderr.splitlines():
+            weight = line.split(': ')[1]
+            told[weight] = told.get(weight, 0) + 1
+        page = (HERE.parent / 'docs' / 'MIGRATING.md').read_text()
+        wrong += [
+            f'MIGRATING.md does not tell: {line}'
+            for line in first.stderr.splitlines()
+            if stem != 'night' and line.rpartition('/examples/')[2] not in page
+        ]
+        if told != TOLD[stem] or first.returncode != ('by hand' in told) or bool(first.stdout) == ('by hand' in told):
+            wrong.append(f'{stem}: told {told}, status {first.returncode}')
+        mended = EXAMPLES / f'{stem}-mended.xml'
+        brought = ran('policy', '--lines', '--root', stem, str(mended if mended.exists() else EXAMPLES / f'{stem}.xml'))
+        service = driver.Service(program)
+        replies = service.answers([json.loads(line) for line in brought.stdout.splitlines()])
+        found = service.decisions([attributes for attributes, _ in answers])
+        service.close()
+        count += len(answers)
+        if (
+            brought.returncode
+            or any('refused' in reply for reply in replies)
+            or found != [decision for _, decision in answers]
+        ):
+            wrong.append(f'{stem}: {brought.stderr} {replies} {found}')
+    return count, wrong
+
+
+REQUEST = f'''<Request xmlns="{names.NAMESPACE}" ReturnPolicyIdList="false" CombinedDecision="false">
+  <Attributes Category="{SUBJECT}">
+    <Attribute AttributeId="urn:oasis:names:tc:xacml:1.0:subject:subject-id" IncludeInResult="true"><AttributeValue DataType="{names.XML_SCHEMA}string">ann</AttributeValue></Attribute>
+    <Attribute AttributeId="mixed" Issuer="i &amp; j" IncludeInResult="true"><AttributeValue DataType="{names.XML_SCHEMA}integer"> 1 </AttributeValue><AttributeValue
+      DataType="{names.XML_SCHEMA}integer">2</AttributeValue><AttributeValue DataType="{names.XML_SCHEMA}string"> 3 </AttributeValue></Attribute>
+  </Attributes>
+  <Attributes Category="{RESOURCE}"><Attribute AttributeId="kind" IncludeInResult="false"><AttributeValue DataType="{names.XML_SCHEMA}string">record</AttributeValue></Attribute></Attributes>
+</Request>'''
+REFUSED = [
+    ('<MultiRequests/></Request>', '</Request>'),
+    ('CombinedDecision="true"', 'CombinedDecision="false"'),
+    ('<Attributes Category="x"><Content><a xmlns=""/></Content></Attributes></Request>', '</Request>'),
+    (f'<Attributes Category="{SUBJECT}"/></Request>', '</Request>'),
+    (f'{names.XML_SCHEMA}double', f'{names.XML_SCHEMA}integer'),
+]
+
+
+def migrated(program):
+    """The way of MIGRATING.md: from XML to a cell of the table, whose reply stands there."""
+    lines = (
+        ran('policy', '--lines', '--root', 'records', str(EXAMPLES / 'records.xml')).stdout
+        + (EXAMPLES / 'records-people.jsonl').read_text()
+    )
+    cell = subprocess.run([program, 'serve'], input=lines, capture_output=True, text=True).stdout.splitlines()[-1]
+    return [] if cell in (HERE.parent / 'docs' / 'MIGRATING.md').read_text() else [f'MIGRATING.md does not have {cell}']
+
+
+def asked(program):
+    """A request from XML, its response to XML; and requests with what isn't here."""
+    wrong = []
+    with tempfile.TemporaryDirectory() as folder:
+        file = pathlib.Path(folder) / 'request.xml'
+        file.write_text(REQUEST)
+        line = ran('request', '--line', str(file))
+        service = driver.Service(program)
+        service.root(json.loads(ran('policy', str(EXAMPLES / 'records.xml')).stdout))
+        answer = service.answer(**json.loads(line.stdout))
+        service.close()
+        made = ran('response', given=json.dumps(answer))
+        root = etree.fromstring(made.stdout.encode()) if made.stdout else None
+        if (
+            root is None
+            or not etree.RelaxNG(file=str(SCHEMA)).validate(root)
+            or [each.text for each in root.iter('{*}AttributeValue')] != ['ann', '1', '2', ' 3 ']
+        ):
+            wrong.append(f'the response {answer} became {made.stdout} {made.stderr}')
+        for new, old in REFUSED:
+            file.write_text(REQUEST.replace(old, new))
+            again = ran('request', str(file))
+            if again.returncode != 1 or not again.stderr or again.stdout:
+                wrong.append(f'a request with {new} had status {again.returncode} {again.stderr}')
+    return 1 + len(REFUSED), wrong
+
+
+def main():
+    parser = argparse.ArgumentParser(description=__doc__, formatter_class=argparse.RawDescriptionHelpFormatter)
+    parser.add_argument('program', metavar='PROGRAM')
+    parser.add_argument('--documents', type=int, default=1000, metavar='N')
+    options = parser.parse_args()
+    files = sorted((HERE.parent / 'crates' / 'conformance' / 'sessions').glob('*')) + sorted(
+        (HERE.parent / 'examples').glob('*/*.jsonl')
+    )
+    files += [HERE.parent / 'crates' / 'conformance' / 'stdin']
+    number, wrong = examples(options.program)
+    wrong += migrated(options.program)
+    service = driver.Service(options.program)
+    compared, told = try_rewriting.run(service)
+    service.close()
+    wrong += told
+    counts, told = try_documents.run(options.program, files, SCHEMA, options.documents)
+    wrong += told
+    taken, told = asked(options.program)
+    wrong += told
+    tried, told = try_hostile.run(TOOL)
+    wrong += told
+    print('\n'.join(wrong[:20]))
+    print(
+        f'tools/xacml.py: 3 policies brought in and asked {number} requests, {compared} decisions of what is rewritten compared, to XML and back {", ".join(counts)}, {taken} requests, {tried} hostile files: {len(wrong)} wrong'
+    )
+    return 1 if wrong else 0
+
+
+if __name__ == '__main__':
+    sys.exit(main())
