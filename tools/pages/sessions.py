@@ -1,22 +1,27 @@
 #!/usr/bin/env python3
-"""Makes stdin and stdout, which the gate runs and compares, from the sessions that people read. With --check, says whether they are up to date.
+"""Makes the stdin and the stdout of crates/conformance, which the gate runs, from the sessions that people read.
 
-    sessions.py [--check]
+    sessions.py             writes them
+    sessions.py --check     says whether they are up to date
 
-stdin holds the files sessions/SUBJECT.txt as they stand, one behind the other, and behind them the sessions of the pages; docs/WORKING.md says what form they have, and
-`ent_sessions` reads it. stdout says how many there are, and that all of them pass.
+stdin holds the files crates/conformance/sessions/SUBJECT.txt as they stand, one behind the other, and behind them the
+sessions of the pages; CONTRIBUTING.md says what form they have, and `ent_sessions` reads it. stdout says how many there
+are, and that all of them pass.
 
-The pages of docs/ on commands, on limits, on refusals, on requests, on running the service and on what isn't here, and the tutorial, have sessions in their blocks of the kind `session`. One more session, policies_page, is made from
-docs/POLICIES.md: each example there is added, with the reply that follows from what the page says below it. After `ok KIND ID VERSION` a document of that kind, id and version is there already, and after an example below which its written
-form stands, so is that form. A block `session` below an example has lines and replies as above, of a service to which the example was
-added first: a session of its own, policies_page_ID with the id of that document. The example of README.md, whose lines stand before all replies, is the session readme.
+PAGES have sessions in their blocks of the kind `session`. One more, policies_page, is made from docs/POLICIES.md: each
+example there is added, with the reply that follows from what the page says below it. After `ok KIND ID VERSION` a
+document of that kind, id and version is there already, and after an example below which its written form stands, so is
+that form. A block `session` below an example has lines and replies as above, of a service to which the example was
+added first: a session of its own, policies_page_ID with the id of that document. The example of docs/OPERATING.md
+at a shell, whose lines stand before all replies, is the session operating_page_at_a_shell.
 """
 import json, os, re, sys
 
-HERE = os.path.dirname(os.path.abspath(__file__))
-DOCS = os.path.join(HERE, '..', '..', 'docs')
+ROOT = os.path.join(os.path.dirname(os.path.abspath(__file__)), '..', '..')
+HERE = os.path.join(ROOT, 'crates', 'conformance')
+DOCS = os.path.join(ROOT, 'docs')
 PAGE = os.path.join(DOCS, 'POLICIES.md')
-README = os.path.join(HERE, '..', '..', 'README.md')
+SHELL = os.path.join(DOCS, 'OPERATING.md')
 PAGES = ['COMMANDS.md', 'LIMITS.md', 'NOT_HERE.md', 'OPERATING.md', 'REFUSALS.md', 'REQUESTS.md', 'TUTORIAL.md']
 
 
@@ -53,14 +58,17 @@ def added(document):
 def page_session():
     """The examples of the page on policies, each with the reply that follows from what stands below it."""
     blocks = blocks_of(PAGE)
-    examples = [(json.loads(text), then) for (kind, text), (_, then) in zip(blocks, blocks[1:] + [('', '')]) if kind == 'json']
+    pairs_of = zip(blocks, blocks[1:] + [('', '')])
+    examples = [(json.loads(text), then) for (kind, text), (_, then) in pairs_of if kind == 'json']
     pairs, held = [], []
     for document, then in examples:
         (kind, body), line = *document.items(), added(document)
         verdict = re.fullmatch('(ok|refused) (.*) (.*)\n', then)
         written = json.loads(then) if then.startswith('{') else document
         named = f'{kind} {body.get(f"{kind}Id")}'
-        if not (verdict or then.startswith('{')) or (verdict and verdict[1] == 'ok' and verdict[2] != named) or written[kind].get(f'{kind}Id') != body.get(f'{kind}Id'):
+        is_other = written[kind].get(f'{kind}Id') != body.get(f'{kind}Id')
+        is_named = not verdict or verdict[1] != 'ok' or verdict[2] == named
+        if not (verdict or then.startswith('{')) or not is_named or is_other:
             sys.exit(f'{PAGE}: no verdict on {named} stands below it')
         if verdict and verdict[1] == 'refused':
             pairs.append((line, f'{{"refused":{verdict[2]},"sub":{verdict[3]}}}'))
@@ -89,19 +97,20 @@ def shown_sessions():
     return shown
 
 
-def readme_session():
-    """The example of README.md: its lines, and behind them its replies."""
-    found = re.search("<<'LINES'\n((?:    .*\n)*?)    LINES\n((?:    .*\n)*)", read(README))
+def shell_session():
+    """The example at a shell: its lines, and behind them its replies."""
+    found = re.search("<<'LINES'\n((?:    .*\n)*?)    LINES\n((?:    .*\n)*)", read(SHELL))
     lines, replies = ([text[4:] for text in part.splitlines()] for part in found.groups())
     if len(lines) != len(replies):
-        sys.exit(f'{README}: {len(lines)} lines, {len(replies)} replies')
-    return session('readme', zip(lines, replies))
+        sys.exit(f'{SHELL}: {len(lines)} lines, {len(replies)} replies')
+    return session('operating_page_at_a_shell', zip(lines, replies))
 
 
 def main():
     folder = os.path.join(HERE, 'sessions')
     files = sorted((name for name in os.listdir(folder) if name.endswith('.txt')), key=str.encode)
-    texts = [read(os.path.join(folder, name)) for name in files] + [readme_session(), page_session()] + shown_sessions() + [page_sessions(name) for name in PAGES]
+    texts = [read(os.path.join(folder, name)) for name in files]
+    texts += [shell_session(), page_session()] + shown_sessions() + [page_sessions(name) for name in PAGES]
     lines = '\n'.join(texts)
     names = re.findall('^# ([^ \n]+)', lines, re.M)
     doubled = len(names) - len(set(names))

@@ -1,19 +1,26 @@
 #!/usr/bin/env python3
-"""Keeps what VERIFIED.md and READING.md say of the definitions' modules.
+"""Keeps what the pages say of the definitions' modules, which stand in crates/*/specs.
 
-    verified.py             writes the tables of modules into VERIFIED.md, and the numbers of lines into READING.md
-    verified.py --check     says whether they are up to date, whether the reading list is at most 1,000 lines long, and whether
-                            each word on the headline's page is defined on the list or named in the notation; fails if not
-    verified.py --closure   prints all that the headline's page reaches by imports of modules, and what the other claims reach besides
+    definitions.py             writes the lists of docs/DEFINITIONS.md, and the numbers of lines into docs/READING.md
+    definitions.py --check     says whether they are up to date, whether the reading list is at most 1,000 lines long,
+                               whether each word on the headline's page is defined on the list or named in the
+                               notation, whether docs/VERIFIED.md names modules that there are, and whether no module
+                               outside of proofs_only rests on one of proofs_only; fails if not
+    definitions.py --closure   prints all that the headline's page reaches by imports of modules, and what the other
+                               modules reach besides
 
-Lines are counted without imports, comments and blanks, but for the table of all definitions, which has whole files."""
+Lines are counted without imports, comments and blanks; DEFINITIONS has sums alone, so that few lines of it change."""
 import pathlib
 import re
 import sys
 import textwrap
 
-DOCS = pathlib.Path(__file__).resolve().parent
-CRATES = DOCS.parent / 'crates'
+sys.dont_write_bytecode = True
+from standard import citations, order, title  # noqa: E402
+
+ROOT = pathlib.Path(__file__).resolve().parents[2]
+DOCS = ROOT / 'docs'
+CRATES = ROOT / 'crates'
 HEADLINE = 'Rattle.ent_line.specs.Headline'
 MOST = 1000
 USE = re.compile(r'^\s*(pub )?use ([^\s{}]+?)(?:\.\{([^}]*)\})?(?: as (\w+))?$', re.M)
@@ -88,39 +95,78 @@ def by_crate(names):
     return found
 
 
-# ---- the table of all definitions
-
-def definitions(known):
-    """One row a crate, and the sum."""
-    rows, sums = [], [0, 0]
-    for crate, names in by_crate(known).items():
-        listed, apart, counts = [], [], [0, 0]
-        for name in names:
-            count = len(known[f'Rattle.{crate}.specs.{name}'].read_text().split('\n')) - 1
-            only = name.startswith('proofs_only.')
-            counts[only] += count
-            (apart if only else listed).append(f'{name.removeprefix("proofs_only.")} {count}')
-        sums = [sums[0] + counts[0], sums[1] + counts[1]]
-        rows.append(f'| `{crate}` | {counts[0]} | {", ".join(listed)} | {counts[1] or ""} | {", ".join(apart)} |\n')
-    head = '| Crate | Lines | Modules of `specs/` with their lines | Lines | Those of `specs/proofs_only/` |\n|---|---|---|---|---|\n'
-    return head + ''.join(rows) + f'| all | {sums[0]} | | {sums[1]} | |\n'
+def is_apart(name):
+    """Whether a module has words of private contracts and of proofs alone."""
+    return '.specs.proofs_only.' in name
 
 
-# ---- what the claims reach
+# ---- the map
 
-def claims(page, known):
-    """The modules that the table of claims names."""
-    rows = page.split('## Where it is claimed\n\n')[1].split('\n\n')[0].split('\n')[2:]
-    found = set()
+def item(text):
+    """An item of a list, in lines of the page's width."""
+    filled = textwrap.fill(text, 114, subsequent_indent='  ', break_long_words=False, break_on_hyphens=False)
+    return f'- {filled}\n'
+
+
+def by_section(known):
+    """One item for each section of the standard that a module cites; those that the same modules cite share one."""
+    found = {}
+    for name, path in known.items():
+        if not is_apart(name):
+            for section in citations(path.read_text()):
+                found.setdefault(section, set()).add(name)
+    shared = []
+    for section in sorted(found, key=order):
+        if shared and shared[-1][1] == found[section]:
+            shared[-1][0].append(section)
+        else:
+            shared.append(([section], found[section]))
+    text = ''
+    for sections, names in shared:
+        crates = '; '.join(f'`{crate}` {", ".join(modules_of)}' for crate, modules_of in by_crate(names).items())
+        titles = ', '.join(title(section) for section in sections)
+        text += item(f'**{", ".join(sections)}** {titles}: {crates}')
+    return text
+
+
+def sum_of(names, known):
+    return f'{len(names)} modules with {sum(lines(known[name]) for name in names):,} lines'
+
+
+def by_use(known):
+    """One item a crate: what the headline's page reaches, and what else public contracts speak of."""
+    headline, _ = closure([HEADLINE], known)
+    apart = {name for name in known if is_apart(name)}
+    others = set(known) - headline - apart
+    text = (f"In **bold** what the headline's page reaches by imports of whole modules ({sum_of(headline, known)}),\n"
+            f'then the other modules ({sum_of(others, known)}); in `proofs_only` stand\n{sum_of(apart, known)}.\n\n')
+    for crate in by_crate(known):
+        parts = []
+        for names, mark in [(headline, '**'), (others, '')]:
+            here = sorted(name for name in names if split(name)[0] == crate)
+            if here:
+                parts.append(mark + ', '.join(split(name)[1] for name in here) + mark)
+        text += item(f'`{crate}`: {", ".join(parts)}')
+    return text
+
+
+# ---- what the claims name and reach
+
+def check_claims(page, known):
+    """Each module that the table of claims names is there, and none that isn't apart rests on one that is."""
+    rows = page.split('<!-- claims -->\n')[1].split('<!-- end of claims -->')[0].split('\n')[2:]
     for row in rows:
         cells = row.split('|')
-        crates = dict.fromkeys(re.findall(r'ent_\w+', cells[3]) + re.findall(r'ent_\w+', cells[1]))
+        if len(cells) < 4:
+            continue
+        crates = dict.fromkeys(re.findall(r'ent_\w+', cells[3] + cells[1]))
         for word in re.findall(r'\b[A-Z]\w+', cells[3]):
-            names = [f'Rattle.{crate}.specs.{word}' for crate in crates if f'Rattle.{crate}.specs.{word}' in known]
-            if not names:
+            if not any(f'Rattle.{crate}.specs.{word}' in known for crate in crates):
                 sys.exit(f'docs/VERIFIED.md: no module {word} of {", ".join(crates)}')
-            found.update(names)
-    return found
+    reached, _ = closure([name for name in known if not is_apart(name)], known)
+    apart = [name for name in sorted(reached) if is_apart(name)]
+    if apart:
+        sys.exit('a module that a public contract may speak of reaches ' + ', '.join(apart))
 
 
 def derived(others):
@@ -153,58 +199,29 @@ def kit(others):
     return found
 
 
-def counted(names, known):
-    return f'{len(names)} modules with {sum(lines(known[name]) for name in names):,} lines'
-
-
 def listed(names, known):
     """Modules with their lines, one line of text a crate."""
     for crate, modules_of in by_crate(names).items():
-        yield f'`{crate}`: ' + ', '.join(f'{name} {lines(known[f"Rattle.{crate}.specs.{name}"])}' for name in modules_of)
+        counts = [f'{name} {lines(known[f"Rattle.{crate}.specs.{name}"])}' for name in modules_of]
+        yield f'`{crate}`: {", ".join(counts)}'
 
 
-def paragraph(text):
-    return textwrap.fill(text, 160, break_long_words=False, break_on_hyphens=False) + '\n\n'
-
-
-def reached(page, known):
-    """What the headline's page reaches, what else of other files, and which modules the other claims reach besides."""
+def print_closure(known):
+    """All that the headline's page reaches and the other modules besides, with types of the code and words of the kit."""
     headline, others = closure([HEADLINE], known)
-    besides, more = closure(claims(page, known), known)
-    apart = [name for name in sorted(headline | besides) if '.specs.proofs_only.' in name]
-    if apart:
-        sys.exit('a claim of docs/VERIFIED.md reaches ' + ', '.join(apart))
-    return headline, others, besides - headline, {module: words for module, words in more.items() if module not in others}
-
-
-def short(page, known):
-    """The part of VERIFIED.md on what the claims reach."""
-    headline, others, besides, _ = reached(page, known)
-    text = f'The page Headline of `ent_line` reaches, by imports of whole modules, {counted(headline, known)}:\n\n'
-    text += ''.join(f'- {line}\n' for line in listed(headline, known))
-    types = '; '.join(f'`{crate}`: {", ".join(sorted(names))}' for crate, names in sorted(declared(others).items()))
-    orders = '; '.join(f'`{trait}` of {", ".join(sorted(names))}' for trait, names in sorted(derived(others).items()))
-    library = '; '.join(f'`{name}`: {", ".join(found)}' for name, found in kit(others).items())
-    text += '\n' + paragraph(f'Types of the code that it names (`declared`): {types}.')
-    text += paragraph(f'Derived implementations (`contracts..TheImpl`): {orders}.')
-    text += paragraph(f"Modules of the kit's libraries: {library}.")
-    text += paragraph(f'The other claims of the table above reach {counted(besides, known)} besides:')
-    return text + ''.join(f'- {line}\n' for line in listed(besides, known))
-
-
-def print_closure(page, known):
-    """All of it, with the kit's words."""
-    headline, others, besides, more = reached(page, known)
-    for title, names, found in [('The headline', headline, others), ('The other claims besides', besides, more)]:
-        print(f'{title}: {counted(names, known)}')
+    all_of, more = closure([name for name in known if not is_apart(name)], known)
+    more = {module: words for module, words in more.items() if module not in others}
+    parts_of = [('The headline', headline, others), ('The other definitions besides', all_of - headline, more)]
+    for name, names, found in parts_of:
+        print(f'{name}: {sum_of(names, known)}')
         print(''.join(f'  {line}\n' for line in listed(names, known)))
         for crate, types in sorted(declared(found).items()):
             print(f'  declared in {crate}: {", ".join(sorted(types))}')
         for trait, types in sorted(derived(found).items()):
             print(f'  derived {trait}: {", ".join(sorted(types))}')
         for library, names_of in kit(found).items():
-            for name, words in names_of.items():
-                print(f'  of {library}, {name}: {" ".join(sorted(words))}')
+            for module, words in names_of.items():
+                print(f'  of {library}, {module}: {" ".join(sorted(words))}')
         print()
 
 
@@ -229,12 +246,13 @@ def put_between(page, mark, text):
 def with_lines(page):
     """The page with the number of lines of each module in its tables."""
     def row(found):
-        return f'| `{found[1]}` | {lines(DOCS.parent / found[1])} |'
+        return f'| `{found[1]}` | {lines(ROOT / found[1])} |'
 
     def row_of_crate(found):
         names = [re.sub(r' \d+$', '', name.strip()) for name in found[2].split(',')]
         counts = [lines(CRATES / found[1] / 'specs' / f'{name}.antt') for name in names]
-        return f'| `{found[1]}` | {sum(counts)} | ' + ', '.join(f'{name} {count}' for name, count in zip(names, counts)) + ' |'
+        told = ', '.join(f'{name} {count}' for name, count in zip(names, counts))
+        return f'| `{found[1]}` | {sum(counts)} | {told} |'
 
     page = re.sub(r'^\| `(crates/[^`]*\.antt)` \|[^|]*\|', row, page, flags=re.M)
     return re.sub(r'^\| `(ent_\w+)` \|[^|]*\|([^|]*)\|', row_of_crate, page, flags=re.M)
@@ -287,7 +305,7 @@ def missing(known, listed_paths, notation):
 
 def check_reading(page, known):
     """Says how long the reading list is; what is wrong with it, if anything."""
-    paths = [DOCS.parent / path for path in re.findall(r'^\| `(crates/[^`]*\.antt)`', between(page, 'reading list'), re.M)]
+    paths = [ROOT / path for path in re.findall(r'^\| `(crates/[^`]*\.antt)`', between(page, 'reading list'), re.M)]
     count = sum(lines(path) for path in paths)
     print(f'docs/READING.md: {len(paths)} modules on the reading list, {count} lines')
     notation = set(re.findall(r'[A-Za-z_]\w*|[^\s\w`]+', ' '.join(re.findall(r'`([^`]*)`', between(page, 'notation')))))
@@ -300,20 +318,19 @@ def check_reading(page, known):
 
 def main():
     known = modules()
-    verified, reading = DOCS / 'VERIFIED.md', DOCS / 'READING.md'
-    text = verified.read_text()
     if '--closure' in sys.argv:
-        print_closure(text, known)
+        print_closure(known)
         return
-    wanted = text
-    for mark, made in [('definitions', definitions(known)), ('closure', short(text, known))]:
+    check_claims((DOCS / 'VERIFIED.md').read_text(), known)
+    map_page, reading = DOCS / 'DEFINITIONS.md', DOCS / 'READING.md'
+    wanted = map_page.read_text()
+    for mark, made in [('sections', by_section(known)), ('modules', by_use(known))]:
         wanted = put_between(wanted, mark, made)
-    pages = [(verified, text, wanted), (reading, reading.read_text(), with_lines(reading.read_text()))]
-    for page, old, new in pages:
+    for page, new in [(map_page, wanted), (reading, with_lines(reading.read_text()))]:
         if '--check' not in sys.argv:
             page.write_text(new)
-        elif old != new:
-            sys.exit(f'docs/{page.name}: what it says of modules is not up to date; run docs/verified.py')
+        elif page.read_text() != new:
+            sys.exit(f'docs/{page.name}: what it says of modules is not up to date; run tools/pages/definitions.py')
     check_reading(reading.read_text(), known)
 
 

@@ -1,0 +1,198 @@
+#!/usr/bin/env python3
+"""What no crate knows: looks for each absence of the table in docs/ARCHITECTURE.md, and says what is there that
+shouldn't be; fails if anything is.
+
+    absences.py
+
+The first column of the table has the names of the checks below, in their order. Comments aren't looked at."""
+import pathlib
+import re
+import sys
+
+ROOT = pathlib.Path(__file__).resolve().parents[2]
+CRATES = ROOT / 'crates'
+PAGE = ROOT / 'docs' / 'ARCHITECTURE.md'
+COMMANDS = (r'"(?:(?:person|action|resource)\.(?:add|drop)|(?:attr|day|moment|root)\.set'
+            r'|policy\.(?:add|replace|withdraw))')
+PROGRAMS = ['conformance', 'faults_told', 'attributes_told', 'review', 'review_with_options']
+BELOW_LINES = ['ent_values', 'ent_functions', 'ent_combine', 'ent_policy', 'ent_finder', 'ent_eval', 'ent_index',
+               'ent_log', 'ent_cells', 'ent_table', 'ent_rebuild']
+
+
+def lines_of_crates():
+    """The libraries of each crate, as its line has them."""
+    text = (ROOT / 'crates.txt').read_text()
+    lines = [line.split(':') for line in text.splitlines() if line and not line.startswith('#')]
+    return {name: rest.split() for name, rest in lines}
+
+
+LINES = lines_of_crates()
+TRIALS = [name for name in LINES if name.startswith('trials')]
+
+
+def code(path):
+    """What a file says, without comments."""
+    return re.sub(r'(?m)//.*$|^\s*--.*$', '', path.read_text())
+
+
+def files(crates=None, folders=('src',)):
+    """The files of some crates, or of all."""
+    for crate in crates or LINES:
+        for folder in folders:
+            yield from sorted((CRATES / crate / folder).rglob('*.*t'))
+
+
+def where(path):
+    return '/'.join(path.relative_to(CRATES).parts)
+
+
+def found(pattern, crates=None, folders=('src',), but=()):
+    """The files in which something stands, but for those whose place begins with one of some words."""
+    for path in files(crates, folders):
+        if re.search(pattern, code(path)) and not where(path).startswith(tuple(but)):
+            yield f'{where(path)} has {pattern}'
+
+
+def named(libraries, but=()):
+    """The crates whose line names one of some libraries, but for some crates."""
+    for name, line in LINES.items():
+        if name not in but:
+            yield from (f'the line of {name} names {library}' for library in line if library in libraries)
+
+
+def stands_on(crate, allowed):
+    """The crates of this repository in a crate's line, but for those that are allowed."""
+    ours = [library for library in LINES[crate] if library in LINES and library not in allowed]
+    yield from (f'the line of {crate} names {library}' for library in ours)
+
+
+def refusable(names, crates):
+    """The functions of these names that give a `Result`, or that aren't there."""
+    for name in names:
+        heads = [re.search(rf'\bfn {name}\b[^{{;]*?\)\s*(->[^\n]*)?', code(path)) for path in files(crates)]
+        heads = [head for head in heads if head]
+        if not heads:
+            yield f'no function {name}'
+        yield from (f'{name} gives {head[1]}' for head in heads if head[1] and 'Result' in head[1])
+
+
+def json_between():
+    for crate in BELOW_LINES + ['ent_report']:
+        json = [library for library in LINES[crate] if library in ('ent_json', 'serde_json', 'json')]
+        yield from (f'the line of {crate} names {library}' for library in json)
+
+
+def in_sessions_files():
+    yield from stands_on('ent_sessions', ['ent_values'])
+    json = [library for library in LINES['ent_sessions'] if library in ('serde_json', 'json')]
+    yield from (f'the line of ent_sessions names {library}' for library in json)
+
+
+def places_in_the_service():
+    words = ['ent_places', 'ent_explain', 'ent_declared']
+    yield from named(words, but=words + ['ent_program', 'faults_told', 'attributes_told'] + TRIALS)
+
+
+def around_combining():
+    yield from (f'the line of ent_combine names {library}' for library in LINES['ent_combine'])
+    yield from found(r'\b(?:alloc|Global|AllocError|Vec|Box|String)\b', ['ent_combine'])
+
+
+def table_in_the_log():
+    yield from stands_on('ent_log', ['ent_values'])
+    yield from found(r'\bAnswer', ['ent_log', 'ent_index'], ('src', 'specs'), but=['ent_log/specs/'])
+
+
+def evaluations():
+    yield from found(r'\.evaluate\(|Pdp::evaluate', but=['ent_eval/', 'ent_cells/src/evaluate.rt'] + TRIALS)
+    yield from found(r'pdp\.answer\(|Pdp::answer', but=['ent_eval/', 'ent_table/src/ask.rt'] + TRIALS)
+
+
+def unchecked_documents():
+    if 'pub(crate) fn new(' not in code(CRATES / 'ent_policy/src/document.rt'):
+        yield 'Document::new is not pub(crate)'
+    yield from found(r'\bDocument::new\(', ['ent_policy'], but=['ent_policy/src/checker.rt'])
+
+
+def boxed_modules():
+    yield from found(r'\bBox::new\b', but=['ent_program/src/running.rt'] + TRIALS)
+    yield from found(r'\bdyn\b', but=['ent_program/src/running.rt', 'ent_finder/'] + TRIALS)
+
+
+def files_and_streams():
+    above = ['ent_program/'] + [f'{name}/' for name in PROGRAMS + TRIALS]
+    yield from found(r'[:+]\s*(?:Files|Env|Input|Print|Eprint)\b', but=above)
+    yield from named(['clap'], but=['ent_program'] + TRIALS)
+
+
+def clocks():
+    yield from found(r'\bstd::(?:time|thread|net)\b')
+    if (ROOT / 'HANDLES').read_text().strip() != 'Handles allowed: none.':
+        yield 'HANDLES allows some'
+
+
+def memory_at_commit():
+    yield from refusable(['commit_all', 'give_up_all', 'narrow'], ['ent_cells'])
+    yield from refusable(['put', 'close', 'push', 'forget_before'], ['ent_log'])
+    yield from refusable(['log_edit', 'take_back'], ['ent_table'])
+
+
+def unseen():
+    known = ['ent_finder/src/hints.rt', 'ent_eval/src/paths.rt']
+    units = [where(path) for path in files() if re.search(r'ghost Value = \{ Unit\b', code(path))]
+    yield from (f'{place} has a model that says nothing' for place in units if place not in known)
+    yield from found(r'\bCell(?:<|::)', but=['ent_finder/src/hints.rt'])
+    yield from found(r'\bRefCell\b', but=TRIALS)
+    yield from found(r'(?m)^\s*(?:pub(?:\(crate\))? )?static ')
+
+
+def unsafe():
+    yield from found(r'\bunsafe\b', but=['ent_json/src/text.rt'])
+    if len(re.findall(r'\bunsafe\b', code(CRATES / 'ent_json/src/text.rt'))) > 1:
+        yield 'ent_json/src/text.rt has more than one unsafe'
+
+
+def libraries():
+    yield from named(['jiff', 'jiff_core'], but=['ent_values'])
+    yield from named(['slab'], but=['ent_index', 'ent_cells'])
+    yield from named(['indexmap'], but=['ent_table'])
+
+
+CHECKS = {
+    'JSON between the edges': json_between,
+    'JSON and commands in files of sessions': in_sessions_files,
+    'places of faults in the service': places_in_the_service,
+    'any other crate, and memory, in `ent_combine`': around_combining,
+    'commands below `ent_dump` and `ent_line`':
+        lambda: found(COMMANDS, but=['ent_dump/', 'ent_line/'] + TRIALS),
+    'sessions and marks in a review': lambda: found(r'(?i)session', BELOW_LINES, ('src', 'specs')),
+    'the table in the log and in the index': table_in_the_log,
+    'finders and modules in the evaluator':
+        lambda: found(r'\b(?:Attributes|Policies)\b', ['ent_eval'], but=['ent_eval/src/pdp.rt']),
+    'keys of look-ups above the table':
+        lambda: found(r'\bReadKey\b', ['ent_report', 'ent_dump', 'ent_line', 'ent_program'], ('src', 'specs')),
+    'evaluations made elsewhere': evaluations,
+    "documents that weren't checked": unchecked_documents,
+    'boxed modules that a library makes': boxed_modules,
+    'files, streams, the command line below `ent_program`': files_and_streams,
+    'clocks, threads, sockets': clocks,
+    'memory at a commit, a way back, a drop': memory_at_commit,
+    "what a clause doesn't see": unseen,
+    '`unsafe`, but once': unsafe,
+    'tests beside the code': lambda: found(r'#\[test\]', but=TRIALS),
+    '`jiff`, `slab`, `indexmap` elsewhere': libraries,
+}
+
+
+def main():
+    there = [f'{name}: {what}' for name, check in CHECKS.items() for what in check()]
+    table = PAGE.read_text().split('## What no crate knows\n')[1].split('\n## ')[0]
+    rows = re.findall(r'(?m)^\| (.*?) \|', table)[1:]
+    if rows != list(CHECKS):
+        there.append(f'{PAGE.name} has other rows than these checks: ' + '; '.join(sorted(set(rows) ^ set(CHECKS))))
+    print('\n'.join(there) if there else f'{len(CHECKS)} absences')
+    return 1 if there else 0
+
+
+if __name__ == '__main__':
+    sys.exit(main())
