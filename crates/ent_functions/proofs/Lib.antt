@@ -1,6 +1,7 @@
 pub mod Answered
 pub mod Comparing
 pub mod EachOnce
+pub mod Found
 pub mod Groups
 pub mod Held
 pub mod Inner

@@ -1,5 +1,5 @@
 -- Which functions want memory.
-use Rattle.std.proofs.Common.{◌≡◌, ℕ, ◌<◌, ◌+◌, Bool, true, List, [], ◌∷◌, map, length, get_or, take, drop, ap, sym, refl, ◌∙◌, subst, arith, length-append}
+use Rattle.std.proofs.Common.{◌≡◌, ℕ, ◌<◌, ◌+◌, Bool, true, false, List, [], ◌∷◌, map, length, get_or, take, drop, ap, sym, refl, ◌∙◌, subst, arith, length-append}
 use Rattle.std.specs.Prelude.{Result, Ok, Err, IfErr, OnErr, cond, filter}
 use Rattle.std.proofs.lemmas.List.{take-append-drop}
 use Rattle.std.proofs.lemmas.List.Filters.{length-filter_more}
@@ -7,7 +7,7 @@ use Rattle.std.proofs.lemmas.List.Folds.{length-flat_map-take}
 use Rattle.ent_values.specs.declared.value.Value.{Value}
 use Rattle.ent_values.specs.Bags.{Contents}
 use Rattle.ent_values.specs.Types.{is_textual}
-use Rattle.ent_functions.specs.Applied.{allocates, first_order}
+use Rattle.ent_functions.specs.Applied.{allocates, first_order, sorts}
 use Rattle.ent_functions.specs.Arguments.{Applies, HasAnswer, TakesMemory, type_of_arg, values_in, values_of}
 use Rattle.ent_functions.specs.proofs_only.Reading.{Takes}
 use Rattle.ent_functions.specs.Sets.{each_once}
@@ -54,7 +54,7 @@ refused P (Ok value) holds = tt
 refused P (Err error) holds = holds
 
 -- want of memory, where the result takes memory
-pub wants : (defined answer : Result Arg Fault) → answer ≡ Err Memory → TakesMemory defined → Applies defined answer
+pub wants : (defined answer : Result Arg Fault) → answer ≡ Err Memory → TakesMemory defined → Applies false defined answer
 wants defined answer is takes = rw is takes
 
 -- a function that takes memory may want it
@@ -67,17 +67,17 @@ answer_has_memory : (X : Type 0) (result : Result Arg Fault) → HasAnswer resul
 answer_has_memory X (Ok outcome) has = tt
 answer_has_memory X (Err fault) has = λ memory. absurd (let same : Err fault ≡ Err Memory = ap Err memory in subst HasAnswer same has)
 
-applies_exact : (defined : Result Arg Fault) → HasAnswer defined → Applies defined defined
-applies_exact (Ok outcome) has = refl
-applies_exact (Err Memory) has = absurd has
-applies_exact (Err DivideByZero) has = refl
-applies_exact (Err Overflow) has = refl
-applies_exact (Err NotSingle) has = refl
-applies_exact (Err DateRange) has = refl
+applies_exact : (ordering : Bool) (defined : Result Arg Fault) → HasAnswer defined → Applies ordering defined defined
+applies_exact ordering (Ok outcome) has = refl
+applies_exact ordering (Err Memory) has = absurd has
+applies_exact ordering (Err DivideByZero) has = refl
+applies_exact ordering (Err Overflow) has = refl
+applies_exact ordering (Err NotSingle) has = refl
+applies_exact ordering (Err DateRange) has = refl
 
 -- what a function comes to is an answer
-pub exact_value : (function : Function) (arguments : List Arg) (result : Result Arg Fault) → Takes function arguments → result ≡ first_order function arguments → Applies (first_order function arguments) result
-exact_value function arguments result taken is = rw is (applies_exact (first_order function arguments) (first_order_answered function arguments taken))
+pub exact_value : (function : Function) (arguments : List Arg) (result : Result Arg Fault) → Takes function arguments → result ≡ first_order function arguments → Applies (sorts function arguments) (first_order function arguments) result
+exact_value function arguments result taken is = rw is (applies_exact (sorts function arguments) (first_order function arguments) (first_order_answered function arguments taken))
 
 -- what a function comes to is no want of memory
 pub exact : (X : Type 0) (function : Function) (arguments : List Arg) (result : Result Arg Fault) → Takes function arguments → result ≡ first_order function arguments → IfErr result (λ fault. fault ≡ Memory → X)

@@ -11,7 +11,7 @@ use Rattle.ent_values.specs.Same.{same_value}
 use Rattle.ent_values.specs.Types.{datatype_of}
 use Rattle.ent_values.specs.declared.value.Value.{Value}
 use Rattle.ent_values.specs.declared.value.Value.TheVariants as values
-use Rattle.ent_functions.specs.Applied.{applied, first_order}
+use Rattle.ent_functions.specs.Applied.{applied, first_order, sorts}
 use Rattle.ent_functions.specs.Arguments.{Applies, type_of_arg, truth, of_bag, of_boolean, of_date_and_months, of_integer, of_integers, of_texts, of_two_bags, of_two_values, of_value_and_bag, integers_of}
 use Rattle.ent_functions.specs.Arguments as arguments_of
 use Rattle.ent_functions.specs.Dates.{date_in_month, month_number, months_later}
@@ -227,20 +227,20 @@ typed functions.AnyOf arguments taken held = tt
 typed functions.AllOf arguments taken held = tt
 
 -- an answer that is what the function comes to has the function's result type
-answer_typed : (type : ArgType) (defined answer : Result Arg Fault) → HasType type defined → Applies defined answer → HasType type answer
-answer_typed type defined (Ok outcome) has applies = subst (λ (r : Result Arg Fault). HasType type r) applies has
-answer_typed type defined (Err fault) has applies = tt
+answer_typed : (type : ArgType) (ordering : Bool) (defined answer : Result Arg Fault) → HasType type defined → Applies ordering defined answer → HasType type answer
+answer_typed type ordering defined (Ok outcome) has applies = subst (λ (r : Result Arg Fault). HasType type r) applies has
+answer_typed type ordering defined (Err fault) has applies = tt
 
 has_type_gives : (type : ArgType) (answer : Result Arg Fault) → HasType type answer → IfOk answer (λ outcome. Some (type_of_arg outcome) ≡ Some type)
 has_type_gives type (Ok outcome) has = ap Some has
 has_type_gives type (Err fault) has = _
 
 pub first_order_answer : (function : Function) (arguments : List Arg) (answer : Result Arg Fault) → Takes function arguments
-    → (is_one_and_only function ≡ true → All IsHeld arguments) → Applies (first_order function arguments) answer
+    → (is_one_and_only function ≡ true → All IsHeld arguments) → Applies (sorts function arguments) (first_order function arguments) answer
     → IfOk answer (λ outcome. Some (type_of_arg outcome) ≡ first_order_type function (map type_of_arg arguments))
 first_order_answer function arguments answer taken held applies =
     rw (gives function (map type_of_arg arguments) taken)
-    (has_type_gives (outcome_of function) answer (answer_typed (outcome_of function) (first_order function arguments) answer (typed function arguments taken held) applies))
+    (has_type_gives (outcome_of function) answer (answer_typed (outcome_of function) (sorts function arguments) (first_order function arguments) answer (typed function arguments taken held) applies))
 
 -- functions other than any-of and all-of
 pub others_taken : (function : Function) (arguments : List Arg) → (function ≡ functions.AnyOf → ⊥) → (function ≡ functions.AllOf → ⊥)

@@ -6,7 +6,7 @@ use Rattle.ent_values.specs.Same.{same_value}
 use Rattle.ent_values.specs.Types.{datatype_of, is_textual}
 use Rattle.ent_values.specs.declared.value.Value.{Value}
 use Rattle.ent_values.specs.declared.value.Value.TheVariants as values
-use Rattle.ent_functions.specs.Arguments.{HasAnswer, type_of_arg, ill_typed, truth, is_true, comes_true, integers_of, texts_of, values_of, of_boolean, of_integer, of_two_values, of_integers, of_texts, of_date_and_months, of_bag, of_value_and_bag, of_two_bags}
+use Rattle.ent_functions.specs.Arguments.{HasAnswer, are_many_bags, type_of_arg, ill_typed, truth, is_true, comes_true, integers_of, texts_of, values_of, of_boolean, of_integer, of_two_values, of_integers, of_texts, of_date_and_months, of_bag, of_value_and_bag, of_two_bags}
 use Rattle.ent_functions.specs.Dates.{months_later}
 use Rattle.ent_functions.specs.Higher.{bag_values, with_value}
 use Rattle.ent_functions.specs.Integers.{within_64_bits, from_left, quotient, remainder}
@@ -71,14 +71,25 @@ unfoldable pub all_of : List Arg → Result Arg Fault
 all_of (Fun function ∷ arguments) = truth (list_all (comes_true_with function arguments) (bag_values arguments))
 all_of _ = ill_typed
 
--- a function whose result takes memory: a bag, or a string or URI out of a bag or joined
+-- a function that may want memory: for its result, which is a bag, or a string or URI out of a bag or joined, or to put the values of one of two bags in order
 abbrev pub allocates : Function → Bool
 allocates (functions.OneAndOnly e) = is_textual (element_type e)
 allocates (functions.Bag e) = true
 allocates (functions.Intersection e) = true
 allocates (functions.Union e) = true
+allocates (functions.AtLeastOneMemberOf e) = true
+allocates (functions.Subset e) = true
+allocates (functions.SetEquals e) = true
 allocates functions.Concatenate = true
 allocates _ = false
+
+-- whether the values of one of two bags are put in order: where both have more than 16
+abbrev pub sorts : Function → List Arg → Bool
+sorts (functions.Intersection e) arguments = are_many_bags arguments
+sorts (functions.AtLeastOneMemberOf e) arguments = are_many_bags arguments
+sorts (functions.Subset e) arguments = are_many_bags arguments
+sorts (functions.SetEquals e) arguments = are_many_bags arguments
+sorts _ arguments = false
 
 -- what a function comes to
 unfoldable pub applied : Function → List Arg → Result Arg Fault

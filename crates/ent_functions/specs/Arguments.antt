@@ -1,5 +1,5 @@
 -- Arguments and results: their types, and how a function reads them.
-use Rattle.std.specs.Prelude.{◌≡◌, ◌<◌, ℕ, ℤ, Bool, true, false, length, List, [], ◌∷◌, Result, Ok, Err, Option, Some, None, filter_map, flat_map}
+use Rattle.std.specs.Prelude.{◌≡◌, ◌<◌, nat_lt, ◌&&◌, ℕ, ℤ, Bool, true, false, length, List, [], ◌∷◌, Result, Ok, Err, Option, Some, None, filter_map, flat_map}
 use Rattle.ent_values.specs.Calendar.{Day}
 use Rattle.ent_values.specs.Types.{datatype_of, is_textual}
 use Rattle.ent_values.specs.declared.value.Value.{Value}
@@ -23,14 +23,28 @@ TakesMemory (Ok (One value)) = is_textual (datatype_of value) ≡ true
 TakesMemory (Ok (Many bag)) = 0 < length bag.values
 TakesMemory _ = ⊥
 
--- an answer is what the function is defined to come to, or want of memory where that takes memory
-abbrev pub Applies : Result Arg Fault → Result Arg Fault → Type 0
-Applies defined (Ok outcome) = defined ≡ Ok outcome
-Applies defined (Err Memory) = TakesMemory defined
-Applies defined (Err DivideByZero) = defined ≡ Err DivideByZero
-Applies defined (Err Overflow) = defined ≡ Err Overflow
-Applies defined (Err NotSingle) = defined ≡ Err NotSingle
-Applies defined (Err DateRange) = defined ≡ Err DateRange
+-- want of memory may be the answer: where values are put in order, or else of a result that takes memory
+abbrev pub MayWant : Bool → Result Arg Fault → Type 0
+MayWant true defined = Unit {0}
+MayWant false defined = TakesMemory defined
+
+-- an answer is what the function is defined to come to, or want of memory where that takes memory or values are put in order
+abbrev pub Applies : Bool → Result Arg Fault → Result Arg Fault → Type 0
+Applies ordering defined (Ok outcome) = defined ≡ Ok outcome
+Applies ordering defined (Err Memory) = MayWant ordering defined
+Applies ordering defined (Err DivideByZero) = defined ≡ Err DivideByZero
+Applies ordering defined (Err Overflow) = defined ≡ Err Overflow
+Applies ordering defined (Err NotSingle) = defined ≡ Err NotSingle
+Applies ordering defined (Err DateRange) = defined ≡ Err DateRange
+
+-- two bags both have more than 16 values
+abbrev pub are_many : List Value → List Value → Bool
+are_many first second = nat_lt 16 (length first) && nat_lt 16 (length second)
+
+-- the arguments are two such bags
+abbrev pub are_many_bags : List Arg → Bool
+are_many_bags (Many first ∷ Many second ∷ []) = are_many first.values second.values
+are_many_bags _ = false
 
 -- what a function comes to where its arguments have no result type, and nowhere else (`WellTypedCallsHaveAnswers`): no fault of a function is Memory
 abbrev pub ill_typed : Result Arg Fault

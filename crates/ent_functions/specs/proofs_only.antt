@@ -1,3 +1,4 @@
 pub mod Integers
+pub mod Found
 pub mod Reading
 pub mod Types

@@ -1,6 +1,6 @@
 //! Functions of bags, and bags of values.
 
-ghost use Rattle.std.specs.Prelude.{◌≡◌, ◌<◌, true, pos, length, IfErr, IfOk, OnErr, OnOk, ◌++◌, All};
+ghost use Rattle.std.specs.Prelude.{◌≡◌, ◌<◌, false, true, pos, length, IfErr, IfOk, OnErr, OnOk, ◌++◌, All};
 ghost use Rattle.ent_values.specs.Types.{is_textual};
 ghost use Rattle.ent_functions.specs.Applied.{bag_result};
 ghost use Rattle.ent_functions.specs.Arguments.{Applies, values_in, values_of};
@@ -18,7 +18,7 @@ use std::alloc::{AllocError, Global};
 
 /// The only value of a bag.
 pub(crate) fn one_and_only(alloc: Global, bag: &Bag) -> Result<Arg, Fault>
-    ensures value { Applies (only_value bag.now.values) result }
+    ensures value { Applies false (only_value bag.now.values) result }
     ensures memory { IfErr result (λ fault. fault ≡ Memory → is_textual bag.now.datatype ≡ true) }
     ensures held { IsHeld (Arg.Many bag.now) }
 {
@@ -82,7 +82,7 @@ fn push_all(alloc: Global, all: &mut Items<Value>, values: &[Value]) -> Result<(
 #[tactic(auto, using(crate::proofs::Held::held_values))]
 pub(crate) fn bag_of(alloc: Global, element: Element, arguments: &[Arg]) -> Result<Arg, Fault>
     requires { HoldType (element_type element) arguments.now }
-    ensures { Applies (bag_result element (values_of arguments.now)) result }
+    ensures { Applies false (bag_result element (values_of arguments.now)) result }
 {
     let values = all_values(alloc, arguments)?;
     Ok(Arg::Many(Bag::of(element.datatype(), values)))

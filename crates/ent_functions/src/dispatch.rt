@@ -1,11 +1,11 @@
 //! What each function comes to.
 
-ghost use Rattle.std.specs.Prelude.{◌≡◌, true, [], ◌∷◌, All, IsSome, IfErr, IfOk, Some, map};
+ghost use Rattle.std.specs.Prelude.{◌≡◌, false, true, [], ◌∷◌, All, IsSome, IfErr, IfOk, Some, map};
 ghost use Rattle.ent_values.specs.Durations.{is_duration};
 ghost use Rattle.ent_values.specs.declared.value.Value.TheVariants as values;
 ghost use Rattle.ent_functions.specs.Applied.{BooleanFunctionsHaveNoFault, WellTypedCallsHaveAnswers};
-ghost use Rattle.ent_functions.specs.Applied.{allocates, applied, bag_result, first_order};
-ghost use Rattle.ent_functions.specs.Arguments.{Applies, of_two_bags, type_of_arg};
+ghost use Rattle.ent_functions.specs.Applied.{allocates, applied, bag_result, first_order, sorts};
+ghost use Rattle.ent_functions.specs.Arguments.{Applies, are_many_bags, of_two_bags, type_of_arg};
 ghost use Rattle.ent_functions.specs.proofs_only.Reading.{IsHeld, Takes, is_date_sum, is_of_bag, is_one_and_only};
 ghost use Rattle.ent_functions.specs.proofs_only.Reading.{is_set_test, is_test, makes_bag};
 ghost use Rattle.ent_functions.specs.Sets.{in_both};
@@ -29,11 +29,12 @@ use std::alloc::Global;
 /// The result of a function for arguments that it takes (appendix A.3).
 ///
 /// A fault other than `Memory` is the function's own, and the same for the same arguments. `Memory` comes only where
-/// the result takes memory: a string or URI out of a bag or joined, or a bag with a value in it.
+/// the result takes memory: a string or URI out of a bag or joined, or a bag with a value in it; or where two bags that
+/// both have more than 16 values are compared or intersected, since the values of one are put in order then.
 #[tactic(auto, unfolding(crate::specs::Applied::applied, crate::specs::Types::result_type_of))]
 pub fn apply(alloc: Global, function: Function, arguments: &[Arg]) -> Result<Arg, Fault>
     requires { IsSome (result_type_of function (map type_of_arg arguments.now)) }
-    ensures value { Applies (applied function arguments.now) result }
+    ensures value { Applies (sorts function arguments.now) (applied function arguments.now) result }
     ensures memory { IfErr result (λ fault. fault ≡ Memory → allocates function ≡ true) }
     ensures typed { IfOk result (λ v. Some (type_of_arg v) ≡ result_type_of function (map type_of_arg arguments.now)) }
 {
@@ -55,7 +56,7 @@ fn boolean(answer: bool) -> Arg
 #[tactic(auto, using(crate::proofs::Taken::not_higher, crate::proofs::Memory::may_want))]
 fn first_order(alloc: Global, function: Function, arguments: &[Arg]) -> Result<Arg, Fault>
     requires { Takes function arguments.now }
-    ensures value { Applies (first_order function arguments.now) result }
+    ensures value { Applies (sorts function arguments.now) (first_order function arguments.now) result }
     ensures memory { IfErr result (λ fault. fault ≡ Memory → allocates function ≡ true) }
     ensures held { is_one_and_only function ≡ true → All IsHeld arguments.now }
 {
@@ -81,7 +82,7 @@ fn first_order(alloc: Global, function: Function, arguments: &[Arg]) -> Result<A
             made_bag(alloc, function, arguments)
         }
         Function::AtLeastOneMemberOf(_) | Function::Subset(_) | Function::SetEquals(_) => {
-            compared_as_sets(function, arguments)
+            compared_as_sets(alloc, function, arguments)
         }
         Function::Concatenate => concatenated(alloc, arguments),
         Function::DateAdd | Function::DateSubtract => moved(function, arguments),
@@ -104,7 +105,7 @@ fn tested(function: Function, arguments: &[Arg]) -> Result<Arg, Fault>
 fn of_bag(alloc: Global, function: Function, arguments: &[Arg]) -> Result<Arg, Fault>
     requires kind { is_of_bag function ≡ true }
     requires taken { Takes function arguments.now }
-    ensures value { Applies (first_order function arguments.now) result }
+    ensures value { Applies (sorts function arguments.now) (first_order function arguments.now) result }
     ensures memory { IfErr result (λ fault. fault ≡ Memory → allocates function ≡ true) }
     ensures held { is_one_and_only function ≡ true → All IsHeld arguments.now }
 {
@@ -124,7 +125,7 @@ fn of_bag(alloc: Global, function: Function, arguments: &[Arg]) -> Result<Arg, F
 fn made_bag(alloc: Global, function: Function, arguments: &[Arg]) -> Result<Arg, Fault>
     requires kind { makes_bag function ≡ true }
     requires taken { Takes function arguments.now }
-    ensures { Applies (first_order function arguments.now) result }
+    ensures { Applies (sorts function arguments.now) (first_order function arguments.now) result }
 {
     match function {
         Function::Bag(element) => bag_of(alloc, element, arguments),
@@ -138,7 +139,8 @@ fn made_bag(alloc: Global, function: Function, arguments: &[Arg]) -> Result<Arg,
 #[tactic(auto, using(crate::proofs::Taken::two_bags_of))]
 fn intersected(alloc: Global, element: Element, arguments: &[Arg]) -> Result<Arg, Fault>
     requires { map type_of_arg arguments.now ≡ bag_of element ∷ bag_of element ∷ [] }
-    ensures { Applies (of_two_bags (λ first second. bag_result element (in_both first second)) arguments.now) result }
+    ensures { Applies (are_many_bags arguments.now)
+        (of_two_bags (λ first second. bag_result element (in_both first second)) arguments.now) result }
 {
     let (first, second) = two_bags(arguments);
     intersection(alloc, first, second)
@@ -146,17 +148,17 @@ fn intersected(alloc: Global, element: Element, arguments: &[Arg]) -> Result<Arg
 
 // How two bags lie to each other as sets.
 #[tactic(auto, using(crate::proofs::Taken::two_bags_taken), unfolding(crate::specs::Applied::first_order))]
-fn compared_as_sets(function: Function, arguments: &[Arg]) -> Result<Arg, Fault>
+fn compared_as_sets(alloc: Global, function: Function, arguments: &[Arg]) -> Result<Arg, Fault>
     requires kind { is_set_test function ≡ true }
     requires taken { Takes function arguments.now }
-    ensures { result ≡ first_order function arguments.now }
+    ensures { Applies (sorts function arguments.now) (first_order function arguments.now) result }
 {
     let (first, second) = two_bags(arguments);
     let (first, second) = (first.values(), second.values());
     match function {
-        Function::AtLeastOneMemberOf(_) => Ok(boolean(have_common(first, second))),
-        Function::Subset(_) => Ok(boolean(is_subset(first, second))),
-        Function::SetEquals(_) => Ok(boolean(are_equal_sets(first, second))),
+        Function::AtLeastOneMemberOf(_) => Ok(boolean(have_common(alloc, first, second)?)),
+        Function::Subset(_) => Ok(boolean(is_subset(alloc, first, second)?)),
+        Function::SetEquals(_) => Ok(boolean(are_equal_sets(alloc, first, second)?)),
         _ => unreachable!(),
     }
 }
@@ -164,7 +166,7 @@ fn compared_as_sets(function: Function, arguments: &[Arg]) -> Result<Arg, Fault>
 // The strings one after the other.
 #[tactic(auto, unfolding(crate::specs::Applied::first_order))]
 fn concatenated(alloc: Global, arguments: &[Arg]) -> Result<Arg, Fault>
-    ensures { Applies (first_order functions.Concatenate arguments.now) result }
+    ensures { Applies false (first_order functions.Concatenate arguments.now) result }
 {
     concatenation(alloc, arguments)
 }

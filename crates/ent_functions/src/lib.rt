@@ -1,6 +1,7 @@
 //! The functions of expressions, and their types (appendix A.3 of OASIS XACML 3.0 core).
 #![tactic(auto)]
 
+mod among;
 mod arg;
 mod arithmetic;
 mod bags;

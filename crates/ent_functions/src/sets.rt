@@ -1,76 +1,118 @@
 //! Bags as sets of values.
 
-ghost use Rattle.std.specs.Prelude.{◌≡◌, ◌<◌, List, [], ◌∷◌, ◌++◌, All, Ok, IfOk, OnErr, OnOk, length};
+ghost use Rattle.std.specs.Prelude.{◌≡◌, ◌<◌, List, [], ◌∷◌, ◌++◌, All, Ok, IfOk, OnErr, OnOk, false, true, length};
 ghost use Rattle.ent_values.specs.declared.value.Value.{Value};
 ghost use Rattle.ent_functions.specs.Applied.{bag_result};
-ghost use Rattle.ent_functions.specs.Arguments.{Applies, values_of};
+ghost use Rattle.ent_functions.specs.Arguments.{Applies, are_many, values_of};
+ghost use Rattle.ent_functions.specs.proofs_only.Found.{AreFound};
 ghost use Rattle.ent_functions.specs.proofs_only.Reading.{HoldType, IsHeld};
 ghost use Rattle.ent_functions.specs.Sets.{are_equal_sets, each_once, have_common, in_both, is_subset};
 ghost use Rattle.ent_functions.specs.Types.{element_type};
 
+use crate::among::Among;
 use crate::arg::{Arg, Fault};
-use crate::bags::{is_in, values_of};
+use crate::bags::values_of;
 use crate::function::Element;
 use ent_values::{Bag, Items, Value};
 use std::alloc::{AllocError, Global};
+use std::collections::BTreeSet;
 
 /// Whether some value of the first bag is in the second.
-pub(crate) fn have_common(first: &[Value], second: &[Value]) -> bool
-    ensures { result ≡ have_common first.now second.now }
+pub(crate) fn have_common<'a>(
+    alloc: Global,
+    first: &'a [Value],
+    second: &'a [Value],
+) -> Result<bool, AllocError>
+    ensures value { IfOk result (λ b. b ≡ have_common first.now second.now) }
+    ensures many { OnErr result (are_many first.now second.now ≡ true) }
 {
-    first.iter().any(|value| is_in(value, second))
+    let among = Among::of(alloc, second, first)?;
+    for value in first {
+        if among.has(value) {
+            return Ok(true);
+        }
+    }
+    Ok(false)
 }
 
 /// Whether each value of the first bag is in the second.
-pub(crate) fn is_subset(first: &[Value], second: &[Value]) -> bool
-    ensures { result ≡ is_subset first.now second.now }
+pub(crate) fn is_subset<'a>(
+    alloc: Global,
+    first: &'a [Value],
+    second: &'a [Value],
+) -> Result<bool, AllocError>
+    ensures value { IfOk result (λ b. b ≡ is_subset first.now second.now) }
+    ensures many { OnErr result (are_many first.now second.now ≡ true) }
 {
-    first.iter().all(|value| is_in(value, second))
+    let among = Among::of(alloc, second, first)?;
+    for value in first {
+        if !among.has(value) {
+            return Ok(false);
+        }
+    }
+    Ok(true)
 }
 
 /// Whether each value of one bag is in the other, both ways.
-pub(crate) fn are_equal_sets(first: &[Value], second: &[Value]) -> bool
-    ensures { result ≡ are_equal_sets first.now second.now }
+pub(crate) fn are_equal_sets<'a>(
+    alloc: Global,
+    first: &'a [Value],
+    second: &'a [Value],
+) -> Result<bool, AllocError>
+    ensures value { IfOk result (λ b. b ≡ are_equal_sets first.now second.now) }
+    ensures many { OnErr result (are_many first.now second.now ≡ true) }
 {
-    is_subset(first, second) && is_subset(second, first)
+    Ok(is_subset(alloc, first, second)? && is_subset(alloc, second, first)?)
 }
 
-// Puts a copy of the value last, if it isn't there yet.
-fn add_new(alloc: Global, found: &mut Items<Value>, value: &Value) -> Result<(), AllocError>
-    ensures { OnOk result ((seen : List Value) → found.old ≡ each_once seen
-        → found.new ≡ each_once (seen ++ value.now ∷ [])) }
+// Puts a copy of the value last, if it isn't there yet: `seen` has the values that are.
+fn add_new<'a>(
+    alloc: Global,
+    found: &mut Items<Value>,
+    seen: &mut BTreeSet<&'a Value>,
+    value: &'a Value,
+) -> Result<(), AllocError>
+    ensures { OnOk result ((values : List Value) → AreFound values found.old seen.old
+        → AreFound (values ++ value.now ∷ []) found.new seen.new) }
 {
-    if !is_in(value, found.as_slice()) {
+    if seen.insert(value)? {
         found.push(value.copy(alloc)?)?;
     }
     Ok(())
 }
 
 // Puts copies of the values last that aren't there yet.
-fn add_all_new(alloc: Global, found: &mut Items<Value>, values: &[Value]) -> Result<(), AllocError>
-    ensures value { OnOk result ((seen : List Value) → found.old ≡ each_once seen
-        → found.new ≡ each_once (seen ++ values.now)) }
+fn add_all_new<'a>(
+    alloc: Global,
+    found: &mut Items<Value>,
+    seen: &mut BTreeSet<&'a Value>,
+    values: &'a [Value],
+) -> Result<(), AllocError>
+    ensures value { OnOk result ((before : List Value) → AreFound before found.old seen.old
+        → AreFound (before ++ values.now) found.new seen.new) }
     ensures filled { OnErr result (0 < length values.now) }
 {
     for value in values {
-        add_new(alloc, found, value)?;
+        add_new(alloc, found, seen, value)?;
     }
     Ok(())
 }
 
 // The values of the first bag that are in the second, each once.
-fn common_values(
+fn common_values<'a>(
     alloc: Global,
-    first: &[Value],
-    second: &[Value],
+    first: &'a [Value],
+    second: &'a [Value],
 ) -> Result<Items<Value>, AllocError>
     ensures value { IfOk result (λ values. values ≡ in_both first.now second.now) }
-    ensures filled { OnErr result (0 < length (in_both first.now second.now)) }
+    ensures filled { OnErr result (are_many first.now second.now ≡ false → 0 < length (in_both first.now second.now)) }
 {
+    let among = Among::of(alloc, second, first)?;
     let mut found = Items::new(alloc);
+    let mut seen = BTreeSet::new(alloc);
     for value in first {
-        if is_in(value, second) {
-            add_new(alloc, &mut found, value)?;
+        if among.has(value) {
+            add_new(alloc, &mut found, &mut seen, value)?;
         }
     }
     Ok(found)
@@ -83,8 +125,9 @@ fn distinct_values(alloc: Global, arguments: &[Arg]) -> Result<Items<Value>, All
     ensures filled { OnErr result (0 < length (values_of arguments.now)) }
 {
     let mut found = Items::new(alloc);
+    let mut seen = BTreeSet::new(alloc);
     for argument in arguments {
-        add_all_new(alloc, &mut found, values_of(argument))?;
+        add_all_new(alloc, &mut found, &mut seen, values_of(argument))?;
     }
     Ok(found)
 }
@@ -92,7 +135,7 @@ fn distinct_values(alloc: Global, arguments: &[Arg]) -> Result<Items<Value>, All
 /// The bag of the values of the first bag that are in the second, each once.
 #[tactic(auto, using(crate::proofs::EachOnce::in_both_types))]
 pub(crate) fn intersection(alloc: Global, first: &Bag, second: &Bag) -> Result<Arg, Fault>
-    ensures { Applies
+    ensures { Applies (are_many first.now.values second.now.values)
         (Ok (Arg.Many (record { datatype = first.now.datatype; values = in_both first.now.values second.now.values })))
         result }
 {
@@ -104,7 +147,7 @@ pub(crate) fn intersection(alloc: Global, first: &Bag, second: &Bag) -> Result<A
 #[tactic(auto, using(crate::proofs::Held::held_once))]
 pub(crate) fn union(alloc: Global, element: Element, arguments: &[Arg]) -> Result<Arg, Fault>
     requires { HoldType (element_type element) arguments.now }
-    ensures { Applies (bag_result element (each_once (values_of arguments.now))) result }
+    ensures { Applies false (bag_result element (each_once (values_of arguments.now))) result }
 {
     let values = distinct_values(alloc, arguments)?;
     Ok(Arg::Many(Bag::of(element.datatype(), values)))

@@ -1,6 +1,6 @@
 //! Strings joined.
 
-ghost use Rattle.std.specs.Prelude.{◌≡◌, [], ◌∷◌, ◌++◌, Ok, OnOk, string_bytes};
+ghost use Rattle.std.specs.Prelude.{◌≡◌, false, [], ◌∷◌, ◌++◌, Ok, OnOk, string_bytes};
 ghost use Rattle.ent_values.specs.declared.value.Value.TheVariants as values;
 ghost use Rattle.ent_functions.specs.Arguments.{Applies, texts_of};
 ghost use Rattle.ent_functions.specs.Texts.{joined};
@@ -11,7 +11,7 @@ use std::alloc::{AllocError, Global};
 
 /// The strings one after the other.
 pub(crate) fn concatenation(alloc: Global, arguments: &[Arg]) -> Result<Arg, Fault>
-    ensures { Applies (Ok (Arg.One (values.Text (joined (texts_of arguments.now))))) result }
+    ensures { Applies false (Ok (Arg.One (values.Text (joined (texts_of arguments.now))))) result }
 {
     let mut whole = String::new(alloc);
     for argument in arguments {

@@ -7,10 +7,6 @@ returns-in-Equal-clause-memory c = exact _ c.args.function c.args.arguments.now 
 pub returns-in-Add-clause-memory : goal.returns-in-Add-clause-memory
 returns-in-Add-clause-memory c = exact _ c.args.function c.args.arguments.now c.calculated.result c.requires c.calculated.ensures
 
-pub returns-in-AtLeastOneMemberOf-clause-memory : goal.returns-in-AtLeastOneMemberOf-clause-memory
-returns-in-AtLeastOneMemberOf-clause-memory c =
-    exact _ c.args.function c.args.arguments.now c.compared_as_sets.result c.requires c.compared_as_sets.ensures
-
 pub returns-in-DateAdd-clause-memory : goal.returns-in-DateAdd-clause-memory
 returns-in-DateAdd-clause-memory c = exact _ c.args.function c.args.arguments.now c.moved.result c.requires c.moved.ensures
 
@@ -19,9 +15,6 @@ returns-in-Equal-clause-value c = exact_value c.args.function c.args.arguments.n
 
 pub returns-in-Add-clause-value : goal.returns-in-Add-clause-value
 returns-in-Add-clause-value c = exact_value c.args.function c.args.arguments.now c.calculated.result c.requires c.calculated.ensures
-
-pub returns-in-AtLeastOneMemberOf-clause-value : goal.returns-in-AtLeastOneMemberOf-clause-value
-returns-in-AtLeastOneMemberOf-clause-value c = exact_value c.args.function c.args.arguments.now c.compared_as_sets.result c.requires c.compared_as_sets.ensures
 
 pub returns-in-DateAdd-clause-value : goal.returns-in-DateAdd-clause-value
 returns-in-DateAdd-clause-value c = exact_value c.args.function c.args.arguments.now c.moved.result c.requires c.moved.ensures
