@@ -70,7 +70,7 @@ set_faults s = name_fault s.id ∷ length_fault (map limit_fault s.children) ∷
 abbrev set_fault : PolicySet → Option DocFault
 set_fault s = first_of (set_faults s)
 
-abbrev set_values : PolicySet → List Value
+abbrev pub set_values : PolicySet → List Value
 set_values s = target_values s.target ++ (flat_map child_values s.children ++ given_values s.given)
 
 abbrev SetReturns : PolicySet → Type 0
@@ -127,7 +127,7 @@ unfolding Rattle.ent_policy.specs.declared.document.Child.TheViews.roll-Child de
 limit_of_set s =
     fold-roll-Child (Option DocFault) (Option DocFault) child_limits set_limits (Child-F.Set s) ∙ fold_out-PolicySet (Option DocFault) (Option DocFault) child_limits set_limits s
 
-values_of_set : (s : PolicySet) → child_values (children.Set s) ≡ set_values s
+pub values_of_set : (s : PolicySet) → child_values (children.Set s) ≡ set_values s
 unfolding Rattle.ent_policy.specs.declared.document.Child.TheViews.roll-Child denote.Hole.Carrier.roll
 values_of_set s =
     fold-roll-Child (List Value) (List Value) values_in_level values_in_set (Child-F.Set s) ∙ fold_out-PolicySet (List Value) (List Value) values_in_level values_in_set s

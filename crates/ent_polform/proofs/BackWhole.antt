@@ -19,7 +19,7 @@ use Rattle.ent_polform.specs.ReadBack.{DocumentsReadBack, ReadsBack}
 use Rattle.ent_polform.specs.Written.{written}
 use Rattle.ent_polform.proofs.Back.{Back}
 use Rattle.ent_polform.proofs.BackDocuments.{TreeReturns, document_back}
-use Rattle.ent_polform.proofs.LevelsOfDocuments.{documents_are_shallow}
+use Rattle.ent_polform.proofs.FittingDocuments.{documents_are_shallow}
 
 no_limit : (t : Tree) → tree_fault t ≡ None → limit_fault (as_child t) ≡ None
 unfolding tree_fault

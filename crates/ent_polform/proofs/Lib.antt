@@ -13,7 +13,9 @@ pub mod ReferenceLemmas
 pub mod BackReferences
 pub mod BackDocuments
 pub mod BackWhole
-pub mod Levels
-pub mod LevelsOfDocuments
+pub mod Fitting
+pub mod FittingParts
+pub mod FittingDocuments
 pub mod IdLemmas
 pub mod TextLemmas
+pub mod TypedValues

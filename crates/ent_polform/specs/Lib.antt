@@ -9,5 +9,6 @@ pub mod Nested
 pub mod Values
 pub mod Written
 pub mod Depths
+pub mod Plain
 pub mod ReadBack
 pub mod proofs_only
