@@ -1,5 +1,5 @@
 -- To which variable definitions of a policy one of them leads: to itself, to those to which it refers, and on from there.
-use Rattle.std.specs.Prelude.{ℕ, zero, suc, List, Bool, true, false, ◌&&◌, ◌||◌, Option, Some, None, Result, Ok, Err, bytes_eq, length, map, replicate, slice_set}
+use Rattle.std.specs.Prelude.{ℕ, zero, suc, List, [], ◌∷◌, Bool, true, false, ◌&&◌, ◌||◌, Option, Some, None, Result, Ok, Err, bytes_eq, if◌then◌else◌, length, map, replicate, slice_set}
 use Rattle.std.specs.List.{list_any, zip}
 use Rattle.serde_json.specs.Data.{Data}
 use Rattle.ent_policy.specs.declared.fault.DocFault.{DocFault}
@@ -44,10 +44,24 @@ abbrev pub further_by : ℕ → List (Option RawVariableDefinition) → List Boo
 further_by zero vs led = led
 further_by (suc n) vs led = further_by n vs (further vs led)
 
+-- the numbers of those that pass a test, of which the first has this number
+abbrev pub numbers_of : {A : Type 0} → (A → Bool) → ℕ → List A → List ℕ
+numbers_of test n [] = []
+numbers_of test n (x ∷ xs) = if test x then n ∷ numbers_of test (suc n) xs else numbers_of test (suc n) xs
+
+-- the numbers of the definitions that refer to the variable of one of them
+abbrev pub referring : List (Option RawVariableDefinition) → Option RawVariableDefinition → List ℕ
+referring vs None = []
+referring vs (Some v) = numbers_of (refers_to v.id) 0 vs
+
 -- a definition as read, if it can be
 abbrev pub readable : Result RawVariableDefinition DocFault → Option RawVariableDefinition
 readable (Ok v) = Some v
 readable (Err f) = None
+
+-- for each definition the numbers of those that refer to its variable
+abbrev pub links : List Data → List (List ℕ)
+links ds = map (referring (map (λ d. readable (definition_of d)) ds)) (map (λ d. readable (definition_of d)) ds)
 
 -- the definition of that number alone
 abbrev pub only : ℕ → List Data → List Bool

@@ -3,3 +3,4 @@ pub mod Parts
 pub mod Places
 pub mod Told
 pub mod Views
+pub mod proofs_only

@@ -7,7 +7,7 @@ use Rattle.serde_json.specs.Find.{get}
 use Rattle.ent_policy.specs.declared.fault.DocFault.{DocFault}
 use Rattle.ent_policy.specs.Fault.{sub_code}
 use Rattle.ent_places.specs.Parts.{Row, item, rows}
-use Rattle.ent_places.specs.Told.{Scope, list_of, nowhere, scope_told, told}
+use Rattle.ent_places.specs.Told.{Scope, list_of, nowhere, scope_told, standing_without, told}
 use Rattle.ent_places.specs.declared.part.Part.{Part}
 use Rattle.ent_places.specs.declared.part.Part.TheVariants as part
 
@@ -31,13 +31,24 @@ listed (Some d) = unwrap_or (list_of d) []
 
 -- the definitions around what stands in a part: those of a policy are around all that stands in it
 abbrev pub scope_in : Part → Scope → Data → Scope
-scope_in part.Policy s d = record { definitions = listed (get (codes "VariableDefinition") d); aside = None }
+scope_in part.Policy s d = record { definitions = listed (get (codes "VariableDefinition") d); aside = None; standing = [] }
 scope_in part.Set s d = nowhere
 scope_in _ s d = s
 
--- but none are around the list of them
+-- but none are around the list of them, nor around what is judged by itself, whatever stands around it
 abbrev pub scope_at : Part → Scope → Scope
 scope_at part.Definitions s = nowhere
+scope_at part.Name s = nowhere
+scope_at part.Description s = nowhere
+scope_at part.Version s = nowhere
+scope_at part.Pattern s = nowhere
+scope_at part.RuleAlgorithm s = nowhere
+scope_at part.PolicyAlgorithm s = nowhere
+scope_at part.Function s = nowhere
+scope_at part.DataType s = nowhere
+scope_at part.Literal s = nowhere
+scope_at part.Effect s = nowhere
+scope_at part.Flag s = nowhere
 scope_at _ s = s
 
 -- what stands at a key
@@ -51,7 +62,7 @@ at_keys s = flat_map (λ row. at_key s row (get row.0 s.json)) (rows s.part)
 
 -- the definitions around a member of a list: around a definition are those of its list, and it is set aside itself
 abbrev pub scope_of_member : Part → Scope → List Data → ℕ → Scope
-scope_of_member part.Definitions s all n = record { definitions = all; aside = Some n }
+scope_of_member part.Definitions s all n = record { definitions = all; aside = Some n; standing = standing_without all n }
 scope_of_member _ s all n = s
 
 -- the members of a list, of which the first has this number

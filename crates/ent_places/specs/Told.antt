@@ -47,14 +47,16 @@ use Rattle.ent_places.specs.declared.part.Part.TheVariants as part
 
 -- ---- the variable definitions around a part
 
--- the definitions of the policy around a part, of which one may be set aside: the one that the part belongs to
+-- the definitions of the policy around a part, of which one may be set aside: the one that the part belongs to; and which of them
+-- stand, where what is behind the end of the list stands
 pub record Scope : Type 0 where
   pub definitions : List Data
   pub aside : Option ℕ
+  pub standing : List Bool
 
 -- no policy stands around the part
 abbrev pub nowhere : Scope
-nowhere = record { definitions = []; aside = None }
+nowhere = record { definitions = []; aside = None; standing = [] }
 
 -- an id, or a dash where it can't be one
 abbrev pub id_or_dash : Option (List ℕ) → List ℕ
@@ -87,19 +89,18 @@ variable_at standing n d = variable_by (get_or standing n true) d
 unfoldable pub variables_of : List Bool → List Data → Result (List RawVariableDefinition) DocFault
 variables_of standing ds = numbered (variable_at standing) 0 ds
 
--- which definitions stand together with the one of that number: those to which it leads. Without a number all do
-abbrev pub standing_with : List Data → Option ℕ → List Bool
-standing_with ds None = []
-standing_with ds (Some n) = led ds n
+-- which definitions stand around what belongs to the one of that number: those to which it leads, but itself it is set aside
+abbrev pub standing_without : List Data → ℕ → List Bool
+standing_without ds n = slice_set (led ds n) n false
 
--- which stand without it: itself it is set aside
-abbrev pub standing_without : List Data → Option ℕ → List Bool
-standing_without ds None = []
-standing_without ds (Some n) = slice_set (led ds n) n false
+-- which stand together with the one that is set aside
+abbrev pub standing_with : Option ℕ → List Bool → List Bool
+standing_with None standing = standing
+standing_with (Some n) standing = slice_set standing n true
 
 -- the variables of a scope
 unfoldable pub variables_in : Scope → Result (List RawVariableDefinition) DocFault
-variables_in s = variables_of (standing_without s.definitions s.aside) s.definitions
+variables_in s = variables_of s.standing s.definitions
 
 -- ---- documents in which nothing else stands
 
@@ -185,11 +186,11 @@ scope_told s = variables_told s.definitions s
 
 -- what is told of the definition that is set aside, with those to which it leads
 unfoldable pub definition_told : Scope → Option DocFault
-definition_told s = first_fault (variables_of (standing_with s.definitions s.aside) s.definitions >>= λ vs. Ok (of_rules [] vs))
+definition_told s = first_fault (variables_of (standing_with s.aside s.standing) s.definitions >>= λ vs. Ok (of_rules [] vs))
 
 -- what is told of definitions as they stand
 unfoldable pub definitions_told : List Data → Option DocFault
-definitions_told ds = scope_told (record { definitions = ds; aside = None })
+definitions_told ds = scope_told (record { definitions = ds; aside = None; standing = [] })
 
 -- ---- lists
 

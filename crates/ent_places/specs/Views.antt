@@ -11,7 +11,7 @@ use Rattle.ent_places.specs.Told.{Scope}
 
 -- the definitions around a part
 abbrev pub scope_of : {J : Type 0} → (J → Data) → code.Scope J → Scope
-scope_of content s = record { definitions = map content s.definitions.now; aside = s.aside }
+scope_of content s = record { definitions = map content s.definitions.now; aside = s.aside; standing = s.standing.items }
 
 -- the spot that a place is
 abbrev pub spot_of : {J : Type 0} → (J → Data) → Place J → Spot

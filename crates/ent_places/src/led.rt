@@ -1,9 +1,10 @@
 //! To which variable definitions of a policy one of them leads.
 
-ghost use Rattle.std.specs.Prelude.{◌≡◌, IfOk, map};
+ghost use Rattle.std.specs.Prelude.{◌≡◌, ◌++◌, ◌∷◌, [], IfOk, OnOk, false, get_or, if◌then◌else◌, map};
 ghost use Rattle.std.specs.List.{list_any, zip};
 ghost use Rattle.ent_polform.specs.Form.{definition_of};
-ghost use Rattle.ent_places.specs.Led.{further, is_reached, is_referred, led, only, readable, refers, refers_to};
+ghost use Rattle.ent_places.specs.Led.{led, links, numbers_of, only, readable, referring, refers, refers_to};
+ghost use Rattle.ent_places.specs.proofs_only.Rows.{is_reached_by};
 
 use ent_json::JsonTree;
 use ent_polform::raw_definition;
@@ -45,44 +46,106 @@ fn refers_to(definition: &Option<RawVariableDefinition>, id: &str) -> bool
     }
 }
 
-/// Whether one of the definitions that are led to refers to the variable.
-fn is_referred(definitions: &[Option<RawVariableDefinition>], led: &[bool], id: &str) -> bool
-    ensures { result ≡ is_referred id.now (zip led.now definitions.now) }
+/// The numbers of the definitions that refer to the variable of one of them.
+fn referring(
+    alloc: Global,
+    definitions: &[Option<RawVariableDefinition>],
+    definition: &Option<RawVariableDefinition>,
+) -> Result<Vec<usize>, AllocError>
+    ensures { IfOk result (λ row. row.items ≡ referring definitions.now definition.now) }
 {
-    for (is_led, definition) in led.iter().zip(definitions) {
-        if *is_led && refers_to(definition, id) {
+    match definition {
+        None => Ok(Vec::new(alloc)),
+        Some(definition) => referring_to(alloc, definitions, definition.id.as_str()),
+    }
+}
+
+/// Puts a number last, if it is to be.
+fn put(row: &mut Vec<usize>, number: usize, is_wanted: bool) -> Result<(), AllocError>
+    ensures { OnOk result (row.new.items ≡ row.old.items ++ (if is_wanted then number ∷ [] else [])) }
+{
+    if is_wanted {
+        row.push(number)?;
+    }
+    Ok(())
+}
+
+/// The numbers of the definitions that refer to the variable.
+fn referring_to(
+    alloc: Global,
+    definitions: &[Option<RawVariableDefinition>],
+    id: &str,
+) -> Result<Vec<usize>, AllocError>
+    ensures { IfOk result (λ row. row.items ≡ numbers_of (refers_to id.now) 0 definitions.now) }
+{
+    let mut row = Vec::new(alloc);
+    for (number, definition) in definitions.iter().enumerate() {
+        put(&mut row, number, refers_to(definition, id))?;
+    }
+    Ok(row)
+}
+
+/// For each definition the numbers of those that refer to its variable.
+fn rows_of(
+    alloc: Global,
+    definitions: &[Option<RawVariableDefinition>],
+) -> Result<Vec<Vec<usize>>, AllocError>
+    ensures { IfOk result (λ rows. map (λ row. row.items) rows.items ≡ map (referring definitions.now) definitions.now) }
+{
+    let mut rows = Vec::with_capacity(alloc, definitions.len())?;
+    for definition in definitions {
+        rows.push(referring(alloc, definitions, definition)?)?;
+    }
+    Ok(rows)
+}
+
+/// For each definition the numbers of those that refer to its variable.
+pub(crate) fn links<J: JsonTree>(
+    alloc: Global,
+    definitions: &[J],
+) -> Result<Vec<Vec<usize>>, AllocError>
+    ensures { IfOk result (λ rows. map (λ row. row.items) rows.items ≡ links (map J.content definitions.now)) }
+{
+    let read = read_all(alloc, definitions)?;
+    rows_of(alloc, read.as_slice())
+}
+
+/// Whether the definition of that number is led to.
+fn is_led(led: &[bool], number: usize) -> bool
+    ensures { result ≡ get_or led.now number false }
+{
+    match led.get(number) {
+        Some(is_led) => *is_led,
+        None => false,
+    }
+}
+
+/// Whether one of the definitions of these numbers is led to.
+fn is_one_led(led: &[bool], row: &[usize]) -> bool
+    ensures { result ≡ list_any (λ number. get_or led.now number false) row.now }
+{
+    for number in row {
+        if is_led(led, *number) {
             return true;
         }
     }
     false
 }
 
-/// Whether a definition is led to, or one that is led to refers to it.
-fn is_reached(
-    definitions: &[Option<RawVariableDefinition>],
-    led: &[bool],
-    is_led: bool,
-    definition: &Option<RawVariableDefinition>,
-) -> bool
-    ensures { result ≡ is_reached (zip led.now definitions.now) (is_led, definition.now) }
+/// Whether a definition is led to, or one of those that refer to it is.
+fn is_reached(led: &[bool], is_led: bool, row: &Vec<usize>) -> bool
+    ensures { result ≡ is_reached_by led.now (is_led, row.now) }
 {
-    match definition {
-        None => is_led,
-        Some(definition) => is_led || is_referred(definitions, led, definition.id.as_str()),
-    }
+    is_led || is_one_led(led, row.as_slice())
 }
 
 /// What is led to in one step more.
-fn further(
-    alloc: Global,
-    definitions: &[Option<RawVariableDefinition>],
-    led: &[bool],
-) -> Result<Vec<bool>, AllocError>
-    ensures { IfOk result (λ next. next.items ≡ further definitions.now led.now) }
+fn further(alloc: Global, rows: &[Vec<usize>], led: &[bool]) -> Result<Vec<bool>, AllocError>
+    ensures { IfOk result (λ next. next.items ≡ map (is_reached_by led.now) (zip led.now rows.now)) }
 {
     let mut next = Vec::with_capacity(alloc, led.len())?;
-    for (is_led, definition) in led.iter().zip(definitions) {
-        next.push(is_reached(definitions, led, *is_led, definition))?;
+    for (is_led, row) in led.iter().zip(rows) {
+        next.push(is_reached(led, *is_led, row))?;
     }
     Ok(next)
 }
@@ -123,19 +186,20 @@ fn only<J: JsonTree>(
     Ok(led)
 }
 
-/// To which definitions the one of that number leads.
+/// To which definitions the one of that number leads, where it is known which refer to which.
 #[tactic(auto, unfolding(crate::specs::Led::led))]
 pub(crate) fn led<J: JsonTree>(
     alloc: Global,
     definitions: &[J],
+    rows: &[Vec<usize>],
     number: usize,
 ) -> Result<Vec<bool>, AllocError>
+    requires { map (λ row. row.items) rows.now ≡ links (map J.content definitions.now) }
     ensures { IfOk result (λ all. all.items ≡ led (map J.content definitions.now) number) }
 {
-    let read = read_all(alloc, definitions)?;
     let mut all = only(alloc, number, definitions)?;
     for _ in 0..definitions.len() {
-        let next = further(alloc, read.as_slice(), all.as_slice())?;
+        let next = further(alloc, rows, all.as_slice())?;
         if next == all {
             return Ok(all);
         }

@@ -83,6 +83,7 @@ fn definitions<J: JsonTree>(alloc: Global, values: &[J]) -> Result<(), CheckFaul
     let scope = Scope {
         definitions: values,
         aside: None,
+        standing: Vec::new(alloc),
     };
     variables(alloc, &scope)
 }

@@ -1,15 +1,17 @@
 //! The smallest part of a document that has its first fault.
 
-ghost use Rattle.std.specs.Prelude.{◌≡◌, ◌++◌, ◌∷◌, [], Err, IfOk, None, Some, codes, find, option_map};
+ghost use Rattle.std.specs.Prelude.{◌≡◌, ◌++◌, ◌∷◌, [], Err, IfOk, None, Some, codes, find, map, option_map};
 ghost use Rattle.std.specs.Prelude.{string_bytes, true};
 ghost use Rattle.serde_json.specs.Find.{get};
 ghost use Rattle.ent_polform.specs.Form.{document_of};
 ghost use Rattle.ent_places.specs.Parts.{item};
+ghost use Rattle.ent_places.specs.proofs_only.Rows.{links_in};
 ghost use Rattle.ent_places.specs.Places.{IsSmallest, StandsAt, at_key, at_keys, at_numbers, has_fault, in_list};
 ghost use Rattle.ent_places.specs.Places.{inside, is_fault, is_faulty, listed, scope_at, scope_in, scope_of_member};
 ghost use Rattle.ent_places.specs.Places.{whole};
 ghost use Rattle.ent_places.specs.Views.{scope_of, spot_of};
 
+use crate::led::links;
 use crate::members::listed;
 use crate::part::Part;
 use crate::parts_told::{scope_told, told};
@@ -39,41 +41,71 @@ impl<'a, J: JsonTree> Place<'a, J> {
         Place {
             pointer: String::new(alloc),
             part: Part::Document,
-            scope: Scope::nowhere(),
+            scope: Scope::nowhere(alloc),
             json,
         }
     }
 
-    /// The definitions that stand in this part.
-    fn definitions(&self) -> Scope<'a, J>
-        ensures { scope_of J.content result ≡ record { definitions = listed (get (codes "VariableDefinition") (J.content self.now.json.now)); aside = None } }
+    /// The definitions around what stands in this part.
+    fn scope_in(&self, alloc: Global) -> Result<Scope<'a, J>, AllocError>
+        ensures { IfOk result (λ s. scope_of J.content s
+            ≡ scope_in self.now.part (scope_of J.content self.now.scope) (J.content self.now.json.now)) }
     {
-        Scope::of(self.json.get("VariableDefinition"), None)
+        match self.part {
+            Part::Policy => Ok(Scope::of(alloc, self.json.get("VariableDefinition"))),
+            Part::Set => Ok(Scope::nowhere(alloc)),
+            _ => self.scope.copied(alloc),
+        }
     }
 
     /// The definitions around what stands at a key of this part, which is for that.
-    fn scope_at(&self, part: Part) -> Scope<'a, J>
-        ensures { scope_of J.content result
-            ≡ scope_at part (scope_in self.now.part (scope_of J.content self.now.scope) (J.content self.now.json.now)) }
+    fn scope_at(&self, alloc: Global, part: Part) -> Result<Scope<'a, J>, AllocError>
+        ensures { IfOk result (λ s. scope_of J.content s
+            ≡ scope_at part (scope_in self.now.part (scope_of J.content self.now.scope) (J.content self.now.json.now))) }
     {
-        if matches!(part, Part::Definitions) || matches!(self.part, Part::Set) {
-            return Scope::nowhere();
+        match part {
+            Part::Definitions
+            | Part::Name
+            | Part::Description
+            | Part::Version
+            | Part::Pattern
+            | Part::RuleAlgorithm
+            | Part::PolicyAlgorithm
+            | Part::Function
+            | Part::DataType
+            | Part::Literal
+            | Part::Effect
+            | Part::Flag => Ok(Scope::nowhere(alloc)),
+            _ => self.scope_in(alloc),
         }
-        if matches!(self.part, Part::Policy) {
-            return self.definitions();
+    }
+
+    /// For each of the definitions that this part is a list of the numbers of those that refer to its variable.
+    fn links(&self, alloc: Global) -> Result<Vec<Vec<usize>>, AllocError>
+        ensures { IfOk result (λ v. map (λ row. row.items) v.items
+            ≡ links_in self.now.part (listed (Some (J.content self.now.json.now)))) }
+    {
+        match self.part {
+            Part::Definitions => links(alloc, listed(Some(self.json))),
+            _ => Ok(Vec::new(alloc)),
         }
-        self.scope.copied()
     }
 
     /// The definitions around the member of that number of this list.
-    fn scope_of_member(&self, number: usize) -> Scope<'a, J>
-        ensures { scope_of J.content result ≡ scope_of_member self.now.part (scope_of J.content self.now.scope)
-            (listed (Some (J.content self.now.json.now))) number }
+    fn scope_of_member(
+        &self,
+        alloc: Global,
+        links: &[Vec<usize>],
+        number: usize,
+    ) -> Result<Scope<'a, J>, AllocError>
+        requires { map (λ row. row.items) links.now ≡ links_in self.now.part (listed (Some (J.content self.now.json.now))) }
+        ensures { IfOk result (λ s. scope_of J.content s ≡ scope_of_member self.now.part (scope_of J.content self.now.scope)
+            (listed (Some (J.content self.now.json.now))) number) }
     {
-        if matches!(self.part, Part::Definitions) {
-            return Scope::of(Some(self.json), Some(number));
+        match self.part {
+            Part::Definitions => Scope::around(alloc, listed(Some(self.json)), links, number),
+            _ => self.scope.copied(alloc),
         }
-        self.scope.copied()
     }
 
     /// What stands at the key of this part, if it has the fault.
@@ -90,7 +122,7 @@ impl<'a, J: JsonTree> Place<'a, J> {
         let Some(json) = self.json.get(key) else {
             return Ok(None);
         };
-        let scope = self.scope_at(part);
+        let scope = self.scope_at(alloc, part)?;
         if !is_faulty(alloc, fault, part, &scope, json)? {
             return Ok(None);
         }
@@ -119,15 +151,17 @@ impl<'a, J: JsonTree> Place<'a, J> {
     fn member(
         &self,
         alloc: Global,
+        links: &[Vec<usize>],
         number: usize,
         part: Part,
         json: &'a J,
         fault: DocFault,
     ) -> Result<Option<Place<'a, J>>, AllocError>
+        requires { map (λ row. row.items) links.now ≡ links_in self.now.part (listed (Some (J.content self.now.json.now))) }
         ensures { IfOk result (λ o. option_map (spot_of J.content) o ≡ find (has_fault fault)
             (at_numbers (spot_of J.content self.now) part (listed (Some (J.content self.now.json.now))) number (J.content json.now ∷ []))) }
     {
-        let scope = self.scope_of_member(number);
+        let scope = self.scope_of_member(alloc, links, number)?;
         if !is_faulty(alloc, fault, part, &scope, json)? {
             return Ok(None);
         }
@@ -149,8 +183,9 @@ impl<'a, J: JsonTree> Place<'a, J> {
         let Some(part) = self.part.item() else {
             return Ok(None);
         };
+        let links = self.links(alloc)?;
         for (number, json) in listed(Some(self.json)).iter().enumerate() {
-            if let Some(found) = self.member(alloc, number, part, json, fault)? {
+            if let Some(found) = self.member(alloc, links.as_slice(), number, part, json, fault)? {
                 return Ok(Some(found));
             }
         }

@@ -1,8 +1,9 @@
 //! The variable definitions around a part of a document.
 
-ghost use Rattle.std.specs.Prelude.{◌≡◌, IfOk, get_or, map, option_map, true};
+ghost use Rattle.std.specs.Prelude.{◌≡◌, [], IfOk, None, Some, get_or, map, option_map, slice_set, true};
 ghost use Rattle.std.specs.Option.{option_copied};
 ghost use Rattle.ent_policy.specs.Gives.{Gives};
+ghost use Rattle.ent_places.specs.Led.{links};
 ghost use Rattle.ent_places.specs.Places.{listed};
 ghost use Rattle.ent_places.specs.Told.{id_or_dash, nowhere, set_aside, standing_with, standing_without};
 ghost use Rattle.ent_places.specs.Told.{variable_at, variables_in, variables_of};
@@ -26,61 +27,107 @@ pub struct Scope<'a, J> {
     pub definitions: &'a [J],
     /// The number of the one that is set aside.
     pub aside: Option<usize>,
+    /// Which of them stand; what is behind the end of the list stands.
+    pub standing: Vec<bool>,
+}
+
+/// The same flags.
+fn copied(alloc: Global, flags: &[bool]) -> Result<Vec<bool>, AllocError>
+    ensures { IfOk result (λ v. v.items ≡ flags.now) }
+{
+    let mut all = Vec::with_capacity(alloc, flags.len())?;
+    for flag in flags {
+        all.push(*flag)?;
+    }
+    Ok(all)
+}
+
+/// The same flags but for that of a number, if there is one.
+fn with_flag(
+    alloc: Global,
+    flags: &[bool],
+    number: usize,
+    flag: bool,
+) -> Result<Vec<bool>, AllocError>
+    ensures { IfOk result (λ v. v.items ≡ slice_set flags.now number flag) }
+{
+    let mut all = copied(alloc, flags)?;
+    if let Some(own) = all.get_mut(number) {
+        *own = flag;
+    }
+    Ok(all)
 }
 
 impl<'a, J: JsonTree> Scope<'a, J> {
     /// The scope of what stands in no policy.
-    pub fn nowhere() -> Scope<'a, J>
+    pub fn nowhere(alloc: Global) -> Scope<'a, J>
         ensures { scope_of J.content result ≡ nowhere }
     {
         Scope {
             definitions: &[],
             aside: None,
+            standing: Vec::new(alloc),
         }
     }
 
-    /// The scope of the definitions that this array has, of which one may be set aside; without one it has none.
-    pub(crate) fn of(json: Option<&'a J>, aside: Option<usize>) -> Scope<'a, J>
-        ensures definitions { map J.content result.definitions.now ≡ listed (option_map J.content (option_copied json.entry)) }
-        ensures aside { result.aside ≡ aside }
+    /// The scope of the definitions that this array has; without one it has none.
+    pub(crate) fn of(alloc: Global, json: Option<&'a J>) -> Scope<'a, J>
+        ensures { scope_of J.content result
+            ≡ record { definitions = listed (option_map J.content (option_copied json.entry)); aside = None; standing = [] } }
     {
         Scope {
             definitions: listed(json),
-            aside,
+            aside: None,
+            standing: Vec::new(alloc),
         }
+    }
+
+    /// The scope around what belongs to the definition of that number, where it is known which refer to which.
+    pub(crate) fn around(
+        alloc: Global,
+        definitions: &'a [J],
+        rows: &[Vec<usize>],
+        number: usize,
+    ) -> Result<Scope<'a, J>, AllocError>
+        requires { map (λ row. row.items) rows.now ≡ links (map J.content definitions.now) }
+        ensures { IfOk result (λ s. scope_of J.content s ≡ record {
+          definitions = map J.content definitions.now;
+          aside = Some number;
+          standing = standing_without (map J.content definitions.now) number;
+        }) }
+    {
+        let led = led(alloc, definitions, rows, number)?;
+        Ok(Scope {
+            definitions,
+            aside: Some(number),
+            standing: with_flag(alloc, led.as_slice(), number, false)?,
+        })
     }
 
     /// The same scope.
-    pub fn copied(&self) -> Scope<'a, J>
-        ensures { scope_of J.content result ≡ scope_of J.content self.now }
+    ///
+    /// # Errors
+    ///
+    /// `AllocError` if memory runs out.
+    pub fn copied(&self, alloc: Global) -> Result<Scope<'a, J>, AllocError>
+        ensures { IfOk result (λ s. scope_of J.content s ≡ scope_of J.content self.now) }
     {
-        Scope {
+        Ok(Scope {
             definitions: self.definitions,
             aside: self.aside,
-        }
+            standing: copied(alloc, self.standing.as_slice())?,
+        })
     }
 
-    /// Which definitions stand together with the one that is set aside: those to which it leads. Without one all do.
+    /// Which definitions stand together with the one that is set aside.
     fn standing_with(&self, alloc: Global) -> Result<Vec<bool>, AllocError>
-        ensures { IfOk result (λ all. all.items ≡ standing_with (map J.content self.now.definitions.now) self.now.aside) }
+        ensures { IfOk result (λ all. all.items ≡ standing_with self.now.aside self.now.standing.items) }
     {
+        let standing = self.standing.as_slice();
         match self.aside {
-            None => Ok(Vec::new(alloc)),
-            Some(number) => led(alloc, self.definitions, number),
+            None => copied(alloc, standing),
+            Some(number) => with_flag(alloc, standing, number, true),
         }
-    }
-
-    /// Which definitions stand without it.
-    fn standing_without(&self, alloc: Global) -> Result<Vec<bool>, AllocError>
-        ensures { IfOk result (λ all. all.items ≡ standing_without (map J.content self.now.definitions.now) self.now.aside) }
-    {
-        let mut standing = self.standing_with(alloc)?;
-        if let Some(number) = self.aside {
-            if let Some(own) = standing.get_mut(number) {
-                *own = false;
-            }
-        }
-        Ok(standing)
     }
 
     /// The variables of the scope, as read.
@@ -91,8 +138,7 @@ impl<'a, J: JsonTree> Scope<'a, J> {
     ) -> Result<Items<RawVariableDefinition>, CheckFault>
         ensures { Gives result (variables_in (scope_of J.content self.now)) }
     {
-        let standing = self.standing_without(alloc)?;
-        variables_of(alloc, standing.as_slice(), self.definitions)
+        variables_of(alloc, self.standing.as_slice(), self.definitions)
     }
 
     /// The definition that is set aside and those to which it leads, as read, and no other.
@@ -100,7 +146,7 @@ impl<'a, J: JsonTree> Scope<'a, J> {
         &self,
         alloc: Global,
     ) -> Result<Items<RawVariableDefinition>, CheckFault>
-        ensures { Gives result (variables_of (standing_with (map J.content self.now.definitions.now) self.now.aside)
+        ensures { Gives result (variables_of (standing_with self.now.aside self.now.standing.items)
             (map J.content self.now.definitions.now)) }
     {
         let standing = self.standing_with(alloc)?;
