@@ -1,26 +1,28 @@
 -- The candidates that are confirmed: each cell that reads one of some keys, once.
-use Rattle.std.proofs.Common.{◌≡◌, ◌⊎◌, inl, inr, option_map, ℕ, ◌+◌, Bool, true, false, ◌||◌, cond, nat_eq, List, [], ◌∷◌, filter, Option, Some, None, refl, sym, ap, ◌∙◌, arith}
-use Rattle.std.specs.Prelude.{filter_map}
+use Rattle.std.proofs.Common.{◌≡◌, ◌⊎◌, inl, inr, option_map, ℕ, ◌+◌, Bool, true, false, ◌||◌, cond, nat_eq, List, [], ◌∷◌, filter, Option, Some, None, refl, sym, ap, subst, ◌∙◌, arith}
+use Rattle.std.specs.Prelude.{filter_map, IfOk, Result, Ok, Err}
 use Rattle.std.specs.FinMap.{keys}
 use Rattle.std.specs.Ordering.{nat_cmp, is_eq, eq_by_cmp}
-use Rattle.std.specs.List.{AllByRecursion, cons_option, list_any}
+use Rattle.std.specs.List.{All, AllByRecursion, cons_option, list_any}
 use Rattle.std.specs.List.Sorted.{IsStrictlySortedBy}
 use Rattle.std.specs.BTreeSet.{BTreeSet, contains}
 use Rattle.std.proofs.lemmas.Bool.{or_cases, or_left, or_right, true≢false}
 use Rattle.std.proofs.lemmas.Bool.Decides.{eqb_tells}
+use Rattle.std.proofs.lemmas.List.Elements.{All-contains, filter_passes}
+use Rattle.std.proofs.lemmas.Map.Views.{Contains-from_any}
 use Rattle.std.proofs.lemmas.Map.Keys.{IsDistinct-from_sorted, IsDistinct-head, sorted_tail}
 use Rattle.slab.specs.Slab.{Slab, get}
 use Rattle.ent_eval.specs.Noted.{has_key, read_cmp}
 use Rattle.ent_eval.specs.declared.key.ReadKey.{ReadKey}
 use Rattle.ent_index.proofs.Changes.{unnumbered}
 use Rattle.ent_index.proofs.Views.{cell_itself, not_cell, same_key}
-use Rattle.ent_index.specs.Index.{ReadIndex, cells_at, has, number_of}
+use Rattle.ent_index.specs.Index.{HasCell, ReadIndex, cells_at, has, number_of}
 use Rattle.ent_cells.proofs.KeyNumbers.{cells_there, is_there, shares_keys}
 use Rattle.ent_cells.proofs.Seen.{get_seen, rests}
 use Rattle.ent_cells.specs.declared.cell.Cell.{Cell}
-use Rattle.ent_cells.specs.proofs_only.Entries.{HasKeysOf, touched_at}
+use Rattle.ent_cells.specs.proofs_only.Entries.{touched_at}
 use Rattle.ent_cells.specs.Grid.{times}
-use Rattle.ent_cells.specs.proofs_only.Numbers.{IsStore, entry_in, is_candidate, keys_in, next_rests, rests_at, said_of, seen, shares_at}
+use Rattle.ent_cells.specs.proofs_only.Numbers.{AreKeysOf, IsStore, entry_in, is_candidate, keys_in, next_rests, rests_at, said_of, seen, shares_at}
 
 abbrev bit : Bool → ℕ
 bit b = cond b 1 0
@@ -159,9 +161,24 @@ module _ (s : Slab Cell) (index : ReadIndex) (is : IsStore s index) where
       by None e = absurd (true≢false (sym h ∙ unnumbered index k c e))
       by (Some n) e = is_there index k n e
 
-  -- each key that a cell reads is among those of the index
-  pub asked_keys : (asks : ReadKey → Bool) (found : List ReadKey) → found ≡ filter asks (keys index) → HasKeysOf asks (seen index s) found
-  asked_keys asks found is_found k c e h at reads =
-      ap (λ ks. has_key ks k) is_found
-      ∙ kept_key asks k h (keys index)
-      (read_key k c (is.exact k c ∙ ap (λ o. rests_at o k) at ∙ or_left (has_key e.kept.said.reads k) (next_rests e.next k) reads))
+  -- the keys of the index that pass a test are those on which a cell rests
+  pub asked_keys : (asks : ReadKey → Bool) (found : List ReadKey) → found ≡ filter asks (keys index) → All (HasCell index) found
+      → AreKeysOf asks (seen index s) found
+  asked_keys asks found is_found have = record {
+    all = λ k c h reads. ap (λ ks. has_key ks k) is_found ∙ kept_key asks k h (keys index) (read_key k c (is.exact k c ∙ reads));
+    asked = λ k there. All-contains Passes found k pass (Contains-from_any same_key k found there);
+    read = λ k there.
+        let cell = All-contains (HasCell index) found k have (Contains-from_any same_key k found there) in
+        (cell.0, sym (is.exact k cell.0) ∙ cell.1);
+  }
+    where
+      Passes : ReadKey → Type 0
+      Passes k = asks k ≡ true
+
+      pass : All Passes found
+      pass = subst (All Passes) (sym is_found) (filter_passes asks (keys index))
+
+-- what two facts of what came well say
+pub if_ok_both : {A E : Type 0} {P Q R : A → Type 0} (r : Result A E) → ((a : A) → P a → Q a → R a) → IfOk r P → IfOk r Q → IfOk r R
+if_ok_both (Ok a) f p q = f a p q
+if_ok_both (Err e) f p q = tt

@@ -6,7 +6,7 @@ ghost use Rattle.std.specs.List.{AllByRecursion};
 ghost use Rattle.ent_eval.specs.LooksOf.{looks_of};
 ghost use Rattle.ent_index.specs.Asked.{asks_policy, asks_row};
 ghost use Rattle.ent_log.specs.Tables.{IsSameLog, room_of};
-ghost use Rattle.ent_cells.specs.Cell.{HasReadKeys, IsRightBut, answers_in, cell_of, reads_any, renewed, unlike_count};
+ghost use Rattle.ent_cells.specs.Cell.{AreReadKeys, IsRightBut, answers_in, cell_of, reads_any, renewed, unlike_count};
 ghost use Rattle.ent_cells.specs.Count.{Counts, CountsAtMost};
 ghost use Rattle.ent_cells.specs.Old.{AreOld, IsLogged};
 ghost use Rattle.ent_cells.specs.Shape.{without, woven};
@@ -195,16 +195,16 @@ impl Live {
         keep_present(&mut self.keys, &self.store);
     }
 
-    /// The keys that a cell reads and whose values the row may change.
+    /// The keys that a cell reads and whose values the row may change, and no others.
     pub fn keys_of_row(&self, row: &RowKey) -> Result<Items<ReadKey>, AllocError>
-        ensures { IfOk result (HasReadKeys (asks_row row.now) self.now) }
+        ensures { IfOk result (AreReadKeys (asks_row row.now) self.now) }
     {
         self.store.keys_of_row(row)
     }
 
-    /// The keys that a cell reads and that are references of a kind and an id.
+    /// The keys that a cell reads and that are references of a kind and an id, and no others.
     pub fn keys_of_policy(&self, kind: Kind, id: &str) -> Result<Items<ReadKey>, AllocError>
-        ensures { IfOk result (HasReadKeys (asks_policy kind id.now) self.now) }
+        ensures { IfOk result (AreReadKeys (asks_policy kind id.now) self.now) }
     {
         self.store.keys_of_policy(kind, id)
     }

@@ -4,12 +4,12 @@ ghost use Rattle.std.specs.Prelude.{◌≡◌, ℕ, cond, IfOk, IsSome, None, On
 ghost use Rattle.std.specs.Prelude.{option_and_then, option_copied, option_map};
 ghost use Rattle.slab.specs.Slab.{Updates, get};
 ghost use Rattle.ent_index.specs.Asked.{asks_policy, asks_row};
-ghost use Rattle.ent_cells.specs.proofs_only.Entries.{Becomes, HasKeysOf, Inserts, IsFree};
+ghost use Rattle.ent_cells.specs.proofs_only.Entries.{Becomes, Inserts, IsFree};
 ghost use Rattle.ent_cells.specs.proofs_only.Entries.{entry_of_cell, given_up, no_entries, said_in};
 ghost use Rattle.ent_cells.specs.proofs_only.Entries.{settled, touched_at};
 ghost use Rattle.ent_cells.specs.Grid.{times};
 ghost use Rattle.ent_cells.specs.proofs_only.Logging.{old_at, old_of};
-ghost use Rattle.ent_cells.specs.proofs_only.Numbers.{shown, shown_entry};
+ghost use Rattle.ent_cells.specs.proofs_only.Numbers.{AreKeysOf, shown, shown_entry};
 
 use crate::cell::{Cell, Numbered};
 use crate::confirm::{candidates, keep_touched, numbers_of};
@@ -187,16 +187,16 @@ impl Store {
         keep_touched(self.alloc, &self.slab, &cells, &numbers)
     }
 
-    /// The keys that a cell reads and whose values the row may change.
+    /// The keys that a cell reads, or that are ready for one, and whose values the row may change.
     pub(crate) fn keys_of_row(&self, row: &RowKey) -> Result<Items<ReadKey>, AllocError>
-        ensures { IfOk result (HasKeysOf (asks_row row.now) self.now) }
+        ensures { IfOk result (AreKeysOf (asks_row row.now) self.now) }
     {
         self.index.keys_of_row(row)
     }
 
-    /// The keys that a cell reads and that are references of a kind and an id.
+    /// The keys that a cell reads, or that are ready for one, and that are references of a kind and an id.
     pub(crate) fn keys_of_policy(&self, kind: Kind, id: &str) -> Result<Items<ReadKey>, AllocError>
-        ensures { IfOk result (HasKeysOf (asks_policy kind id.now) self.now) }
+        ensures { IfOk result (AreKeysOf (asks_policy kind id.now) self.now) }
     {
         self.index.keys_of_policy(kind, id)
     }

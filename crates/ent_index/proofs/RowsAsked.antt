@@ -95,7 +95,8 @@ given_named key row h =
     let datatype = (same_type-Decides key.datatype row.datatype).0 s.0 in
     (λ t. record { category = category t; entity = entity t; attribute = attribute t; datatype = datatype t; issuer = key.issuer }, s.1)
 
-alike : (x y : Bool) → (x ≡ true → y ≡ true) → (y ≡ true → x ≡ true) → x ≡ y
+-- two tests that follow from one another
+pub alike : (x y : Bool) → (x ≡ true → y ≡ true) → (y ≡ true → x ≡ true) → x ≡ y
 alike true y f g = sym (f refl)
 alike false true f g = g refl
 alike false false f g = refl

@@ -1,5 +1,5 @@
 -- What an index says: which cells read a key, and the number of a key that cells read.
-use Rattle.std.specs.Prelude.{◌≡◌, ℕ, List, [], Bool, false, not, ◌&&◌, ◌||◌, Option, Some, None, find}
+use Rattle.std.specs.Prelude.{◌≡◌, ℕ, List, [], Bool, true, false, not, ◌&&◌, ◌||◌, Option, Some, None, find}
 use Rattle.std.specs.FinMap.{FinMap, get, keys}
 use Rattle.std.specs.List.{list_any}
 use Rattle.std.specs.Option.{option_map, option_map_or}
@@ -20,6 +20,10 @@ ReadIndex = FinMap read_cmp Readers
 -- the cell reads the key
 abbrev pub has : ReadIndex → ReadKey → ℕ → Bool
 has index key cell = option_map_or (λ r. has_cell r.cells cell) (get index key) false
+
+-- a cell reads the key
+abbrev pub HasCell : ReadIndex → ReadKey → Type 0
+HasCell index key = (c : ℕ) × (has index key c ≡ true)
 
 -- the cells that read the key, each once, in rising order
 abbrev pub cells_of : ReadIndex → ReadKey → List ℕ

@@ -3,12 +3,12 @@
 ghost use Rattle.std.specs.Prelude.{◌≡◌, ◌&&◌, ◌++◌, [], ◌∷◌, IfOk, OnErr, OnOk, Some};
 ghost use Rattle.std.specs.Prelude.{if◌then◌else◌, map, not};
 ghost use Rattle.std.specs.FinMap.{empty, keys};
-ghost use Rattle.std.specs.List.{filter};
+ghost use Rattle.std.specs.List.{All, filter};
 ghost use Rattle.std.specs.Option.{option_copied};
 ghost use Rattle.std.specs.Ordering.{is_eq, nat_cmp};
 ghost use Rattle.std.specs.declared.cmp.Ordering.TheVariants.{Equal};
 ghost use Rattle.ent_index.specs.Asked.{asks_policy, asks_row};
-ghost use Rattle.ent_index.specs.Index.{Adds, Forgets, IsSound};
+ghost use Rattle.ent_index.specs.Index.{Adds, Forgets, HasCell, IsSound};
 ghost use Rattle.ent_index.specs.proofs_only.Steps.{AreNew, is_at, is_pair, is_pair_at, is_read};
 ghost use Rattle.ent_index.specs.Index.{cells_at, cells_of, has, key_of, number_of};
 ghost use Rattle.ent_index.specs.Index.{is_left_pair, is_number, is_numbered_pair};
@@ -328,7 +328,9 @@ impl Index {
     /// The keys that a cell reads and whose values the row may change, in their order: those of an attribute that name
     /// the row, with no issuer or with the row's.
     pub fn keys_of_row(&self, row: &RowKey) -> Result<Items<ReadKey>, AllocError>
-        ensures { IfOk result (λ ks. ks ≡ filter (asks_row row.now) (keys self.now)) }
+        ensures keys { IfOk result (λ ks. ks ≡ filter (asks_row row.now) (keys self.now)) }
+        ensures read { IfOk result (All (HasCell self.now)) }
+        ensures sound { IsSound self.now }
     {
         let mut keys = Items::new(self.alloc);
         self.push_read(&mut keys, key_of_row(self.alloc, row, None)?)?;
@@ -342,7 +344,9 @@ impl Index {
 
     /// The keys that a cell reads and that are references of a kind and an id, in their order.
     pub fn keys_of_policy(&self, kind: Kind, id: &str) -> Result<Items<ReadKey>, AllocError>
-        ensures { IfOk result (λ ks. ks ≡ filter (asks_policy kind id.now) (keys self.now)) }
+        ensures keys { IfOk result (λ ks. ks ≡ filter (asks_policy kind id.now) (keys self.now)) }
+        ensures read { IfOk result (All (HasCell self.now)) }
+        ensures sound { IsSound self.now }
     {
         let first = first_key(self.alloc, kind, id)?;
         references(self.alloc, self.numbers.range(&first..), kind, id)

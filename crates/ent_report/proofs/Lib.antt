@@ -1,7 +1,6 @@
 pub mod Counted
 pub mod Differing
 pub mod Marks
-pub mod Members
 pub mod Pairs
 pub mod Permits
 pub mod Serials

@@ -1,4 +1,5 @@
 pub mod Differing
+pub mod Kept
 pub mod Notices
 pub mod Reports
 pub mod World

@@ -1,11 +1,12 @@
 //! The desk: a review, and the marks of its sessions.
 
-ghost use Rattle.std.specs.Prelude.{◌≡◌, ◌+◌, ◌-◌, ◌<◌, ◌^◌, min, IfOk, OnOk, Some, option_copied};
+ghost use Rattle.std.specs.Prelude.{◌≡◌, ◌+◌, ◌-◌, ◌<◌, ◌^◌, min, IfOk, Some, option_copied};
 ghost use Rattle.ent_table.specs.Ask.{answer_in};
 ghost use Rattle.ent_table.specs.Change.{Edits, IsSure};
 ghost use Rattle.ent_table.specs.Counted.{IsCounted};
 ghost use Rattle.ent_table.specs.Review.{IsFresh, IsIdle, OnlyEvaluates, state_of};
 ghost use Rattle.ent_table.specs.Step.{step};
+ghost use Rattle.ent_report.specs.Kept.{Forgets, Remembers};
 ghost use Rattle.ent_report.specs.Reports.{by_rule, can, counts, who};
 ghost use Rattle.ent_report.specs.World.{IsNoticedIn, IsReady, KeepsWorld, Marks, Reports, oldest, unmarked, world_of};
 
@@ -79,15 +80,15 @@ impl<A: Attributes, P: Policies> Desk<A, P> {
         requires { IsReady A.sources P.slots self.old }
         ensures ready { IsReady A.sources P.slots self.new }
         ensures world { KeepsWorld A.sources P.slots self.old self.new }
-        ensures forgotten { self.new.review.log.from ≡ oldest self.new.marks self.new.review.log.serial }
+        ensures forgotten { Forgets A.sources P.slots self.old self.new }
         ensures rest { self.new ≡ record self.old { review = record self.old.review { log = self.new.review.log } } }
     {
         let oldest = oldest(&self.marks, self.review.serial());
         self.review.forget_before(oldest);
     }
 
-    /// Makes an edit of the review. The marks stay, and kept counts are forgotten. Once it is made, nothing is kept of
-    /// what changed before the oldest mark.
+    /// Makes an edit of the review. The marks stay. Once it is made, kept counts are forgotten, and nothing is kept of
+    /// what changed before the oldest mark. An edit that is refused forgets nothing.
     ///
     /// An accepted edit counts one evaluation of each cell that it touches. Dropping a name evaluates nothing and takes
     /// no memory.
@@ -102,10 +103,10 @@ impl<A: Attributes, P: Policies> Desk<A, P> {
             self.old.review.pdp.evaluations self.new.review.pdp.evaluations result }
         ensures marks { (world_of A.sources P.slots self.new).marks ≡ (world_of A.sources P.slots self.old).marks }
         ensures serials { self.new.marks ≡ self.old.marks }
-        ensures forgotten { OnOk result (self.new.review.log.from ≡ oldest self.new.marks self.new.review.log.serial) }
+        ensures remembered { Remembers A.sources P.slots self.old self.new result }
     {
-        self.counts = None;
         let accepted = self.review.edit(edit)?;
+        self.counts = None;
         self.forget();
         Ok(accepted)
     }
@@ -139,7 +140,7 @@ impl<A: Attributes, P: Policies> Desk<A, P> {
         ensures ready { IsReady A.sources P.slots self.new }
         ensures serial { result ≡ Ok (world_of A.sources P.slots self.old).state.serial }
         ensures marks { Marks A.sources P.slots session self.old self.new }
-        ensures forgotten { self.new.review.log.from ≡ oldest self.new.marks self.new.review.log.serial }
+        ensures forgotten { Forgets A.sources P.slots self.old self.new }
         ensures rest { self.new ≡ record self.old {
           review = record self.old.review { log = self.new.review.log };
           marks = self.new.marks;

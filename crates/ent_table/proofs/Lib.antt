@@ -9,6 +9,7 @@ pub mod Exchanges
 pub mod Kept
 pub mod Listed
 pub mod Logs
+pub mod Members
 pub mod Named
 pub mod Parted
 pub mod Places
@@ -24,6 +25,7 @@ pub mod Tables
 pub mod Taken
 pub mod Texts
 pub mod Told
+pub mod ToldChanges
 pub mod Touched
 pub mod Turns
 pub mod Undone

@@ -23,13 +23,13 @@ use Rattle.ent_eval.proofs.Changes.{document-leaves, environment-leaves, root-le
 use Rattle.ent_eval.proofs.Recorded.{from_recursion}
 use Rattle.ent_eval.proofs.SameLooks.{same_look-Decides}
 use Rattle.ent_index.specs.Asked.{asks_policy}
-use Rattle.ent_cells.specs.Cell.{HasReadKeys, IsRightBut, Kept, cell_of, reads_any, renewed}
+use Rattle.ent_cells.specs.Cell.{IsRightBut, Kept, cell_of, reads_any, renewed}
 use Rattle.ent_table.specs.declared.change.Exchange.{Exchange}
 use Rattle.ent_table.specs.declared.change.Exchange.TheVariants.{Document, Row, Root, Environment}
 use Rattle.ent_table.specs.Counted.{touched, touched_count}
 use Rattle.ent_table.specs.proofs_only.Exchange.{with_exchange}
 use Rattle.ent_table.specs.Names.{Names, Triple, is_listed, triples}
-use Rattle.ent_table.specs.proofs_only.Seen.{asks, gives_another}
+use Rattle.ent_table.specs.proofs_only.Seen.{HasReadKeys, asks, gives_another}
 use Rattle.ent_table.specs.State.{State, fresh_cells}
 use Rattle.ent_table.proofs.Bits.{or_left, or_right, same_test}
 use Rattle.ent_table.proofs.Counts.{own_listed, passing-same}

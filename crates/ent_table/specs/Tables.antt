@@ -1,5 +1,8 @@
 -- The tables at serials: what the kept log and the present cells give.
-use Rattle.std.specs.Prelude.{◌≡◌, ℕ, ◌+◌, ◌≤◌, List, map}
+use Rattle.std.specs.Prelude.{◌≡◌, ℕ, ◌+◌, ◌≤◌, ◌↔◌, List, map, false}
+use Rattle.std.specs.FinMap.{get}
+use Rattle.std.specs.List.{Contains}
+use Rattle.std.specs.List.Sorted.{IsStrictlySortedBy}
 use Rattle.ent_cells.specs.Order.{request_order}
 use Rattle.ent_cells.specs.declared.who.Who.{Who}
 use Rattle.ent_eval.specs.declared.answer.Answer.{Answer}
@@ -14,8 +17,10 @@ use Rattle.ent_log.specs.declared.log.Log.{Log}
 use Rattle.ent_table.specs.declared.since.Change.{Change}
 use Rattle.ent_table.specs.declared.review.Review.{Review}
 use Rattle.ent_table.specs.AnswerMap.{AnswerMap, answers_of}
+use Rattle.ent_table.specs.Difference.{same_optional}
+use Rattle.ent_table.specs.Names.{Triple, triple_of}
 use Rattle.ent_table.specs.Review.{state_of}
-use Rattle.ent_table.specs.State.{State}
+use Rattle.ent_table.specs.State.{State, answer_at}
 
 -- the table at a serial
 abbrev pub table_at_serial : {A P : Type 0} → (A → List Source) → (P → List Slots) → Review A P → ℕ → AnswerMap
@@ -44,6 +49,22 @@ change_of c = record { person = c.key.person; action = c.key.action; resource = 
 -- the difference of a table and that of a state: each request to which they give different answers, once, in byte order, with both
 abbrev pub changes_from : AnswerMap → State → List Change
 changes_from m s = map change_of (map_difference same_answer m (answers_of s))
+
+-- the request of a change
+abbrev pub changed_request : Change → Triple
+changed_request c = triple_of c.person c.action c.resource
+
+-- a table and that of a state have different optional answers to the request of a change, and its answers are these two
+pub record IsChange (m : AnswerMap) (s : State) (c : Change) : Type 0 where
+  pub differ : same_optional (get m (changed_request c)) (answer_at s (changed_request c)) ≡ false
+  pub before : c.before ≡ get m (changed_request c)
+  pub after : c.after ≡ answer_at s (changed_request c)
+
+-- a list is the difference of a table and that of a state: the changes that they have, and no others; their requests
+-- ascend strictly in byte order, so each is there once
+pub record AreTheDifference (m : AnswerMap) (s : State) (changes : List Change) : Type 0 where
+  pub exact : (c : Change) → Contains changes c ↔ IsChange m s c
+  pub ascending : IsStrictlySortedBy request_order (map changed_request changes)
 
 -- ---- what is logged
 

@@ -3,7 +3,7 @@
 ghost use Rattle.std.specs.Prelude.{◌≡◌, ◌≤◌, IfOk, map, max};
 ghost use Rattle.ent_table.specs.Change.{Stays};
 ghost use Rattle.ent_table.specs.Review.{IsFresh, state_of};
-ghost use Rattle.ent_table.specs.Tables.{LeavesTables, change_of, changes_from, table_at_serial};
+ghost use Rattle.ent_table.specs.Tables.{AreTheDifference, LeavesTables, change_of, changes_from, table_at_serial};
 
 use crate::review::Review;
 use ent_cells::Who;
@@ -85,7 +85,9 @@ impl<A: Attributes, P: Policies> Review<A, P> {
         requires fresh { IsFresh A.sources P.slots self.now }
         requires kept { self.now.log.from ≤ serial }
         requires reached { serial ≤ (state_of A.sources P.slots self.now).serial }
-        ensures { IfOk result (λ changes. changes
+        ensures difference { IfOk result
+            (AreTheDifference (table_at_serial A.sources P.slots self.now serial) (state_of A.sources P.slots self.now)) }
+        ensures told { IfOk result (λ changes. changes
             ≡ changes_from (table_at_serial A.sources P.slots self.now serial) (state_of A.sources P.slots self.now)) }
     {
         let logged = self.log.changes_since(self.alloc, self, serial)?;

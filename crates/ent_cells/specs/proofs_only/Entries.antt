@@ -1,5 +1,5 @@
 -- What becomes of a cell under its key, and of what is ready of it.
-use Rattle.std.specs.Prelude.{◌≡◌, ℕ, List, [], Bool, true, false, not, Option, Some, None}
+use Rattle.std.specs.Prelude.{◌≡◌, ℕ, List, [], Bool, false, not, Option, Some, None}
 use Rattle.slab.specs.Slab.{Slab, Updates, get}
 use Rattle.ent_eval.specs.declared.key.ReadKey.{ReadKey}
 use Rattle.ent_eval.specs.declared.pdp.Evaluation.{Evaluation}
@@ -58,7 +58,3 @@ Becomes change key old new = (e : Entry) → get old key ≡ Some e → Updates 
 -- a cell was put in under a key that had none
 abbrev pub Inserts : Entry → Slab Entry → Slab Entry → ℕ → Type 0
 Inserts e old new key = (get old key ≡ None) × Updates old new key (Some e)
-
--- each key that a cell reads, and that passes a test, is among these
-abbrev pub HasKeysOf : (ReadKey → Bool) → Slab Entry → List ReadKey → Type 0
-HasKeysOf asks entries keys = (k : ReadKey) (c : ℕ) (e : Entry) → asks k ≡ true → get entries c ≡ Some e → has_key e.kept.said.reads k ≡ true → has_key keys k ≡ true

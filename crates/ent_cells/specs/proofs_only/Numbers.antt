@@ -1,5 +1,5 @@
 -- How cells are laid out: what a cell reads stands there as numbers of keys, and the index says which keys these are and which cells read them.
-use Rattle.std.specs.Prelude.{◌≡◌, ℕ, List, [], map, nat_eq, filter_map, Bool, false, not, ◌&&◌, ◌||◌, option_map, Option, Some, None}
+use Rattle.std.specs.Prelude.{◌≡◌, ℕ, List, [], map, nat_eq, filter_map, Bool, true, false, not, ◌&&◌, ◌||◌, option_map, Option, Some, None}
 use Rattle.std.specs.List.{list_any}
 use Rattle.std.specs.Ordering.{is_eq, nat_cmp}
 use Rattle.slab.specs.Slab.{Slab, get}
@@ -56,6 +56,12 @@ next_rests (Some said) k = has_key said.reads k
 abbrev pub rests_at : Option Entry → ReadKey → Bool
 rests_at None k = false
 rests_at (Some e) k = has_key e.kept.said.reads k || next_rests e.next k
+
+-- these are the keys that pass a test and on which a cell rests, and no others
+pub record AreKeysOf (asks : ReadKey → Bool) (entries : Slab Entry) (keys : List ReadKey) : Type 0 where
+  pub all : (k : ReadKey) (c : ℕ) → asks k ≡ true → rests_at (get entries c) k ≡ true → has_key keys k ≡ true
+  pub asked : (k : ReadKey) → has_key keys k ≡ true → asks k ≡ true
+  pub read : (k : ReadKey) → has_key keys k ≡ true → (c : ℕ) × (rests_at (get entries c) k ≡ true)
 
 -- a number is of one key, the numbers of the cells are those of keys, and the index has a cell under a key exactly if the cell reads it, or what is ready of it does
 pub record IsStore (cells : Slab Cell) (index : ReadIndex) : Type 0 where

@@ -11,11 +11,13 @@ use Rattle.ent_policy.specs.declared.document.Tree.{Tree}
 use Rattle.ent_eval.specs.Change.{asks_environment, asks_root}
 use Rattle.ent_eval.specs.Environment.{date_in, date_time_in, time_in}
 use Rattle.ent_eval.specs.Held.{looks_in}
+use Rattle.ent_eval.specs.Noted.{has_key}
 use Rattle.ent_eval.specs.SameLook.{same_look}
 use Rattle.ent_eval.specs.declared.environment.Environment.{Environment as Surroundings}
 use Rattle.ent_eval.specs.declared.key.ReadKey.{ReadKey}
 use Rattle.ent_eval.specs.declared.key.ReadKey.TheVariants as keys
 use Rattle.ent_index.specs.Asked.{asks_policy, asks_row}
+use Rattle.ent_cells.specs.Cell.{Kept, is_read}
 use Rattle.ent_table.specs.declared.change.Exchange.{Exchange}
 use Rattle.ent_table.specs.declared.change.Exchange.TheVariants.{Document, Row, Root, Environment}
 use Rattle.ent_table.specs.declared.looked.Before.{Before}
@@ -30,6 +32,10 @@ asks (Document number key document) k = asks_policy key.kind key.id k
 asks (Row number row values) k = asks_row row k
 asks (Root root) k = asks_root k
 asks (Environment environment) k = asks_environment k
+
+-- each key that a cell reads, and that passes a test, is among these
+abbrev pub HasReadKeys : (ReadKey → Bool) → List Kept → List ReadKey → Type 0
+HasReadKeys passes cells keys = (k : ReadKey) → passes k ≡ true → is_read cells k ≡ true → has_key keys k ≡ true
 
 -- the keys of the environment
 abbrev pub environment_keys : List ReadKey

@@ -1,10 +1,28 @@
-use Rattle.std.proofs.Common.{◌≤◌, sym, ap, subst, ◌∙◌}
+use Rattle.std.proofs.Common.{◌≡◌, ◌≤◌, arith, sym, ap, subst, ◌∙◌}
 use Rattle.ent_table.specs.Review.{state_of}
 use Rattle.ent_table.specs.Tables.{table_at_serial}
-use Rattle.ent_report.specs.World.{AreMarks}
+use Rattle.ent_report.specs.World.{AreCountsOf, AreMarks}
 use Rattle.ent_report.proofs.Marks.{marks_later, same_tables}
 use Rattle.ent_report.proofs.Serials.{serial_rises}
 use Rattle.ent_report.proofs.desk.Desk.edit.Goals as goal
+
+-- a refused edit leaves the state, and with it what is known of the marks and the counts
+pub returns-in_err-accepted-clause-ready : goal.returns-in_err-accepted-clause-ready
+returns-in_err-accepted-clause-ready g c =
+    let d = c.args.self.now in
+    let state = state_of g.A.Attributes.sources g.P.Policies.slots in
+    let old = d.review.log in
+    let new = c.edit.new.self.log in
+    let stays = c.in_err-accepted.ensures.step.1 in
+    let rises : old.serial ≤ new.serial = omega (arith, ap (λ s. s.serial) stays) in
+    record {
+      fresh = c.edit.ensures.fresh;
+      kept =
+          subst (λ n. AreMarks n new.serial d.marks) (sym c.edit.ensures.tables.from)
+          (marks_later old.from old.serial new.serial d.marks rises c.requires.kept);
+      sixteen = c.requires.sixteen;
+      counts = subst (λ s. AreCountsOf s d.counts) (sym stays) c.requires.counts;
+    }
 
 -- over the edit the table at each mark stays
 pub returns-in_err-accepted-clause-marks : goal.returns-in_err-accepted-clause-marks
@@ -37,3 +55,15 @@ returns-clause-marks g c =
     let old = d.review.log in
     ap (λ w. w.marks) c.forget.ensures.world
     ∙ same_tables (table c.edit.new.self) (table d.review) old.from old.serial d.marks c.requires.kept (λ n from le. c.edit.ensures.tables.each n le)
+
+-- forgetting leaves the tables from the oldest mark on, and the edit all of them
+pub returns-clause-remembered : goal.returns-clause-remembered
+returns-clause-remembered g c =
+    let d = c.args.self.now in
+    let state = state_of g.A.Attributes.sources g.P.Policies.slots in
+    let rises : d.review.log.serial ≤ c.edit.new.self.log.serial =
+    serial_rises (state d.review) (state c.edit.new.self) c.args.edit c.edit.result c.edit.ensures.step in
+    record {
+      from = c.forget.ensures.forgotten.from;
+      left = λ n from le. c.forget.ensures.forgotten.left n from (omega (arith, le, rises)) ∙ c.edit.ensures.tables.each n le;
+    }

@@ -43,6 +43,10 @@ returns-clause-forgotten g c =
     let d = c.args.self.now in
     let old = d.review.log in
     let new = c.forget_before.new.self.log in
-    forgotten_before old.from old.serial c.serial.result c.oldest-oldest.result new.from d.marks
-    c.requires.kept old.within c.serial.ensures c.oldest-oldest.ensures c.forget_before.ensures.from
-    ∙ ap (oldest d.marks) (sym (ap (λ s. s.serial) c.forget_before.ensures.state))
+    record {
+      from =
+          forgotten_before old.from old.serial c.serial.result c.oldest-oldest.result new.from d.marks
+          c.requires.kept old.within c.serial.ensures c.oldest-oldest.ensures c.forget_before.ensures.from
+          ∙ ap (oldest d.marks) (sym (ap (λ s. s.serial) c.forget_before.ensures.state));
+      left = c.forget_before.ensures.tables;
+    }

@@ -20,3 +20,6 @@ returns-clause-marks g c =
     map-set (option_map table) d.marks c.args.session (Some c.serial-serial.result)
     ∙ ap (λ m. slice_set (map (option_map table) d.marks) c.args.session (Some m)) now in
     c.forget.ensures.world ∙ (λ i. record { state = state_of sources slots d.review; marks = marks i })
+
+pub returns-clause-forgotten : goal.returns-clause-forgotten
+returns-clause-forgotten g c = record { from = c.forget.ensures.forgotten.from; left = c.forget.ensures.forgotten.left }

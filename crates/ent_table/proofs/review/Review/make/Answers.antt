@@ -1,5 +1,4 @@
 use Rattle.std.proofs.Common.{◌≡◌, ◌+◌, ◌≤◌, ◌^◌, Ok, refl, sym, ap, subst, ◌∙◌, arith}
-use Rattle.ent_cells.specs.Cell.{HasReadKeys}
 use Rattle.ent_cells.specs.Count.{most, raised}
 use Rattle.ent_eval.specs.LooksOf.{held_by}
 use Rattle.ent_finder.specs.Slots.{document_count}
@@ -8,7 +7,7 @@ use Rattle.ent_table.specs.Difference.{changes}
 use Rattle.ent_table.specs.proofs_only.Exchange.{with_exchange}
 use Rattle.ent_table.specs.Limits.{IsStandardAtMost}
 use Rattle.ent_table.specs.Review.{state_of}
-use Rattle.ent_table.specs.proofs_only.Seen.{asks, keys_in}
+use Rattle.ent_table.specs.proofs_only.Seen.{HasReadKeys, asks, keys_in}
 use Rattle.ent_table.specs.State.{State, fresh_cells}
 use Rattle.ent_table.specs.Step.{next}
 use Rattle.ent_table.proofs.Edited.{fresh_again, unlike_changes}
