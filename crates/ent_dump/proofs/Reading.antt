@@ -1,12 +1,13 @@
 -- The whole of an input, and the lines that are written of it.
-use Rattle.std.proofs.Common.{◌≡◌, ◌∙◌, ◌≤◌, inl, inr, ℕ, List, [], true, false, Option, Some, None, Result, Ok, Err, ap, append-nil}
+use Rattle.std.proofs.Common.{◌≡◌, ◌∙◌, ◌≤◌, ◌+◌, ◌*◌, ◌++◌, suc, arith, length-append, inl, inr, ℕ, List, [], true, false, Option, Some, None, Result, Ok, Err, ap, append-nil}
 use Rattle.std.proofs.Common.{option_map, subst, sym}
 use Rattle.std.specs.Prelude.{⊤, option_and_then}
 use Rattle.std.specs.Io.KnownBytes.{Consumes, Keeps}
 use Rattle.std.proofs.KnownBytes.{Consumes-trans}
+use Rattle.std.proofs.Math.Nat.{mul-suc}
 use Rattle.serde_json.specs.Data.{Data}
 use Rattle.ent_json.specs.Line.{data_of}
-use Rattle.ent_dump.specs.Lines.{DumpsLines, IsReadFault, ReadsAll, ReadsMore, Streams, WritesTold}
+use Rattle.ent_dump.specs.Lines.{DumpsLines, IsReadFault, ReadsAll, ReadsMore, Streams, TakesAtMost, WritesTold}
 use Rattle.ent_dump.specs.Reply.{told_lines}
 use Rattle.ent_dump.specs.declared.fault.LinesFault.{LinesFault}
 use Rattle.ent_dump.specs.declared.fault.LinesFault.TheVariants.{NotDump}
@@ -20,6 +21,20 @@ pub read_last : (a b c : Option (List ℕ)) (room : ℕ) (old new : List ℕ) �
 read_last a b c room old new some p q =
     let read : Consumes a c new = subst (Consumes a c) (append-nil old ∙ sym q.2) (Consumes-trans a b c old [] p q.0) in
     record { read = read; end = q.1 some }
+
+-- at most so many bytes were taken, and at most so many more
+pub takes_more : (a b c : Option (List ℕ)) (m n : ℕ) → TakesAtMost a b m → TakesAtMost b c n → TakesAtMost a c (m + n)
+takes_more a b c m n p q = (p.0 ++ q.0, Consumes-trans a b c p.0 q.0 p.1 q.1, omega (arith, length-append p.0 q.0, p.2, q.2))
+
+-- and that is no more than a greater number
+pub takes_within : (a b : Option (List ℕ)) (m n : ℕ) → TakesAtMost a b m → m ≤ n → TakesAtMost a b n
+takes_within a b m n p le = (p.0, p.1, omega (arith, p.2))
+
+-- after some reads of so many bytes each, and one more, of those that there are
+pub one_read_more : (a b c : Option (List ℕ)) (room made : ℕ) → TakesAtMost a b (room * made) → TakesAtMost b c room → TakesAtMost a c (room * (made + 1))
+one_read_more a b c room made p q =
+    let next : made + 1 ≡ suc made = omega arith in
+    takes_within a c (room * made + room) (room * (made + 1)) (takes_more a b c (room * made) room p q) (omega (arith, ap (λ n. room * n) next, mul-suc room made))
 
 -- nothing is written where it couldn't be read
 pub not_read : (s : Streams) (e : LinesFault) → IsReadFault e → Keeps s.wrote s.holds → DumpsLines s (Err e)

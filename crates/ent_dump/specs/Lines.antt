@@ -1,5 +1,5 @@
 -- What reading a reply and writing its lines do to the known bytes of a reader and a writer.
-use Rattle.std.specs.Prelude.{◌≡◌, ◌⊎◌, ℕ, ◌≤◌, List, [], ◌∷◌, ◌++◌, Bool, true, false, Option, Some, None, Result, Ok, Err, ⊤}
+use Rattle.std.specs.Prelude.{◌≡◌, ◌⊎◌, ℕ, ◌≤◌, ◌*◌, List, [], ◌∷◌, ◌++◌, length, Bool, true, false, Option, Some, None, Result, Ok, Err, ⊤}
 use Rattle.std.specs.Io.KnownBytes.{Appends, Consumes, IsAtEnd, Keeps}
 use Rattle.std.specs.List.{flat_map}
 use Rattle.ent_dump.specs.Reply.{texts_of}
@@ -24,6 +24,14 @@ abbrev pub ReadsMore : Option (List ℕ) → Option (List ℕ) → ℕ → List 
 ReadsMore before after room old new (Ok true) = (bytes : List ℕ) × Consumes before after bytes × (new ≡ old ++ bytes)
 ReadsMore before after room old new (Ok false) = Consumes before after [] × (1 ≤ room → IsAtEnd after) × (new ≡ old)
 ReadsMore before after room old new (Err e) = IsReadFault e
+
+-- what was taken of the reader's bytes, at most so many: the bytes before and after
+abbrev pub TakesAtMost : Option (List ℕ) → Option (List ℕ) → ℕ → Type 0
+TakesAtMost before after most = (bytes : List ℕ) × Consumes before after bytes × (length bytes ≤ most)
+
+-- the most bytes that so many reads give
+abbrev pub most_bytes : ℕ → ℕ
+most_bytes reads = reads * 65536
 
 -- all of the input was read: the reader's bytes before and after
 pub record ReadsAll (before after : Option (List ℕ)) (all : List ℕ) : Type 0 where

@@ -2,7 +2,7 @@
 
 ghost use Rattle.std.specs.Prelude.{Result};
 ghost use Rattle.std.specs.List.{flat_map};
-ghost use Rattle.ent_dump.specs.Lines.{DumpsLines, Sends, WritesTold, ended};
+ghost use Rattle.ent_dump.specs.Lines.{DumpsLines, Sends, TakesAtMost, WritesTold, ended, most_bytes};
 ghost use Rattle.ent_dump.specs.Reply.{text_of, told_lines};
 
 use crate::fault::LinesFault;
@@ -46,31 +46,55 @@ fn write_told<J: JsonTree, W: Write>(value: &J, writer: &mut W) -> Result<(), Li
     }
 }
 
-/// Reads one reply to `dump` to the end of the input, and writes its lines, each with a newline. The writer is flushed
-/// at the end.
+/// Reads one reply to `dump` to the end of the input, in so many reads at most, and writes its lines, each with a
+/// newline. The writer is flushed at the end. A read gives 65,536 bytes at most, and the last one shows the end.
 ///
 /// # Errors
 ///
 /// [`LinesFault::NotDump`] if the input is no JSON, has not exactly the key `dump` with a list of texts, or a text has
-/// a newline. [`LinesFault::Read`] if the reader failed, or the input wasn't at its end after 4,294,967,295 reads.
+/// a newline. [`LinesFault::Read`] if the reader failed, or the last read didn't show the end of the input.
 /// [`LinesFault::Memory`] if memory ran out. In all of these nothing was written. [`LinesFault::Write`] if the writer
 /// failed; then a front was written.
-pub fn dump_lines<R: Read, W: Write>(
+pub fn dump_lines_within<R: Read, W: Write>(
     alloc: Global,
     reader: &mut R,
     writer: &mut W,
+    reads: u32,
 ) -> Result<(), LinesFault>
-    ensures { DumpsLines (record {
+    ensures lines { DumpsLines (record {
       unread = R.remaining reader.old;
       left = R.remaining reader.new;
       wrote = W.contents writer.old;
       holds = W.contents writer.new;
     }) result }
+    ensures few { TakesAtMost (R.remaining reader.old) (R.remaining reader.new) (most_bytes reads) }
 {
-    let all = read_all(alloc, reader)?;
+    let all = read_all(alloc, reader, reads)?;
     let mut scratch = Scratch::new(alloc);
     match read_json(alloc, all.as_slice(), &mut scratch)? {
         None => Err(LinesFault::NotDump),
         Some(value) => write_told(&value, writer),
     }
+}
+
+/// Reads one reply to `dump` to the end of the input, and writes its lines, each with a newline, as `dump_lines_within`
+/// does it with 4,294,967,295 reads.
+///
+/// # Errors
+///
+/// Those of `dump_lines_within`.
+pub fn dump_lines<R: Read, W: Write>(
+    alloc: Global,
+    reader: &mut R,
+    writer: &mut W,
+) -> Result<(), LinesFault>
+    ensures lines { DumpsLines (record {
+      unread = R.remaining reader.old;
+      left = R.remaining reader.new;
+      wrote = W.contents writer.old;
+      holds = W.contents writer.new;
+    }) result }
+    ensures few { TakesAtMost (R.remaining reader.old) (R.remaining reader.new) (most_bytes 4294967295) }
+{
+    dump_lines_within(alloc, reader, writer, u32::MAX)
 }

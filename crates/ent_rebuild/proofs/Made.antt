@@ -23,7 +23,6 @@ use Rattle.ent_finder.specs.declared.row.RowKey.{RowKey}
 use Rattle.ent_eval.proofs.Keys.{by_recursion}
 use Rattle.ent_eval.specs.Environment.{of_day, of_moment}
 use Rattle.ent_eval.specs.declared.environment.Environment.{Environment}
-use Rattle.ent_eval.specs.declared.environment.Environment.TheVariants as environments
 use Rattle.ent_table.proofs.Changes.{less_names, more_names}
 use Rattle.ent_table.specs.declared.edit.Edit.{Edit}
 use Rattle.ent_table.specs.declared.edit.Edit.TheVariants.{AddPolicy, ReplacePolicy, WithdrawPolicy, SetAttribute, AddName, DropName, SetRoot, SetDay}

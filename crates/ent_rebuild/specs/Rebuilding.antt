@@ -1,5 +1,5 @@
 -- The edits that make a state anew.
-use Rattle.std.specs.Prelude.{ℕ, List, [], ◌∷◌, ◌++◌, map, Option, Some, None, Result, Ok, Err}
+use Rattle.std.specs.Prelude.{ℕ, List, [], ◌∷◌, ◌++◌, map, replicate, Option, Some, None, Result, Ok, Err}
 use Rattle.std.specs.FinMap.{empty, entries}
 use Rattle.std.specs.List.{enumerate_from, flat_map}
 use Rattle.std.specs.Result.{result_unwrap_or}
@@ -18,6 +18,7 @@ use Rattle.ent_table.specs.declared.edit.EditFault.{EditFault}
 use Rattle.ent_table.specs.declared.edit.List.{List as Which}
 use Rattle.ent_table.specs.declared.edit.List.TheVariants as which
 use Rattle.ent_table.specs.Names.{Names}
+use Rattle.ent_table.specs.declared.limits.Limits.{Limits}
 use Rattle.ent_table.specs.State.{State, initial}
 use Rattle.ent_table.specs.Step.{step}
 
@@ -52,6 +53,16 @@ emptied s =
       sources = map emptied_source s.held.sources;
       environment = environments.Empty;
     }) s.limits
+
+-- a state in which nothing was ever held, listed or set: so many modules of policies and of attributes, all of these with the same categories
+abbrev pub new_state : ℕ → ℕ → List (List ℕ) → Limits → State
+new_state policies attributes categories limits =
+    initial (record {
+      root = None;
+      modules = replicate policies empty;
+      sources = replicate attributes (record { categories = categories; rows = empty });
+      environment = environments.Empty;
+    }) limits
 
 -- ---- the edits
 
