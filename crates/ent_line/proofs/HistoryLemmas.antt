@@ -23,21 +23,26 @@ use Rattle.ent_report.specs.Reports as report
 use Rattle.ent_report.specs.World.{World, mark_of}
 use Rattle.ent_report.specs.declared.fault.ReportFault.{ReportFault}
 use Rattle.ent_line.specs.Asked as asked
-use Rattle.ent_line.specs.Asked.{Command, request_of}
-use Rattle.ent_line.specs.Edits.{NoEdit, edit_of, faulty, no_edit, refusal_of, unread, unread_row, unreadable, unreadable_row}
+use Rattle.ent_line.specs.Asked.{Change, Command, Question, command_in}
+use Rattle.ent_line.specs.Commands.{by_rule_told, can_told, cell_or_refusal, cell_told, changes_told, counts_told, made, notices_or_refusal, report_or_refusal}
+use Rattle.ent_line.specs.Commands.{dump_told, format_told, request_answered, response_or_refusal, run, settled, table_marked, table_told, told, who_told, work_told}
+use Rattle.ent_line.specs.Dumping.{can_tell, format_text, is_version}
+use Rattle.ent_line.specs.Edits.{edit_of, unread}
 use Rattle.ent_line.specs.Headline.{IsLed}
 use Rattle.ent_line.specs.History as session
-use Rattle.ent_line.specs.History.{Lead, Matter, Seen, accepted_edit, accepted_edits, asked_by, edit_told, history, matter, matter_of, next, seen_by}
+use Rattle.ent_line.specs.History.{Lead, Matter, Seen, accepted_edit, accepted_edits, asked_by, edit_in, edit_told, history, matter, matter_of, next, seen_by}
 use Rattle.ent_line.specs.Lines.{line_limit}
+use Rattle.ent_line.specs.Refusals.{refusal_of}
 use Rattle.ent_line.specs.Replies as replies
 use Rattle.ent_line.specs.Replies.{Answer, accepted, refused, text}
-use Rattle.ent_line.specs.Reports.{can_text, changes_told, notices_or_refusal, who_text}
+use Rattle.ent_line.specs.Reports.{can_text, who_text}
 use Rattle.ent_line.specs.Runs.{Run}
-use Rattle.ent_line.specs.Commands.{by_rule_told, can_told, cell_or_refusal, cell_told, counts_told, report_or_refusal, request_answered, response_or_refusal}
-use Rattle.ent_line.specs.Commands.{dump_told, format_told, run, settled, table_marked, table_told, who_told, work_told}
-use Rattle.ent_line.specs.Dumping.{can_tell, format_text, is_version}
-use Rattle.ent_line.specs.Step.{Answers, data_of, requested, step, told}
-use Rattle.ent_line.proofs.CommandLemmas.{IsNoEdit, IsQuiet, made, nothing, run_made}
+use Rattle.ent_line.specs.Step.{Answers, data_of, heard, requested, respond}
+use Rattle.ent_line.specs.declared.making.NoEdit.{NoEdit}
+use Rattle.ent_line.specs.declared.making.NoEdit.TheVariants as no_edit
+use Rattle.ent_line.specs.declared.refusal.Refusal.{Refusal}
+use Rattle.ent_line.specs.declared.refusal.Refusal.TheVariants.{BadValue, Document, Memory, NotJson, TooLong}
+use Rattle.ent_line.proofs.CommandLemmas.{IsQuiet}
 
 -- ---- what a line leads to
 
@@ -61,14 +66,14 @@ record Follows (i : ℕ) (w : World) (asked : Option (ℕ × Command)) (y : Answ
 
 quiet_edits : (asked : Option (ℕ × Command)) (a : Answer) → IsQuiet a → option_and_then (edit_told a) asked ≡ None
 quiet_edits None a q = refl
-quiet_edits (Some x) (refused n sub) q = refl
+quiet_edits (Some x) (refused why) q = refl
 quiet_edits (Some x) (text s) q = refl
 quiet_edits (Some x) (accepted n m) q = absurd q
 quiet_edits (Some x) (replies.marked n) q = absurd q
 
 quiet_matters : (i : ℕ) (asked : Option (ℕ × Command)) (a : Answer) → IsQuiet a → option_and_then (matter_of i a) asked ≡ None
 quiet_matters i None a q = refl
-quiet_matters i (Some x) (refused n sub) q = refl
+quiet_matters i (Some x) (refused why) q = refl
 quiet_matters i (Some x) (text s) q = refl
 quiet_matters i (Some x) (accepted n m) q = absurd q
 quiet_matters i (Some x) (replies.marked n) q = absurd q
@@ -97,31 +102,53 @@ notices_quiet : (s : State) (o : Option AnswerMap) → IsQuiet (notices_or_refus
 notices_quiet s None = tt
 notices_quiet s (Some kept) = tt
 
-version_quiet : (b : Bool) (written : List ℕ) → IsQuiet (if b then text written else refused 11 None)
+version_quiet : (b : Bool) (written : List ℕ) → IsQuiet (if b then text written else refused BadValue)
 version_quiet true written = tt
 version_quiet false written = tt
 
+format_quiet : (version : Option ℕ) → IsQuiet (format_told version)
+unfolding format_told
+format_quiet None = tt
+format_quiet (Some version) = version_quiet (is_version version) (format_text version)
+
+dump_quiet : (version : Option ℕ) (s : State) → IsQuiet (dump_told version s)
+unfolding dump_told
+dump_quiet None s = tt
+dump_quiet (Some version) s = version_quiet (can_tell version s.held.environment) (dump_text version s)
+
+-- what is told changes nothing
+told_quiet : (n : ℕ) (w : World) (x : ℕ) (q : Question) → IsQuiet (told n w x q)
+unfolding told table_told cell_told counts_told can_told who_told by_rule_told changes_told request_answered work_told
+told_quiet n w x asked.table = tt
+told_quiet n w x (asked.cell y) = cell_quiet y (answer_at w.state y)
+told_quiet n w x (asked.ask d) = response_quiet w.state (asks d)
+told_quiet n w x asked.counts = tt
+told_quiet n w x (asked.can person) = report_quiet can_text (report.can w.state person)
+told_quiet n w x (asked.who action resource) = report_quiet who_text (report.who w.state action resource)
+told_quiet n w x (asked.by_rule policy rule) = tt
+told_quiet n w x asked.notices = notices_quiet w.state (mark_of w x)
+told_quiet n w x asked.work = tt
+told_quiet n w x (asked.format version) = format_quiet version
+told_quiet n w x (asked.dump version) = dump_quiet version w.state
+
 -- ---- edits
 
-settled_follows : (i : ℕ) (w : World) (x : ℕ) (c : Command) (edit : Edit) (r : Result State EditFault)
-    → edit_of c ≡ Ok edit → table.step w.state edit ≡ r → Follows i w (Some (x, c)) (settled w r)
-settled_follows i w x c edit (Err fault) makes leads = quiet_follows i w (Some (x, c)) (refused (refusal_of fault) None) tt
+settled_follows : (i : ℕ) (w : World) (x : ℕ) (c : Change) (edit : Edit) (r : Result State EditFault)
+    → edit_of c ≡ Ok edit → table.step w.state edit ≡ r → Follows i w (Some (x, asked.change c)) (settled w r)
+settled_follows i w x c edit (Err fault) makes leads = quiet_follows i w (Some (x, asked.change c)) (refused (refusal_of fault)) tt
 settled_follows i w x c edit (Ok t) makes leads = record {
-  lead = subst (λ r. LeadsTo w.state (result_ok r) t) (sym makes) leads;
+  lead = subst (λ (r : Result Edit NoEdit). LeadsTo w.state (result_ok r) t) (sym makes) leads;
   mark = λ at. sym (ap (λ (r : Result Edit NoEdit). (after (seen_by w i) (option_map session.edit (result_ok r))).mark) makes);
   places = refl;
 }
 
-made_follows : (i : ℕ) (w : World) (x : ℕ) (c : Command) (r : Result Edit NoEdit) → edit_of c ≡ r → Follows i w (Some (x, c)) (made w (nothing w) r)
+-- a change is followed
+made_follows : (i : ℕ) (w : World) (x : ℕ) (c : Change) (r : Result Edit NoEdit) → edit_of c ≡ r → Follows i w (Some (x, asked.change c)) (made w r)
 made_follows i w x c (Ok edit) makes = settled_follows i w x c edit (table.step w.state edit) makes refl
-made_follows i w x c (Err no_edit) makes = quiet_follows i w (Some (x, c)) (refused 0 None) tt
-made_follows i w x c (Err (faulty sub)) makes = quiet_follows i w (Some (x, c)) (refused 6 (Some sub)) tt
-made_follows i w x c (Err unreadable) makes = quiet_follows i w (Some (x, c)) (refused (unread w.state) None) tt
-made_follows i w x c (Err (unreadable_row row)) makes = quiet_follows i w (Some (x, c)) (refused (unread_row w.state row) None) tt
-
--- an edit is followed
-edit_follows : (i n : ℕ) (w : World) (x : ℕ) (c : Command) → (IsNoEdit c → ⊥) → Follows i w (Some (x, c)) (run n w x c)
-edit_follows i n w x c is = subst (Follows i w (Some (x, c))) (sym (run_made n w x (nothing w) c (λ h. absurd (is h)))) (made_follows i w x c (edit_of c) refl)
+made_follows i w x c (Err (no_edit.Faulty fault)) makes = quiet_follows i w (Some (x, asked.change c)) (refused (Document fault)) tt
+made_follows i w x c (Err (no_edit.Unreadable fault)) makes =
+    quiet_follows i w (Some (x, asked.change c)) (refused (refusal_of (unread w.state fault))) tt
+made_follows i w x c (Err no_edit.Memory) makes = quiet_follows i w (Some (x, asked.change c)) (refused Memory) tt
 
 -- ---- marks
 
@@ -143,68 +170,46 @@ mark_follows i w x = record { lead = refl; mark = by (eqb_tells x i); places = l
 -- ---- commands, lines and runs
 
 run_follows : (i n : ℕ) (w : World) (x : ℕ) (c : Command) → Follows i w (Some (x, c)) (run n w x c)
-unfolding run cell_told counts_told can_told who_told by_rule_told changes_told table_told request_answered work_told format_told dump_told
-run_follows i n w x (asked.add_name list name) = edit_follows i n w x (asked.add_name list name) (λ h. h)
-run_follows i n w x (asked.drop_name list name) = edit_follows i n w x (asked.drop_name list name) (λ h. h)
-run_follows i n w x (asked.add_policy number d) = edit_follows i n w x (asked.add_policy number d) (λ h. h)
-run_follows i n w x (asked.replace_policy number d) = edit_follows i n w x (asked.replace_policy number d) (λ h. h)
-run_follows i n w x (asked.withdraw_policy number kind id version) = edit_follows i n w x (asked.withdraw_policy number kind id version) (λ h. h)
-run_follows i n w x (asked.set_attribute number row) = edit_follows i n w x (asked.set_attribute number row) (λ h. h)
-run_follows i n w x (asked.set_root d) = edit_follows i n w x (asked.set_root d) (λ h. h)
-run_follows i n w x (asked.set_day day) = edit_follows i n w x (asked.set_day day) (λ h. h)
-run_follows i n w x (asked.set_moment moment) = edit_follows i n w x (asked.set_moment moment) (λ h. h)
-run_follows i n w x asked.table = quiet_follows i w (Some (x, asked.table)) (table_told w.state) tt
-run_follows i n w x (asked.cell t) = quiet_follows i w (Some (x, asked.cell t)) (cell_told w.state t) (cell_quiet t (answer_at w.state t))
-run_follows i n w x (asked.ask d) = quiet_follows i w (Some (x, asked.ask d)) (request_answered w.state d) (response_quiet w.state (asks d))
-run_follows i n w x asked.counts = quiet_follows i w (Some (x, asked.counts)) (counts_told w.state) tt
-run_follows i n w x (asked.can person) =
-    quiet_follows i w (Some (x, asked.can person)) (can_told w.state person) (report_quiet can_text (report.can w.state person))
-run_follows i n w x (asked.who action resource) =
-    quiet_follows i w (Some (x, asked.who action resource)) (who_told w.state action resource) (report_quiet who_text (report.who w.state action resource))
-run_follows i n w x (asked.by_rule policy rule) = quiet_follows i w (Some (x, asked.by_rule policy rule)) (by_rule_told w.state policy rule) tt
+unfolding run
+run_follows i n w x (asked.change c) = made_follows i w x c (edit_of c) refl
+run_follows i n w x (asked.question q) = quiet_follows i w (Some (x, asked.question q)) (told n w x q) (told_quiet n w x q)
 run_follows i n w x asked.mark = mark_follows i w x
-run_follows i n w x asked.notices = quiet_follows i w (Some (x, asked.notices)) (changes_told w x) (notices_quiet w.state (mark_of w x))
-run_follows i n w x asked.work = quiet_follows i w (Some (x, asked.work)) (work_told n) tt
-run_follows i n w x (asked.format version) =
-    quiet_follows i w (Some (x, asked.format version)) (format_told version) (version_quiet (is_version version) (format_text version))
-run_follows i n w x (asked.dump version) =
-    quiet_follows i w (Some (x, asked.dump version)) (dump_told version w.state) (version_quiet (can_tell version w.state.held.environment) (dump_text version w.state))
 
-requested_follows : (i n : ℕ) (w : World) (r : Result (ℕ × Command) ℕ) → Follows i w (result_ok r) (requested n w r)
+requested_follows : (i n : ℕ) (w : World) (r : Result (ℕ × Command) Refusal) → Follows i w (result_ok r) (requested n w r)
 requested_follows i n w (Ok x) = run_follows i n w x.0 x.1
-requested_follows i n w (Err refusal) = quiet_follows i w None (refused refusal None) tt
+requested_follows i n w (Err refusal) = quiet_follows i w None (refused refusal) tt
 
-told_follows : (i n : ℕ) (w : World) (o : Option Data) → Follows i w (option_and_then (λ d. result_ok (request_of d)) o) (told n w o)
-told_follows i n w None = quiet_follows i w None (refused 2 None) tt
-told_follows i n w (Some d) = requested_follows i n w (request_of d)
+heard_follows : (i n : ℕ) (w : World) (o : Option Data) → Follows i w (option_and_then (λ d. result_ok (command_in d)) o) (heard n w o)
+heard_follows i n w None = quiet_follows i w None (refused NotJson) tt
+heard_follows i n w (Some d) = requested_follows i n w (command_in d)
 
 chosen_follows : (i n : ℕ) (w : World) (long : Bool) (o : Option Data)
-    → Follows i w (option_and_then (λ d. result_ok (request_of d)) o) (if long then (refused 1 None, w) else told n w o)
-chosen_follows i n w true o = quiet_follows i w (option_and_then (λ d. result_ok (request_of d)) o) (refused 1 None) tt
-chosen_follows i n w false o = told_follows i n w o
+    → Follows i w (option_and_then (λ d. result_ok (command_in d)) o) (if long then (refused TooLong, w) else heard n w o)
+chosen_follows i n w true o = quiet_follows i w (option_and_then (λ d. result_ok (command_in d)) o) (refused TooLong) tt
+chosen_follows i n w false o = heard_follows i n w o
 
 line_follows : (i : ℕ) (w v : World) (line : List ℕ) (a : Answer) → Answers w line a v → Follows i w (asked_by line) (a, v)
-unfolding step
+unfolding respond
 line_follows i w v line a (n, inl is) = subst (Follows i w (asked_by line)) (sym is) (chosen_follows i n w (nat_lt line_limit (length line)) (data_of line))
 line_follows i w v line a (n, inr (refusal, same, short)) =
-    subst (Follows i w (asked_by line)) (λ j. (sym refusal j, sym same j)) (quiet_follows i w (asked_by line) (refused 15 None) tt)
+    subst (Follows i w (asked_by line)) (λ j. (sym refusal j, sym same j)) (quiet_follows i w (asked_by line) (refused Memory) tt)
 
 -- ---- runs
 
 state_seen : (i : ℕ) (s : Seen) (a : Answer) (asked : Option (ℕ × Command)) (t : State)
     → LeadsTo s.state (option_and_then (edit_told a) asked) t → t ≡ (after s (option_and_then (matter_of i a) asked)).state
 state_seen i s a None t h = h
-state_seen i s (accepted n m) (Some x) t h = by (edit_of x.1) h
+state_seen i s (accepted n m) (Some x) t h = by (edit_in x.1) h
   where
-    by : (r : Result Edit NoEdit) → LeadsTo s.state (result_ok r) t → t ≡ (after s (option_map session.edit (result_ok r))).state
-    by (Ok e) leads = sym (ap (λ (q : Result State EditFault). result_unwrap_or q s.state) leads)
-    by (Err why) stays = stays
+    by : (o : Option Edit) → LeadsTo s.state o t → t ≡ (after s (option_map session.edit o)).state
+    by (Some e) leads = sym (ap (λ (q : Result State EditFault). result_unwrap_or q s.state) leads)
+    by None stays = stays
 state_seen i s (replies.marked n) (Some x) t h = by (nat_eq x.0 i)
   where
     by : (b : Bool) → t ≡ (after s (if b then Some session.own_mark else None)).state
     by true = h
     by false = h
-state_seen i s (refused n sub) (Some x) t h = h
+state_seen i s (refused why) (Some x) t h = h
 state_seen i s (text told) (Some x) t h = h
 
 fold_option : (s : Seen) (o : Option Matter) (xs : List Matter) → fold next s (cons_option o xs) ≡ fold next (after s o) xs

@@ -1,4 +1,4 @@
-mod AskedLemmas
+pub mod ChangeLemmas
 mod CommandLemmas
 mod HeadlineLemmas
 mod HistoryLemmas

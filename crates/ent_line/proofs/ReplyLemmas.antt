@@ -2,6 +2,7 @@
 use Rattle.std.proofs.Common.{◌≡◌, ℕ, List, ◌++◌, length, Bool, true, false, Option, Some, None, Result, Ok, Err, refl, sym, ap, subst, inl, inr}
 use Rattle.std.specs.Prelude.{codes, decimal, if◌then◌else◌, nat_le, nat_lt}
 use Rattle.std.specs.List.{list_all}
+use Rattle.serde_json.specs.Data as json
 use Rattle.serde_json.specs.Data.{Data}
 use Rattle.ent_eval.specs.declared.answer.Answer.{Answer as Evaluated}
 use Rattle.ent_eval.specs.declared.request.Request.{Request}
@@ -20,25 +21,29 @@ use Rattle.ent_report.specs.Reports as report
 use Rattle.ent_report.specs.World.{World, mark_of}
 use Rattle.ent_report.specs.declared.fault.ReportFault.{ReportFault}
 use Rattle.ent_line.specs.Asked as asked
-use Rattle.ent_line.specs.Asked.{Command, request_of}
-use Rattle.ent_line.specs.Cells.{one_cell_data, one_cell_text, response_text, table_data, table_text}
-use Rattle.ent_line.specs.Edits.{NoEdit, edit_of, faulty, no_edit, unreadable, unreadable_row}
-use Rattle.ent_line.specs.Lines.{IsOneLine, line_limit}
-use Rattle.ent_line.specs.Replies as replies
-use Rattle.ent_line.specs.Replies.{Answer, accepted, line_of, refused, text}
-use Rattle.ent_line.specs.Reports.{by_rule_reply, can_reply, changes_told, counts_reply, notices_or_refusal, notices_reply, who_reply}
-use Rattle.ent_line.specs.Reports.{by_rule_text, can_text, counts_text, notices_text, who_text, work_text}
-use Rattle.ent_line.specs.Commands.{by_rule_told, can_told, cell_or_refusal, cell_told, counts_told, report_or_refusal, request_answered, response_or_refusal}
-use Rattle.ent_line.specs.Commands.{dump_told, format_told, run, settled, table_marked, table_told, who_told, work_told}
+use Rattle.ent_line.specs.Asked.{Command, Question, command_in}
+use Rattle.ent_line.specs.Cells.{list_data, one_cell_data, one_cell_text, response_text, table_data, table_text}
+use Rattle.ent_line.specs.Commands.{by_rule_told, can_told, cell_or_refusal, cell_told, changes_told, counts_told, made, notices_or_refusal, report_or_refusal}
+use Rattle.ent_line.specs.Commands.{dump_told, format_told, request_answered, response_or_refusal, run, settled, table_marked, table_told, told, who_told, work_told}
 use Rattle.ent_line.specs.Dumping.{can_tell, format_text, is_version}
-use Rattle.ent_line.specs.Step.{Answers, data_of, requested, step, told}
-use Rattle.ent_line.proofs.CommandLemmas.{IsNoEdit, made, nothing, run_made}
+use Rattle.ent_line.specs.Edits.{edit_of}
+use Rattle.ent_line.specs.Lines.{IsOneLine, line_limit}
+use Rattle.ent_line.specs.Refusals.{code_of, sub_of}
+use Rattle.ent_line.specs.Replies as replies
+use Rattle.ent_line.specs.Replies.{Answer, accepted, line_of, refusal_line, refused, text}
+use Rattle.ent_line.specs.Reports.{counts_data, notice_data, pair_data, reply_data, triple_data}
+use Rattle.ent_line.specs.Reports.{by_rule_text, can_text, counts_text, notices_text, who_text, work_text}
+use Rattle.ent_line.specs.Step.{Answers, data_of, heard, requested, respond}
+use Rattle.ent_line.specs.declared.making.NoEdit.{NoEdit}
+use Rattle.ent_line.specs.declared.making.NoEdit.TheVariants as no_edit
+use Rattle.ent_line.specs.declared.refusal.Refusal.{Refusal}
+use Rattle.ent_line.specs.declared.refusal.Refusal.TheVariants.{BadValue, TooLong}
 use Rattle.ent_line.proofs.PrintedLemmas.{ArePrinted, IsPrintedLine, behind, both_printed, decimal_printed, one_line, text_printed, word_printed}
 
 -- the text of an answer has no control character
 abbrev IsPrinted : Answer → Type 0
 IsPrinted (accepted n m) = Unit {0}
-IsPrinted (refused n sub) = Unit {0}
+IsPrinted (refused why) = Unit {0}
 IsPrinted (replies.marked n) = Unit {0}
 IsPrinted (text s) = ArePrinted s
 
@@ -64,20 +69,20 @@ report_printed written h (Err fault) = tt
 
 can_printed : (found : List (List ℕ × List ℕ)) → ArePrinted (can_text found)
 unfolding can_text
-can_printed found = text_printed (can_reply found)
+can_printed found = text_printed (reply_data (codes "can") (list_data pair_data found))
 
 who_printed : (people : List (List ℕ)) → ArePrinted (who_text people)
 unfolding who_text
-who_printed people = text_printed (who_reply people)
+who_printed people = text_printed (reply_data (codes "who") (list_data json.string people))
 
 by_rule_printed : (found : List (List ℕ × List ℕ × List ℕ)) → ArePrinted (by_rule_text found)
 unfolding by_rule_text
-by_rule_printed found = text_printed (by_rule_reply found)
+by_rule_printed found = text_printed (reply_data (codes "by_rule") (list_data triple_data found))
 
 notices_printed : (s : State) (o : Option AnswerMap) → IsPrinted (notices_or_refusal s o)
 unfolding notices_text
 notices_printed s None = tt
-notices_printed s (Some kept) = text_printed (notices_reply (notices kept s))
+notices_printed s (Some kept) = text_printed (reply_data (codes "notices") (list_data notice_data (notices kept s)))
 
 work_printed : (n : ℕ) → ArePrinted (work_text n)
 unfolding work_text
@@ -95,67 +100,66 @@ dump_printed : (version : ℕ) (s : State) → ArePrinted (dump_text version s)
 unfolding dump_text
 dump_printed version s = text_printed (dump_data version s)
 
-version_printed : (b : Bool) (written : List ℕ) → ArePrinted written → IsPrinted (if b then text written else refused 11 None)
+version_printed : (b : Bool) (written : List ℕ) → ArePrinted written → IsPrinted (if b then text written else refused BadValue)
 version_printed true written h = h
 version_printed false written h = tt
 
--- ---- edits
+format_told_printed : (version : Option ℕ) → IsPrinted (format_told version)
+unfolding format_told
+format_told_printed None = tt
+format_told_printed (Some version) = version_printed (is_version version) (format_text version) (format_printed version)
+
+dump_told_printed : (version : Option ℕ) (s : State) → IsPrinted (dump_told version s)
+unfolding dump_told
+dump_told_printed None s = tt
+dump_told_printed (Some version) s = version_printed (can_tell version s.held.environment) (dump_text version s) (dump_printed version s)
+
+told_printed : (n : ℕ) (w : World) (x : ℕ) (q : Question) → IsPrinted (told n w x q)
+unfolding told table_told cell_told counts_told can_told who_told by_rule_told changes_told request_answered work_told counts_text
+told_printed n w x asked.table = table_printed (table_of w.state)
+told_printed n w x (asked.cell y) = cell_printed y (answer_at w.state y)
+told_printed n w x (asked.ask d) = response_printed w.state (asks d)
+told_printed n w x asked.counts = text_printed (reply_data (codes "counts") (counts_data (report.counts w.state)))
+told_printed n w x (asked.can person) = report_printed can_text can_printed (report.can w.state person)
+told_printed n w x (asked.who action resource) = report_printed who_text who_printed (report.who w.state action resource)
+told_printed n w x (asked.by_rule policy rule) = by_rule_printed (report.by_rule w.state policy rule)
+told_printed n w x asked.notices = notices_printed w.state (mark_of w x)
+told_printed n w x asked.work = work_printed n
+told_printed n w x (asked.format version) = format_told_printed version
+told_printed n w x (asked.dump version) = dump_told_printed version w.state
+
+-- ---- commands and lines
 
 settled_printed : (w : World) (r : Result State EditFault) → IsPrinted (settled w r).0
 settled_printed w (Ok t) = tt
 settled_printed w (Err fault) = tt
 
-made_printed : (w : World) (r : Result Edit NoEdit) → IsPrinted (made w (nothing w) r).0
+made_printed : (w : World) (r : Result Edit NoEdit) → IsPrinted (made w r).0
 made_printed w (Ok edit) = settled_printed w (table.step w.state edit)
-made_printed w (Err no_edit) = tt
-made_printed w (Err (faulty sub)) = tt
-made_printed w (Err unreadable) = tt
-made_printed w (Err (unreadable_row row)) = tt
-
-edit_printed : (n : ℕ) (w : World) (x : ℕ) (c : Command) → (IsNoEdit c → ⊥) → IsPrinted (run n w x c).0
-edit_printed n w x c is =
-    subst (λ (y : Answer × World). IsPrinted y.0) (sym (run_made n w x (nothing w) c (λ h. absurd (is h)))) (made_printed w (edit_of c))
-
--- ---- commands and lines
+made_printed w (Err (no_edit.Faulty fault)) = tt
+made_printed w (Err (no_edit.Unreadable fault)) = tt
+made_printed w (Err no_edit.Memory) = tt
 
 run_printed : (n : ℕ) (w : World) (x : ℕ) (c : Command) → IsPrinted (run n w x c).0
-unfolding run table_told cell_told counts_told can_told who_told by_rule_told table_marked changes_told request_answered work_told format_told dump_told counts_text
-run_printed n w x (asked.add_name list name) = edit_printed n w x (asked.add_name list name) (λ h. h)
-run_printed n w x (asked.drop_name list name) = edit_printed n w x (asked.drop_name list name) (λ h. h)
-run_printed n w x (asked.add_policy number d) = edit_printed n w x (asked.add_policy number d) (λ h. h)
-run_printed n w x (asked.replace_policy number d) = edit_printed n w x (asked.replace_policy number d) (λ h. h)
-run_printed n w x (asked.withdraw_policy number kind id version) = edit_printed n w x (asked.withdraw_policy number kind id version) (λ h. h)
-run_printed n w x (asked.set_attribute number row) = edit_printed n w x (asked.set_attribute number row) (λ h. h)
-run_printed n w x (asked.set_root d) = edit_printed n w x (asked.set_root d) (λ h. h)
-run_printed n w x (asked.set_day day) = edit_printed n w x (asked.set_day day) (λ h. h)
-run_printed n w x (asked.set_moment moment) = edit_printed n w x (asked.set_moment moment) (λ h. h)
-run_printed n w x asked.table = table_printed (table_of w.state)
-run_printed n w x (asked.cell t) = cell_printed t (answer_at w.state t)
-run_printed n w x (asked.ask d) = response_printed w.state (asks d)
-run_printed n w x asked.counts = text_printed (counts_reply (report.counts w.state))
-run_printed n w x (asked.can person) = report_printed can_text can_printed (report.can w.state person)
-run_printed n w x (asked.who action resource) = report_printed who_text who_printed (report.who w.state action resource)
-run_printed n w x (asked.by_rule policy rule) = by_rule_printed (report.by_rule w.state policy rule)
+unfolding run table_marked
+run_printed n w x (asked.change c) = made_printed w (edit_of c)
+run_printed n w x (asked.question q) = told_printed n w x q
 run_printed n w x asked.mark = tt
-run_printed n w x asked.notices = notices_printed w.state (mark_of w x)
-run_printed n w x asked.work = work_printed n
-run_printed n w x (asked.format version) = version_printed (is_version version) (format_text version) (format_printed version)
-run_printed n w x (asked.dump version) = version_printed (can_tell version w.state.held.environment) (dump_text version w.state) (dump_printed version w.state)
 
-requested_printed : (n : ℕ) (w : World) (r : Result (ℕ × Command) ℕ) → IsPrinted (requested n w r).0
+requested_printed : (n : ℕ) (w : World) (r : Result (ℕ × Command) Refusal) → IsPrinted (requested n w r).0
 requested_printed n w (Ok x) = run_printed n w x.0 x.1
 requested_printed n w (Err refusal) = tt
 
-told_printed : (n : ℕ) (w : World) (o : Option Data) → IsPrinted (told n w o).0
-told_printed n w None = tt
-told_printed n w (Some d) = requested_printed n w (request_of d)
+heard_printed : (n : ℕ) (w : World) (o : Option Data) → IsPrinted (heard n w o).0
+heard_printed n w None = tt
+heard_printed n w (Some d) = requested_printed n w (command_in d)
 
-chosen_printed : (n : ℕ) (w : World) (long : Bool) (o : Option Data) → IsPrinted (if long then (refused 1 None, w) else told n w o).0
+chosen_printed : (n : ℕ) (w : World) (long : Bool) (o : Option Data) → IsPrinted (if long then (refused TooLong, w) else heard n w o).0
 chosen_printed n w true o = tt
-chosen_printed n w false o = told_printed n w o
+chosen_printed n w false o = heard_printed n w o
 
 answer_printed : (w v : World) (line : List ℕ) (a : Answer) → Answers w line a v → IsPrinted a
-unfolding step
+unfolding respond
 answer_printed w v line a (n, inl is) =
     subst IsPrinted (sym (ap (λ (y : Answer × World). y.0) is)) (chosen_printed n w (nat_lt line_limit (length line)) (data_of line))
 answer_printed w v line a (n, inr (refusal, same, short)) = subst IsPrinted (sym refusal) tt
@@ -169,12 +173,15 @@ numbered word more n h line = behind word (decimal n ++ more) (word_printed word
 closed : IsPrintedLine (codes "}\n")
 closed = record { line = codes "}"; printed = word_printed (codes "}") refl; is = refl }
 
+refusal_printed : (code : ℕ) (sub : Option ℕ) → IsPrintedLine (refusal_line code sub)
+refusal_printed code None = numbered (codes "{\"refused\":") (codes "}\n") code refl closed
+refusal_printed code (Some sub) = numbered (codes "{\"refused\":") (codes ",\"sub\":" ++ (decimal sub ++ codes "}\n")) code refl
+    (numbered (codes ",\"sub\":") (codes "}\n") sub refl closed)
+
 written : (a : Answer) → IsPrinted a → IsPrintedLine (line_of a)
 written (accepted n m) h = numbered (codes "{\"changes\":") (codes ",\"serial\":" ++ (decimal m ++ codes "}\n")) n refl
     (numbered (codes ",\"serial\":") (codes "}\n") m refl closed)
-written (refused n None) h = numbered (codes "{\"refused\":") (codes "}\n") n refl closed
-written (refused n (Some sub)) h = numbered (codes "{\"refused\":") (codes ",\"sub\":" ++ (decimal sub ++ codes "}\n")) n refl
-    (numbered (codes ",\"sub\":") (codes "}\n") sub refl closed)
+written (refused why) h = refusal_printed (code_of why) (sub_of why)
 written (replies.marked n) h = numbered (codes "{\"mark\":") (codes "}\n") n refl closed
 written (text s) h = record { line = s; printed = h; is = refl }
 

@@ -6,7 +6,9 @@ use Rattle.ent_report.specs.Notices.{IsNoticed}
 use Rattle.ent_report.specs.declared.fault.NoticeFault.TheVariants.{NoMark}
 use Rattle.ent_report.specs.declared.notices.Notice.{Notice}
 use Rattle.ent_line.specs.Replies.{refused, text}
-use Rattle.ent_line.specs.Reports.{notices_or_refusal, notices_text}
+use Rattle.ent_line.specs.Commands.{notices_or_refusal}
+use Rattle.ent_line.specs.Reports.{notices_text}
+use Rattle.ent_line.specs.declared.refusal.Refusal.TheVariants as refusals
 
 -- notices of a session that has a mark
 pub noticed : (o : Option AnswerMap) (s : State) (ns : List Notice) → IsNoticed o s (Ok ns) → notices_or_refusal s o ≡ text (notices_text ns)
@@ -14,6 +16,6 @@ noticed None s ns h = absurd (cc)
 noticed (Some kept) s ns h = ap (λ (l : List Notice). text (notices_text l)) (sym h)
 
 -- a session without a mark
-pub unmarked : (o : Option AnswerMap) (s : State) → IsNoticed o s (Err NoMark) → notices_or_refusal s o ≡ refused 12 None
+pub unmarked : (o : Option AnswerMap) (s : State) → IsNoticed o s (Err NoMark) → notices_or_refusal s o ≡ refused refusals.NoMark
 unmarked None s h = refl
 unmarked (Some kept) s h = absurd (cc)

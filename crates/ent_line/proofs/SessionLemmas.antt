@@ -5,21 +5,22 @@ use Rattle.std.specs.List.{fold}
 use Rattle.std.specs.Result.{result_ok}
 use Rattle.serde_json.specs.Data.{Data}
 use Rattle.ent_report.specs.World.{World}
-use Rattle.ent_line.specs.Asked.{Command, request_of}
+use Rattle.ent_line.specs.Asked.{Command, command_in}
+use Rattle.ent_line.specs.Commands.{changes_told, notices_or_refusal, run, told}
 use Rattle.ent_line.specs.History.{asked_by, history, next, seen_by}
 use Rattle.ent_line.specs.Replies.{Answer, refused}
 use Rattle.ent_line.specs.Sessions.{AsksNotices, SessionsAreSeparate}
-use Rattle.ent_line.specs.Commands.{run}
-use Rattle.ent_line.specs.Reports.{changes_told, notices_or_refusal}
-use Rattle.ent_line.specs.Step.{Answers, data_of, requested, told}
-use Rattle.ent_line.proofs.CommandLemmas.{nothing, short_told}
+use Rattle.ent_line.specs.Step.{Answers, data_of, heard, requested}
+use Rattle.ent_line.specs.declared.refusal.Refusal.{Refusal}
+use Rattle.ent_line.specs.declared.refusal.Refusal.TheVariants.{Memory}
+use Rattle.ent_line.proofs.CommandLemmas.{short_heard}
 use Rattle.ent_line.proofs.HistoryLemmas.{run_seen}
 
 -- ---- replies to a line that asks for notices
 
 -- what is answered where a command is there
 abbrev run_of : ℕ → World → Option (ℕ × Command) → Answer × World
-run_of n w None = nothing w
+run_of n w None = (refused Memory, w)
 run_of n w (Some x) = run n w x.0 x.1
 
 -- a command is there
@@ -27,23 +28,23 @@ abbrev IsAsked : Option (ℕ × Command) → Type 0
 IsAsked None = ⊥
 IsAsked (Some x) = Unit {0}
 
-requested_run : (n : ℕ) (w : World) (r : Result (ℕ × Command) ℕ) → IsAsked (result_ok r) → requested n w r ≡ run_of n w (result_ok r)
+requested_run : (n : ℕ) (w : World) (r : Result (ℕ × Command) Refusal) → IsAsked (result_ok r) → requested n w r ≡ run_of n w (result_ok r)
 requested_run n w (Ok x) is = refl
 requested_run n w (Err refusal) is = absurd is
 
-told_run : (n : ℕ) (w : World) (o : Option Data) → IsAsked (option_and_then (λ d. result_ok (request_of d)) o)
-    → told n w o ≡ run_of n w (option_and_then (λ d. result_ok (request_of d)) o)
-told_run n w None is = absurd is
-told_run n w (Some d) is = requested_run n w (request_of d) is
+heard_run : (n : ℕ) (w : World) (o : Option Data) → IsAsked (option_and_then (λ d. result_ok (command_in d)) o)
+    → heard n w o ≡ run_of n w (option_and_then (λ d. result_ok (command_in d)) o)
+heard_run n w None is = absurd is
+heard_run n w (Some d) is = requested_run n w (command_in d) is
 
-notices_told : (i : ℕ) (w v : World) (line : List ℕ) (a : Answer) → AsksNotices i line → Answers w line a v → (a ≡ changes_told w i) ⊎ (a ≡ refused 15 None)
-unfolding run
-notices_told i w v line a asks (n, inl is) =
+notices_asked : (i : ℕ) (w v : World) (line : List ℕ) (a : Answer) → AsksNotices i line → Answers w line a v → (a ≡ changes_told w i) ⊎ (a ≡ refused Memory)
+unfolding run told
+notices_asked i w v line a asks (n, inl is) =
     let there : IsAsked (asked_by line) = subst IsAsked (sym asks.command) tt in
-    inl (ap (λ y. y.0) (is ∙ short_told n w line asks.short ∙ told_run n w (data_of line) there ∙ ap (run_of n w) asks.command))
-notices_told i w v line a asks (n, inr (refusal, same, short)) = inr refusal
+    inl (ap (λ y. y.0) (is ∙ short_heard n w line asks.short ∙ heard_run n w (data_of line) there ∙ ap (run_of n w) asks.command))
+notices_asked i w v line a asks (n, inr (refusal, same, short)) = inr refusal
 
-same_replies : (a b c d : Answer) → c ≡ d → (a ≡ c) ⊎ (a ≡ refused 15 None) → (b ≡ d) ⊎ (b ≡ refused 15 None) → (a ≡ b) ⊎ ((a ≡ refused 15 None) ⊎ (b ≡ refused 15 None))
+same_replies : (a b c d : Answer) → c ≡ d → (a ≡ c) ⊎ (a ≡ refused Memory) → (b ≡ d) ⊎ (b ≡ refused Memory) → (a ≡ b) ⊎ ((a ≡ refused Memory) ⊎ (b ≡ refused Memory))
 same_replies a b c d same (inl is) (inl other_is) = inl (is ∙ same ∙ sym other_is)
 same_replies a b c d same (inr refusal) other = inr (inl refusal)
 same_replies a b c d same (inl is) (inr refusal) = inr (inr refusal)
@@ -59,5 +60,5 @@ separate i w other v end lines others answers other_answers alike run other_run 
     record {
       notices = told;
       replies = λ line line_too a b x y asks asks_too is is_too.
-          same_replies a b (changes_told v i) (changes_told end i) told (notices_told i v x line a asks is) (notices_told i end y line_too b asks_too is_too);
+          same_replies a b (changes_told v i) (changes_told end i) told (notices_asked i v x line a asks is) (notices_asked i end y line_too b asks_too is_too);
     }

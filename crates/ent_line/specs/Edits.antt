@@ -1,5 +1,5 @@
--- Which edit a command makes, and how one that isn't made is refused.
-use Rattle.std.specs.Prelude.{ℕ, Option, Some, None, Result, Ok, Err, ◌||◌, List, [], ◌∷◌, nat_lt, if◌then◌else◌, option_and_then, option_map}
+-- Which edit a change makes, or why it makes none.
+use Rattle.std.specs.Prelude.{List, [], ◌∷◌, Option, Some, None, Result, Ok, Err, nat_lt, if◌then◌else◌, option_and_then, option_map}
 use Rattle.serde_json.specs.Data.{Data, Items}
 use Rattle.serde_json.specs.Data as json
 use Rattle.serde_json.specs.Events.{items_len}
@@ -7,7 +7,6 @@ use Rattle.ent_values.specs.Reading.{date_of, date_time_of}
 use Rattle.ent_values.specs.Types.{type_of}
 use Rattle.ent_values.specs.declared.datatype.DataType.{DataType}
 use Rattle.ent_values.specs.declared.value.Value.{Value}
-use Rattle.ent_policy.specs.Fault.{sub_code}
 use Rattle.ent_policy.specs.Versions.{version_of}
 use Rattle.ent_policy.specs.declared.fault.DocFault.{DocFault}
 use Rattle.ent_policy.specs.declared.key.Reference.{Reference}
@@ -21,11 +20,14 @@ use Rattle.ent_table.specs.Step as table
 use Rattle.ent_table.specs.declared.edit.Edit.{Edit}
 use Rattle.ent_table.specs.declared.edit.Edit.TheVariants.{AddPolicy, ReplacePolicy, WithdrawPolicy, SetAttribute, AddName, DropName, SetRoot, SetDay, SetMoment}
 use Rattle.ent_table.specs.declared.edit.EditFault.{EditFault}
-use Rattle.ent_table.specs.declared.edit.EditFault.TheVariants.{NotThere, AlreadyThere, Limit, Reserved, BadValue, UnknownModule, Memory}
-use Rattle.ent_line.specs.Asked.{AskedRow, Command}
+use Rattle.ent_table.specs.declared.edit.EditFault.TheVariants.{Limit, Reserved, BadValue}
 use Rattle.ent_line.specs.Asked as asked
+use Rattle.ent_line.specs.Asked.{Change}
+use Rattle.ent_line.specs.Keys.{AskedRow}
+use Rattle.ent_line.specs.declared.making.NoEdit.{NoEdit}
+use Rattle.ent_line.specs.declared.making.NoEdit.TheVariants.{Faulty, Unreadable}
 
--- ---- what is read of a command
+-- ---- what is read of a change
 
 -- the root that a JSON value names: none for null
 abbrev pub root_of : Data → Result (Option Reference) DocFault
@@ -47,61 +49,35 @@ row_read row = option_and_then (λ datatype. option_map (λ values. (key_of_row 
 
 -- ---- the edit
 
--- why a command makes no edit
-pub data NoEdit : Type 0 where
-  -- it is a question or a mark
-  no_edit : NoEdit
-  -- its document or its reference has a fault, the first of which has this sub-code
-  faulty : ℕ → NoEdit
-  -- its version, its day or its moment can't be read
-  unreadable : NoEdit
-  -- the type or a value of its row can't be read
-  unreadable_row : AskedRow → NoEdit
-
--- the edit with what was read, or the sub-code of the first fault
+-- the edit with what was read, or the first fault
 abbrev pub with_read : {A : Type 0} → (A → Edit) → Result A DocFault → Result Edit NoEdit
 with_read edit (Ok x) = Ok (edit x)
-with_read edit (Err fault) = Err (faulty (sub_code fault))
+with_read edit (Err fault) = Err (Faulty fault)
 
--- the edit with what was read, or why there is none
-abbrev pub if_read : {A : Type 0} → (A → Edit) → NoEdit → Option A → Result Edit NoEdit
-if_read edit why (Some x) = Ok (edit x)
-if_read edit why None = Err why
+-- the edit with what was read, or the refusal where it can't be
+abbrev pub if_read : {A : Type 0} → (A → Edit) → EditFault → Option A → Result Edit NoEdit
+if_read edit fault (Some x) = Ok (edit x)
+if_read edit fault None = Err (Unreadable fault)
 
--- the edit that a command makes, with what is read of it
-abbrev pub edit_of : Command → Result Edit NoEdit
+-- the refusal of a row whose type or a value can't be read: a bad value, before which too many values and a reserved attribute are told
+abbrev pub row_fault : AskedRow → EditFault
+row_fault row = if nat_lt 256 (items_len row.values) then Limit else (if table.is_reserved row.category row.attribute then Reserved else BadValue)
+
+-- the edit that a change makes, with what is read of it
+abbrev pub edit_of : Change → Result Edit NoEdit
 edit_of (asked.add_name list name) = Ok (AddName list name)
 edit_of (asked.drop_name list name) = Ok (DropName list name)
 edit_of (asked.add_policy number d) = with_read (AddPolicy number) (document_of d)
 edit_of (asked.replace_policy number d) = with_read (ReplacePolicy number) (document_of d)
 edit_of (asked.withdraw_policy number kind id written) =
-    if_read (λ version. WithdrawPolicy number (record { kind = kind; id = id; version = version })) unreadable (version_of written)
-edit_of (asked.set_attribute number row) = if_read (λ x. SetAttribute number x.0 x.1) (unreadable_row row) (row_read row)
+    if_read (λ version. WithdrawPolicy number (record { kind = kind; id = id; version = version })) BadValue (version_of written)
+edit_of (asked.set_attribute number row) = if_read (λ x. SetAttribute number x.0 x.1) (row_fault row) (row_read row)
 edit_of (asked.set_root d) = with_read SetRoot (root_of d)
 edit_of (asked.set_day None) = Ok (SetDay None)
-edit_of (asked.set_day (Some written)) = if_read (λ day. SetDay (Some day)) unreadable (date_of written)
+edit_of (asked.set_day (Some written)) = if_read (λ day. SetDay (Some day)) BadValue (date_of written)
 edit_of (asked.set_moment None) = Ok (SetMoment None)
-edit_of (asked.set_moment (Some written)) = if_read (λ moment. SetMoment (Some moment)) unreadable (date_time_of written)
-edit_of question = Err no_edit
+edit_of (asked.set_moment (Some written)) = if_read (λ moment. SetMoment (Some moment)) BadValue (date_time_of written)
 
--- ---- refusals
-
--- the number of a refused edit
-abbrev pub refusal_of : EditFault → ℕ
-refusal_of NotThere = 7
-refusal_of AlreadyThere = 8
-refusal_of Limit = 9
-refusal_of Reserved = 10
-refusal_of BadValue = 11
-refusal_of UnknownModule = 13
-refusal_of Memory = 15
-
--- the refusal of a version, a day or a moment that can't be read: a bad value, before which the last serial is told
-abbrev pub unread : State → ℕ
-unread s = if table.is_last s then refusal_of Limit else refusal_of BadValue
-
--- the refusal of a row that can't be read: a bad value, before which the limits and a reserved attribute are told
-abbrev pub unread_row : State → AskedRow → ℕ
-unread_row s row =
-    if table.is_last s || nat_lt 256 (items_len row.values) then refusal_of Limit
-    else (if table.is_reserved row.category row.attribute then refusal_of Reserved else refusal_of BadValue)
+-- the refusal of what can't be read: before it the last serial is told
+abbrev pub unread : State → EditFault → EditFault
+unread s fault = if table.is_last s then Limit else fault

@@ -1,16 +1,23 @@
--- The promise of the service, on the page to be read first. docs/READING.md says what its words are and what to read after it.
+-- The promise of the service, on the page to be read first. docs/READING.md says what its words are and what to read
+-- after it.
 --
--- A line asks for one command in one of sixteen sessions. Its reply rests on the world that the accepted edits and marks of the lines before it
--- left: a state, which is what is held, the three lists and the number of edits, and for each session an optional mark. No reply rests on a
--- kept cell: each is said by evaluating requests afresh (section 7 of XACML 3.0 core). Only `work` tells how many evaluations were made so far,
--- which is no part of the world: the run leaves open which number that is, and `Service::handle` says it. After any lines the state is where their
--- accepted edits lead, one after the other, and a session's mark is the fresh table at the place of its last mark among them (`IsLed`).
+-- A line asks for one command in one of sixteen sessions: a change, a question or a mark. Its reply rests on the world
+-- that the accepted edits and marks of the lines before it left: a state, which is what is held, the three lists and
+-- the number of edits, and for each session an optional mark. No reply rests on a kept cell: each is said by evaluating
+-- requests afresh (section 7 of XACML 3.0 core). Only `work` tells how many evaluations were made so far, which is no
+-- part of the world and is counted beside it (`Counts`, in `Work`). After any lines the state is where their accepted
+-- edits lead, one after the other, and a session's mark is the fresh table at the place of its last mark among them
+-- (`IsLed`).
 --
--- What `run` gives for each command need not be read in `Commands`: `IsEdited` and `IsAnswered` say it of every edit, question and mark. The last
--- words on the page, `Headline`, are what the call `serve_review`, which the program makes, ensures of the bytes that are read and written.
--- What `dump` tells brings a new service to the same state: that is a law of `ent_restart` (Restart), over the runs of this page.
-use Rattle.std.specs.Prelude.{◌≡◌, ◌⊎◌, ℕ, ◌<◌, ◌≤◌, ◌&&◌, true, false, List, length, fold, Option, Some, None, Result, Ok, Err}
+-- What `run` and `told` give for each command need not be read in `Commands`: `IsEdited` and `IsTold` say it of every
+-- edit, question and mark. The last words on the page, `Headline`, are what the call `serve_review`, which the program
+-- makes, ensures of the bytes that are read and written. What `dump` tells brings a new service to the same state: that
+-- is a law of `ent_restart` (Restart), over the runs of this page.
+use Rattle.std.specs.Prelude.{◌≡◌, ◌⊎◌, ℕ, ◌<◌, ◌≤◌, ◌&&◌, false, true, List, length, fold}
+use Rattle.std.specs.Prelude.{Option, Some, None, Result, Ok, Err}
+use Rattle.std.specs.Option.{option_map_or}
 use Rattle.serde_json.specs.Data.{Data}
+use Rattle.ent_policy.specs.declared.fault.DocFault.{DocFault}
 use Rattle.ent_eval.specs.declared.answer.Answer.{Answer as Evaluated}
 use Rattle.ent_eval.specs.declared.request.Request.{Request}
 use Rattle.ent_profile.specs.Asks.{asks}
@@ -29,106 +36,141 @@ use Rattle.ent_report.specs.Notices.{notices}
 use Rattle.ent_report.specs.Reports as report
 use Rattle.ent_report.specs.World.{World, mark_of, marked}
 use Rattle.ent_line.specs.Asked as asked
+use Rattle.ent_line.specs.Asked.{Change, Command, IsOfCommands, Question, command_in}
 use Rattle.ent_line.specs.Cells.{one_cell_text, response_text, table_text}
 use Rattle.ent_line.specs.Dumping.{can_tell, format_text, is_version}
-use Rattle.ent_line.specs.Edits.{edit_of, faulty, refusal_of, unread, unread_row, unreadable, unreadable_row}
+use Rattle.ent_line.specs.Edits.{edit_of, unread}
 use Rattle.ent_line.specs.History.{Lead, accepted_edits, history, next, seen_by}
 use Rattle.ent_line.specs.Lines.{IsOneLine, line_limit}
+use Rattle.ent_line.specs.Refusals.{refusal_of}
 use Rattle.ent_line.specs.Replies as replies
 use Rattle.ent_line.specs.Replies.{Answer, accepted, line_of, refused, text}
 use Rattle.ent_line.specs.Reports.{by_rule_text, can_text, counts_text, notices_text, who_text, work_text}
 use Rattle.ent_line.specs.Runs.{Run}
 use Rattle.ent_line.specs.Serving.{Ends, ServesUntil}
 use Rattle.ent_line.specs.Sessions.{SessionsAreSeparate}
-use Rattle.ent_line.specs.Commands.{run}
-use Rattle.ent_line.specs.Step.{Answers, data_of, step}
+use Rattle.ent_line.specs.Commands.{run, told}
+use Rattle.ent_line.specs.Step.{Answers, data_of, respond}
+use Rattle.ent_line.specs.Work.{Counted, Counts}
 use Rattle.ent_line.specs.declared.fault.ServeFault.{ServeFault}
+use Rattle.ent_line.specs.declared.making.NoEdit.TheVariants.{Faulty, Unreadable}
+use Rattle.ent_line.specs.declared.refusal.Refusal.{Refusal}
+use Rattle.ent_line.specs.declared.refusal.Refusal.TheVariants as refusals
 
--- what a line is answered in a world
+-- what a line is answered in a world: after n evaluations, as `respond` says
 pub record IsHeard (w : World) (line : List ℕ) : Type 0 where
-  -- its step after some number of evaluations is told, or want of memory, which changes nothing and never stands in place of refusal 1
-  pub answer : (v : World) (a : Answer) → Answers w line a v → (n : ℕ) × (((a, v) ≡ step n w line) ⊎ ((a ≡ refused 15 None) × (v ≡ w) × (length line ≤ line_limit)))
   -- it is too long
-  pub too_long : (n : ℕ) → line_limit < length line → step n w line ≡ (refused 1 None, w)
+  pub too_long : (n : ℕ) → line_limit < length line → respond n w line ≡ (refused refusals.TooLong, w)
   -- it is no JSON
-  pub no_json : (n : ℕ) → length line ≤ line_limit → data_of line ≡ None → step n w line ≡ (refused 2 None, w)
-  -- its shape is wrong (3), or its command (4) or its session (5) is unknown: the first of these refusals that stands
-  pub no_command : (n : ℕ) (d : Data) (number : ℕ) → length line ≤ line_limit → data_of line ≡ Some d → asked.request_of d ≡ Err number
-      → (3 ≤ number) × (number ≤ 5) × (step n w line ≡ (refused number None, w))
+  pub no_json : (n : ℕ) → length line ≤ line_limit → data_of line ≡ None
+      → respond n w line ≡ (refused refusals.NotJson, w)
+  -- its shape is wrong, or its command or its session is unknown: the first of these refusals that stands
+  pub no_command : (n : ℕ) (d : Data) (why : Refusal)
+      → length line ≤ line_limit → data_of line ≡ Some d → command_in d ≡ Err why
+      → IsOfCommands why × (respond n w line ≡ (refused why, w))
   -- it asks for a command of a session: what that is answered
-  pub command : (n : ℕ) (d : Data) (session : ℕ) (c : asked.Command) → length line ≤ line_limit → data_of line ≡ Some d → asked.request_of d ≡ Ok (session, c)
-      → step n w line ≡ run n w session c
+  pub command : (n : ℕ) (d : Data) (session : ℕ) (c : Command)
+      → length line ≤ line_limit → data_of line ≡ Some d → command_in d ≡ Ok (session, c)
+      → respond n w line ≡ run n w session c
+  -- it has no other answer, but that memory is wanting, which changes nothing and never stands in place of refusal 1
+  pub answer : (v : World) (a : Answer) → Answers w line a v → (n : ℕ)
+      × (((a, v) ≡ respond n w line) ⊎ ((a ≡ refused refusals.Memory) × (v ≡ w) × (length line ≤ line_limit)))
   -- a refused line changes nothing
-  pub refusal : (v : World) (number : ℕ) (sub : Option ℕ) → Answers w line (refused number sub) v → v ≡ w
+  pub refusal : (v : World) (why : Refusal) → Answers w line (refused why) v → v ≡ w
   -- its reply is written as one line: its text has no newline
   pub one_line : (v : World) (a : Answer) → Answers w line a v → IsOneLine (line_of a)
 
--- what a command that makes an edit (`edit_of`, in `Edits`) is answered in a world, after n evaluations
-pub record IsEdited (n : ℕ) (w : World) (session : ℕ) (c : asked.Command) : Type 0 where
+-- what a change is answered in a world, after n evaluations: it makes an edit (`edit_of`, in `Edits`), or none
+pub record IsEdited (n : ℕ) (w : World) (session : ℕ) (c : Change) : Type 0 where
   -- an accepted edit: the state that its step leads to, told by how many answers of the two fresh tables differ
-  pub edit : (edit : Edit) (t : State) → edit_of c ≡ Ok edit → edits.step w.state edit ≡ Ok t → run n w session c ≡ (accepted (changes w.state t) t.serial, record w { state = t })
-  -- a refused edit: the number of its step's refusal
-  pub no_step : (edit : Edit) (fault : EditFault) → edit_of c ≡ Ok edit → edits.step w.state edit ≡ Err fault → run n w session c ≡ (refused (refusal_of fault) None, w)
-  -- a document or a reference with a fault: the sub-code of the first one
-  pub fault : (sub : ℕ) → edit_of c ≡ Err (faulty sub) → run n w session c ≡ (refused 6 (Some sub), w)
-  -- a version, a day, a moment or a row that can't be read: a bad value, unless a refusal that comes before it stands
-  pub no_value : edit_of c ≡ Err unreadable → run n w session c ≡ (refused (unread w.state) None, w)
-  pub no_row : (row : asked.AskedRow) → edit_of c ≡ Err (unreadable_row row) → run n w session c ≡ (refused (unread_row w.state row) None, w)
+  pub edit : (edit : Edit) (t : State) → edit_of c ≡ Ok edit → edits.step w.state edit ≡ Ok t
+      → run n w session (asked.change c) ≡ (accepted (changes w.state t) t.serial, record w { state = t })
+  -- a refused edit: its step's refusal
+  pub no_step : (edit : Edit) (fault : EditFault) → edit_of c ≡ Ok edit → edits.step w.state edit ≡ Err fault
+      → run n w session (asked.change c) ≡ (refused (refusal_of fault), w)
+  -- a document or a reference with a fault: the first one
+  pub fault : (fault : DocFault) → edit_of c ≡ Err (Faulty fault)
+      → run n w session (asked.change c) ≡ (refused (refusals.Document fault), w)
+  -- a version, a day, a moment or a row that can't be read: its refusal, unless one that comes before it stands
+  pub no_value : (fault : EditFault) → edit_of c ≡ Err (Unreadable fault)
+      → run n w session (asked.change c) ≡ (refused (refusal_of (unread w.state fault)), w)
 
 -- what a question or a mark of a session is answered in a world, after n evaluations
-pub record IsAnswered (n : ℕ) (w : World) (session : ℕ) : Type 0 where
+pub record IsTold (n : ℕ) (w : World) (x : ℕ) : Type 0 where
+  -- a question: what is told, and the world stays
+  pub question : (q : Question) → run n w x (asked.question q) ≡ (told n w x q, w)
   -- the table: each listed request with its fresh answer, in list order
-  pub table : run n w session asked.table ≡ (text (table_text (table_of w.state)), w)
+  pub table : told n w x asked.table ≡ text (table_text (table_of w.state))
   -- a cell: the fresh answer to a listed request
-  pub cell : (x : Triple) (a : Evaluated) → answer_at w.state x ≡ Some a → run n w session (asked.cell x) ≡ (text (one_cell_text (x, a)), w)
-  pub unlisted : (x : Triple) → answer_at w.state x ≡ None → run n w session (asked.cell x) ≡ (refused 7 None, w)
+  pub cell : (y : Triple) (a : Evaluated) → answer_at w.state y ≡ Some a
+      → told n w x (asked.cell y) ≡ text (one_cell_text (y, a))
+  pub unlisted : (y : Triple) → answer_at w.state y ≡ None → told n w x (asked.cell y) ≡ refused refusals.NotThere
   -- a request of the JSON Profile, listed or not: the response with its fresh answer
-  pub ask : (d : Data) (request : Request) → asks d ≡ Some request → run n w session (asked.ask d) ≡ (text (response_text (answer_in w.state request) request), w)
-  pub no_request : (d : Data) → asks d ≡ None → run n w session (asked.ask d) ≡ (refused 14 None, w)
+  pub ask : (d : Data) (request : Request) → asks d ≡ Some request
+      → told n w x (asked.ask d) ≡ text (response_text (answer_in w.state request) request)
+  pub no_request : (d : Data) → asks d ≡ None → told n w x (asked.ask d) ≡ refused refusals.Request
   -- the reports: their definitions over the fresh table, of names that are listed
-  pub counts : run n w session asked.counts ≡ (text (counts_text (report.counts w.state)), w)
-  pub can : (person : List ℕ) (found : List (List ℕ × List ℕ)) → report.can w.state person ≡ Ok found → run n w session (asked.can person) ≡ (text (can_text found), w)
-  pub can_unlisted : (person : List ℕ) → has_name person w.state.names.people ≡ false → run n w session (asked.can person) ≡ (refused 7 None, w)
-  pub who : (action resource : List ℕ) (people : List (List ℕ)) → report.who w.state action resource ≡ Ok people → run n w session (asked.who action resource) ≡ (text (who_text people), w)
-  pub who_unlisted : (action resource : List ℕ) → (has_name action w.state.names.actions && has_name resource w.state.names.resources) ≡ false
-      → run n w session (asked.who action resource) ≡ (refused 7 None, w)
-  pub by_rule : (policy : List ℕ) (rule : Option (List ℕ)) → run n w session (asked.by_rule policy rule) ≡ (text (by_rule_text (report.by_rule w.state policy rule)), w)
-  -- a mark: the fresh table of that moment is kept for its session alone
-  pub mark : run n w session asked.mark ≡ (replies.marked w.state.serial, marked w session)
+  pub counts : told n w x asked.counts ≡ text (counts_text (report.counts w.state))
+  pub can : (person : List ℕ) (found : List (List ℕ × List ℕ)) → report.can w.state person ≡ Ok found
+      → told n w x (asked.can person) ≡ text (can_text found)
+  pub can_unlisted : (person : List ℕ) → has_name person w.state.names.people ≡ false
+      → told n w x (asked.can person) ≡ refused refusals.NotThere
+  pub who : (action resource : List ℕ) (people : List (List ℕ)) → report.who w.state action resource ≡ Ok people
+      → told n w x (asked.who action resource) ≡ text (who_text people)
+  pub who_unlisted : (action resource : List ℕ)
+      → (has_name action w.state.names.actions && has_name resource w.state.names.resources) ≡ false
+      → told n w x (asked.who action resource) ≡ refused refusals.NotThere
+  pub by_rule : (policy : List ℕ) (rule : Option (List ℕ))
+      → told n w x (asked.by_rule policy rule) ≡ text (by_rule_text (report.by_rule w.state policy rule))
   -- notices: the requests whose answers differ between the marked table and the fresh one, and the mark stays
-  pub notices : (kept : AnswerMap) → mark_of w session ≡ Some kept → run n w session asked.notices ≡ (text (notices_text (notices kept w.state)), w)
-  pub no_mark : mark_of w session ≡ None → run n w session asked.notices ≡ (refused 12 None, w)
-  -- the work: the number of evaluations, and the world stays
-  pub work : run n w session asked.work ≡ (text (work_text n), w)
-  -- the format: a version that lines have, 1 or 2
-  pub format : (version : ℕ) → is_version version ≡ true → run n w session (asked.format version) ≡ (text (format_text version), w)
-  pub no_format : (version : ℕ) → is_version version ≡ false → run n w session (asked.format version) ≡ (refused 11 None, w)
+  pub notices : (kept : AnswerMap) → mark_of w x ≡ Some kept
+      → told n w x asked.notices ≡ text (notices_text (notices kept w.state))
+  pub no_mark : mark_of w x ≡ None → told n w x asked.notices ≡ refused refusals.NoMark
+  -- the work: the number of evaluations
+  pub work : told n w x asked.work ≡ text (work_text n)
+  -- the format: a version that lines have, 1 or 2, which no negative number is
+  pub format : (version : ℕ) → is_version version ≡ true
+      → told n w x (asked.format (Some version)) ≡ text (format_text version)
+  pub no_format : (version : Option ℕ) → option_map_or is_version version false ≡ false
+      → told n w x (asked.format version) ≡ refused refusals.BadValue
   -- the dump: the lines of that version which make the state anew. Those of version 1 can't tell a moment
-  pub dump : (version : ℕ) → can_tell version w.state.held.environment ≡ true → run n w session (asked.dump version) ≡ (text (dump_text version w.state), w)
-  pub no_dump : (version : ℕ) → can_tell version w.state.held.environment ≡ false → run n w session (asked.dump version) ≡ (refused 11 None, w)
+  pub dump : (version : ℕ) → can_tell version w.state.held.environment ≡ true
+      → told n w x (asked.dump (Some version)) ≡ text (dump_text version w.state)
+  pub no_dump : (version : Option ℕ) → option_map_or (λ v. can_tell v w.state.held.environment) version false ≡ false
+      → told n w x (asked.dump version) ≡ refused refusals.BadValue
+  -- a mark: the fresh table of that moment is kept for its session alone
+  pub mark : run n w x asked.mark ≡ (replies.marked w.state.serial, marked w x)
 
 -- where lines that were answered so lead, one after the other, from one world to another
 pub record IsLed (w : World) (lines : List (List ℕ)) (answers : List Answer) (v : World) : Type 0 where
   -- to the state that their accepted edits lead to, each of which was accepted where the ones before it had led
   pub state : Lead w.state (accepted_edits lines answers) v.state
-  -- each session to what it sees after these edits and its own accepted marks among them (`History`): an edit leads to another state,
-  -- and a mark keeps the fresh table of the state at its place, so that its last one is that of its last place
-  pub session : (session : ℕ) → session < length w.marks → seen_by v session ≡ fold next (seen_by w session) (history session lines answers)
-  -- to lists in which no name stands twice where none did before, as at the start (`Doubles`): so a number of changes counts each request once
+  -- each session to what it sees after these edits and its own accepted marks among them (`History`): an edit leads to
+  -- another state, and a mark keeps the fresh table of the state at its place, so that its last one is that of its last
+  -- place
+  pub session : (session : ℕ) → session < length w.marks
+      → seen_by v session ≡ fold next (seen_by w session) (history session lines answers)
+  -- to lists in which no name stands twice where none did before, as at the start (`Doubles`): so a number of changes
+  -- counts each request once
   pub names : HasNoDoubles w.state.names → HasNoDoubles v.state.names
 
--- each line, edit and question in each world, after any number of evaluations; each run of lines; that notices are the difference of the two
--- tables, exactly the requests to which these have different answers; and what others mark or ask has no part in a session's notices
+-- each line, change and question in each world, after any number of evaluations; each run of lines, which leads so
+-- whatever is counted beside it; that notices are the difference of the two tables, exactly the requests to which these
+-- have different answers; and what others mark or ask has no part in a session's notices
 pub record IsHeadline : Type 0 where
   pub lines : (w : World) (line : List ℕ) → IsHeard w line
-  pub commands : (n : ℕ) (w : World) (session : ℕ) (c : asked.Command) → IsEdited n w session c
-  pub questions : (n : ℕ) (w : World) (session : ℕ) → IsAnswered n w session
-  pub runs : (w v : World) (lines : List (List ℕ)) (answers : List Answer) → Run Answers w lines answers v → IsLed w lines answers v
+  pub changes : (n : ℕ) (w : World) (session : ℕ) (c : Change) → IsEdited n w session c
+  pub questions : (n : ℕ) (w : World) (session : ℕ) → IsTold n w session
+  pub counted : (w v : Counted) (lines : List (List ℕ)) (answers : List Answer)
+      → Run Counts w lines answers v → Run Answers w.world lines answers v.world
+  pub runs : (w v : World) (lines : List (List ℕ)) (answers : List Answer)
+      → Run Answers w lines answers v → IsLed w lines answers v
   pub differences : NoticesAreTheDifference
   pub sessions : SessionsAreSeparate
 
--- what a served review promises: its bytes are the replies to the lines of the bytes that it read, in order, each in the world that the
--- lines before it left (`Serving` has the ends that this can have), and each reply is the one said above
-pub record Headline (e : Ends World) (r : Result ℕ ServeFault) : Type 0 where
-  pub bytes : ServesUntil Answers e r
+-- what a served review promises: its bytes are the replies to the lines of the bytes that it read, in order, each in
+-- the world that the lines before it left and after the evaluations that they made (`Serving` has the ends that this
+-- can have), and each reply is the one said above
+pub record Headline (e : Ends Counted) (r : Result ℕ ServeFault) : Type 0 where
+  pub bytes : ServesUntil Counts e r
   pub replies : IsHeadline

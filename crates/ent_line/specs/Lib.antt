@@ -5,8 +5,10 @@ pub mod Dumping
 pub mod Edits
 pub mod Headline
 pub mod History
+pub mod Keys
 pub mod Lines
 pub mod Pieces
+pub mod Refusals
 pub mod Replies
 pub mod Reports
 pub mod Runs

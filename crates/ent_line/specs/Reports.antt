@@ -1,4 +1,4 @@
--- The JSON of reports and notices, and what a session is told of its mark.
+-- The JSON of reports and notices.
 use Rattle.std.specs.Prelude.{ℕ, List, ◌++◌, Option, Some, None, codes, decimal}
 use Rattle.serde_json.specs.Data as json
 use Rattle.serde_json.specs.Data.{Data}
@@ -7,11 +7,6 @@ use Rattle.ent_combine.specs.declared.outcome.Outcome.{Outcome}
 use Rattle.ent_line.specs.Cells.{decision_text, list_data}
 use Rattle.ent_report.specs.declared.counts.Counts.{Counts}
 use Rattle.ent_report.specs.declared.notices.Notice.{Notice}
-use Rattle.ent_report.specs.Notices.{notices}
-use Rattle.ent_report.specs.World.{World, mark_of}
-use Rattle.ent_table.specs.AnswerMap.{AnswerMap}
-use Rattle.ent_table.specs.State.{State}
-use Rattle.ent_line.specs.Replies.{Answer, refused, text}
 
 -- ---- values
 
@@ -62,59 +57,28 @@ notice_data n = json.object (
 abbrev pub reply_data : List ℕ → Data → Data
 reply_data name d = json.object (json.member name d json.no_members)
 
--- the reply to `counts`
-abbrev pub counts_reply : Counts → Data
-counts_reply c = reply_data (codes "counts") (counts_data c)
-
--- the reply to `can`
-abbrev pub can_reply : List (List ℕ × List ℕ) → Data
-can_reply found = reply_data (codes "can") (list_data pair_data found)
-
--- the reply to `who`
-abbrev pub who_reply : List (List ℕ) → Data
-who_reply people = reply_data (codes "who") (list_data json.string people)
-
--- the reply to `by_rule`
-abbrev pub by_rule_reply : List (List ℕ × List ℕ × List ℕ) → Data
-by_rule_reply found = reply_data (codes "by_rule") (list_data triple_data found)
-
--- the reply to `notices`
-abbrev pub notices_reply : List Notice → Data
-notices_reply notices = reply_data (codes "notices") (list_data notice_data notices)
-
 -- ---- texts
 
 -- the text of the reply to `counts`
 unfoldable pub counts_text : Counts → List ℕ
-counts_text c = compact_text (counts_reply c)
+counts_text c = compact_text (reply_data (codes "counts") (counts_data c))
 
 -- the text of the reply to `can`
 unfoldable pub can_text : List (List ℕ × List ℕ) → List ℕ
-can_text found = compact_text (can_reply found)
+can_text found = compact_text (reply_data (codes "can") (list_data pair_data found))
 
 -- the text of the reply to `who`
 unfoldable pub who_text : List (List ℕ) → List ℕ
-who_text people = compact_text (who_reply people)
+who_text people = compact_text (reply_data (codes "who") (list_data json.string people))
 
 -- the text of the reply to `by_rule`
 unfoldable pub by_rule_text : List (List ℕ × List ℕ × List ℕ) → List ℕ
-by_rule_text found = compact_text (by_rule_reply found)
+by_rule_text found = compact_text (reply_data (codes "by_rule") (list_data triple_data found))
 
 -- the text of the reply to `notices`
 unfoldable pub notices_text : List Notice → List ℕ
-notices_text notices = compact_text (notices_reply notices)
+notices_text notices = compact_text (reply_data (codes "notices") (list_data notice_data notices))
 
 -- the text of the reply to `work`: how many times a request was evaluated
 unfoldable pub work_text : ℕ → List ℕ
 work_text n = codes "{\"evaluations\":" ++ (decimal n ++ codes "}")
-
--- ---- notices of a session
-
--- what changed since a mark, or the refusal where there is none
-abbrev pub notices_or_refusal : State → Option AnswerMap → Answer
-notices_or_refusal s None = refused 12 None
-notices_or_refusal s (Some kept) = text (notices_text (notices kept s))
-
--- what changed since the mark of a session, which stays
-unfoldable pub changes_told : World → ℕ → Answer
-changes_told w session = notices_or_refusal w.state (mark_of w session)

@@ -6,8 +6,9 @@ use Rattle.ent_line.specs.History.{asked_by, history}
 use Rattle.ent_line.specs.Lines.{line_limit}
 use Rattle.ent_line.specs.Replies.{Answer, refused}
 use Rattle.ent_line.specs.Runs.{Run}
-use Rattle.ent_line.specs.Reports.{changes_told}
+use Rattle.ent_line.specs.Commands.{changes_told}
 use Rattle.ent_line.specs.Step.{Answers}
+use Rattle.ent_line.specs.declared.refusal.Refusal.TheVariants.{Memory}
 
 -- two worlds have the same state and the same mark of a session, and each has a place for it
 pub record AreAlikeTo (session : ℕ) (w v : World) : Type 0 where
@@ -19,13 +20,13 @@ pub record AreAlikeTo (session : ℕ) (w v : World) : Type 0 where
 -- a line asks for the notices of a session
 pub record AsksNotices (session : ℕ) (line : List ℕ) : Type 0 where
   pub short : length line ≤ line_limit
-  pub command : asked_by line ≡ Some (session, asked.notices)
+  pub command : asked_by line ≡ Some (session, asked.question asked.notices)
 
 -- two worlds tell a session the same notices: two lines that ask for them have the same reply, unless one of them is refused for want of memory
 pub record TellAlike (session : ℕ) (w v : World) : Type 0 where
   pub notices : changes_told w session ≡ changes_told v session
   pub replies : (line other : List ℕ) (a b : Answer) (x y : World) → AsksNotices session line → AsksNotices session other
-      → Answers w line a x → Answers v other b y → (a ≡ b) ⊎ ((a ≡ refused 15 None) ⊎ (b ≡ refused 15 None))
+      → Answers w line a x → Answers v other b y → (a ≡ b) ⊎ ((a ≡ refused Memory) ⊎ (b ≡ refused Memory))
 
 -- two runs from the same state and the same mark of a session, with the same accepted edits and the session's own marks at the same places
 -- among them, give it the same notices, whatever other sessions mark or ask

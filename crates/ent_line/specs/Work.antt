@@ -1,7 +1,8 @@
--- What a line does to the count of evaluations, which `work` tells and which is no part of the world.
+-- The world beside the count of evaluations, which `work` tells: what a line does to both.
 use Rattle.std.specs.Prelude.{◌≡◌, ℕ, ◌≤◌, List, length, nat_lt, if◌then◌else◌, Option, Some, None, option_and_then, option_map, Result, Ok, Err}
 use Rattle.ent_cells.specs.Count.{raised}
 use Rattle.ent_profile.specs.Asks.{asks}
+use Rattle.ent_report.specs.World.{World}
 use Rattle.ent_table.specs.Counted.{touched_count}
 use Rattle.ent_table.specs.State.{State}
 use Rattle.ent_table.specs.Step as table
@@ -9,12 +10,13 @@ use Rattle.ent_table.specs.declared.edit.Edit.{Edit}
 use Rattle.ent_table.specs.declared.edit.EditFault.{EditFault}
 use Rattle.ent_line.specs.Asked as asked
 use Rattle.ent_line.specs.Asked.{Command}
-use Rattle.ent_line.specs.Edits.{NoEdit, edit_of}
+use Rattle.ent_line.specs.Edits.{edit_of}
+use Rattle.ent_line.specs.History.{asked_by}
 use Rattle.ent_line.specs.Lines.{line_limit}
 use Rattle.ent_line.specs.Replies as replies
 use Rattle.ent_line.specs.Replies.{Answer}
-use Rattle.ent_line.specs.History.{asked_by}
-use Rattle.ent_line.specs.declared.service.Service.{Service}
+use Rattle.ent_line.specs.Step.{AnswersAfter}
+use Rattle.ent_line.specs.declared.making.NoEdit.{NoEdit}
 
 -- ---- how many evaluations are asked for, or that the count is to stay
 
@@ -28,10 +30,11 @@ abbrev pub edit_work : State → Result Edit NoEdit → Option ℕ
 edit_work s (Ok edit) = step_work s (table.step s edit)
 edit_work s (Err why) = None
 
--- by a command: by the edit that it makes; or one, for a request that can be read. By a question, a mark and `work` itself the count stays
+-- by a command: by the edit that it makes; or one, for a request that can be read. By any other question, `work` itself too, and a mark the count stays
 abbrev pub command_work : State → Command → Option ℕ
-command_work s (asked.ask d) = option_map (λ request. 1) (asks d)
-command_work s c = edit_work s (edit_of c)
+command_work s (asked.change c) = edit_work s (edit_of c)
+command_work s (asked.question (asked.ask d)) = option_map (λ request. 1) (asks d)
+command_work s other = None
 
 -- by the command that is there
 abbrev pub asked_work : State → Option (ℕ × Command) → Option ℕ
@@ -47,9 +50,14 @@ line_work s line = if nat_lt line_limit (length line) then None else asked_work 
 -- of memory alone. It rises to the greatest count and stays there
 abbrev pub IsWorked : Option ℕ → ℕ → ℕ → Answer → Type 0
 IsWorked None before after a = after ≡ before
-IsWorked (Some n) before after (replies.refused code sub) = (before ≤ after) × (after ≤ raised before n)
+IsWorked (Some n) before after (replies.refused refusal) = (before ≤ after) × (after ≤ raised before n)
 IsWorked (Some n) before after a = after ≡ raised before n
 
--- the count of a service
-abbrev pub count_of : {A P : Type 0} → Service A P → ℕ
-count_of service = service.desk.review.pdp.evaluations
+-- a world beside the number of evaluations so far
+pub record Counted : Type 0 where
+  pub world : World
+  pub count : ℕ
+
+-- a line is answered after the evaluations so far, and their number becomes what the answer says of it
+abbrev pub Counts : Counted → List ℕ → Answer → Counted → Type 0
+Counts w line a v = AnswersAfter w.count w.world line a v.world × IsWorked (line_work w.world.state line) w.count v.count a

@@ -1,5 +1,6 @@
 pub mod CommandView
 pub mod LongLines
+pub mod Making
 pub mod Pieces
-pub mod Refusals
+pub mod Refusing
 pub mod Replying

@@ -7,7 +7,7 @@ ghost use Rattle.ent_line.specs.Replies.{reply_view};
 ghost use Rattle.ent_line.specs.proofs_only.Replying.{Tells};
 ghost use Rattle.ent_line.specs.World.{IsReady};
 
-use crate::refusal::BAD_VALUE;
+use crate::refusal::Refusal;
 use crate::reply::Reply;
 use crate::service::Service;
 use ent_dump::dump_text;
@@ -52,11 +52,14 @@ fn format_text(alloc: Global, version: u64) -> Result<String, AllocError>
 impl<A: Attributes, P: Policies> Service<A, P> {
     /// `format`.
     #[tactic(auto, unfolding(crate::specs::Commands::format_told))]
-    pub(crate) fn format(&self, version: u64) -> Result<Reply, AllocError>
+    pub(crate) fn format(&self, version: Option<u64>) -> Result<Reply, AllocError>
         ensures { IfOk result (λ reply. reply_view reply ≡ format_told version) }
     {
+        let Some(version) = version else {
+            return Ok(Reply::Refused(Refusal::BadValue));
+        };
         if !is_version(version) {
-            return Ok(Reply::Refused(BAD_VALUE, None));
+            return Ok(Reply::Refused(Refusal::BadValue));
         }
         let text = format_text(self.alloc, version)?;
         Ok(Reply::Text(text))
@@ -64,13 +67,16 @@ impl<A: Attributes, P: Policies> Service<A, P> {
 
     /// `dump`.
     #[tactic(auto, unfolding(crate::specs::Commands::dump_told))]
-    pub(crate) fn dump(&self, version: u64) -> Result<Reply, AllocError>
+    pub(crate) fn dump(&self, version: Option<u64>) -> Result<Reply, AllocError>
         requires { IsReady A.sources P.slots self.now }
         ensures { Tells A.sources P.slots (λ w. dump_told version w.state) self.now result }
     {
+        let Some(version) = version else {
+            return Ok(Reply::Refused(Refusal::BadValue));
+        };
         let review = self.desk.review();
         if !can_tell(version, review.pdp().environment()) {
-            return Ok(Reply::Refused(BAD_VALUE, None));
+            return Ok(Reply::Refused(Refusal::BadValue));
         }
         let text = dump_text(self.alloc, review, version)?;
         Ok(Reply::Text(text))

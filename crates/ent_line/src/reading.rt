@@ -11,7 +11,7 @@ ghost use Rattle.ent_policy.specs.Gives.{Gives};
 ghost use Rattle.ent_line.specs.proofs_only.CommandView.{row_view};
 ghost use Rattle.ent_line.specs.Edits.{key_of_row, root_of, row_read, values_in};
 
-use crate::attribute_command::AskedRow;
+use crate::keys::AskedRow;
 use ent_finder::RowKey;
 use ent_json::JsonTree;
 use ent_polform::{read_reference, read_value};

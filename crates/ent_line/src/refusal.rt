@@ -1,79 +1,97 @@
 //! Refusals by their numbers. Each number stands here alone.
 
-ghost use Rattle.ent_line.specs.proofs_only.Refusals.{DocumentRefused, EditRefused};
+ghost use Rattle.std.specs.Prelude.{◌≡◌};
+ghost use Rattle.ent_line.specs.Refusals.{code_of, sub_of};
+ghost use Rattle.ent_line.specs.proofs_only.Refusing.{EditRefused};
 
 use crate::reply::Reply;
-use ent_policy::CheckFault;
+use ent_policy::DocFault;
 use ent_table::EditFault;
 use std::alloc::AllocError;
+use thiserror::Error;
 
-/// A line or a file that is longer than it may be.
-pub const TOO_LONG: u8 = 1;
+/// Why a line or a file is refused.
+#[derive(Clone, Copy, Debug, PartialEq, Eq, Error)]
+pub enum Refusal {
+    #[error("it is longer than it may be")]
+    TooLong,
+    #[error("it isn't JSON")]
+    NotJson,
+    #[error("its shape is wrong")]
+    Shape,
+    #[error("no one knows the command")]
+    UnknownCommand,
+    #[error("the session isn't one of the sixteen")]
+    UnknownSession,
+    #[error("{0}")]
+    Document(DocFault),
+    #[error("what is named isn't there")]
+    NotThere,
+    #[error("what is to be added is there already")]
+    AlreadyThere,
+    #[error("a limit is reached")]
+    Limit,
+    #[error("the attribute is reserved")]
+    Reserved,
+    #[error("a value can't be used")]
+    BadValue,
+    #[error("the session has no mark")]
+    NoMark,
+    #[error("no module has the number")]
+    UnknownModule,
+    #[error("what is asked is no request")]
+    Request,
+    #[error("out of memory")]
+    Memory,
+}
 
-/// A line or a file that isn't JSON.
-pub const NOT_JSON: u8 = 2;
+impl Refusal {
+    /// The number by which the refusal is told.
+    pub fn code(self) -> u8
+        ensures { result ≡ code_of self }
+    {
+        match self {
+            Refusal::TooLong => 1,
+            Refusal::NotJson => 2,
+            Refusal::Shape => 3,
+            Refusal::UnknownCommand => 4,
+            Refusal::UnknownSession => 5,
+            Refusal::Document(_) => 6,
+            Refusal::NotThere => 7,
+            Refusal::AlreadyThere => 8,
+            Refusal::Limit => 9,
+            Refusal::Reserved => 10,
+            Refusal::BadValue => 11,
+            Refusal::NoMark => 12,
+            Refusal::UnknownModule => 13,
+            Refusal::Request => 14,
+            Refusal::Memory => 15,
+        }
+    }
 
-/// A line whose shape is wrong.
-pub const SHAPE: u8 = 3;
-
-/// A command that no one knows.
-pub const UNKNOWN_COMMAND: u8 = 4;
-
-/// A session that isn't one of the sixteen.
-pub const UNKNOWN_SESSION: u8 = 5;
-
-/// A document or a reference that isn't right.
-pub const DOCUMENT: u8 = 6;
-
-/// What is named isn't there.
-pub const NOT_THERE: u8 = 7;
-
-/// What is to be added is there already.
-pub const ALREADY_THERE: u8 = 8;
-
-/// A limit is reached.
-pub const LIMIT: u8 = 9;
-
-/// The attribute is reserved.
-pub const RESERVED: u8 = 10;
-
-/// A value that can't be used.
-pub const BAD_VALUE: u8 = 11;
-
-/// The session has no mark.
-pub const NO_MARK: u8 = 12;
-
-/// No module has the number.
-pub const UNKNOWN_MODULE: u8 = 13;
-
-/// What is asked is no request.
-pub const REQUEST: u8 = 14;
-
-/// Memory is wanting.
-pub const NO_MEMORY: u8 = 15;
+    /// The sub-code that is told beside the number, of a document.
+    pub fn sub_code(self) -> Option<u8>
+        ensures { result ≡ sub_of self }
+    {
+        match self {
+            Refusal::Document(fault) => Some(fault.code()),
+            _ => None,
+        }
+    }
+}
 
 /// The reply to an edit that is refused, or want of memory.
 pub(crate) fn refused_edit(fault: EditFault) -> Result<Reply, AllocError>
     ensures { EditRefused fault result }
 {
-    let code = match fault {
-        EditFault::NotThere => NOT_THERE,
-        EditFault::AlreadyThere => ALREADY_THERE,
-        EditFault::Limit => LIMIT,
-        EditFault::Reserved => RESERVED,
-        EditFault::BadValue => BAD_VALUE,
-        EditFault::UnknownModule => UNKNOWN_MODULE,
+    let refusal = match fault {
+        EditFault::NotThere => Refusal::NotThere,
+        EditFault::AlreadyThere => Refusal::AlreadyThere,
+        EditFault::Limit => Refusal::Limit,
+        EditFault::Reserved => Refusal::Reserved,
+        EditFault::BadValue => Refusal::BadValue,
+        EditFault::UnknownModule => Refusal::UnknownModule,
         EditFault::Memory => return Err(AllocError),
     };
-    Ok(Reply::Refused(code, None))
-}
-
-/// The reply to a document or a reference with a fault, or want of memory.
-pub(crate) fn refused_document(fault: CheckFault) -> Result<Reply, AllocError>
-    ensures { DocumentRefused fault result }
-{
-    match fault {
-        CheckFault::Doc(fault) => Ok(Reply::Refused(DOCUMENT, Some(fault.code()))),
-        CheckFault::Memory => Err(AllocError),
-    }
+    Ok(Reply::Refused(refusal))
 }

@@ -2,10 +2,11 @@
 
 ghost use Rattle.std.specs.Prelude.{◌≡◌, Result, Some, None};
 ghost use Rattle.ent_line.specs.Pieces.{Sends};
-ghost use Rattle.ent_line.specs.Replies.{accepted, marked, refused, reply_view, line_of};
+ghost use Rattle.ent_line.specs.Replies.{accepted, marked, refusal_line, reply_view, line_of};
 
 use crate::fault::ServeFault;
 use crate::output::send_all;
+use crate::refusal::Refusal;
 use ent_table::Accepted;
 use itoa::Buffer;
 use std::io::Write;
@@ -15,8 +16,8 @@ use std::io::Write;
 pub enum Reply {
     /// An edit was accepted, written as `{"changes":n,"serial":n}`.
     Accepted(Accepted),
-    /// The refusal's number, and for a document its sub-code, written as `{"refused":n}` or `{"refused":n,"sub":n}`.
-    Refused(u8, Option<u8>),
+    /// Why it is refused, written as `{"refused":n}`, or for a document with its sub-code as `{"refused":n,"sub":n}`.
+    Refused(Refusal),
     /// The number of edits before a mark, written as `{"mark":n}`.
     Marked(u64),
     /// A JSON text, written as it is.
@@ -39,7 +40,7 @@ fn send_accepted<W: Write>(writer: &mut W, changes: u64, serial: u64) -> Result<
 
 /// Writes the line of a refusal that has no sub-code.
 fn send_refused<W: Write>(writer: &mut W, code: u8) -> Result<(), ServeFault>
-    ensures { Sends (W.contents writer.old) (W.contents writer.new) (line_of (refused code None)) result }
+    ensures { Sends (W.contents writer.old) (W.contents writer.new) (refusal_line code None) result }
 {
     let mut first = Buffer::new();
     let start = "{\"refused\":".as_bytes();
@@ -50,7 +51,7 @@ fn send_refused<W: Write>(writer: &mut W, code: u8) -> Result<(), ServeFault>
 
 /// Writes the line of a refused document.
 fn send_sub<W: Write>(writer: &mut W, code: u8, sub: u8) -> Result<(), ServeFault>
-    ensures { Sends (W.contents writer.old) (W.contents writer.new) (line_of (refused code (Some sub))) result }
+    ensures { Sends (W.contents writer.old) (W.contents writer.new) (refusal_line code (Some sub)) result }
 {
     let mut first = Buffer::new();
     let mut second = Buffer::new();
@@ -79,9 +80,9 @@ pub(crate) fn send_reply<W: Write>(writer: &mut W, reply: &Reply) -> Result<(), 
 {
     match reply {
         Reply::Accepted(accepted) => send_accepted(writer, accepted.changes, accepted.serial),
-        Reply::Refused(code, sub) => match sub {
-            None => send_refused(writer, *code),
-            Some(sub) => send_sub(writer, *code, *sub),
+        Reply::Refused(refusal) => match refusal.sub_code() {
+            None => send_refused(writer, refusal.code()),
+            Some(sub) => send_sub(writer, refusal.code(), sub),
         },
         Reply::Marked(serial) => send_marked(writer, *serial),
         Reply::Text(text) => send_all(writer, &[text.as_bytes(), "\n".as_bytes()]),

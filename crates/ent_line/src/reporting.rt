@@ -4,12 +4,11 @@ ghost use Rattle.std.specs.Prelude.{◌≡◌, ◌<◌, IfOk};
 ghost use Rattle.std.specs.Option.{option_copied};
 ghost use Rattle.ent_line.specs.Replies.{reply_view};
 ghost use Rattle.ent_line.specs.proofs_only.Replying.{Replies, Tells};
-ghost use Rattle.ent_line.specs.Commands.{by_rule_told, can_told, counts_told, table_marked, who_told, work_told};
-ghost use Rattle.ent_line.specs.Reports.{changes_told};
-ghost use Rattle.ent_line.specs.Work.{count_of};
-ghost use Rattle.ent_line.specs.World.{IsReady};
+ghost use Rattle.ent_line.specs.Commands.{by_rule_told, can_told, changes_told, counts_told};
+ghost use Rattle.ent_line.specs.Commands.{table_marked, who_told, work_told};
+ghost use Rattle.ent_line.specs.World.{IsReady, count_of};
 
-use crate::refusal::{NO_MARK, NOT_THERE};
+use crate::refusal::Refusal;
 use crate::reply::Reply;
 use crate::reports::{by_rule_text, can_text, counts_text, notices_text, who_text, work_text};
 use crate::service::Service;
@@ -42,7 +41,7 @@ impl<A: Attributes, P: Policies> Service<A, P> {
                 let text = can_text(self.alloc, found.as_slice())?;
                 Ok(Reply::Text(text))
             }
-            Err(ReportFault::NotThere) => Ok(Reply::Refused(NOT_THERE, None)),
+            Err(ReportFault::NotThere) => Ok(Reply::Refused(Refusal::NotThere)),
             Err(ReportFault::Memory) => Err(AllocError),
         }
     }
@@ -58,7 +57,7 @@ impl<A: Attributes, P: Policies> Service<A, P> {
                 let text = who_text(self.alloc, people.as_slice())?;
                 Ok(Reply::Text(text))
             }
-            Err(ReportFault::NotThere) => Ok(Reply::Refused(NOT_THERE, None)),
+            Err(ReportFault::NotThere) => Ok(Reply::Refused(Refusal::NotThere)),
             Err(ReportFault::Memory) => Err(AllocError),
         }
     }
@@ -94,7 +93,7 @@ impl<A: Attributes, P: Policies> Service<A, P> {
     }
 
     /// `notices`.
-    #[tactic(auto, using(crate::proofs::ReportLemmas::noticed, crate::proofs::ReportLemmas::unmarked), unfolding(crate::specs::Reports::changes_told))]
+    #[tactic(auto, using(crate::proofs::ReportLemmas::noticed, crate::proofs::ReportLemmas::unmarked), unfolding(crate::specs::Commands::changes_told))]
     pub(crate) fn notices(&self, session: u8) -> Result<Reply, AllocError>
         requires ready { IsReady A.sources P.slots self.now }
         requires session { session < 16 }
@@ -105,7 +104,7 @@ impl<A: Attributes, P: Policies> Service<A, P> {
                 let text = notices_text(self.alloc, notices.as_slice())?;
                 Ok(Reply::Text(text))
             }
-            Err(NoticeFault::NoMark) => Ok(Reply::Refused(NO_MARK, None)),
+            Err(NoticeFault::NoMark) => Ok(Reply::Refused(Refusal::NoMark)),
             Err(NoticeFault::Memory) => Err(AllocError),
         }
     }

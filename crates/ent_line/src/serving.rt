@@ -4,7 +4,7 @@ ghost use Rattle.std.specs.Prelude.{◌≡◌, ◌≤◌, IfOk};
 ghost use Rattle.ent_line.specs.Headline.{Headline};
 ghost use Rattle.ent_line.specs.Serving.{ServesUntil};
 ghost use Rattle.ent_line.specs.proofs_only.Pieces.{AnswersLine};
-ghost use Rattle.ent_line.specs.World.{IsReady, world_of};
+ghost use Rattle.ent_line.specs.World.{IsReady, counted_of};
 
 use crate::answering::Answering;
 use crate::fault::ServeFault;
@@ -110,7 +110,8 @@ pub fn serve<S: Answering, R: BufRead, W: Write>(
 }
 
 /// Serves a review: each line of the reader has its reply in the writer, as `serve` does it, and each reply is what
-/// evaluating every request afresh gives on what the accepted edits leave (section 7).
+/// evaluating every request afresh gives on what the accepted edits leave (section 7). What `work` is answered is the
+/// number of evaluations that the lines before it made, and those before the first.
 pub fn serve_review<A: Attributes, P: Policies, R: BufRead, W: Write>(
     alloc: Global,
     service: &mut Service<A, P>,
@@ -120,8 +121,8 @@ pub fn serve_review<A: Attributes, P: Policies, R: BufRead, W: Write>(
     requires { IsReady A.sources P.slots service.old }
     ensures ready { IsReady A.sources P.slots service.new }
     ensures headline { Headline (record {
-      start = world_of A.sources P.slots service.old;
-      end = world_of A.sources P.slots service.new;
+      start = counted_of A.sources P.slots service.old;
+      end = counted_of A.sources P.slots service.new;
       unread = R.remaining reader.old;
       left = R.remaining reader.new;
       wrote = W.contents writer.old;

@@ -15,9 +15,9 @@ use Rattle.ent_eval.specs.declared.environment.Environment.TheVariants.{Empty}
 use Rattle.ent_eval.specs.declared.pdp.Pdp.{Pdp}
 use Rattle.ent_table.specs.Limits.{standard_limits}
 use Rattle.ent_table.specs.State.{initial}
-use Rattle.ent_report.specs.World.{World}
 use Rattle.ent_table.specs.declared.limits.Limits.{Limits}
 use Rattle.ent_line.specs.Headline.{Headline, IsHeadline}
+use Rattle.ent_line.specs.Work.{Counted}
 use Rattle.ent_line.specs.declared.fault.ServeFault.{ServeFault}
 use Rattle.ent_line.specs.declared.fault.ServeFault.TheVariants.{Memory}
 use Rattle.ent_program.specs.Starting.{no_rows, state_at_start}
@@ -69,5 +69,5 @@ started sources slots pdp limits attributes policies os ms n m a p no_root no_ti
     λ t. initial (record { root = no_root t; modules = empty_ones t; sources = rowless t; environment = no_time t }) (standard t)
 
 -- where memory was wanting, nothing was served
-pub not_begun : (replies : IsHeadline) (w : World) (unread wrote : Option (List ℕ)) (r : Result ℕ ServeFault) → r ≡ Err Memory → (end : World) × Headline (record { start = w; end = end; unread = unread; left = unread; wrote = wrote; holds = wrote }) r
+pub not_begun : (replies : IsHeadline) (w : Counted) (unread wrote : Option (List ℕ)) (r : Result ℕ ServeFault) → r ≡ Err Memory → (end : Counted) × Headline (record { start = w; end = end; unread = unread; left = unread; wrote = wrote; holds = wrote }) r
 not_begun replies w unread wrote r e = rw e (w, record { bytes = (refl, Consumes-nil unread, Appends-nil wrote); replies = replies })

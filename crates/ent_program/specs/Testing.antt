@@ -8,9 +8,9 @@ use Rattle.ent_sessions.specs.declared.fault.SessionFault.{SessionFault}
 use Rattle.ent_sessions.specs.declared.fault.SessionFault.TheVariants as unread
 use Rattle.ent_sessions.specs.declared.session.Session.{Session}
 use Rattle.ent_sessions.specs.declared.session.Step.{Step}
-use Rattle.ent_report.specs.World.{World}
 use Rattle.ent_line.specs.Headline.{Headline}
 use Rattle.ent_line.specs.Lines.{ended}
+use Rattle.ent_line.specs.Work.{Counted}
 use Rattle.ent_line.specs.declared.fault.ServeFault.{ServeFault}
 use Rattle.ent_line.specs.declared.fault.ServeFault.TheVariants as fault
 use Rattle.ent_program.specs.Starting.{start_of}
@@ -26,8 +26,8 @@ few count = if nat_le 1 count && nat_le count 4 then count else 2
 
 -- these bytes are what a new service, of as many modules as the session says, replies to its lines
 unfoldable pub AreRepliesTo : Session → List ℕ → Type 0
-AreRepliesTo session replies = (end : World) × (left : Option (List ℕ)) × (number : ℕ) × Headline (record {
-  start = start_of (few session.modules) (few session.modules);
+AreRepliesTo session replies = (end : Counted) × (left : Option (List ℕ)) × (number : ℕ) × Headline (record {
+  start = record { world = start_of (few session.modules) (few session.modules); count = 0 };
   end = end;
   unread = Some (asked session.steps);
   left = left;

@@ -11,8 +11,7 @@ ghost use Rattle.ent_program.specs.declared.checking.Verdict.TheVariants.{Passed
 
 use ent_explain::explain;
 use ent_json::read_json;
-use ent_line::refusal::{DOCUMENT, NOT_JSON, TOO_LONG};
-use ent_line::{LINE_LIMIT, ServeFault, send_all};
+use ent_line::{LINE_LIMIT, Refusal, ServeFault, send_all};
 use ent_polform::read_document;
 use ent_policy::{CheckFault, DocFault, Document, Kind};
 use ent_values::Text;
@@ -196,9 +195,11 @@ fn send_verdict<W: Write>(writer: &mut W, verdict: &Verdict) -> Result<(), Serve
 {
     match verdict {
         Verdict::Passed(kind, id, version) => send_passed(writer, *kind, id, version),
-        Verdict::Refused(FileFault::TooLong) => send_refused(writer, TOO_LONG),
-        Verdict::Refused(FileFault::NotJson) => send_refused(writer, NOT_JSON),
-        Verdict::Refused(FileFault::Document(fault)) => send_sub(writer, DOCUMENT, fault.code()),
+        Verdict::Refused(FileFault::TooLong) => send_refused(writer, Refusal::TooLong.code()),
+        Verdict::Refused(FileFault::NotJson) => send_refused(writer, Refusal::NotJson.code()),
+        Verdict::Refused(FileFault::Document(fault)) => {
+            send_sub(writer, Refusal::Document(*fault).code(), fault.code())
+        }
     }
 }
 

@@ -2,8 +2,8 @@
 
 ghost use Rattle.std.specs.Prelude.{◌≡◌, ◌≤◌, ◌+◌, ◌++◌, ◌∷◌, [], IfOk, OnOk, map, vec_len};
 ghost use Rattle.std.specs.FinMap.{empty};
-ghost use Rattle.ent_report.specs.World.{World};
 ghost use Rattle.ent_line.specs.Headline.{Headline};
+ghost use Rattle.ent_line.specs.Work.{Counted};
 ghost use Rattle.ent_program.specs.Starting.{IsFew, categories, no_rows, start_of};
 
 use crate::options::Modules;
@@ -67,8 +67,8 @@ pub fn serve_from<R: BufRead, W: Write>(
 ) -> Result<u64, ServeFault>
     requires attributes { IsFew count.attributes }
     requires policies { IsFew count.policies }
-    ensures { (end : World) × Headline (record {
-      start = start_of count.attributes count.policies;
+    ensures { (end : Counted) × Headline (record {
+      start = record { world = start_of count.attributes count.policies; count = 0 };
       end = end;
       unread = R.remaining reader.old;
       left = R.remaining reader.new;

@@ -36,8 +36,8 @@ use Rattle.ent_table.specs.declared.edit.List.{List as Which}
 use Rattle.ent_table.specs.declared.edit.List.TheVariants as which
 use Rattle.ent_dump.specs.Edits.{edit_data}
 use Rattle.ent_line.specs.Asked as asked
-use Rattle.ent_line.specs.Asked.{AskedRow, add_command, add_name_command, adding_named, attribute_command, category_named, command_of, day_command, document_for, drop_name_command}
-use Rattle.ent_line.specs.Asked.{dropping_named, edit_named, kind_named, moment_command, name_for, policy_named, replace_command, request_of, root_command, row_of, setting_named, withdraw_command}
+use Rattle.ent_line.specs.Asked.{command_in, form_of, name_of, naming, setting, storing, withdrawing}
+use Rattle.ent_line.specs.Keys.{AskedRow, category_named, kind_named, row_in}
 use Rattle.ent_line.specs.Edits.{row_read, values_in}
 use Rattle.ent_restart.specs.Carried.{IsRead, IsReadRow}
 use Rattle.ent_restart.specs.Laws.{Asks, EditsReadBack}
@@ -45,13 +45,13 @@ use Rattle.ent_restart.specs.Laws.{Asks, EditsReadBack}
 -- ---- names
 
 add_back : (list : Which) (name : List ℕ) → Asks (edit_data (AddName list name)) (AddName list name)
-unfolding edit_data request_of command_of edit_named adding_named add_name_command name_for
+unfolding edit_data command_in name_of form_of naming
 add_back which.People name = (asked.add_name which.People name, (refl, refl))
 add_back which.Actions name = (asked.add_name which.Actions name, (refl, refl))
 add_back which.Resources name = (asked.add_name which.Resources name, (refl, refl))
 
 drop_back : (list : Which) (name : List ℕ) → Asks (edit_data (DropName list name)) (DropName list name)
-unfolding edit_data request_of command_of edit_named adding_named dropping_named drop_name_command name_for
+unfolding edit_data command_in name_of form_of naming
 drop_back which.People name = (asked.drop_name which.People name, (refl, refl))
 drop_back which.Actions name = (asked.drop_name which.Actions name, (refl, refl))
 drop_back which.Resources name = (asked.drop_name which.Resources name, (refl, refl))
@@ -68,7 +68,7 @@ unfolding value_of text_of
 date_back day h = of_date (date_of (date_text day)) day (texts.read_back (values.Date day) h)
 
 day_back : (day : Option Day) → IsRead (SetDay day) → Asks (edit_data (SetDay day)) (SetDay day)
-unfolding edit_data request_of command_of edit_named adding_named dropping_named setting_named day_command
+unfolding edit_data command_in name_of form_of
 day_back None h = (asked.set_day None, (refl, refl))
 day_back (Some day) h = (asked.set_day (Some (date_text day)), (refl, rw (date_back day h) refl))
 
@@ -81,7 +81,7 @@ unfolding value_of text_of
 date_time_back moment h = of_date_time (date_time_of (date_time_text moment)) moment (texts.read_back (values.DateTime moment) h)
 
 moment_back : (moment : Option DateTime) → IsRead (SetMoment moment) → Asks (edit_data (SetMoment moment)) (SetMoment moment)
-unfolding edit_data request_of command_of edit_named adding_named dropping_named setting_named moment_command
+unfolding edit_data command_in name_of form_of
 moment_back None h = (asked.set_moment None, (refl, refl))
 moment_back (Some moment) h = (asked.set_moment (Some (date_time_text moment)), (refl, rw (date_time_back moment h) refl))
 
@@ -105,8 +105,8 @@ row_is_read key vs h few = rw ((names_read_back key.datatype).0, spelled key.dat
 
 row_asked : (number : ℕ) (category entity attribute : List ℕ) (datatype : DataType) (issuer : Option (List ℕ)) (vs : List Value) → category_named category ≡ Some category
     → let key : RowKey = record { category = category; entity = entity; attribute = attribute; datatype = datatype; issuer = issuer } in
-    request_of (edit_data (SetAttribute number key vs)) ≡ Ok (0, asked.set_attribute number (asked_row key vs))
-unfolding edit_data request_of command_of edit_named adding_named dropping_named setting_named attribute_command row_of
+    command_in (edit_data (SetAttribute number key vs)) ≡ Ok (0, asked.change (asked.set_attribute number (asked_row key vs)))
+unfolding edit_data command_in name_of form_of setting row_in
 row_asked number category entity attribute datatype None vs h = rw h refl
 row_asked number category entity attribute datatype (Some issuer) vs h = rw h refl
 
@@ -120,18 +120,18 @@ row_back number key vs h few = (
 -- ---- the root
 
 root_back : (root : Option Reference) → IsRead (SetRoot root) → Asks (edit_data (SetRoot root)) (SetRoot root)
-unfolding edit_data request_of command_of edit_named adding_named dropping_named setting_named root_command reference_written
+unfolding edit_data command_in name_of form_of reference_written
 root_back None h = (asked.set_root json.null, (refl, refl))
 root_back (Some root) h = (asked.set_root (reference_written root), (refl, rw (references_back root h) refl))
 
 -- ---- documents
 
 add_policy_back : (number : ℕ) (document : Tree) → IsChecked document → AllByRecursion HasFewYears (document_values document) → Asks (edit_data (AddPolicy number document)) (AddPolicy number document)
-unfolding edit_data request_of command_of edit_named adding_named dropping_named setting_named policy_named add_command document_for
+unfolding edit_data command_in name_of form_of storing
 add_policy_back number document checked few = (asked.add_policy number (written document), (refl, rw (documents_back document checked few) refl))
 
 replace_policy_back : (number : ℕ) (document : Tree) → IsChecked document → AllByRecursion HasFewYears (document_values document) → Asks (edit_data (ReplacePolicy number document)) (ReplacePolicy number document)
-unfolding edit_data request_of command_of edit_named adding_named dropping_named setting_named policy_named replace_command document_for
+unfolding edit_data command_in name_of form_of storing
 replace_policy_back number document checked few = (asked.replace_policy number (written document), (refl, rw (documents_back document checked few) refl))
 
 kind_back : (kind : Kind) → kind_named (kind_word kind) ≡ Some kind
@@ -139,7 +139,7 @@ kind_back kinds.Policy = refl
 kind_back kinds.PolicySet = refl
 
 withdraw_back : (number : ℕ) (key : DocKey) → IsTrue (is_version key.version) → Asks (edit_data (WithdrawPolicy number key)) (WithdrawPolicy number key)
-unfolding edit_data request_of command_of edit_named adding_named dropping_named setting_named policy_named withdraw_command
+unfolding edit_data command_in name_of form_of withdrawing
 withdraw_back number key h = (asked.withdraw_policy number key.kind key.id (version_text key.version), (rw (kind_back key.kind) refl, rw (policies.reads_back key.version h) refl))
 
 pub read_back : EditsReadBack

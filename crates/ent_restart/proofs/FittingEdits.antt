@@ -5,7 +5,6 @@ use Rattle.std.specs.FinMap.{empty, get, get-empty}
 use Rattle.std.specs.List.{AllByRecursion}
 use Rattle.std.proofs.lemmas.Bool.{ltb-true, ltb-false}
 use Rattle.serde_json.specs.Data as json
-use Rattle.serde_json.specs.Data.{Data}
 use Rattle.serde_json.specs.View.{items_of}
 use Rattle.ent_values.specs.Calendar.{Day}
 use Rattle.ent_values.specs.ReadBack.{IsReal}
@@ -24,10 +23,9 @@ use Rattle.ent_table.specs.declared.edit.Edit.{Edit}
 use Rattle.ent_table.specs.declared.edit.Edit.TheVariants.{AddPolicy, ReplacePolicy, WithdrawPolicy, SetAttribute, AddName, DropName, SetRoot, SetDay, SetMoment}
 use Rattle.ent_rebuild.proofs.Made.{IsMadeOf}
 use Rattle.ent_restart.specs.Carried.{IsRead}
-use Rattle.ent_restart.proofs.Fitting.{Fits, fits_more, list_fits, object_fits, text_fits}
-use Rattle.ent_restart.proofs.FittingDocuments.{document_fits}
-use Rattle.ent_restart.proofs.FittingParts.{maybe_text_fits, reference_fits, value_fits}
-use Rattle.ent_policy.proofs.Within.{passed_within}
+use Rattle.ent_polform.proofs.Fitting.{Fits, fits_more, list_fits, maybe_text_fits, object_fits, text_fits}
+use Rattle.ent_polform.proofs.FittingDocuments.{document_fits}
+use Rattle.ent_polform.proofs.FittingParts.{reference_fits, value_fits}
 use Rattle.ent_values.specs.declared.date_time.DateTime.{DateTime}
 use Rattle.ent_eval.specs.declared.environment.Environment.{Environment}
 use Rattle.ent_eval.specs.declared.environment.Environment.TheVariants as environments
@@ -43,60 +41,60 @@ IsSmall (WithdrawPolicy number key) = number < 2 ^ 64
 IsSmall (SetAttribute number key values) = number < 2 ^ 64
 IsSmall edit = Unit {0}
 
-number_fits : (n number : ℕ) → number < 2 ^ 64 → Fits n (json.number (json.unsigned number))
+number_fits : (n number : ℕ) → number < 2 ^ 64 → Fits (suc n) (json.number (json.unsigned number))
 number_fits n number h = record { plain = h; shallow = omega arith }
 
-null_fits : (n : ℕ) → Fits n json.null
+null_fits : (n : ℕ) → Fits (suc n) json.null
 null_fits n = record { plain = tt; shallow = omega arith }
 
-name_fits : (command name : List ℕ) → Fits 104 (name_data command name)
-name_fits command name = object_fits 103 ((codes "do", Some (json.string command)) ∷ (codes "name", Some (json.string name)) ∷ []) refl (text_fits 103 command, (text_fits 103 name, tt))
+name_fits : (command name : List ℕ) → Fits 102 (name_data command name)
+name_fits command name = object_fits 100 ((codes "do", Some (json.string command)) ∷ (codes "name", Some (json.string name)) ∷ []) refl (text_fits 100 command, (text_fits 100 name, tt))
 
-data_fits : (command : List ℕ) (number : ℕ) (document : Tree) → number < 2 ^ 64 → IsChecked document → Fits 104 (document_data command number document)
+data_fits : (command : List ℕ) (number : ℕ) (document : Tree) → number < 2 ^ 64 → IsChecked document → Fits 102 (document_data command number document)
 data_fits command number document small checked =
-    object_fits 103 ((codes "do", Some (json.string command)) ∷ (codes "document", Some (written document)) ∷ (codes "module", Some (json.number (json.unsigned number))) ∷ [])
-    refl (text_fits 103 command, (document_fits document checked (passed_within document checked), (number_fits 103 number small, tt)))
+    object_fits 100 ((codes "do", Some (json.string command)) ∷ (codes "document", Some (written document)) ∷ (codes "module", Some (json.number (json.unsigned number))) ∷ [])
+    refl (text_fits 100 command, (document_fits document checked, (number_fits 100 number small, tt)))
 
-values_fit : (vs : List Value) → AllByRecursion IsReal vs → AllByRecursion (Fits 102) (map value_written vs)
+values_fit : (vs : List Value) → AllByRecursion IsReal vs → AllByRecursion (Fits 100) (map value_written vs)
 values_fit [] h = tt
-values_fit (v ∷ vs) h = (fits_more 0 102 (value_written v) (omega arith) (value_fits v h.0), values_fit vs h.1)
+values_fit (v ∷ vs) h = (fits_more 1 100 (value_written v) (omega arith) (value_fits v h.0), values_fit vs h.1)
 
-day_fits : (day : Option Day) → Fits 103 (written_day day)
-day_fits None = null_fits 103
-day_fits (Some day) = text_fits 103 _
+day_fits : (day : Option Day) → Fits 101 (written_day day)
+day_fits None = null_fits 100
+day_fits (Some day) = text_fits 100 _
 
-moment_fits : (moment : Option DateTime) → Fits 103 (written_moment moment)
-moment_fits None = null_fits 103
-moment_fits (Some moment) = text_fits 103 _
+moment_fits : (moment : Option DateTime) → Fits 101 (written_moment moment)
+moment_fits None = null_fits 100
+moment_fits (Some moment) = text_fits 100 _
 
-root_fits : (root : Option Reference) → Fits 103 (written_root root)
-root_fits None = null_fits 103
-root_fits (Some root) = fits_more 2 103 (reference_written root) (omega arith) (reference_fits root)
+root_fits : (root : Option Reference) → Fits 101 (written_root root)
+root_fits None = null_fits 100
+root_fits (Some root) = fits_more 3 101 (reference_written root) (omega arith) (reference_fits root)
 
-pub edit_fits : (e : Edit) → IsRead e → IsSmall e → Fits 104 (edit_data e)
+pub edit_fits : (e : Edit) → IsRead e → IsSmall e → Fits 102 (edit_data e)
 unfolding edit_data
 edit_fits (AddPolicy number document) h small = data_fits (codes "policy.add") number document small h
 edit_fits (ReplacePolicy number document) h small = data_fits (codes "policy.replace") number document small h
 edit_fits (WithdrawPolicy number key) h small =
-    object_fits 103 ((codes "do", Some (json.string (codes "policy.withdraw"))) ∷ (codes "id", Some (json.string key.id)) ∷ (codes "kind", Some (json.string (kind_word key.kind)))
+    object_fits 100 ((codes "do", Some (json.string (codes "policy.withdraw"))) ∷ (codes "id", Some (json.string key.id)) ∷ (codes "kind", Some (json.string (kind_word key.kind)))
     ∷ (codes "module", Some (json.number (json.unsigned number))) ∷ (codes "version", Some (json.string (version_text key.version))) ∷ [])
-    refl (text_fits 103 _, (text_fits 103 _, (text_fits 103 _, (number_fits 103 number small, (text_fits 103 _, tt)))))
+    refl (text_fits 100 _, (text_fits 100 _, (text_fits 100 _, (number_fits 100 number small, (text_fits 100 _, tt)))))
 edit_fits (SetAttribute number key values) h small =
-    object_fits 103 ((codes "attribute", Some (json.string key.attribute)) ∷ (codes "category", Some (json.string key.category)) ∷ (codes "do", Some (json.string (codes "attr.set")))
+    object_fits 100 ((codes "attribute", Some (json.string key.attribute)) ∷ (codes "category", Some (json.string key.category)) ∷ (codes "do", Some (json.string (codes "attr.set")))
     ∷ (codes "entity", Some (json.string key.entity)) ∷ (codes "issuer", option_map json.string key.issuer) ∷ (codes "module", Some (json.number (json.unsigned number)))
     ∷ (codes "type", Some (json.string (uri_of key.datatype))) ∷ (codes "values", Some (json.array (items_of (map value_written values)))) ∷ [])
-    refl (text_fits 103 _, (text_fits 103 _, (text_fits 103 _, (text_fits 103 _, (maybe_text_fits 103 key.issuer, (number_fits 103 number small, (text_fits 103 _, (list_fits 102 (map value_written values) (values_fit values h.real), tt))))))))
+    refl (text_fits 100 _, (text_fits 100 _, (text_fits 100 _, (text_fits 100 _, (maybe_text_fits 100 key.issuer, (number_fits 100 number small, (text_fits 100 _, (list_fits 99 (map value_written values) (values_fit values h.real), tt))))))))
 edit_fits (AddName list name) h small = name_fits (adding list) name
 edit_fits (DropName list name) h small = name_fits (dropping list) name
 edit_fits (SetRoot root) h small =
-    object_fits 103 ((codes "do", Some (json.string (codes "root.set"))) ∷ (codes "reference", Some (written_root root)) ∷ []) refl (text_fits 103 _, (root_fits root, tt))
+    object_fits 100 ((codes "do", Some (json.string (codes "root.set"))) ∷ (codes "reference", Some (written_root root)) ∷ []) refl (text_fits 100 _, (root_fits root, tt))
 edit_fits (SetDay day) h small =
-    object_fits 103 ((codes "day", Some (written_day day)) ∷ (codes "do", Some (json.string (codes "day.set"))) ∷ []) refl (day_fits day, (text_fits 103 _, tt))
+    object_fits 100 ((codes "day", Some (written_day day)) ∷ (codes "do", Some (json.string (codes "day.set"))) ∷ []) refl (day_fits day, (text_fits 100 _, tt))
 edit_fits (SetMoment moment) h small =
-    object_fits 103 ((codes "do", Some (json.string (codes "moment.set"))) ∷ (codes "moment", Some (written_moment moment)) ∷ []) refl (text_fits 103 _, (moment_fits moment, tt))
+    object_fits 100 ((codes "do", Some (json.string (codes "moment.set"))) ∷ (codes "moment", Some (written_moment moment)) ∷ []) refl (text_fits 100 _, (moment_fits moment, tt))
 
 -- the format of a version that can be written
-pub format_fits : (version : ℕ) → version < 2 ^ 64 → Fits 1 (format_data version)
+pub format_fits : (version : ℕ) → version < 2 ^ 64 → Fits 2 (format_data version)
 format_fits version h = object_fits 0 ((codes "do", Some (json.string (codes "format"))) ∷ (codes "version", Some (json.number (json.unsigned version))) ∷ []) refl (text_fits 0 _, (number_fits 0 version h, tt))
 
 -- ---- the numbers of modules

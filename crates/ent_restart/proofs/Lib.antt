@@ -1,9 +1,6 @@
 pub mod Asked
 pub mod Categories
-pub mod Fitting
-pub mod FittingDocuments
 pub mod FittingEdits
-pub mod FittingParts
 pub mod Lines
 pub mod Moves
 pub mod Read
@@ -13,3 +10,11 @@ pub mod Restart
 pub mod Sized
 pub mod Start
 pub mod Texts
+pub mod Utf8Data
+pub mod Utf8Documents
+pub mod Utf8Edits
+pub mod Utf8Reads
+pub mod Utf8Strings
+pub mod Utf8Tokens
+pub mod Utf8Values
+pub mod Utf8Written

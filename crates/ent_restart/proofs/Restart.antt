@@ -1,9 +1,11 @@
 -- A new service that is told the dump of a state is made anew.
 use Rattle.std.proofs.Common.{◌≡◌, ℕ, ◌≤◌, ◌<◌, ◌^◌, List, [], ◌∷◌, length, Bool, true, false, Some, None, Result, Ok, Err, arith, refl, sym, ap, subst, ◌∙◌, inl, inr}
-use Rattle.std.specs.Prelude.{◌==◌, ◌||◌, ◌&&◌, map, not}
+use Rattle.std.specs.Prelude.{◌==◌, ◌||◌, ◌&&◌, if◌then◌else◌, map, nat_lt, not, Option}
 use Rattle.std.specs.FinMap.{empty, get, get-empty}
 use Rattle.std.specs.List.{AllByRecursion}
+use Rattle.std.proofs.lemmas.Bool.{ltb-false}
 use Rattle.std.proofs.lemmas.Bool.Decides.{nat_tests}
+use Rattle.std.proofs.lemmas.Str.{is_utf8-from_IsUtf8}
 use Rattle.std.proofs.lemmas.List.{length-map}
 use Rattle.serde_json.specs.Data.{Data}
 use Rattle.serde_json.specs.Written.{compact_text}
@@ -27,20 +29,25 @@ use Rattle.ent_dump.specs.Dumped.{dumped, format_data}
 use Rattle.ent_dump.specs.Edits.{edit_data}
 use Rattle.ent_report.specs.World.{World}
 use Rattle.ent_line.specs.Asked as asked
-use Rattle.ent_line.specs.Asked.{command_of, desk_named, edit_named, adding_named, dropping_named, setting_named, policy_named, report_named, decided_named, marking_named, lines_named, format_command, request_of}
-use Rattle.ent_line.specs.Commands.{edited, format_told, run, settled}
+use Rattle.ent_line.specs.Asked.{command_in, form_of, name_of}
+use Rattle.ent_line.specs.Commands.{edited, format_told, run, settled, told}
 use Rattle.ent_line.specs.Dumping.{format_text, is_moment, is_version}
 use Rattle.ent_line.specs.Lines.{line_limit}
-use Rattle.ent_line.specs.Replies.{Answer, accepted, text}
+use Rattle.ent_line.specs.Replies.{Answer, accepted, refused, text}
 use Rattle.ent_line.specs.Runs.{Run}
-use Rattle.ent_line.specs.Step.{Answers, requested, step, told}
+use Rattle.ent_line.specs.Step.{Answers, data_of, heard, requested, respond}
+use Rattle.ent_line.specs.declared.refusal.Refusal.{Refusal}
+use Rattle.ent_line.specs.declared.refusal.Refusal.TheVariants.{Memory, TooLong}
 use Rattle.ent_restart.specs.Carried.{IsRead, values_of}
-use Rattle.ent_restart.specs.Restart.{AreTaken, DumpsRestart, HasFewModules, IsAccepted, IsNoWant, IsShortText}
+use Rattle.ent_restart.specs.Restart.{AreTaken, DumpsRestart, HasFewModules, IsAccepted, IsNoWant, IsRestarted, IsShortState, IsShortText, TakenDumpsRestart}
 use Rattle.ent_restart.proofs.Asked.{read_back}
-use Rattle.ent_restart.proofs.Fitting.{Fits}
+use Rattle.ent_polform.proofs.Fitting.{Fits, fits_more}
 use Rattle.ent_restart.proofs.FittingEdits.{IsSmall, edit_fits, format_fits, small_made}
-use Rattle.ent_restart.proofs.Moves.{Moves, line_moves, run_edits, short_told}
+use Rattle.ent_restart.proofs.Moves.{IsSaid, Moves, line_moves, run_edits, short_heard}
 use Rattle.ent_restart.proofs.Texts.{texts_read_back}
+use Rattle.ent_restart.proofs.Utf8Data.{IsUtf8Data}
+use Rattle.ent_restart.proofs.Utf8Edits.{added_utf8, format_utf8}
+use Rattle.ent_restart.proofs.Utf8Written.{compact_utf8}
 
 -- ---- what was read is sound
 
@@ -55,26 +62,34 @@ sound_edit (SetRoot root) h = tt
 sound_edit (SetDay day) h = tt
 sound_edit (SetMoment moment) h = tt
 
-added_edit : (e : Edit) → IsRead e → IsRead (as_added e)
-added_edit (AddPolicy number document) h = h
-added_edit (ReplacePolicy number document) h = h
-added_edit (WithdrawPolicy number key) h = h
-added_edit (SetAttribute number key values) h = h
-added_edit (AddName list name) h = h
-added_edit (DropName list name) h = h
-added_edit (SetRoot root) h = h
-added_edit (SetDay day) h = h
-added_edit (SetMoment moment) h = h
+added_read : (e : Edit) → IsRead e → IsRead (as_added e)
+added_read (AddPolicy number document) h = h
+added_read (ReplacePolicy number document) h = h
+added_read (WithdrawPolicy number key) h = h
+added_read (SetAttribute number key values) h = h
+added_read (AddName list name) h = h
+added_read (DropName list name) h = h
+added_read (SetRoot root) h = h
+added_read (SetDay day) h = h
+added_read (SetMoment moment) h = h
+
+added_said : (e : Edit) → IsSaid e → IsSaid (as_added e)
+added_said e good = record { read = added_read e good.read; utf8 = added_utf8 e good.utf8 }
+
+-- edits that were said are read, and their lines are UTF-8
+all_said : (es : List Edit) → AllByRecursion IsSaid es → AllByRecursion IsRead es × AllByRecursion (λ e. IsUtf8Data (edit_data e)) es
+all_said [] h = (tt, tt)
+all_said (e ∷ es) h = let more = all_said es h.1 in ((h.0.read, more.0), (h.0.utf8, more.1))
 
 -- ---- the state of a run
 
 -- a state that lines can lead to, from a state with the modules and limits of s and nothing else
 record IsReached (s t : State) : Type 0 where
   sound : IsSound t
-  made : IsMadeOf IsRead t
+  made : IsMadeOf IsSaid t
   same : emptied t ≡ emptied s
 
-nothing_made : (s : State) → IsMadeOf IsRead (emptied s)
+nothing_made : (s : State) → IsMadeOf IsSaid (emptied s)
 nothing_made s = record {
   documents = λ number key document is.
       let none : get (module_at (emptied_modules s.held.modules) number) key ≡ None = ap (λ (m : Docs). get m key) (no_module s.held.modules number) ∙ get-empty key_cmp key in
@@ -93,15 +108,15 @@ nothing_made s = record {
 start_reached : (s : State) → s ≡ emptied s → IsReached s s
 start_reached s nothing = record {
   sound = subst (λ (t : State). IsSound t) (sym nothing) (soundness_kept.0 s);
-  made = subst (λ (t : State). IsMadeOf IsRead t) (sym nothing) (nothing_made s);
+  made = subst (λ (t : State). IsMadeOf IsSaid t) (sym nothing) (nothing_made s);
   same = refl;
 }
 
 moved_reached : (s t u : State) → IsReached s t → Moves t u → IsReached s u
 moved_reached s t u there (inl same) = subst (IsReached s) (sym same) there
 moved_reached s t u there (inr (e, good, is)) =
-    let kept = soundness_kept.1 t u e there.sound (sound_edit e good) is in
-    record { sound = kept.0; made = step_made IsRead t u e there.made (added_edit e good) is; same = kept.1 ∙ there.same }
+    let kept = soundness_kept.1 t u e there.sound (sound_edit e good.read) is in
+    record { sound = kept.0; made = step_made IsSaid t u e there.made (added_said e good) is; same = kept.1 ∙ there.same }
 
 run_reached : (s : State) (u w : World) (lines : List (List ℕ)) (answers : List Answer) → IsReached s u.state → Run Answers u lines answers w → IsReached s w.state
 run_reached s u w [] [] there run = subst (λ (x : World). IsReached s x.state) (sym run) there
@@ -125,13 +140,13 @@ AreLinesOf [] (line ∷ lines) = ⊥
 AreLinesOf (d ∷ ds) [] = ⊥
 
 -- the line of an edit is answered as the edit
-line_edits : (n : ℕ) (w : World) (line : List ℕ) (e : Edit) → IsLineOf (edit_data e) line → IsRead e → AllByRecursion HasFewYears (values_of e) → step n w line ≡ edited w e
+line_edits : (n : ℕ) (w : World) (line : List ℕ) (e : Edit) → IsLineOf (edit_data e) line → IsRead e → AllByRecursion HasFewYears (values_of e) → respond n w line ≡ edited w e
 line_edits n w line e is good few =
     let asks = read_back e good few in
-    short_told n w line is.short ∙ ap (told n w) is.reads ∙ ap (requested n w) asks.1.0 ∙ run_edits n w 0 asks.0 e asks.1.1
+    short_heard n w line is.short ∙ ap (heard n w) is.reads ∙ ap (requested n w) asks.1.0 ∙ run_edits n w 0 asks.0 e asks.1.1
 
 -- where memory isn't wanting, a line is answered by its step
-no_want : (w v : World) (line : List ℕ) (a : Answer) (y : Answer × World) → IsNoWant a → ((n : ℕ) → step n w line ≡ y) → Answers w line a v → (a, v) ≡ y
+no_want : (w v : World) (line : List ℕ) (a : Answer) (y : Answer × World) → IsNoWant a → ((n : ℕ) → respond n w line ≡ y) → Answers w line a v → (a, v) ≡ y
 no_want w v line a y plenty steps (n, inl is) = is ∙ steps n
 no_want w v line a y plenty steps (n, inr (refusal, same, short)) = absurd (plenty refusal)
 
@@ -166,14 +181,17 @@ lines_lead (e ∷ es) u v t (line ∷ lines) (a ∷ answers) good few are leads 
 -- the state of a run is made of edits that were read, has the modules of the start, and is made anew by its edits
 pub record IsRun (start w : World) : Type 0 where
   pub made : AllByRecursion IsRead (rebuilding w.state)
+  pub utf8 : AllByRecursion (λ e. IsUtf8Data (edit_data e)) (rebuilding w.state)
   pub same : emptied w.state ≡ start.state
   pub leads : stepped start.state (rebuilding w.state) ≡ Ok (record w.state { serial = length (rebuilding w.state) })
 
 pub after_run : (start w : World) (lines : List (List ℕ)) (answers : List Answer) → start.state ≡ emptied start.state → Run Answers start lines answers w → IsRun start w
 after_run start w lines answers nothing run =
     let there = run_reached start.state start w lines answers (start_reached start.state nothing) run in
-    let same : emptied w.state ≡ start.state = there.same ∙ sym nothing in record {
-      made = made_anew IsRead w.state there.made;
+    let same : emptied w.state ≡ start.state = there.same ∙ sym nothing in
+    let said = all_said (rebuilding w.state) (made_anew IsSaid w.state there.made) in record {
+      made = said.0;
+      utf8 = said.1;
       same = same;
       leads = ap (λ (s : State). stepped s (rebuilding w.state)) (sym same) ∙ states_rebuilt w.state there.sound;
     }
@@ -191,33 +209,32 @@ version_told version moment h = by (version == 1) (version == 2) moment h
     by false true moment h = refl
     by false false moment h = absurd cc
 
-format_asked : (version : ℕ) → request_of (format_data version) ≡ Ok (0, asked.format version)
-unfolding request_of command_of edit_named adding_named dropping_named setting_named policy_named desk_named report_named decided_named marking_named lines_named format_command
+format_asked : (version : ℕ) → command_in (format_data version) ≡ Ok (0, asked.question (asked.format (Some version)))
+unfolding command_in name_of form_of
 format_asked version = refl
 
-format_run : (n : ℕ) (w : World) (version : ℕ) → is_version version ≡ true → run n w 0 (asked.format version) ≡ (text (format_text version), w)
-unfolding run format_told
+format_run : (n : ℕ) (w : World) (version : ℕ) → is_version version ≡ true → run n w 0 (asked.question (asked.format (Some version))) ≡ (text (format_text version), w)
+unfolding run told format_told
 format_run n w version h = rw h refl
 
-line_formats : (n : ℕ) (w : World) (line : List ℕ) (version : ℕ) → IsLineOf (format_data version) line → is_version version ≡ true → step n w line ≡ (text (format_text version), w)
+line_formats : (n : ℕ) (w : World) (line : List ℕ) (version : ℕ) → IsLineOf (format_data version) line → is_version version ≡ true → respond n w line ≡ (text (format_text version), w)
 line_formats n w line version is h =
-    short_told n w line is.short ∙ ap (told n w) is.reads ∙ ap (requested n w) (format_asked version) ∙ format_run n w version h
+    short_heard n w line is.short ∙ ap (heard n w) is.reads ∙ ap (requested n w) (format_asked version) ∙ format_run n w version h
 
 -- ---- the texts
 
-text_line : (d : Data) → Fits 104 d → IsShortText (compact_text d) → IsLineOf d (compact_text d)
-text_line d fits is = let low = fits.shallow in record { reads = texts_read_back d fits.plain (omega arith) is.utf8; short = is.short }
-
-format_line : (version : ℕ) → version < 2 ^ 64 → IsShortText (compact_text (format_data version)) → IsLineOf (format_data version) (compact_text (format_data version))
-format_line version h is =
-    let fits = format_fits version h in
+text_line : (d : Data) → Fits 102 d → IsUtf8Data d → length (compact_text d) ≤ line_limit → IsLineOf d (compact_text d)
+text_line d fits utf8 short =
     let low = fits.shallow in
-    record { reads = texts_read_back (format_data version) fits.plain (omega arith) is.utf8; short = is.short }
+    record { reads = texts_read_back d fits.plain (omega arith) (is_utf8-from_IsUtf8 (compact_text d) (compact_utf8 d utf8)); short = short }
 
-text_lines : (es : List Edit) → AllByRecursion IsRead es → AllByRecursion IsSmall es → AllByRecursion IsShortText (map compact_text (map edit_data es))
+format_line : (version : ℕ) → version < 2 ^ 64 → length (compact_text (format_data version)) ≤ line_limit → IsLineOf (format_data version) (compact_text (format_data version))
+format_line version h short = text_line (format_data version) (fits_more 2 102 (format_data version) (omega arith) (format_fits version h)) (format_utf8 version) short
+
+text_lines : (es : List Edit) → AllByRecursion IsRead es → AllByRecursion (λ e. IsUtf8Data (edit_data e)) es → AllByRecursion IsSmall es → AllByRecursion IsShortText (map compact_text (map edit_data es))
     → AreLinesOf (map edit_data es) (map compact_text (map edit_data es))
-text_lines [] good small short = tt
-text_lines (e ∷ es) good small short = (text_line (edit_data e) (edit_fits e good.0 small.0) short.0, text_lines es good.1 small.1 short.1)
+text_lines [] good utf8 small short = tt
+text_lines (e ∷ es) good utf8 small short = (text_line (edit_data e) (edit_fits e good.0 small.0) utf8.0 short.0, text_lines es good.1 utf8.1 small.1 short.1)
 
 no_docs : Docs
 no_docs = empty
@@ -244,11 +261,61 @@ taken version es u v t line lines (a ∷ answers) is formats good few are leads 
     let rest = lines_lead es u v t lines answers good few are leads (subst (λ (x : World). Run Answers x lines answers v) there others) plenty.1 in
     ((ap (λ y. y.0) answer, rest.0), rest.1, rest.2)
 
-pub dumps_restart : DumpsRestart
-dumps_restart version start w v lines answers others nothing few run can brief short again plenty =
+-- a run over the dump of a state, in a version that lines have
+restarted : (version : ℕ) (start w v : World) (lines : List (List ℕ)) (answers others : List Answer) → start.state ≡ emptied start.state → HasFewModules start.state → Run Answers start lines answers w
+    → is_version version ≡ true → IsShortState w.state → AllByRecursion IsShortText (dumped version w.state) → Run Answers start (dumped version w.state) others v → AllByRecursion IsNoWant others
+    → IsRestarted version start w v others
+restarted version start w v lines answers others nothing few run is brief short again plenty =
     let known = after_run start w lines answers nothing run in
     let small = few_modules w start known.same few in
-    let is = version_told version (is_moment w.state.held.environment) can in
     let r = taken version (rebuilding w.state) start v (record w.state { serial = length (rebuilding w.state) }) _ _ others is
-    (format_line version (version_small version is) short.0) known.made brief (text_lines (rebuilding w.state) known.made small short.1) known.leads again plenty in
+    (format_line version (version_small version is) short.0) known.made brief (text_lines (rebuilding w.state) known.made known.utf8 small short.1) known.leads again plenty in
     record { taken = r.0; state = r.1; table = ap table_of r.1; again = λ n. ap (dumped n) r.1; marks = r.2 }
+
+pub dumps_restart : DumpsRestart
+dumps_restart version start w v lines answers others nothing few run can brief short again plenty =
+    restarted version start w v lines answers others nothing few run (version_told version (is_moment w.state.held.environment) can) brief short again plenty
+
+-- ---- a run whose lines were taken
+
+-- an answer is no refusal
+abbrev IsTold : Answer → Type 0
+IsTold a = (why : Refusal) → a ≡ refused why → ⊥
+
+accepted_told : (a : Answer) → IsAccepted a → IsTold a
+accepted_told a h why is = subst IsAccepted is h
+
+text_told : (a : Answer) (reply : List ℕ) → a ≡ text reply → IsTold a
+text_told a reply h why is = let clash : text reply ≡ refused why = sym h ∙ is in absurd cc
+
+all_told : (version : ℕ) (answers : List Answer) → AreTaken version answers → AllByRecursion IsTold answers
+all_told version [] h = absurd h
+all_told version (a ∷ answers) h = (text_told a (format_text version) h.0, others answers h.1)
+  where
+    others : (answers : List Answer) → AllByRecursion IsAccepted answers → AllByRecursion IsTold answers
+    others [] g = tt
+    others (a ∷ answers) g = (accepted_told a g.0, others answers g.1)
+
+-- a line that isn't refused wasn't too long
+told_short : (w v : World) (line : List ℕ) (a : Answer) → IsTold a → Answers w line a v → length line ≤ line_limit
+unfolding respond
+told_short w v line a h (n, inl is) = by (nat_lt line_limit (length line)) refl (ap (λ y. y.0) is)
+  where
+    by : (b : Bool) → nat_lt line_limit (length line) ≡ b → a ≡ (if b then (refused TooLong, w) else heard n w (data_of line)).0 → length line ≤ line_limit
+    by true e g = absurd (h TooLong g)
+    by false e g = ltb-false line_limit (length line) e
+told_short w v line a h (n, inr (refusal, same, short)) = short
+
+-- and memory wasn't wanting
+run_told : (u v : World) (lines : List (List ℕ)) (answers : List Answer) → AllByRecursion IsTold answers → Run Answers u lines answers v → AllByRecursion IsShortText lines × AllByRecursion IsNoWant answers
+run_told u v [] [] h run = (tt, tt)
+run_told u v [] (a ∷ answers) h run = absurd run
+run_told u v (line ∷ lines) [] h run = absurd run
+run_told u v (line ∷ lines) (a ∷ answers) h (mid, one, others) =
+    let more = run_told mid v lines answers h.1 others in
+    ((told_short u mid line a h.0 one, more.0), (λ is. h.0 Memory is, more.1))
+
+pub taken_dumps_restart : TakenDumpsRestart
+taken_dumps_restart version start w v lines answers others nothing few run is brief again all =
+    let fine = run_told start v (dumped version w.state) others (all_told version others all) again in
+    restarted version start w v lines answers others nothing few run is brief fine.0 again fine.1

@@ -1,5 +1,5 @@
 -- The whole numbers of JSON that is read have 64 bits.
-use Rattle.std.proofs.Common.{◌≡◌, ℕ, zero, suc, ◌≤◌, ◌<◌, ◌^◌, pos, negsuc, List, Bool, true, false, Option, Some, None, nat_lt, nat_le, refl, subst, arith}
+use Rattle.std.proofs.Common.{◌≡◌, ℕ, zero, suc, ◌≤◌, ◌<◌, ◌^◌, List, Bool, true, false, Option, Some, None, nat_lt, nat_le, refl, subst, arith}
 use Rattle.std.specs.Prelude.{◌&&◌, ◌==◌, option_and_then, option_map, if◌then◌else◌, slice_index, drop}
 use Rattle.std.specs.Cmp.Lexicographic.{slice_cmp}
 use Rattle.std.specs.Ordering.{nat_cmp, match_ordering}
@@ -17,31 +17,7 @@ use Rattle.serde_json.specs.Data.{Data, Items, Members, Num, put}
 use Rattle.serde_json.specs.Find.{as_array, get, get_member}
 use Rattle.serde_json.specs.Read.{float_of, is_integer, max_depth, number_from, number_of, of_items, of_json, of_members, read}
 use Rattle.ent_json.specs.Line.{data_of}
-
--- a negative whole number has 64 bits
-abbrev pub IsSizedNumber : Num → Type 0
-IsSizedNumber (json.unsigned n) = Unit {0}
-IsSizedNumber (json.negative (pos n)) = ⊥
-IsSizedNumber (json.negative (negsuc n)) = n < 2 ^ 63
-IsSizedNumber (json.float x) = Unit {0}
-
--- each negative whole number in it has
-abbrev mutual
-  pub IsSized : Data → Type 0
-  IsSized json.null = Unit {0}
-  IsSized (json.boolean b) = Unit {0}
-  IsSized (json.number n) = IsSizedNumber n
-  IsSized (json.string s) = Unit {0}
-  IsSized (json.array ds) = AreSized ds
-  IsSized (json.object ms) = AreSizedMembers ms
-
-  pub AreSized : Items → Type 0
-  AreSized json.no_items = Unit {0}
-  AreSized (json.item d ds) = IsSized d × AreSized ds
-
-  pub AreSizedMembers : Members → Type 0
-  AreSizedMembers json.no_members = Unit {0}
-  AreSizedMembers (json.member k d ms) = IsSized d × AreSizedMembers ms
+use Rattle.ent_polform.proofs.TypedValues.{AreSized, AreSizedMembers, IsSized, IsSizedNumber, then_there}
 
 -- ---- what is read
 
@@ -94,10 +70,6 @@ put_sized k d (json.member l e ms) p h = put_by (slice_cmp nat_cmp k l) k l d e 
 mapped : {A B : Type 0} (P : B → Type 0) (f : A → B) (o : Option A) (y : B) → option_map f o ≡ Some y → ((x : A) → o ≡ Some x → P (f x)) → P y
 mapped P f (Some x) y h good = let same : f x ≡ y = cc in subst P same (good x refl)
 mapped P f None y h good = absurd cc
-
-pub then_there : {A B : Type 0} (f : A → Option B) (o : Option A) (y : B) → option_and_then f o ≡ Some y → (x : A) × ((o ≡ Some x) × (f x ≡ Some y))
-then_there f (Some x) y h = (x, (refl, h))
-then_there f None y h = absurd cc
 
 mutual
   value_sized : (j : text.Json) (d : Data) → of_json j ≡ Some d → IsSized d

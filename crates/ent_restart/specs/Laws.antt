@@ -5,13 +5,13 @@ use Rattle.serde_json.specs.Data.{Data}
 use Rattle.ent_values.specs.ReadBack.{HasFewYears}
 use Rattle.ent_table.specs.declared.edit.Edit.{Edit}
 use Rattle.ent_dump.specs.Edits.{edit_data}
-use Rattle.ent_line.specs.Asked.{Command, request_of}
+use Rattle.ent_line.specs.Asked.{Change, change, command_in}
 use Rattle.ent_line.specs.Edits.{edit_of}
 use Rattle.ent_restart.specs.Carried.{IsRead, values_of}
 
--- this JSON asks, in session 0, for a command that makes that edit
+-- this JSON asks, in session 0, for a change that makes that edit
 abbrev pub Asks : Data → Edit → Type 0
-Asks d e = (c : Command) × ((request_of d ≡ Ok (0, c)) × (edit_of c ≡ Ok e))
+Asks d e = (c : Change) × ((command_in d ≡ Ok (0, change c)) × (edit_of c ≡ Ok e))
 
 -- what is written of an edit asks for that edit, if it carries what a line can say and none of its durations has more than 999,999,999 whole years
 abbrev pub EditsReadBack : Type 0

@@ -1,32 +1,29 @@
 -- A new service that is told the dump of a state.
-use Rattle.std.specs.Prelude.{◌≡◌, ◌≢◌, ℕ, ◌≤◌, List, [], ◌∷◌, length, Some, None, ◌^◌, true, replicate}
-use Rattle.std.specs.FinMap.{empty}
+use Rattle.std.specs.Prelude.{◌≡◌, ◌≢◌, ℕ, ◌≤◌, List, [], ◌∷◌, length, Some, None, ◌^◌, true}
 use Rattle.std.specs.List.{AllByRecursion}
-use Rattle.std.specs.Str.{is_utf8}
 use Rattle.ent_values.specs.ReadBack.{HasFewYears}
-use Rattle.ent_eval.specs.declared.environment.Environment.TheVariants as environments
-use Rattle.ent_table.specs.State.{State, initial, table_of}
+use Rattle.ent_table.specs.State.{State, table_of}
 use Rattle.ent_table.specs.declared.limits.Limits.{Limits}
-use Rattle.ent_rebuild.specs.Rebuilding.{emptied, rebuilding}
+use Rattle.ent_rebuild.specs.Rebuilding.{emptied, new_state, rebuilding}
 use Rattle.ent_dump.specs.Dumped.{dump_text, dumped}
 use Rattle.ent_dump.specs.Reply.{texts_of}
-use Rattle.ent_report.specs.World.{World, unmarked}
+use Rattle.ent_report.specs.World.{World}
 use Rattle.ent_line.specs.Commands.{dump_told}
 use Rattle.ent_line.specs.Dumping.{can_tell, format_text, is_version}
 use Rattle.ent_line.specs.Lines.{NoNewline, line_limit}
 use Rattle.ent_line.specs.Replies.{Answer, accepted, refused, text}
 use Rattle.ent_line.specs.Runs.{Run}
 use Rattle.ent_line.specs.Step.{Answers}
+use Rattle.ent_line.specs.declared.refusal.Refusal.TheVariants.{Memory}
 use Rattle.ent_restart.specs.Carried.{values_of}
 
 -- no duration in a state's documents and rows has more whole years than can be read
 abbrev pub IsShortState : State → Type 0
 IsShortState s = AllByRecursion (λ e. AllByRecursion HasFewYears (values_of e)) (rebuilding s)
 
--- a text is no longer than a line may be, and UTF-8
-pub record IsShortText (line : List ℕ) : Type 0 where
-  pub short : length line ≤ line_limit
-  pub utf8 : is_utf8 line ≡ true
+-- a text is no longer than a line may be
+abbrev pub IsShortText : List ℕ → Type 0
+IsShortText line = length line ≤ line_limit
 
 -- the number of each module can be written
 pub record HasFewModules (s : State) : Type 0 where
@@ -35,7 +32,7 @@ pub record HasFewModules (s : State) : Type 0 where
 
 -- an answer is not that memory is wanting
 abbrev pub IsNoWant : Answer → Type 0
-IsNoWant a = a ≢ refused 15 None
+IsNoWant a = a ≢ refused Memory
 
 -- an answer is that an edit was accepted
 abbrev pub IsAccepted : Answer → Type 0
@@ -67,13 +64,21 @@ DumpsRestart =
     → Run Answers start (dumped version w.state) others v → AllByRecursion IsNoWant others
     → IsRestarted version start w v others
 
+-- the same by what is seen of it: whatever was asked of a service that held nothing at its start, a service with the same start that is told the dump
+-- of its state, answers the first line by its version and accepts each other, is made anew
+abbrev pub TakenDumpsRestart : Type 0
+TakenDumpsRestart =
+    (version : ℕ) (start w v : World) (lines : List (List ℕ)) (answers others : List Answer)
+    → start.state ≡ emptied start.state → HasFewModules start.state → Run Answers start lines answers w
+    → is_version version ≡ true → IsShortState w.state → Run Answers start (dumped version w.state) others v → AreTaken version others
+    → IsRestarted version start w v others
+
 -- the dump of a service's state is lines, and of the reply that tells it these lines are read
 abbrev pub RepliesReadBack : Type 0
 RepliesReadBack =
     (version : ℕ) (start w : World) (lines : List (List ℕ)) (answers : List Answer)
     → start.state ≡ emptied start.state → HasFewModules start.state → Run Answers start lines answers w → is_version version ≡ true
-    → AllByRecursion NoNewline (dumped version w.state)
-    × (is_utf8 (dump_text version w.state) ≡ true → texts_of (dump_text version w.state) ≡ Some (dumped version w.state))
+    → AllByRecursion NoNewline (dumped version w.state) × (texts_of (dump_text version w.state) ≡ Some (dumped version w.state))
 
 -- whatever was asked of a service that held nothing at its start, some lines refused: a service with the same start that is told the lines of what
 -- `dump` is answered then is made anew, under the same premises
@@ -81,23 +86,20 @@ abbrev pub RepliesRestart : Type 0
 RepliesRestart =
     (version : ℕ) (start w v : World) (lines told : List (List ℕ)) (answers others : List Answer) (reply : List ℕ)
     → start.state ≡ emptied start.state → HasFewModules start.state → Run Answers start lines answers w
-    → dump_told version w.state ≡ text reply → is_utf8 reply ≡ true → texts_of reply ≡ Some told
+    → dump_told (Some version) w.state ≡ text reply → texts_of reply ≡ Some told
     → IsShortState w.state → AllByRecursion IsShortText told → Run Answers start told others v → AllByRecursion IsNoWant others
     → IsRestarted version start w v others
 
--- a service at its start: so many modules of policies and of attributes, all with the same categories, nothing in them, and no mark
-abbrev pub new_service : ℕ → ℕ → List (List ℕ) → Limits → World
-new_service policies attributes categories limits = record {
-  state = initial (record {
-    root = None;
-    modules = replicate policies empty;
-    sources = replicate attributes (record { categories = categories; rows = empty });
-    environment = environments.Empty;
-  }) limits;
-  marks = unmarked;
-}
+-- and by what is seen of it: it answers the first of these lines by its version and accepts each other
+abbrev pub TakenRepliesRestart : Type 0
+TakenRepliesRestart =
+    (version : ℕ) (start w v : World) (lines told : List (List ℕ)) (answers others : List Answer) (reply : List ℕ)
+    → start.state ≡ emptied start.state → HasFewModules start.state → Run Answers start lines answers w
+    → dump_told (Some version) w.state ≡ text reply → texts_of reply ≡ Some told
+    → IsShortState w.state → Run Answers start told others v → AreTaken version others
+    → IsRestarted version start w v others
 
--- such a service starts as one that is made anew does, if the numbers of its modules can be written
+-- a state in which nothing was ever held, listed or set is as one that is emptied, if the numbers of its modules can be written
 abbrev pub NewServicesAreEmpty : Type 0
 NewServicesAreEmpty = (policies attributes : ℕ) (categories : List (List ℕ)) (limits : Limits) → policies ≤ 2 ^ 64 → attributes ≤ 2 ^ 64
-    → let start = (new_service policies attributes categories limits).state in (start ≡ emptied start) × HasFewModules start
+    → let start = new_state policies attributes categories limits in (start ≡ emptied start) × HasFewModules start

@@ -3,6 +3,7 @@
 ghost use Rattle.ent_restart.specs.Laws.{EditsReadBack};
 ghost use Rattle.ent_restart.specs.Plain.{TextsAreLines, TextsReadBack};
 ghost use Rattle.ent_restart.specs.Restart.{DumpsRestart, NewServicesAreEmpty, RepliesReadBack, RepliesRestart};
+ghost use Rattle.ent_restart.specs.Restart.{TakenDumpsRestart, TakenRepliesRestart};
 
 /// A law, with nothing to run: the JSON object of an edit is read as a command, of the session that no line names, which
 /// makes that edit, if what the edit carries can be said in a line.
@@ -24,14 +25,20 @@ pub fn texts_are_lines()
 /// A law, with nothing to run: whatever was asked of a service that held nothing at its start, a service with the same
 /// start that is told the dump of its state, line by line, takes each and comes to the same state, but for the serial,
 /// which is the number of edits: so to the same table and the same dump. What it wants is that the version can tell the
-/// state, that memory isn't wanting, that the lines are UTF-8 and not too long, and that no duration in the state has
-/// more years than can be read.
+/// state, that memory isn't wanting, that the lines are not too long, and that no duration in the state has more years
+/// than can be read.
 pub fn dumps_restart()
     ensures { DumpsRestart }
 {}
 
-/// A law, with nothing to run: the dump of a service's state is lines, and these are read of the reply that tells them,
-/// if it is UTF-8.
+/// A law, with nothing to run: the same by what is seen of it. If the first line of the dump was answered by its version
+/// and each other as accepted, the service has come to the same state, if no duration in the state has more years than
+/// can be read.
+pub fn taken_dumps_restart()
+    ensures { TakenDumpsRestart }
+{}
+
+/// A law, with nothing to run: the dump of a service's state is lines, and these are read of the reply that tells them.
 pub fn replies_read_back()
     ensures { RepliesReadBack }
 {}
@@ -40,6 +47,11 @@ pub fn replies_read_back()
 /// `dump` bring a service with the same start to the same state, as [`dumps_restart`] says.
 pub fn replies_restart()
     ensures { RepliesRestart }
+{}
+
+/// A law, with nothing to run: the same of these lines by what is seen of them, as [`taken_dumps_restart`] says.
+pub fn taken_replies_restart()
+    ensures { TakenRepliesRestart }
 {}
 
 /// A law, with nothing to run: a service at its start holds nothing, as a service that is made anew does.

@@ -1,9 +1,6 @@
 //! The combining algorithms, beside a second reading of the appendix of the standard.
 
-use ent_combine::{
-    Choice, Chooser, Combiner, IndKind, Outcome, PolicyAlg, Progress, RuleAlg, TargetResult,
-    under_indeterminate_target,
-};
+use ent_combine::{Choice, Chooser, Combiner, IndKind, Outcome, Progress, RuleAlg, TargetResult};
 use std::process::Abort;
 
 // What the outcomes come to, and how many were taken when `Stop` came.
@@ -27,130 +24,6 @@ fn chosen(rt: &impl Abort, targets: &[TargetResult]) -> (Choice, Option<usize>) 
         }
     }
     (chooser.finish(), None)
-}
-
-#[test]
-fn combiner_table(rt: HostRuntime) {
-    use IndKind::{D, DP, P};
-    use Outcome::{Deny, Ind, NotApplicable, Permit};
-
-    for (algorithm, outcomes, want, stop) in [
-        (
-            RuleAlg::DenyOverrides,
-            [Ind(D), Permit].as_slice(),
-            Ind(DP),
-            None,
-        ),
-        (
-            RuleAlg::DenyOverrides,
-            [Ind(P), Permit].as_slice(),
-            Permit,
-            None,
-        ),
-        (
-            RuleAlg::DenyOverrides,
-            [Permit, Deny].as_slice(),
-            Deny,
-            Some(2),
-        ),
-        (
-            RuleAlg::PermitOverrides,
-            [Ind(P), Deny].as_slice(),
-            Ind(DP),
-            None,
-        ),
-        (
-            RuleAlg::FirstApplicable,
-            [NotApplicable, Ind(P)].as_slice(),
-            Ind(P),
-            Some(2),
-        ),
-        (RuleAlg::DenyUnlessPermit, [].as_slice(), Deny, None),
-        (
-            RuleAlg::PermitUnlessDeny,
-            [Ind(DP)].as_slice(),
-            Permit,
-            None,
-        ),
-    ] {
-        assert_eq!(rt;
-            combined(algorithm, outcomes),
-            (want, stop),
-            "{algorithm:?} of {outcomes:?}"
-        );
-    }
-}
-
-#[test]
-fn chooser_table(rt: HostRuntime) {
-    use TargetResult::{Match, NoMatch};
-
-    for (targets, want, stop) in [
-        ([NoMatch, Match, NoMatch].as_slice(), Choice::Only(1), None),
-        ([Match, Match].as_slice(), Choice::Bad, Some(2)),
-        ([].as_slice(), Choice::Nobody, None),
-    ] {
-        assert_eq!(rt; chosen(&rt, targets), (want, stop), "{targets:?}");
-    }
-}
-
-#[test]
-fn table_seven(rt: HostRuntime) {
-    use IndKind::{D, DP, P};
-    use Outcome::{Deny, Ind, NotApplicable, Permit};
-
-    for (children, want) in [
-        (NotApplicable, NotApplicable),
-        (Permit, Ind(P)),
-        (Deny, Ind(D)),
-        (Ind(P), Ind(P)),
-        (Ind(D), Ind(D)),
-        (Ind(DP), Ind(DP)),
-    ] {
-        assert_eq!(rt; under_indeterminate_target(children), want);
-    }
-}
-
-/// Identifiers, with the algorithm of rules and the algorithm of policies that each names.
-const IDENTIFIERS: &[(&str, Option<RuleAlg>, Option<PolicyAlg>)] = &[
-    (
-        "urn:oasis:names:tc:xacml:3.0:rule-combining-algorithm:ordered-permit-overrides",
-        Some(RuleAlg::OrderedPermitOverrides),
-        None,
-    ),
-    (
-        "urn:oasis:names:tc:xacml:1.0:policy-combining-algorithm:only-one-applicable",
-        None,
-        Some(PolicyAlg::OnlyOne),
-    ),
-    (
-        "urn:oasis:names:tc:xacml:1.0:policy-combining-algorithm:first-applicable",
-        None,
-        Some(PolicyAlg::Shared(RuleAlg::FirstApplicable)),
-    ),
-];
-
-/// Whether that identifier names these algorithms, and each of them is called by it.
-fn is_named(id: &str, of_rules: Option<RuleAlg>, of_policies: Option<PolicyAlg>) -> bool {
-    let is_rules = match of_rules {
-        Some(algorithm) => algorithm.rule_id() == id,
-        None => true,
-    };
-    let is_policies = match of_policies {
-        Some(algorithm) => algorithm.id() == id,
-        None => true,
-    };
-    is_rules
-        && is_policies
-        && RuleAlg::from_id(id) == of_rules
-        && PolicyAlg::from_id(id) == of_policies
-}
-
-#[test]
-fn identifiers(rt: HostRuntime) {
-    for &(id, of_rules, of_policies) in IDENTIFIERS {
-        assert!(rt; is_named(id, of_rules, of_policies), "{id}");
-    }
 }
 
 // The pseudo-code of the standard's appendix C, line by line, for a second reading of it. Each gives
@@ -275,29 +148,38 @@ fn appendix_c9(policies: &[TargetResult]) -> (Choice, Option<usize>) {
     }
 }
 
-fn check_outcomes(rt: &impl Abort, outcomes: &[Outcome]) {
-    for (algorithm, want) in [
-        (RuleAlg::DenyOverrides, appendix_c2(outcomes)),
-        (RuleAlg::OrderedDenyOverrides, appendix_c2(outcomes)),
-        (RuleAlg::PermitOverrides, appendix_c4(outcomes)),
-        (RuleAlg::OrderedPermitOverrides, appendix_c4(outcomes)),
-        (RuleAlg::DenyUnlessPermit, appendix_c6(outcomes)),
-        (RuleAlg::PermitUnlessDeny, appendix_c7(outcomes)),
-        (RuleAlg::FirstApplicable, appendix_c8(outcomes)),
-    ] {
-        assert_eq!(rt;
-            combined(algorithm, outcomes),
-            want,
-            "{algorithm:?} of {outcomes:?}"
-        );
+/// What the appendix says of some outcomes.
+fn appendix(algorithm: RuleAlg, outcomes: &[Outcome]) -> (Outcome, Option<usize>) {
+    match algorithm {
+        RuleAlg::DenyOverrides | RuleAlg::OrderedDenyOverrides => appendix_c2(outcomes),
+        RuleAlg::PermitOverrides | RuleAlg::OrderedPermitOverrides => appendix_c4(outcomes),
+        RuleAlg::DenyUnlessPermit => appendix_c6(outcomes),
+        RuleAlg::PermitUnlessDeny => appendix_c7(outcomes),
+        RuleAlg::FirstApplicable => appendix_c8(outcomes),
     }
 }
 
-fn check_targets(rt: &impl Abort, targets: &[TargetResult]) {
-    assert_eq!(rt; chosen(rt, targets), appendix_c9(targets), "{targets:?}");
+const ALGORITHMS: &[RuleAlg] = &[
+    RuleAlg::DenyOverrides,
+    RuleAlg::OrderedDenyOverrides,
+    RuleAlg::PermitOverrides,
+    RuleAlg::OrderedPermitOverrides,
+    RuleAlg::DenyUnlessPermit,
+    RuleAlg::PermitUnlessDeny,
+    RuleAlg::FirstApplicable,
+];
+
+/// Whether each algorithm makes of some outcomes what the appendix says.
+fn agree(outcomes: &[Outcome]) -> bool {
+    for &algorithm in ALGORITHMS {
+        if combined(algorithm, outcomes) != appendix(algorithm, outcomes) {
+            return false;
+        }
+    }
+    true
 }
 
-const OUTCOMES: [Outcome; 6] = [
+const OUTCOMES: &[Outcome] = &[
     Outcome::Permit,
     Outcome::Deny,
     Outcome::NotApplicable,
@@ -306,35 +188,55 @@ const OUTCOMES: [Outcome; 6] = [
     Outcome::Ind(IndKind::DP),
 ];
 
+/// Whether they do so of two outcomes, and of any one more.
+fn agree_from(a: Outcome, b: Outcome) -> bool {
+    for &c in OUTCOMES {
+        if !agree(&[a, b, c]) {
+            return false;
+        }
+    }
+    agree(&[a, b])
+}
+
 #[test]
 fn every_list_of_three_outcomes(rt: HostRuntime) {
-    check_outcomes(&rt, &[]);
-    for a in OUTCOMES {
-        check_outcomes(&rt, &[a]);
-        for b in OUTCOMES {
-            check_outcomes(&rt, &[a, b]);
-            for c in OUTCOMES {
-                check_outcomes(&rt, &[a, b, c]);
-            }
+    assert!(rt; agree(&[]));
+    for &a in OUTCOMES {
+        assert!(rt; agree(&[a]), "{a:?}");
+        for &b in OUTCOMES {
+            assert!(rt; agree_from(a, b), "{a:?} {b:?}");
         }
     }
 }
 
+/// Whether the targets choose what the appendix says.
+fn choose(rt: &impl Abort, targets: &[TargetResult]) -> bool {
+    chosen(rt, targets) == appendix_c9(targets)
+}
+
+const TARGETS: &[TargetResult] = &[
+    TargetResult::NoMatch,
+    TargetResult::Match,
+    TargetResult::Indeterminate,
+];
+
+/// Whether two targets do so, and with any one more.
+fn choose_from(rt: &impl Abort, a: TargetResult, b: TargetResult) -> bool {
+    for &c in TARGETS {
+        if !choose(rt, &[a, b, c]) {
+            return false;
+        }
+    }
+    choose(rt, &[a, b])
+}
+
 #[test]
 fn every_list_of_three_targets(rt: HostRuntime) {
-    let results = [
-        TargetResult::NoMatch,
-        TargetResult::Match,
-        TargetResult::Indeterminate,
-    ];
-    check_targets(&rt, &[]);
-    for a in results {
-        check_targets(&rt, &[a]);
-        for b in results {
-            check_targets(&rt, &[a, b]);
-            for c in results {
-                check_targets(&rt, &[a, b, c]);
-            }
+    assert!(rt; choose(&rt, &[]));
+    for &a in TARGETS {
+        assert!(rt; choose(&rt, &[a]), "{a:?}");
+        for &b in TARGETS {
+            assert!(rt; choose_from(&rt, a, b), "{a:?} {b:?}");
         }
     }
 }

@@ -29,7 +29,7 @@ struct Case {
 /// The number of a refusal, and 0 of another reply.
 fn refusal(reply: &Reply) -> u8 {
     match reply {
-        Reply::Refused(number, _) => *number,
+        Reply::Refused(refusal) => refusal.code(),
         _ => 0,
     }
 }
@@ -102,7 +102,7 @@ fn goes_on_after_a_fault(rt: HostRuntime) -> Result<(), Fail> {
     Ok(())
 }
 
-/// Limits of two people, two actions, two resources and four cells.
+/// Limits of two people, two actions, two resources, four cells and one document.
 fn small() -> Limits
     ensures { IsStandardAtMost result }
 {
@@ -115,22 +115,40 @@ fn small() -> Limits
     }
 }
 
-/// As many names as make four cells; then a resource too many, and a person without a name.
-const FOUR_CELLS: Case = Case {
-    lines: "{\"do\":\"person.add\",\"name\":\"ann\"}\n{\"do\":\"person.add\",\"name\":\"bob\"}\n\
-            {\"do\":\"action.add\",\"name\":\"read\"}\n{\"do\":\"action.add\",\"name\":\"write\"}\n\
-            {\"do\":\"resource.add\",\"name\":\"plan\"}\n{\"do\":\"resource.add\",\"name\":\"map\"}\n",
-    fails: false,
-    room: 1000,
-    written: "{\"changes\":0,\"serial\":1}\n{\"changes\":0,\"serial\":2}\n{\"changes\":0,\"serial\":3}\n\
-              {\"changes\":0,\"serial\":4}\n{\"changes\":4,\"serial\":5}\n{\"refused\":9}\n",
-    end: Ok(6),
-    then: "{\"do\":\"person.add\",\"name\":\"\"}",
-    refusal: 9,
-};
+/// As many names as make four cells; then a resource too many, and a person without a name. And one document; then one
+/// more, for a module that isn't there. That there is no room is told before everything else.
+const FULL: &[Case] = &[
+    Case {
+        lines: "{\"do\":\"person.add\",\"name\":\"ann\"}\n{\"do\":\"person.add\",\"name\":\"bob\"}\n\
+                {\"do\":\"action.add\",\"name\":\"read\"}\n{\"do\":\"action.add\",\"name\":\"write\"}\n\
+                {\"do\":\"resource.add\",\"name\":\"plan\"}\n{\"do\":\"resource.add\",\"name\":\"map\"}\n",
+        fails: false,
+        room: 1000,
+        written: "{\"changes\":0,\"serial\":1}\n{\"changes\":0,\"serial\":2}\n{\"changes\":0,\"serial\":3}\n\
+                  {\"changes\":0,\"serial\":4}\n{\"changes\":4,\"serial\":5}\n{\"refused\":9}\n",
+        end: Ok(6),
+        then: "{\"do\":\"person.add\",\"name\":\"\"}",
+        refusal: 9,
+    },
+    Case {
+        lines: "{\"do\":\"policy.add\",\"document\":{\"Policy\":{\"PolicyId\":\"p\",\
+                \"RuleCombiningAlgId\":\"urn:oasis:names:tc:xacml:3.0:rule-combining-algorithm:permit-unless-deny\",\
+                \"Version\":\"1\"}}}\n",
+        fails: false,
+        room: 1000,
+        written: "{\"changes\":0,\"serial\":1}\n",
+        end: Ok(1),
+        then: "{\"do\":\"policy.add\",\"module\":7,\"document\":{\"Policy\":{\"PolicyId\":\"q\",\
+               \"RuleCombiningAlgId\":\"urn:oasis:names:tc:xacml:3.0:rule-combining-algorithm:permit-unless-deny\",\
+               \"Version\":\"1\"}}}",
+        refusal: 9,
+    },
+];
 
 #[test]
-fn four_cells(rt: HostRuntime) -> Result<(), Fail> {
-    assert!(rt; is_answered(rt.alloc(), small(), &FOUR_CELLS)?);
+fn full_tables(rt: HostRuntime) -> Result<(), Fail> {
+    for case in FULL {
+        assert!(rt; is_answered(rt.alloc(), small(), case)?, "{}", case.lines);
+    }
     Ok(())
 }

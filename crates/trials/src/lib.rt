@@ -3,15 +3,11 @@
 #![tactic(auto)]
 
 #[cfg(test)]
-mod changes;
-#[cfg(test)]
 mod checking;
 #[cfg(test)]
 mod combining;
 #[cfg(test)]
 mod documents;
-#[cfg(test)]
-mod evaluation;
 #[cfg(test)]
 mod functions;
 #[cfg(test)]
@@ -19,26 +15,16 @@ mod help;
 #[cfg(test)]
 mod hostile;
 #[cfg(test)]
-mod index;
-#[cfg(test)]
 mod lines;
 #[cfg(test)]
 mod machine;
-#[cfg(test)]
-mod policies;
 #[cfg(test)]
 mod program;
 #[cfg(test)]
 mod responses;
 #[cfg(test)]
-mod rows;
-#[cfg(test)]
 mod serving;
 #[cfg(test)]
-mod table;
-#[cfg(test)]
 mod told;
-#[cfg(test)]
-mod values;
 #[cfg(test)]
 mod words;

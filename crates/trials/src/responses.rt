@@ -1,177 +1,220 @@
-//! Responses, and lists of obligations and advice: the JSON of each has the text that is written straight.
+//! Responses, and lists of obligations and advice, as JSON values, which no line asks for: each is what the text that is
+//! written straight spells. And copies of answers.
 
-use crate::evaluation::{put, reference};
+use crate::documents::json_of;
 use ent_combine::{IndKind, Outcome};
-use ent_eval::{Answer, Given, Pdp, Request};
-use ent_finder::{
-    AttributeFinder, AttributeFinderModule, MapDocs, MapRows, PolicyFinder, PolicyFinderModule,
-};
+use ent_eval::{Answer, Assignment, Given, Request, Status};
 use ent_json::JsonText;
 use ent_profile::{
     read_request, write_given, write_given_text, write_response, write_response_text,
 };
-use ent_values::Items;
+use ent_values::{DataType, Items, Text, Value};
 use serde_json::Value as Json;
 use std::alloc::{AllocError, Global};
 use std::test::Fail;
 
-/// A policy `p1` that permits reading, denies dropping, and permits writing to those who are cleared, which must be
-/// known. With a Permit go two obligations, one of them with values of four types, and an advice; with a Deny goes an
-/// advice.
-const OBLIGING: &str = r#"{"Policy":{"PolicyId":"p1","Version":"1",
-       "RuleCombiningAlgId":"urn:oasis:names:tc:xacml:1.0:rule-combining-algorithm:first-applicable",
-       "Rule":[{"RuleId":"r1","Effect":"Permit","Target":{"AnyOf":[{"AllOf":[{"Match":[{
-       "MatchId":"urn:oasis:names:tc:xacml:1.0:function:string-equal","AttributeValue":{"Value":"read"},
-       "AttributeDesignator":{"Category":"urn:oasis:names:tc:xacml:3.0:attribute-category:action",
-       "AttributeId":"urn:oasis:names:tc:xacml:1.0:action:action-id","DataType":"string"}}]}]}]}},{"RuleId":"r2",
-       "Effect":"Deny","Target":{"AnyOf":[{"AllOf":[{"Match":[{
-       "MatchId":"urn:oasis:names:tc:xacml:1.0:function:string-equal","AttributeValue":{"Value":"drop"},
-       "AttributeDesignator":{"Category":"urn:oasis:names:tc:xacml:3.0:attribute-category:action",
-       "AttributeId":"urn:oasis:names:tc:xacml:1.0:action:action-id","DataType":"string"}}]}]}]}},{"RuleId":"r3",
-       "Effect":"Permit","Target":{"AnyOf":[{"AllOf":[{"Match":[{
-       "MatchId":"urn:oasis:names:tc:xacml:1.0:function:string-equal","AttributeValue":{"Value":"write"},
-       "AttributeDesignator":{"Category":"urn:oasis:names:tc:xacml:3.0:attribute-category:action",
-       "AttributeId":"urn:oasis:names:tc:xacml:1.0:action:action-id","DataType":"string"}}]}]}]},
-       "Condition":{"Apply":{"FunctionId":"urn:oasis:names:tc:xacml:1.0:function:boolean-one-and-only",
-       "Arguments":[{"AttributeDesignator":{"Category":"urn:oasis:names:tc:xacml:1.0:subject-category:access-subject",
-       "AttributeId":"cleared","DataType":"boolean","MustBePresent":true}}]}}}],"ObligationExpressions":[{
-       "ObligationId":"log","FulfillOn":"Permit","AttributeAssignmentExpression":[{"AttributeId":"a \"name\"",
-       "Category":"c","Issuer":"desk","Expression":{"AttributeValue":{"Value":"plan"}}},{"AttributeId":"level",
-       "Expression":{"AttributeValue":{"Value":-7}}},{"AttributeId":"cleared","Expression":{"AttributeValue":{
-       "Value":false}}},{"AttributeId":"day","Expression":{"AttributeValue":{"DataType":"date",
-       "Value":"2025-02-28"}}}]},{"ObligationId":"tell","FulfillOn":"Permit"}],"AdviceExpressions":[{"AdviceId":"note",
-       "AppliesTo":"Permit"},{"AdviceId":"why","AppliesTo":"Deny","AttributeAssignmentExpression":[{
-       "AttributeId":"text","Issuer":"desk","Expression":{"AttributeValue":{"Value":""}}}]}]}}"#;
+/// What is assigned: the attribute, its category and its issuer, and the type and the text of the value.
+type Assigned = (
+    &'static str,
+    Option<&'static str>,
+    Option<&'static str>,
+    DataType,
+    &'static str,
+);
 
-/// Requests, with the decision of that policy, and how many obligations and how much advice go with it.
-const ASKED: &[(&str, Outcome, usize, usize)] = &[
-    // Of the attributes, those of no value, of one and of two are included.
+/// Obligations or advice: the id of each, and what is assigned.
+type Listed = &'static [(&'static str, &'static [Assigned])];
+
+/// Two obligations, one of them with values of four types.
+const OBLIGATIONS: Listed = &[
     (
-        r#"{"Request":{"Action":{"Attribute":[{"AttributeId":"urn:oasis:names:tc:xacml:1.0:action:action-id",
-           "Value":"read"},{"AttributeId":"none","Value":[],"IncludeInResult":true},{"AttributeId":"one",
-           "Issuer":"desk","Value":true,"IncludeInResult":true},{"AttributeId":"two","Value":[1,2],
-           "IncludeInResult":true}]},"Category":[{"CategoryId":"c","Attribute":{"AttributeId":"a","Value":"x"}},
-           {"CategoryId":"d","Attribute":{"AttributeId":"a","Value":"x","IncludeInResult":true}}]}}"#,
-        Outcome::Permit,
-        2,
-        1,
+        "log",
+        &[
+            (
+                "a \"name\"",
+                Some("c"),
+                Some("desk"),
+                DataType::Text,
+                "plan",
+            ),
+            ("level", None, None, DataType::Integer, "-7"),
+            ("cleared", None, None, DataType::Boolean, "false"),
+            ("day", None, None, DataType::Date, "2025-02-28"),
+        ],
     ),
-    (
-        r#"{"Request":{"Action":{"Attribute":{"AttributeId":"urn:oasis:names:tc:xacml:1.0:action:action-id",
-           "Value":"drop"}}}}"#,
-        Outcome::Deny,
-        0,
-        1,
-    ),
-    (
-        r#"{"Request":{"Action":{"Attribute":{"AttributeId":"urn:oasis:names:tc:xacml:1.0:action:action-id",
-           "Value":"write"}}}}"#,
-        Outcome::Ind(IndKind::P),
-        0,
-        0,
-    ),
-    (r#"{"Request":{}}"#, Outcome::NotApplicable, 0, 0),
+    ("tell", &[]),
 ];
 
-/// Makes that policy the root.
-fn oblige(alloc: Global, pdp: &mut Pdp) -> Result<(), Fail> {
-    put(alloc, pdp, OBLIGING)?;
-    let _none = pdp.set_root(Some(reference(alloc, "p1")?));
-    Ok(())
+/// An advice without a value.
+const ADVICE: Listed = &[("note", &[])];
+
+/// An advice with an empty one.
+const REASON: Listed = &[("why", &[("text", None, Some("desk"), DataType::Text, "")])];
+
+/// A request whose attributes of no value, of one and of two are included.
+const INCLUDING: &str =
+    r#"{"Request":{"Action":{"Attribute":[{"AttributeId":"urn:oasis:names:tc:xacml:1.0:action:action-id",
+       "Value":"read"},{"AttributeId":"none","Value":[],"IncludeInResult":true},{"AttributeId":"one","Issuer":"desk",
+       "Value":true,"IncludeInResult":true},{"AttributeId":"two","Value":[1,2],"IncludeInResult":true}]},
+       "Category":[{"CategoryId":"c","Attribute":{"AttributeId":"a","Value":"x"}},{"CategoryId":"d",
+       "Attribute":{"AttributeId":"a","Value":"x","IncludeInResult":true}}]}}"#;
+
+/// A request that asks for nothing.
+const EMPTY: &str = r#"{"Request":{}}"#;
+
+/// Requests, and answers to them: the decision, its status, and what goes with it.
+const ANSWERED: &[(&str, Outcome, Status, Listed, Listed)] = &[
+    (
+        INCLUDING,
+        Outcome::Permit,
+        Status::Okay,
+        OBLIGATIONS,
+        ADVICE,
+    ),
+    (EMPTY, Outcome::Deny, Status::Okay, &[], REASON),
+    (
+        EMPTY,
+        Outcome::Ind(IndKind::P),
+        Status::MissingAttribute,
+        &[],
+        &[],
+    ),
+    (EMPTY, Outcome::NotApplicable, Status::Okay, &[], &[]),
+];
+
+/// A text that may be absent.
+fn optional(alloc: Global, text: Option<&str>) -> Result<Option<Text>, AllocError> {
+    match text {
+        None => Ok(None),
+        Some(text) => Ok(Some(Text::from_str(alloc, text)?)),
+    }
 }
 
-/// Its answer to a request.
-fn answer_to(alloc: Global, request: &Request) -> Result<Answer, Fail> {
-    let mut modules: Vec<Box<dyn PolicyFinderModule>> = Vec::new(alloc);
-    modules.push(Box::new(alloc, MapDocs::new(alloc))?)?;
-    let mut attributes: Vec<Box<dyn AttributeFinderModule>> = Vec::new(alloc);
-    attributes.push(Box::new(alloc, MapRows::new(alloc, Items::new(alloc)))?)?;
-    let mut pdp = Pdp::new(
-        alloc,
-        AttributeFinder::new(attributes),
-        PolicyFinder::new(modules),
-    );
-    oblige(alloc, &mut pdp)?;
-    Ok(pdp.evaluate(request)?.answer)
+/// One assignment.
+fn assignment(alloc: Global, assigned: &Assigned) -> Result<Assignment, Fail> {
+    let &(attribute, category, issuer, datatype, text) = assigned;
+    Ok(Assignment {
+        attribute: Text::from_str(alloc, attribute)?,
+        category: optional(alloc, category)?,
+        issuer: optional(alloc, issuer)?,
+        value: Value::parse(alloc, datatype, text)?,
+    })
+}
+
+/// All that is assigned.
+fn assignments(alloc: Global, all: &[Assigned]) -> Result<Items<Assignment>, Fail> {
+    let mut assignments = Items::new(alloc);
+    for assigned in all {
+        assignments.push(assignment(alloc, assigned)?)?;
+    }
+    Ok(assignments)
+}
+
+/// One obligation or advice.
+fn one_given(alloc: Global, id: &str, all: &[Assigned]) -> Result<Given, Fail> {
+    let assignments = assignments(alloc, all)?;
+    let id = Text::from_str(alloc, id)?;
+    Ok(Given { id, assignments })
+}
+
+/// The obligations or the advice.
+fn given(alloc: Global, listed: Listed) -> Result<Items<Given>, Fail> {
+    let mut given = Items::new(alloc);
+    for &(id, all) in listed {
+        given.push(one_given(alloc, id, all)?)?;
+    }
+    Ok(given)
+}
+
+/// An answer for which no rule is told.
+fn answer(
+    alloc: Global,
+    decision: Outcome,
+    status: Status,
+    obligations: Listed,
+    advice: Listed,
+) -> Result<Answer, Fail> {
+    let obligations = given(alloc, obligations)?;
+    let advice = given(alloc, advice)?;
+    Ok(Answer {
+        decision,
+        status,
+        why: Items::new(alloc),
+        obligations,
+        advice,
+    })
 }
 
 /// The request that the text spells.
 fn request(alloc: Global, text: &str) -> Result<Request, Fail> {
-    let json = Json::from_str(alloc, text)?;
+    let json = json_of(alloc, text)?;
     Ok(read_request(alloc, &json)?)
 }
 
-/// The request that the text spells, and the answer to it.
-fn asked(alloc: Global, text: &str) -> Result<(Request, Answer), Fail> {
-    let request = request(alloc, text)?;
-    let answer = answer_to(alloc, &request)?;
-    Ok((request, answer))
+/// Whether a text spells that JSON.
+fn spells(alloc: Global, text: &str, json: &Json) -> Result<bool, Fail> {
+    Ok(json_of(alloc, text)? == *json)
 }
 
-/// The compact text of the JSON of a response.
-fn response_text(alloc: Global, answer: &Answer, request: &Request) -> Result<String, AllocError> {
+/// Whether the response that is written straight spells the JSON of it.
+fn is_response_alike(alloc: Global, answer: &Answer, request: &Request) -> Result<bool, Fail> {
     let json = write_response(alloc, answer, request)?;
-    json.to_string(alloc)
-}
-
-/// Whether it is the text that is written straight.
-fn is_response_alike(
-    alloc: Global,
-    answer: &Answer,
-    request: &Request,
-) -> Result<bool, AllocError> {
     let text = write_response_text(alloc, answer, request)?;
-    Ok(response_text(alloc, answer, request)?.as_str() == text.as_str())
+    spells(alloc, text.as_str(), &json)
 }
 
-/// The compact text of the JSON of a list of obligations or of advice.
-fn given_text(alloc: Global, given: &[Given]) -> Result<String, AllocError> {
-    let json = write_given(alloc, given)?;
-    json.to_string(alloc)
-}
-
-/// The text of it that is written straight.
+/// The text of a list of obligations or of advice that is written straight.
 fn straight(alloc: Global, given: &[Given]) -> Result<String, AllocError> {
     let mut out = JsonText::new(alloc);
     write_given_text(alloc, &mut out, given)?;
     Ok(out.into_string())
 }
 
-/// Whether the two are the same.
-fn is_given_alike(alloc: Global, given: &[Given]) -> Result<bool, AllocError> {
+/// Whether it spells the JSON of the list.
+fn is_given_alike(alloc: Global, given: &[Given]) -> Result<bool, Fail> {
+    let json = write_given(alloc, given)?;
     let text = straight(alloc, given)?;
-    Ok(given_text(alloc, given)?.as_str() == text.as_str())
+    spells(alloc, text.as_str(), &json)
 }
 
 /// Whether the response to a request and the lists of its answer are written alike in both ways.
-fn are_alike(alloc: Global, answer: &Answer, request: &Request) -> Result<bool, AllocError> {
+fn are_alike(alloc: Global, answer: &Answer, request: &Request) -> Result<bool, Fail> {
     let is_response = is_response_alike(alloc, answer, request)?;
     let are_obligations = is_given_alike(alloc, answer.obligations.as_slice())?;
     let is_advice = is_given_alike(alloc, answer.advice.as_slice())?;
     Ok(is_response && are_obligations && is_advice)
 }
 
-/// Whether the answer to the request that the text spells has that decision, so many obligations and so much advice,
-/// and is written alike in both ways.
-fn is_written_alike(
+/// Whether an answer is equal to its copy.
+fn is_copied(alloc: Global, answer: &Answer) -> Result<bool, AllocError> {
+    Ok(answer.copy(alloc)? == *answer)
+}
+
+/// Whether the answer to the request that the text spells is equal to its copy, and is written alike in both ways.
+fn is_written_alike(alloc: Global, text: &str, answer: &Answer) -> Result<bool, Fail> {
+    let request = request(alloc, text)?;
+    Ok(is_copied(alloc, answer)? && are_alike(alloc, answer, &request)?)
+}
+
+/// Whether that answer to the request that the text spells is.
+fn is_answer_alike(
     alloc: Global,
     text: &str,
     decision: Outcome,
-    obligations: usize,
-    advice: usize,
+    status: Status,
+    obligations: Listed,
+    advice: Listed,
 ) -> Result<bool, Fail> {
-    let (request, answer) = asked(alloc, text)?;
-    let is_meant = answer.decision == decision;
-    let are_as_many = answer.obligations.len() == obligations && answer.advice.len() == advice;
-    Ok(is_meant && are_as_many && are_alike(alloc, &answer, &request)?)
+    let answer = answer(alloc, decision, status, obligations, advice)?;
+    is_written_alike(alloc, text, &answer)
 }
 
 #[test]
 fn json_has_the_text_that_is_written_straight(rt: HostRuntime) -> Result<(), Fail> {
-    for &(text, decision, obligations, advice) in ASKED {
+    for &(text, decision, status, obligations, advice) in ANSWERED {
         assert!(rt;
-            is_written_alike(rt.alloc(), text, decision, obligations, advice)?,
-            "{text}"
+            is_answer_alike(rt.alloc(), text, decision, status, obligations, advice)?,
+            "{decision:?} {text}"
         );
     }
     Ok(())

@@ -1,8 +1,9 @@
-//! Serving readers and writers of several kinds, the longest line, and what faults are called.
+//! Serving readers and writers of several kinds, and what faults are called.
 
-use ent_line::{Answering, LINE_LIMIT, Reply, ServeFault, serve, serve_within};
+use ent_line::{Answering, LINE_LIMIT, Refusal, Reply, ServeFault, serve, serve_within};
+use ent_policy::DocFault;
 use ent_table::Accepted;
-use std::alloc::{AllocError, Global};
+use std::alloc::Global;
 use std::io;
 use std::io::{BufRead, ErrorKind, Read, Write};
 use std::test::Fail;
@@ -28,14 +29,14 @@ impl Answering for Tally {
     fn handle(&mut self, line: &[u8]) -> Reply {
         self.lines = self.lines.saturating_add(1);
         if line.len() > LINE_LIMIT {
-            return Reply::Refused(1, None);
+            return Reply::Refused(Refusal::TooLong);
         }
         match line.first() {
-            None => Reply::Refused(2, None),
-            Some(b'-') => Reply::Refused(6, Some(9)),
+            None => Reply::Refused(Refusal::NotJson),
+            Some(b'-') => Reply::Refused(Refusal::Document(DocFault::Form)),
             Some(b'"') => match String::from_str(self.alloc, "\"text\"") {
                 Ok(text) => Reply::Text(text),
-                Err(_) => Reply::Refused(15, None),
+                Err(_) => Reply::Refused(Refusal::Memory),
             },
             Some(_) => Reply::Accepted(Accepted {
                 serial: self.lines,
@@ -132,14 +133,6 @@ fn served(
     (out, lines, tally.lines)
 }
 
-/// A line of so many bytes, and after it a short one.
-fn long_line(alloc: Global, length: usize) -> Result<Vec<u8>, AllocError> {
-    let mut text = Vec::new(alloc);
-    text.resize(length, b'x')?;
-    text.extend_from_slice(b"\nab\n".as_slice())?;
-    Ok(text)
-}
-
 /// Whether the text, of which so many bytes are shown at a time, has that many lines and these replies.
 fn is_served(alloc: Global, text: &[u8], step: usize, number: u64, replies: &str) -> bool {
     let (out, lines, handled) = served(alloc, text, step, false);
@@ -156,25 +149,6 @@ fn serves_pieces(rt: HostRuntime) {
             is_served(rt.alloc(), text.as_bytes(), step, 5, replies),
             "{step}"
         );
-    }
-}
-
-/// Texts with the number of their lines.
-const COUNTED: &[(&str, u64)] = &[
-    ("", 0),
-    ("\n", 1),
-    ("a", 1),
-    ("a\n", 1),
-    ("\n\nb", 3),
-    ("\r\n", 1),
-];
-
-#[test]
-fn counts_lines(rt: HostRuntime) {
-    for &(text, number) in COUNTED {
-        let (_, lines, handled) = served(rt.alloc(), text.as_bytes(), 2, false);
-        assert_eq!(rt; lines, Ok(number));
-        assert_eq!(rt; handled, number);
     }
 }
 
@@ -203,31 +177,6 @@ fn ends_after_so_many_looks(rt: HostRuntime) {
     for &(text, end, number) in FIVE_LOOKS {
         assert!(rt; within_five(rt.alloc(), text) == (end, number), "{text}");
     }
-}
-
-/// Lengths of a line, with the replies to it and to a short one behind it.
-const LENGTHS: &[(usize, &str)] = &[
-    (
-        LINE_LIMIT,
-        "{\"changes\":1048576,\"serial\":1}\n{\"changes\":2,\"serial\":2}\n",
-    ),
-    (LINE_LIMIT + 1, TOO_LONG),
-    (LINE_LIMIT + 2, TOO_LONG),
-    (LINE_LIMIT + 100_000, TOO_LONG),
-];
-
-const TOO_LONG: &str = "{\"refused\":1}\n{\"changes\":2,\"serial\":2}\n";
-
-#[test]
-fn reads_the_longest_line(rt: HostRuntime) -> Result<(), Fail> {
-    for &(length, replies) in LENGTHS {
-        let text = long_line(rt.alloc(), length)?;
-        assert!(rt;
-            is_served(rt.alloc(), text.as_slice(), 5000, 2, replies),
-            "{length}"
-        );
-    }
-    Ok(())
 }
 
 #[test]
@@ -308,12 +257,4 @@ fn takes_its_memory_first(rt: HostRuntime) {
     let is_refused = lines == Err(ServeFault::Memory);
     assert_eq!(rt; handled, if is_refused { 0 } else { 1 });
     assert!(rt; out.is_empty() || !is_refused);
-}
-
-/// The text with spaces behind it, so many bytes in all.
-pub(crate) fn padded(alloc: Global, text: &str, length: usize) -> Result<Vec<u8>, AllocError> {
-    let mut bytes = Vec::new(alloc);
-    bytes.extend_from_slice(text.as_bytes())?;
-    bytes.resize(length, b' ')?;
-    Ok(bytes)
 }

@@ -227,22 +227,6 @@ fn each_fault_of_lines_is_told(rt: HostRuntime) {
     }
 }
 
-/// What is said of a file that is refused.
-const REFUSED: &[(FileFault, &str)] = &[
-    (
-        FileFault::TooLong,
-        "review: the file has more than 1048576 bytes",
-    ),
-    (FileFault::NotJson, "review: the file isn't JSON"),
-];
-
-#[test]
-fn each_refused_file_is_told(rt: HostRuntime) {
-    for &(fault, line) in REFUSED {
-        assert_eq!(rt; file_sentence(fault), line);
-    }
-}
-
 /// Each fault of a document.
 const FAULTS: &[DocFault] = &[
     DocFault::Form,

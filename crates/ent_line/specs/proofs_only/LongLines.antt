@@ -1,17 +1,26 @@
 -- Lines that are too long are answered alike.
-use Rattle.std.proofs.Common.{◌≡◌, ◌<◌, ℕ, List, length, None, arith, sym, ◌∙◌, inl, inr}
+use Rattle.std.proofs.Common.{◌≡◌, ◌<◌, ℕ, List, length, Option, None, arith, sym, subst, ◌∙◌, inl, inr}
 use Rattle.std.proofs.lemmas.Bool.{lt-ltb}
 use Rattle.ent_report.specs.World.{World}
+use Rattle.ent_table.specs.State.{State}
 use Rattle.ent_line.specs.Lines.{line_limit}
 use Rattle.ent_line.specs.Replies.{refused}
 use Rattle.ent_line.specs.Runs.{LongLinesAlike}
-use Rattle.ent_line.specs.Step.{Answers, step}
+use Rattle.ent_line.specs.Step.{respond}
+use Rattle.ent_line.specs.Work.{Counts, IsWorked, line_work}
+use Rattle.ent_line.specs.declared.refusal.Refusal.TheVariants.{TooLong}
 
-too_long : (n : ℕ) (w : World) (line : List ℕ) → line_limit < length line → step n w line ≡ (refused 1 None, w)
-unfolding step
+too_long : (n : ℕ) (w : World) (line : List ℕ) → line_limit < length line → respond n w line ≡ (refused TooLong, w)
+unfolding respond
 too_long n w line lt = rw (lt-ltb line_limit (length line) lt)
 
+no_work : (s : State) (line : List ℕ) → line_limit < length line → line_work s line ≡ None
+no_work s line lt = rw (lt-ltb line_limit (length line) lt)
+
 -- all lines that are too long are answered alike
-pub long_lines_alike : LongLinesAlike Answers
-long_lines_alike w v line other a p q (n, inl e) = (n, inl (e ∙ too_long n w line p ∙ sym (too_long n w other q)))
-long_lines_alike w v line other a p q (n, inr h) = absurd (omega (arith, h.2))
+pub long_lines_alike : LongLinesAlike Counts
+long_lines_alike w v line other a p q (inl e, worked) = (
+  inl (e ∙ too_long w.count w.world line p ∙ sym (too_long w.count w.world other q)),
+  subst (λ (o : Option ℕ). IsWorked o w.count v.count a) (no_work w.world.state line p ∙ sym (no_work w.world.state other q)) worked,
+)
+long_lines_alike w v line other a p q (inr h, worked) = absurd (omega (arith, h.2))

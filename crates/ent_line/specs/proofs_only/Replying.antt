@@ -7,8 +7,8 @@ use Rattle.ent_finder.specs.Slots.{Slots}
 use Rattle.ent_report.specs.World.{World}
 use Rattle.ent_table.specs.State.{State}
 use Rattle.ent_line.specs.Replies.{Answer, reply_view}
-use Rattle.ent_line.specs.Work.{IsWorked, count_of}
-use Rattle.ent_line.specs.World.{world_of}
+use Rattle.ent_line.specs.Work.{IsWorked}
+use Rattle.ent_line.specs.World.{count_of, world_of}
 use Rattle.ent_line.specs.declared.reply.Reply.{Reply}
 use Rattle.ent_line.specs.declared.service.Service.{Service}
 

@@ -1,0 +1,83 @@
+//! The questions that an object asks.
+
+ghost use Rattle.std.specs.Prelude.{◌≡◌, codes, option_and_then, option_map};
+ghost use Rattle.serde_json.specs.Find.{get};
+ghost use Rattle.ent_json.specs.Objects.{text_at};
+ghost use Rattle.ent_line.specs.Asked as asked;
+ghost use Rattle.ent_line.specs.Asked.{by_rule_asked, cell_asked, who_asked};
+ghost use Rattle.ent_line.specs.Keys.{number_at, number_in};
+ghost use Rattle.ent_line.specs.proofs_only.CommandView.{command_view};
+
+use crate::command::{Command, Question};
+use crate::keys::{null_or_text_at, number_at, number_in};
+use ent_json::{JsonTree, text_at};
+
+/// `cell`.
+#[tactic(auto, unfolding(crate::specs::Asked::cell_asked))]
+pub(crate) fn cell<J: JsonTree>(object: &J) -> Option<Command<'_, J>>
+    ensures { option_map (command_view J.content) result
+        ≡ option_map asked.question (cell_asked (J.content object.now)) }
+{
+    let person = text_at(object, "person")?;
+    let action = text_at(object, "action")?;
+    let resource = text_at(object, "resource")?;
+    Some(Command::Question(Question::Cell(person, action, resource)))
+}
+
+/// `ask`.
+pub(crate) fn ask<J: JsonTree>(object: &J) -> Option<Command<'_, J>>
+    ensures { option_map (command_view J.content) result
+        ≡ option_map asked.question (option_map asked.ask (get (codes "request") (J.content object.now))) }
+{
+    let request = object.get("request")?;
+    Some(Command::Question(Question::Ask(request)))
+}
+
+/// `can`.
+pub(crate) fn can<J: JsonTree>(object: &J) -> Option<Command<'_, J>>
+    ensures { option_map (command_view J.content) result
+        ≡ option_map asked.question (option_map asked.can (text_at (codes "person") (J.content object.now))) }
+{
+    let person = text_at(object, "person")?;
+    Some(Command::Question(Question::Can(person)))
+}
+
+/// `who`.
+#[tactic(auto, unfolding(crate::specs::Asked::who_asked))]
+pub(crate) fn who<J: JsonTree>(object: &J) -> Option<Command<'_, J>>
+    ensures { option_map (command_view J.content) result
+        ≡ option_map asked.question (who_asked (J.content object.now)) }
+{
+    let action = text_at(object, "action")?;
+    let resource = text_at(object, "resource")?;
+    Some(Command::Question(Question::Who(action, resource)))
+}
+
+/// `by_rule`.
+#[tactic(auto, unfolding(crate::specs::Asked::by_rule_asked))]
+pub(crate) fn by_rule<J: JsonTree>(object: &J) -> Option<Command<'_, J>>
+    ensures { option_map (command_view J.content) result
+        ≡ option_map asked.question (by_rule_asked (J.content object.now)) }
+{
+    let policy = text_at(object, "policy")?;
+    let rule = null_or_text_at(object, "rule")?;
+    Some(Command::Question(Question::ByRule(policy, rule)))
+}
+
+/// `format`.
+pub(crate) fn format<J: JsonTree>(object: &J) -> Option<Command<'_, J>>
+    ensures { option_map (command_view J.content) result ≡ option_map asked.question
+        (option_map asked.format (option_and_then number_in (get (codes "version") (J.content object.now)))) }
+{
+    let version = number_in(object.get("version")?)?;
+    Some(Command::Question(Question::Format(version)))
+}
+
+/// `dump`. The absent version is the newest.
+pub(crate) fn dump<J: JsonTree>(object: &J) -> Option<Command<'_, J>>
+    ensures { option_map (command_view J.content) result ≡ option_map asked.question
+        (option_map asked.dump (number_at (codes "version") 2 (J.content object.now))) }
+{
+    let version = number_at(object, "version", 2)?;
+    Some(Command::Question(Question::Dump(version)))
+}
