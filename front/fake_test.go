@@ -1,0 +1,126 @@
+package main
+
+import (
+	"bufio"
+	"fmt"
+	"io"
+	"os"
+	"os/exec"
+	"path/filepath"
+	"strings"
+	"testing"
+)
+
+// fake stands before the program, and answers some lines itself: of `memory` each tenth line of a process is
+// answered 15 once, of `dump` a process that is told the lines of a dump tells another one.
+func fake(how string, words []string) int {
+	behind := exec.Command(os.Getenv("REVIEW_PROGRAM"), words...)
+	behind.Stderr = os.Stderr
+	input, err := behind.StdinPipe()
+	if err != nil {
+		return 2
+	}
+	output, err := behind.StdoutPipe()
+	if err != nil || behind.Start() != nil {
+		return 2
+	}
+	if words[0] == "--version" {
+		_, _ = io.Copy(os.Stdout, output)
+		return 0
+	}
+	lines, replies := bufio.NewReaderSize(os.Stdin, 1<<21), bufio.NewReaderSize(output, 1<<21)
+	second := false
+	for count := 1; ; count++ {
+		l, err := lines.ReadString('\n')
+		if err != nil {
+			return 0
+		}
+		second = second || strings.Contains(l, `"format"`)
+		if how == "memory" && count%10 == 0 {
+			fmt.Println(`{"refused":15}`)
+			continue
+		}
+		_, _ = io.WriteString(input, l)
+		reply, err := replies.ReadString('\n')
+		if err != nil {
+			return 3
+		}
+		if how == "dump" && second && strings.Contains(l, `"dump"`) {
+			reply = strings.Replace(reply, `extra-`+"1", `extra-2`, 1)
+		}
+		fmt.Print(reply)
+	}
+}
+
+// faked is a program that fakes.
+func faked(t *testing.T, how string) string {
+	t.Helper()
+	path := filepath.Join(t.TempDir(), "review")
+	script := fmt.Sprintf("#!/bin/sh\n%s=%s exec '%s' \"$@\"\n", asFake, how, os.Args[0])
+	if err := os.WriteFile(path, []byte(script), 0o700); err != nil {
+		t.Fatal(err)
+	}
+	return path
+}
+
+// TestMemory starts from a journal with a program that is short of memory: lines that are answered 15 are tried
+// again.
+func TestMemory(t *testing.T) {
+	theProgram(t)
+	path := t.TempDir()
+	f := begin(t, path)
+	f.accept(clinic(t)...)
+	dump := f.must("/dump")
+	f.kill()
+	f = begin(t, path, "--program", faked(t, "memory"))
+	if !strings.Contains(f.log(), "no memory") {
+		t.Errorf("no want of memory is told:\n%s", f.log())
+	}
+	for try := 0; ; try++ {
+		status, body := f.get("/dump")
+		if status == 507 && try < 3 {
+			continue
+		}
+		if body != dump {
+			t.Errorf("the dump is %d %.300s", status, body)
+		}
+		break
+	}
+}
+
+// TestSnapshotRefused makes snapshots of which the second program comes to something else: the journal stays, the old
+// snapshot too, and it is told.
+func TestSnapshotRefused(t *testing.T) {
+	theProgram(t)
+	path := t.TempDir()
+	f := begin(t, path, "--snapshot-every", "5", "--program", faked(t, "dump"))
+	f.accept(`{"do":"person.add","name":"extra-1"}`, `{"do":"action.add","name":"a"}`, `{"do":"resource.add","name":"b"}`)
+	f.accept(`{"do":"person.add","name":"c"}`, `{"do":"person.add","name":"d"}`, `{"do":"person.add","name":"e"}`)
+	eventually(t, "a snapshot is refused", func() bool { return f.metric(`review_front_snapshots_total{outcome="refused"}`) > 0 })
+	table := f.must("/table")
+	if status := f.stop(); status != 0 {
+		t.Errorf("the front ends with %d:\n%s", status, f.log())
+	}
+	if files, _ := filepath.Glob(filepath.Join(path, "snapshot-*")); len(files) > 0 {
+		t.Errorf("there are the snapshots %v", files)
+	}
+	if f = begin(t, path); f.must("/table") != table {
+		t.Error("the table is another one")
+	}
+}
+
+// TestDumpTooLong has a row whose line in a dump is longer than a line may be: no snapshot counts, and all is there
+// again.
+func TestDumpTooLong(t *testing.T) {
+	theProgram(t)
+	path := t.TempDir()
+	f := begin(t, path, "--snapshot-every", "1")
+	f.accept(`{"do":"attr.set","category":"Resource","entity":"plan","attribute":"text","type":"string","values":["` +
+		strings.Repeat("x", 1048472) + `"]}`)
+	eventually(t, "a snapshot is refused", func() bool { return f.metric(`review_front_snapshots_total{outcome="refused"}`) > 0 })
+	dump := f.must("/dump")
+	f.kill()
+	if f = begin(t, path); f.must("/dump") != dump {
+		t.Error("the dump is another one")
+	}
+}

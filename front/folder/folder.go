@@ -1,0 +1,143 @@
+// Package folder keeps what was accepted: journals of edits and snapshots of states, in one folder that one front
+// has at a time.
+//
+// A journal `journal-N` has the edits from serial N on, up to those of the next one. A snapshot `snapshot-N` has the
+// lines of a dump of the state at serial N. Each begins with a head; all are records as package frame has them.
+package folder
+
+import (
+	"errors"
+	"fmt"
+	"os"
+	"path/filepath"
+	"sort"
+	"strconv"
+	"strings"
+	"sync"
+	"syscall"
+)
+
+const (
+	journalName  = "journal-"
+	snapshotName = "snapshot-"
+	asideName    = ".aside"
+	lockName     = "lock"
+	digits       = 20
+)
+
+// ErrTaken says that another front has the folder.
+var ErrTaken = errors.New("another front has this folder")
+
+// Folder is a folder of journals and snapshots that this process has alone.
+type Folder struct {
+	path    string
+	lock    *os.File
+	mutex   sync.Mutex
+	head    Head     // of the journals that are begun
+	current *os.File // the journal that edits are appended to
+	began   uint64   // the first serial that it has, or would have
+	size    int64    // how many bytes of it are on disk
+	last    uint64   // the serial of the last edit that is on disk
+	broken  error    // why nothing can be written, if so
+	sync    func(*os.File) error
+}
+
+// Open takes a folder, which is made if it isn't there.
+func Open(path string) (*Folder, error) {
+	if err := os.MkdirAll(path, 0o700); err != nil {
+		return nil, fmt.Errorf("the folder of journals: %w", err)
+	}
+	lock, err := os.OpenFile(filepath.Join(path, lockName), os.O_CREATE|os.O_RDWR, 0o600)
+	if err != nil {
+		return nil, fmt.Errorf("the lock of the folder: %w", err)
+	}
+	if err := syscall.Flock(int(lock.Fd()), syscall.LOCK_EX|syscall.LOCK_NB); err != nil {
+		lock.Close()
+		return nil, fmt.Errorf("%s: %w", path, ErrTaken)
+	}
+	f := &Folder{path: path, lock: lock, sync: (*os.File).Sync}
+	if err := f.clear(); err != nil {
+		f.Close()
+		return nil, err
+	}
+	return f, nil
+}
+
+// SyncBy has edits brought to the disk by something else, as one that fails or takes its time, to see what follows.
+func (f *Folder) SyncBy(sync func(*os.File) error) { f.sync = sync }
+
+// clear takes away what was being written aside.
+func (f *Folder) clear() error {
+	aside, err := filepath.Glob(filepath.Join(f.path, "*"+asideName))
+	if err != nil {
+		return fmt.Errorf("the folder of journals: %w", err)
+	}
+	for _, name := range aside {
+		if err := os.Remove(name); err != nil {
+			return fmt.Errorf("what was written aside: %w", err)
+		}
+	}
+	return nil
+}
+
+// Close gives the folder back.
+func (f *Folder) Close() {
+	f.mutex.Lock()
+	defer f.mutex.Unlock()
+	if f.current != nil {
+		f.current.Close()
+		f.current = nil
+	}
+	f.lock.Close()
+}
+
+// Last is the serial of the last edit that is on disk.
+func (f *Folder) Last() uint64 {
+	f.mutex.Lock()
+	defer f.mutex.Unlock()
+	return f.last
+}
+
+// numbered lists the numbers of the files of a kind, in their order.
+func numbered(path, kind string) ([]uint64, error) {
+	files, err := os.ReadDir(path)
+	if err != nil {
+		return nil, fmt.Errorf("the folder of journals: %w", err)
+	}
+	var numbers []uint64
+	for _, file := range files {
+		written := strings.TrimPrefix(file.Name(), kind)
+		if len(written) != digits || written == file.Name() {
+			continue
+		}
+		number, err := strconv.ParseUint(written, 10, 64)
+		if err != nil {
+			continue
+		}
+		numbers = append(numbers, number)
+	}
+	sort.Slice(numbers, func(i, j int) bool { return numbers[i] < numbers[j] })
+	return numbers, nil
+}
+
+func named(path, kind string, number uint64) string {
+	return filepath.Join(path, fmt.Sprintf("%s%0*d", kind, digits, number))
+}
+
+func (f *Folder) journal(number uint64) string { return named(f.path, journalName, number) }
+
+// snapshot is the name of the snapshot of a serial.
+func (f *Folder) snapshot(serial uint64) string { return named(f.path, snapshotName, serial) }
+
+// syncFolder sees that names which were made, changed or taken away are on disk.
+func (f *Folder) syncFolder() error {
+	folder, err := os.Open(f.path)
+	if err != nil {
+		return fmt.Errorf("the folder of journals: %w", err)
+	}
+	defer folder.Close()
+	if err := folder.Sync(); err != nil {
+		return fmt.Errorf("the folder of journals: %w", err)
+	}
+	return nil
+}

@@ -1,0 +1,165 @@
+package folder
+
+import (
+	"errors"
+	"fmt"
+	"io"
+	"os"
+	"time"
+
+	"review-front/frame"
+)
+
+// Snapshot is the lines of a dump, which make a program that holds nothing the same as at a serial.
+type Snapshot struct {
+	Serial uint64
+	Lines  [][]byte
+}
+
+// Snapshots are the serials for which there is a snapshot, in their order.
+func (f *Folder) Snapshots() ([]uint64, error) { return numbered(f.path, snapshotName) }
+
+// Base reads the newest snapshot that stands for a serial or an earlier one. Where there is none it is that of a new
+// program, if the journals begin there, or else the first snapshot.
+func (f *Folder) Base(most uint64) (*Snapshot, Head, error) {
+	serials, err := f.Snapshots()
+	if err != nil {
+		return nil, Head{}, err
+	}
+	for i := len(serials) - 1; i >= 0; i-- {
+		if serials[i] <= most {
+			return f.read(serials[i])
+		}
+	}
+	journals, err := numbered(f.path, journalName)
+	if err != nil {
+		return nil, Head{}, err
+	}
+	if len(serials) > 0 && (len(journals) == 0 || journals[0] > 1) {
+		return f.read(serials[0])
+	}
+	return &Snapshot{}, Head{}, nil
+}
+
+func (f *Folder) read(serial uint64) (*Snapshot, Head, error) {
+	name := f.snapshot(serial)
+	file, err := os.Open(name)
+	if err != nil {
+		return nil, Head{}, fmt.Errorf("a snapshot: %w", err)
+	}
+	defer file.Close()
+	records := frame.NewReader(file, name)
+	head, err := readHead(records, "snapshot")
+	if err == nil && head.After != serial {
+		err = records.Damage("its head has another serial than its name")
+	}
+	snapshot := &Snapshot{Serial: serial}
+	for err == nil && len(snapshot.Lines) < head.Lines {
+		var line []byte
+		if line, err = records.Next(); err == nil {
+			snapshot.Lines = append(snapshot.Lines, line)
+		}
+	}
+	if err == nil {
+		if _, err = records.Next(); err == io.EOF {
+			return snapshot, head, nil
+		}
+		return nil, Head{}, records.Damage("it has more than its lines")
+	}
+	// A snapshot is renamed once it is whole: no crash cuts it off.
+	if errors.Is(err, frame.ErrTorn) || errors.Is(err, io.EOF) {
+		err = records.Damage("it ends before its lines do")
+	}
+	return nil, Head{}, err
+}
+
+// Keep writes a snapshot aside, and renames it once it is on disk.
+func (f *Folder) Keep(snapshot *Snapshot) error {
+	f.mutex.Lock()
+	head := f.head
+	f.mutex.Unlock()
+	head.Kind, head.After, head.Lines = "snapshot", snapshot.Serial, len(snapshot.Lines)
+	name := f.snapshot(snapshot.Serial)
+	aside := name + asideName
+	err := f.writeAside(aside, head, snapshot.Lines)
+	if err == nil {
+		err = os.Rename(aside, name)
+	}
+	if err != nil {
+		os.Remove(aside)
+		return fmt.Errorf("a snapshot: %w", err)
+	}
+	return f.syncFolder()
+}
+
+func (f *Folder) writeAside(aside string, head Head, lines [][]byte) error {
+	file, err := os.OpenFile(aside, os.O_CREATE|os.O_TRUNC|os.O_WRONLY, 0o600)
+	if err != nil {
+		return err
+	}
+	defer file.Close()
+	records, err := headRecord(head)
+	if err != nil {
+		return err
+	}
+	for _, line := range lines {
+		records = frame.Append(records, line)
+		if len(records) > probeBytes {
+			if _, err := file.Write(records); err != nil {
+				return err
+			}
+			records = records[:0]
+		}
+	}
+	if _, err := file.Write(records); err != nil {
+		return err
+	}
+	return file.Sync()
+}
+
+// Trim takes away the snapshots that nobody needs: all before the newest that stands for `needed` or an earlier
+// serial, but never one of the two newest. Where `before` isn't zero it takes away the journals that end before the
+// first snapshot that stays, and were last written before that time.
+func (f *Folder) Trim(needed uint64, before time.Time) error {
+	serials, err := f.Snapshots()
+	if err != nil {
+		return err
+	}
+	first := len(serials) - 2
+	for first > 0 && serials[first] > needed {
+		first--
+	}
+	if first < 0 {
+		return nil
+	}
+	for _, serial := range serials[:first] {
+		if err := os.Remove(f.snapshot(serial)); err != nil {
+			return fmt.Errorf("an old snapshot: %w", err)
+		}
+	}
+	if before.IsZero() {
+		return nil
+	}
+	return f.trimJournals(serials[first], before)
+}
+
+func (f *Folder) trimJournals(from uint64, before time.Time) error {
+	numbers, err := numbered(f.path, journalName)
+	if err != nil {
+		return err
+	}
+	for i := 0; i+1 < len(numbers) && numbers[i+1] <= from+1; i++ {
+		name := f.journal(numbers[i])
+		about, err := os.Stat(name)
+		if err != nil {
+			return fmt.Errorf("an old journal: %w", err)
+		}
+		if !about.ModTime().Before(before) {
+			return nil
+		}
+		if err := os.Remove(name); err != nil {
+			return fmt.Errorf("an old journal: %w", err)
+		}
+	}
+	return nil
+}

@@ -1,0 +1,149 @@
+package folder
+
+import (
+	"fmt"
+	"os"
+
+	"review-front/frame"
+)
+
+// probeBytes is how much is written to see whether writing works again.
+const probeBytes = 1 << 16
+
+// Begin begins a journal behind the last edit, of a program as the head names it. Where it can't be written the
+// folder is broken until Repair.
+func (f *Folder) Begin(head Head) error {
+	f.mutex.Lock()
+	defer f.mutex.Unlock()
+	f.head = head
+	return f.begin()
+}
+
+// Rotate begins another journal, if the present one has an edit.
+func (f *Folder) Rotate() error {
+	f.mutex.Lock()
+	defer f.mutex.Unlock()
+	if f.broken != nil || f.last+1 == f.began {
+		return nil
+	}
+	return f.begin()
+}
+
+// begin makes the journal of the next edit. One of that name has no edit, and is made anew. Only once it is on disk
+// is it the present one: before that, edits go on into the other.
+func (f *Folder) begin() error {
+	head := f.head
+	head.Kind, head.After = "journal", f.last
+	record, err := headRecord(head)
+	if err != nil {
+		return err
+	}
+	name := f.journal(f.last + 1)
+	file, err := f.make(name, record)
+	if err != nil {
+		if f.current == nil {
+			f.broken = err
+		}
+		return err
+	}
+	if f.current != nil {
+		f.current.Close()
+	}
+	f.current, f.began, f.size, f.broken = file, f.last+1, int64(len(record)), nil
+	return nil
+}
+
+// make writes a file aside, renames it, and sees that both are on disk.
+func (f *Folder) make(name string, content []byte) (*os.File, error) {
+	aside := name + asideName
+	file, err := os.OpenFile(aside, os.O_CREATE|os.O_TRUNC|os.O_RDWR, 0o600)
+	if err != nil {
+		return nil, fmt.Errorf("a new journal: %w", err)
+	}
+	if _, err = file.Write(content); err == nil {
+		err = file.Sync()
+	}
+	if err == nil {
+		err = os.Rename(aside, name)
+	}
+	if err == nil {
+		err = f.syncFolder()
+	}
+	if err != nil {
+		// Edits go on into the journal before: one of this name that has none of them may not stay.
+		file.Close()
+		os.Remove(aside)
+		os.Remove(name)
+		return nil, fmt.Errorf("a new journal: %w", err)
+	}
+	return file, nil
+}
+
+// Append writes edits, whose serials follow the last one, and returns once they are on disk. After an error none of
+// them counts, and nothing is appended before Repair.
+func (f *Folder) Append(entries []Entry) error {
+	f.mutex.Lock()
+	defer f.mutex.Unlock()
+	if f.broken != nil {
+		return f.broken
+	}
+	var records, entry []byte
+	for _, e := range entries {
+		entry = e.Append(entry[:0])
+		records = frame.Append(records, entry)
+	}
+	_, err := f.current.WriteAt(records, f.size)
+	if err == nil {
+		err = f.sync(f.current)
+	}
+	if err != nil {
+		// What was written of them isn't to be there after a crash; if it can't be taken away now, Repair does it.
+		_ = f.current.Truncate(f.size)
+		f.broken = fmt.Errorf("the journal can't be written: %w", err)
+		return f.broken
+	}
+	f.size += int64(len(records))
+	f.last = entries[len(entries)-1].Serial
+	return nil
+}
+
+// Broken is why nothing can be written, or nil.
+func (f *Folder) Broken() error {
+	f.mutex.Lock()
+	defer f.mutex.Unlock()
+	return f.broken
+}
+
+// Repair tries whether writing works again, and takes away what stands behind the last edit that counts.
+func (f *Folder) Repair() error {
+	f.mutex.Lock()
+	defer f.mutex.Unlock()
+	if f.broken == nil {
+		return nil
+	}
+	if f.current == nil {
+		return f.begin()
+	}
+	if err := f.probe(); err != nil {
+		return fmt.Errorf("the journal can't be written: %w", err)
+	}
+	f.broken = nil
+	return nil
+}
+
+func (f *Folder) probe() error {
+	if err := f.current.Truncate(f.size); err != nil {
+		return err
+	}
+	_, wrote := f.current.WriteAt(make([]byte, probeBytes), f.size)
+	if wrote == nil {
+		wrote = f.sync(f.current)
+	}
+	if err := f.current.Truncate(f.size); err != nil {
+		return err
+	}
+	if wrote != nil {
+		return wrote
+	}
+	return f.current.Sync()
+}

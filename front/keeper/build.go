@@ -1,0 +1,143 @@
+package keeper
+
+import (
+	"context"
+	"errors"
+	"fmt"
+	"sort"
+	"time"
+
+	"review-front/folder"
+	"review-front/line"
+	"review-front/program"
+)
+
+// running is a program that has a state.
+type running struct {
+	*program.Program
+	offset uint64 // what is added to a serial of the program
+	serial uint64 // how many edits stand behind its state; for the goroutine that reads replies
+}
+
+// build starts a program and brings it to the state of the last edit on disk, with the marks that are wanted where
+// they can be had. Where memory is wanting it is tried once more, line by line.
+func (k *Keeper) build(ctx context.Context, marks map[int]uint64) (*running, error) {
+	began := time.Now()
+	r, edits, err := k.try(ctx, marks, false)
+	if errors.Is(err, errMemory) {
+		k.Log.Error("the program had no memory while the journal was replayed: it is tried again, slowly", "error", err)
+		r, edits, err = k.try(ctx, marks, true)
+	}
+	if err != nil {
+		return nil, err
+	}
+	took := time.Since(began)
+	k.Meter.Built(edits, took)
+	k.Log.Info("the state stands", "serial", r.serial, "replayed", edits, "took", took, "process", r.ID())
+	return r, nil
+}
+
+// try is one try of build, and also says how many edits were replayed.
+func (k *Keeper) try(ctx context.Context, marks map[int]uint64, careful bool) (*running, uint64, error) {
+	snapshot, head, err := k.Folder.Base(oldest(marks, k.Folder.Last()))
+	if err != nil {
+		return nil, 0, err
+	}
+	if head.AttributeModules > k.Command.AttributeModules || head.PolicyModules > k.Command.PolicyModules {
+		return nil, 0, fmt.Errorf("%w: the snapshot is of %d modules of attributes and %d of policies", errDamage,
+			head.AttributeModules, head.PolicyModules)
+	}
+	p, err := k.Command.Start()
+	if err != nil {
+		return nil, 0, err
+	}
+	stop := killWith(ctx, p)
+	defer stop()
+	r := &running{Program: p, serial: snapshot.Serial}
+	kept, err := k.replay(begin(ctx, p, careful), r, snapshot, marks)
+	if err != nil {
+		p.Discard()
+		if ctx.Err() != nil {
+			err = ctx.Err()
+		}
+		return nil, 0, err
+	}
+	k.Sessions.Anew(kept)
+	return r, r.serial - snapshot.Serial, nil
+}
+
+// killWith kills a program when the context is done, until it is told to stop watching.
+func killWith(ctx context.Context, p *program.Program) (stop func()) {
+	watched := make(chan struct{})
+	go func() {
+		select {
+		case <-ctx.Done():
+			p.Kill()
+		case <-watched:
+		}
+	}()
+	return func() { close(watched) }
+}
+
+// replay sends the lines of a snapshot, the edits behind it, and each mark at its serial, and gives the marks that
+// were made.
+func (k *Keeper) replay(
+	replay *replay, r *running, snapshot *folder.Snapshot, marks map[int]uint64,
+) (map[int]uint64, error) {
+	kept := map[int]uint64{}
+	edits, err := replay.snapshotLines(snapshot)
+	r.offset = snapshot.Serial - edits
+	due := inOrder(marks)
+	mark := func() error {
+		for ; len(due) > 0 && marks[due[0]] <= r.serial; due = due[1:] {
+			if marks[due[0]] < r.serial {
+				continue // it was made before the snapshot
+			}
+			sent := expected{line: line.Marking(due[0]), place: text("a mark"), check: isMark}
+			if err := replay.send(sent); err != nil {
+				return err
+			}
+			kept[due[0]] = r.serial
+		}
+		return nil
+	}
+	if err == nil {
+		err = mark()
+	}
+	if err == nil {
+		err = k.Folder.Each(snapshot.Serial, func(entry folder.Entry, place folder.Place) error {
+			r.serial = entry.Serial
+			check := isSame(entry.Changes, entry.Serial-r.offset)
+			if err := replay.send(expected{line: entry.Line, place: place, check: check}); err != nil {
+				return err
+			}
+			return mark()
+		})
+	}
+	return kept, replay.end(err)
+}
+
+// oldest is the serial of the oldest mark, or else a given one.
+func oldest(marks map[int]uint64, otherwise uint64) uint64 {
+	for _, at := range marks {
+		if at < otherwise {
+			otherwise = at
+		}
+	}
+	return otherwise
+}
+
+// inOrder lists sessions by the serials of their marks.
+func inOrder(marks map[int]uint64) []int {
+	var numbers []int
+	for number := range marks {
+		numbers = append(numbers, number)
+	}
+	sort.Slice(numbers, func(i, j int) bool {
+		if marks[numbers[i]] != marks[numbers[j]] {
+			return marks[numbers[i]] < marks[numbers[j]]
+		}
+		return numbers[i] < numbers[j]
+	})
+	return numbers
+}

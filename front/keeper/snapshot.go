@@ -1,0 +1,113 @@
+package keeper
+
+import (
+	"bytes"
+	"context"
+	"encoding/json"
+	"errors"
+	"fmt"
+	"time"
+
+	"review-front/folder"
+)
+
+var dumping = []byte(`{"do":"dump"}`)
+
+// errSnapshot says that a dump doesn't make a second program the same.
+var errSnapshot = errors.New("the dump doesn't stand for the state")
+
+// snapshots makes a snapshot whenever one is wanted, until the context is done.
+func (k *Keeper) snapshots(ctx context.Context) {
+	for {
+		select {
+		case <-ctx.Done():
+			return
+		case <-k.asked:
+		}
+		if !k.wants() {
+			continue // it was made while this was asked
+		}
+		reply := k.Ask(ctx, dumping)
+		if ctx.Err() != nil {
+			return
+		}
+		if reply.Err != nil {
+			k.Log.Error("no snapshot was made", "error", reply.Err)
+			continue
+		}
+		// Of one that fails the next is made after as many edits again.
+		k.tried.Store(reply.Serial)
+		_ = k.keep(ctx, reply)
+	}
+}
+
+// keep makes a snapshot of the reply to a dump, if a second program that is told it comes to the same dump. Else the
+// journal and the old snapshot stay.
+func (k *Keeper) keep(ctx context.Context, reply Reply) error {
+	began := time.Now()
+	err := k.verified(ctx, reply)
+	if ctx.Err() != nil {
+		return ctx.Err()
+	}
+	took := time.Since(began)
+	k.Meter.Snapshot(err == nil, took)
+	if err != nil {
+		k.Log.Error("no snapshot was made; the journal and the old one stay", "serial", reply.Serial, "error", err)
+		return err
+	}
+	k.snapshot.Store(reply.Serial)
+	k.Log.Info("a snapshot was made", "serial", reply.Serial, "took", took)
+	if err := k.Folder.Rotate(); err != nil {
+		k.Log.Error("no new journal was begun; the old one goes on", "error", err)
+		return nil
+	}
+	before := time.Time{}
+	if k.Keep != 0 {
+		before = time.Now().Add(-k.Keep)
+	}
+	if err := k.Folder.Trim(oldest(k.Sessions.Marks(), reply.Serial), before); err != nil {
+		k.Log.Error("what is old couldn't be taken away", "error", err)
+	}
+	return nil
+}
+
+// verified tells the lines of a dump to a second program, compares its dump, and writes them.
+func (k *Keeper) verified(ctx context.Context, reply Reply) error {
+	var dump struct{ Dump []string }
+	if err := json.Unmarshal(reply.Body, &dump); err != nil || len(dump.Dump) == 0 {
+		return fmt.Errorf("%w: it is answered %.200s", errSnapshot, reply.Body)
+	}
+	snapshot := &folder.Snapshot{Serial: reply.Serial}
+	for _, l := range dump.Dump {
+		snapshot.Lines = append(snapshot.Lines, []byte(l))
+	}
+	if err := k.second(ctx, snapshot, reply.Body); err != nil {
+		return err
+	}
+	return k.Folder.Keep(snapshot)
+}
+
+// second sees that a program which holds nothing accepts each line of a snapshot, and tells the same dump.
+func (k *Keeper) second(ctx context.Context, snapshot *folder.Snapshot, dump []byte) error {
+	p, err := k.Command.Start()
+	if err != nil {
+		return err
+	}
+	stop := killWith(ctx, p)
+	defer stop()
+	replay := begin(ctx, p, false)
+	_, err = replay.snapshotLines(snapshot)
+	if err = replay.end(err); err != nil {
+		p.Discard()
+		return fmt.Errorf("%w: %v", errSnapshot, err)
+	}
+	told, err := exchange(p, dumping)
+	p.Close()
+	if err != nil {
+		return err
+	}
+	if !bytes.Equal(told, dump) {
+		return fmt.Errorf("%w: a second program tells another dump", errSnapshot)
+	}
+	return nil
+}

@@ -1,0 +1,116 @@
+// Package line reads as much of a line and of a reply as the front has to know: which command it is, whose session it
+// names, whether an edit was accepted, and where a reply says a serial. Everything else is the program's.
+package line
+
+import (
+	"bytes"
+	"encoding/json"
+	"strconv"
+)
+
+// Limit is how many bytes a line has at most, without its newline.
+const Limit = 1 << 20
+
+// Sessions is how many sessions the program has.
+const Sessions = 16
+
+// TooLong is what the program answers to a line of more bytes than Limit.
+const TooLong = `{"refused":1}`
+
+// NoMark is what the program answers to notices of a session that hasn't marked.
+const NoMark = `{"refused":12}`
+
+// Kind is what the front has to know of a command.
+type Kind int
+
+// The kinds of a line.
+const (
+	Question Kind = iota // neither of the others, also what the program refuses
+	Edit                 // a command that changes what is held, if it is accepted
+	Mark                 // marks the table for a session
+	Notices              // asks what changed since a session's mark
+	Report               // a question whose reply may be as long as the table or all that is held
+)
+
+// kinds has the commands that aren't questions. An edit that isn't here is journalled all the same, by its reply.
+var kinds = map[string]Kind{
+	"person.add": Edit, "person.drop": Edit,
+	"action.add": Edit, "action.drop": Edit,
+	"resource.add": Edit, "resource.drop": Edit,
+	"policy.add": Edit, "policy.replace": Edit, "policy.withdraw": Edit,
+	"root.set": Edit, "attr.set": Edit, "day.set": Edit, "moment.set": Edit,
+	"mark": Mark, "notices": Notices,
+	"table": Report, "by_rule": Report, "dump": Report,
+	"documents": Report, "attributes": Report, "cells": Report, "faults": Report,
+}
+
+// Read says what kind of command a line is, and for a mark or notices the session that it names. A line that isn't
+// well formed is a question: the program refuses it. The last of several keys that are equal counts, as in the
+// program.
+func Read(l []byte) (Kind, int) {
+	do, session, others, ok := keys(l)
+	if !ok {
+		return Question, 0
+	}
+	kind := kinds[do]
+	if kind != Mark && kind != Notices {
+		return kind, 0
+	}
+	number, ok := sessionOf(session)
+	if others || !ok || !json.Valid(l) {
+		return Question, 0
+	}
+	return kind, number
+}
+
+// sessionOf reads a session's number as the program does: a whole number from 0 to 15; absent it is 0.
+func sessionOf(written []byte) (int, bool) {
+	if written == nil {
+		return 0, true
+	}
+	number, err := strconv.Atoi(string(written))
+	if err != nil || number < 0 || number >= Sessions || strconv.Itoa(number) != string(written) {
+		return 0, false
+	}
+	return number, true
+}
+
+// Marking is the line that marks the table for a session of the program.
+func Marking(session int) []byte {
+	return []byte(`{"do":"mark","session":` + strconv.Itoa(session) + `}`)
+}
+
+// Noticing is the line that asks what changed since the mark of a session of the program.
+func Noticing(session int) []byte {
+	return []byte(`{"do":"notices","session":` + strconv.Itoa(session) + `}`)
+}
+
+// Asking wraps a request as a line. It is false where the body isn't one JSON object by its brackets, so that nothing
+// in a body can be a key of the line.
+func Asking(body []byte) ([]byte, bool) {
+	body = bytes.Trim(body, " \t\r\n")
+	if len(body) == 0 || body[0] != '{' {
+		return nil, false
+	}
+	if end, ok := skip(body, 0); !ok || end != len(body) {
+		return nil, false
+	}
+	const before = `{"do":"ask","request":`
+	l := make([]byte, 0, len(before)+len(body)+2)
+	l = append(l, before...)
+	l = append(l, body...)
+	blank(l[len(before):])
+	return append(l, '}'), true
+}
+
+// blank puts blanks for newlines, so that a body is one line.
+func blank(l []byte) {
+	for {
+		at := bytes.IndexByte(l, '\n')
+		if at < 0 {
+			return
+		}
+		l[at] = ' '
+		l = l[at+1:]
+	}
+}

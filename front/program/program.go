@@ -1,0 +1,204 @@
+// Package program starts the service as a process and holds both ends of its pipe.
+package program
+
+import (
+	"bufio"
+	"context"
+	"errors"
+	"fmt"
+	"io"
+	"os"
+	"os/exec"
+	"strconv"
+	"strings"
+	"sync/atomic"
+	"syscall"
+	"time"
+)
+
+// Command is how the program is started.
+type Command struct {
+	Path             string    // the program `review`
+	AttributeModules int       // how many modules of values it has
+	PolicyModules    int       // how many modules of documents it has
+	Faults           io.Writer // takes what it says of faults
+}
+
+// ErrEnded says that the program ended, or closed its pipe.
+var ErrEnded = errors.New("the program ended")
+
+// A pipe of this many bytes is asked for: fewer turns between the front and the program.
+const (
+	pipeBytes  = 1 << 20
+	setPipe    = 1031 // F_SETPIPE_SZ of Linux
+	readBuffer = 1 << 18
+	rest       = 1 << 20
+)
+
+// Program is one process of the service. Its input is written by one goroutine, its output read by another.
+type Program struct {
+	process *exec.Cmd
+	input   *os.File
+	output  *os.File
+	writer  *bufio.Writer
+	reader  *bufio.Reader
+	looks   uint64
+	killed  atomic.Bool
+	done    chan struct{}
+	ended   error // how it ended, once done is closed
+}
+
+// Version is what the program says of its version.
+func (c Command) Version(ctx context.Context) (string, error) {
+	said, err := exec.CommandContext(ctx, c.Path, "--version").Output()
+	if err != nil {
+		return "", fmt.Errorf("%s --version: %w", c.Path, err)
+	}
+	return strings.TrimSpace(string(said)), nil
+}
+
+// Start starts the program, which holds nothing.
+func (c Command) Start() (*Program, error) {
+	input, toProgram, err := os.Pipe()
+	if err != nil {
+		return nil, fmt.Errorf("a pipe to the program: %w", err)
+	}
+	fromProgram, output, err := os.Pipe()
+	if err != nil {
+		input.Close()
+		toProgram.Close()
+		return nil, fmt.Errorf("a pipe from the program: %w", err)
+	}
+	widen(toProgram)
+	widen(fromProgram)
+	process := exec.Command(c.Path, "serve",
+		"--attribute-modules", strconv.Itoa(c.AttributeModules), "--policy-modules", strconv.Itoa(c.PolicyModules))
+	process.Stdin, process.Stdout, process.Stderr = input, output, c.Faults
+	// What a terminal sends to the front isn't sent to the program.
+	process.SysProcAttr = &syscall.SysProcAttr{Setpgid: true}
+	err = process.Start()
+	input.Close()
+	output.Close()
+	if err != nil {
+		toProgram.Close()
+		fromProgram.Close()
+		return nil, fmt.Errorf("starting the program: %w", err)
+	}
+	p := &Program{
+		process: process, input: toProgram, output: fromProgram, done: make(chan struct{}),
+		writer: bufio.NewWriterSize(toProgram, readBuffer), reader: bufio.NewReaderSize(fromProgram, readBuffer),
+	}
+	go p.wait()
+	return p, nil
+}
+
+// widen asks for a pipe of more bytes; without it the pipe works as well.
+func widen(pipe *os.File) {
+	raw, err := pipe.SyscallConn()
+	if err != nil {
+		return
+	}
+	_ = raw.Control(func(fd uintptr) {
+		_, _, _ = syscall.Syscall(syscall.SYS_FCNTL, fd, setPipe, pipeBytes)
+	})
+}
+
+func (p *Program) wait() {
+	err := p.process.Wait()
+	if err == nil {
+		err = errors.New("exit status 0")
+	}
+	p.ended = fmt.Errorf("%w: %v", ErrEnded, err)
+	close(p.done)
+}
+
+// Send puts a line into the pipe, or into what is flushed with it later.
+func (p *Program) Send(line []byte) error {
+	p.looks += LooksOf(len(line))
+	if _, err := p.writer.Write(line); err != nil {
+		return fmt.Errorf("%w: %v", ErrEnded, err)
+	}
+	if err := p.writer.WriteByte('\n'); err != nil {
+		return fmt.Errorf("%w: %v", ErrEnded, err)
+	}
+	return nil
+}
+
+// Flush sees that all lines are in the pipe.
+func (p *Program) Flush() error {
+	if err := p.writer.Flush(); err != nil {
+		return fmt.Errorf("%w: %v", ErrEnded, err)
+	}
+	return nil
+}
+
+// Receive waits for the next reply, without its newline, for which there is room. The bytes are the caller's.
+func (p *Program) Receive() ([]byte, error) {
+	part, err := p.reader.ReadSlice('\n')
+	reply := append([]byte(nil), part...)
+	for errors.Is(err, bufio.ErrBufferFull) {
+		part, err = p.reader.ReadSlice('\n')
+		reply = append(reply, part...)
+	}
+	if err != nil {
+		// What has no newline is a front of a reply, and none.
+		return nil, fmt.Errorf("%w: %v", ErrEnded, err)
+	}
+	return reply[:len(reply)-1], nil
+}
+
+// LooksOf is how often the program looks at its input for a line of so many bytes, at most: it takes what the pipe
+// has, which may be a part of a page.
+func LooksOf(bytes int) uint64 {
+	return 2 + uint64(bytes)/2048
+}
+
+// Looks is how often the program has looked at its input, at most. It is for the goroutine that sends.
+func (p *Program) Looks() uint64 { return p.looks }
+
+// Rest counts fewer looks, so that Looks is at a bound again only after some more.
+func (p *Program) Rest() {
+	if p.looks > rest {
+		p.looks -= rest
+	} else {
+		p.looks = 0
+	}
+}
+
+// Done is closed when the process has ended.
+func (p *Program) Done() <-chan struct{} { return p.done }
+
+// Ended says how the process ended, once Done is closed.
+func (p *Program) Ended() error { return p.ended }
+
+// ID is the number of the process.
+func (p *Program) ID() int { return p.process.Process.Pid }
+
+// Kill ends the process at once.
+func (p *Program) Kill() {
+	if !p.killed.Swap(true) {
+		_ = p.process.Process.Kill()
+	}
+}
+
+// Close ends the input, and the process with it, and waits for its end; after a while it is killed.
+func (p *Program) Close() {
+	_ = p.writer.Flush()
+	_ = p.input.Close()
+	select {
+	case <-p.done:
+	case <-time.After(2 * time.Second):
+		p.Kill()
+		<-p.done
+	}
+	_ = p.output.Close()
+}
+
+// Discard kills the process and gives back what it held.
+func (p *Program) Discard() {
+	p.Kill()
+	<-p.done
+	_ = p.input.Close()
+	_, _ = io.Copy(io.Discard, p.output)
+	_ = p.output.Close()
+}

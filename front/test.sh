@@ -1,0 +1,27 @@
+#!/bin/sh
+# Tests the front over a program: front/test.sh [PROGRAM [all]]; PROGRAM is crates/review/out/review unless it is named.
+# With `all` it kills the front and the program 200 times each and sends all of the gate's sessions; without it 8 times, and
+# each eighth session.
+# Where Go, its client of Prometheus or a C compiler (for the race detector) isn't there, it says so and ends with status 3.
+set -eu
+program=$(realpath "${1:-$(dirname "$0")/../crates/review/out/review}")
+cd "$(dirname "$0")"
+[ -x "$program" ] || { echo "front/test.sh: there is no program at $program"; exit 1; }
+for needed in go cc; do
+    command -v "$needed" >/dev/null || { echo "front/test.sh: there is no $needed"; exit 3; }
+done
+[ -d /usr/share/gocode/src/github.com/prometheus/client_golang ] ||
+    { echo 'front/test.sh: there is no golang-github-prometheus-client-golang-dev'; exit 3; }
+unformed=$(find . ../bench/front -path ./out -prune -o -name '*.go' -print | xargs gofmt -l)
+if [ -n "$unformed" ]; then
+    echo "gofmt would change $unformed"
+    exit 1
+fi
+./build.sh
+./build.sh go vet ./...
+(cd .. && GO111MODULE=off go vet ./bench/front)
+if [ "${2:-}" = all ]; then
+    FRONT_KILLS=200 FRONT_SESSIONS=1
+    export FRONT_KILLS FRONT_SESSIONS
+fi
+REVIEW_PROGRAM=$program ./build.sh go test -race -count=1 -timeout 60m ./...

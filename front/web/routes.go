@@ -1,0 +1,142 @@
+package web
+
+import (
+	"encoding/json"
+	"errors"
+	"net/http"
+	"net/url"
+	"sort"
+	"strings"
+	"unicode/utf8"
+
+	"review-front/keeper"
+)
+
+// route is a path, its method and what answers it. A part of the path in braces is a key.
+type route struct {
+	method string
+	path   string
+	serve  func(w *answered, r *http.Request, keys map[string]string)
+}
+
+func (r route) name() string { return r.path }
+
+// routes has all paths but /authorize.
+func (s *Server) routes() []route {
+	all := []route{
+		{http.MethodGet, "/", s.home},
+		{http.MethodPost, "/lines", s.freeLines},
+		{http.MethodGet, "/notices", s.notices},
+		{http.MethodPost, "/sessions", s.openSession},
+		{http.MethodDelete, "/sessions/{session}", s.endSession},
+		{http.MethodPost, "/sessions/{session}/lines", s.sessionLines},
+		{http.MethodPost, "/sessions/{session}/mark", s.mark},
+		{http.MethodGet, "/sessions/{session}/notices", s.changed},
+		{http.MethodGet, "/healthz", s.health},
+		{http.MethodGet, "/readyz", s.ready},
+		{http.MethodGet, "/metrics", func(w *answered, r *http.Request, _ map[string]string) { s.metrics.ServeHTTP(w, r) }},
+	}
+	for _, q := range questions {
+		all = append(all, route{http.MethodGet, q.path, s.asking(q)})
+	}
+	return all
+}
+
+// partsOf reads the parts of a path between its slashes, each with its escapes.
+func partsOf(u *url.URL) ([]string, error) {
+	parts := strings.Split(strings.TrimPrefix(u.EscapedPath(), "/"), "/")
+	for i, part := range parts {
+		read, err := url.PathUnescape(part)
+		if err != nil {
+			return nil, err
+		}
+		if !utf8.ValidString(read) {
+			return nil, errors.New("it isn't UTF-8")
+		}
+		parts[i] = read
+	}
+	return parts, nil
+}
+
+// find is the route of a path, with what stands at its keys.
+func (s *Server) find(parts []string) (route, map[string]string, bool) {
+	for _, route := range s.known {
+		if keys, ok := route.match(parts); ok {
+			return route, keys, true
+		}
+	}
+	return route{}, nil, false
+}
+
+func (r route) match(parts []string) (map[string]string, bool) {
+	wanted := strings.Split(strings.TrimPrefix(r.path, "/"), "/")
+	if len(wanted) != len(parts) {
+		return nil, false
+	}
+	var keys map[string]string
+	for i, part := range wanted {
+		if !strings.HasPrefix(part, "{") {
+			if part != parts[i] {
+				return nil, false
+			}
+			continue
+		}
+		if keys == nil {
+			keys = map[string]string{}
+		}
+		keys[strings.Trim(part, "{}")] = parts[i]
+	}
+	return keys, true
+}
+
+// allowed lists the methods of a path.
+func (s *Server) allowed(parts []string) string {
+	var methods []string
+	for _, route := range s.known {
+		if _, ok := route.match(parts); ok {
+			methods = append(methods, route.method)
+		}
+	}
+	sort.Strings(methods)
+	return strings.Join(methods, ", ")
+}
+
+// home tells where requests are answered, as the REST Profile has it, and lists the other paths.
+func (s *Server) home(w *answered, _ *http.Request, _ map[string]string) {
+	paths := []string{}
+	for _, route := range s.known {
+		paths = append(paths, route.method+" "+route.path)
+	}
+	written, err := json.Marshal(map[string]any{
+		"resources": map[string]any{
+			"http://docs.oasis-open.org/ns/xacml/relation/pdp": map[string]string{"href": "/authorize"},
+		},
+		"paths": paths,
+	})
+	if err != nil {
+		problemFor(err).send(w)
+		return
+	}
+	sendJSON(w, written)
+}
+
+// sendJSON answers with JSON, and a newline for who reads it at a terminal.
+func sendJSON(w http.ResponseWriter, body []byte) {
+	w.Header().Set("Content-Type", "application/json")
+	// Who has gone isn't told.
+	_, _ = w.Write(append(body, '\n'))
+}
+
+// health says that the front runs.
+func (s *Server) health(w *answered, _ *http.Request, _ map[string]string) {
+	sendJSON(w, []byte(`{"status":"ok"}`))
+}
+
+// ready says whether lines are answered.
+func (s *Server) ready(w *answered, _ *http.Request, _ map[string]string) {
+	if !s.Keeper.Ready() {
+		problemFor(keeper.ErrNotReady).send(w)
+		return
+	}
+	sendJSON(w, []byte(`{"status":"ready"}`))
+}

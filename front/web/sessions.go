@@ -1,0 +1,86 @@
+package web
+
+import (
+	"net/http"
+
+	"review-front/keeper"
+	"review-front/sessions"
+)
+
+// openSession gives a client a session that stays from one request to the next.
+func (s *Server) openSession(w *answered, _ *http.Request, _ map[string]string) {
+	name, ok, err := s.leases.Open()
+	if err != nil {
+		problemFor(err).send(w)
+		return
+	}
+	if !ok {
+		problemFor(keeper.ErrSessions).send(w)
+		return
+	}
+	w.Header().Set("Location", "/sessions/"+name)
+	w.Header().Set("Content-Type", "application/json")
+	w.WriteHeader(http.StatusCreated)
+	// Who has gone isn't told; his session ends when nobody uses it.
+	_, _ = w.Write([]byte(`{"session":` + quoted(name) + "}\n"))
+}
+
+// endSession gives a session back.
+func (s *Server) endSession(w *answered, _ *http.Request, keys map[string]string) {
+	if !s.leases.End(keys["session"]) {
+		noSession().send(w)
+		return
+	}
+	w.WriteHeader(http.StatusNoContent)
+}
+
+func noSession() problem {
+	return problem{Title: "no such session", Status: http.StatusNotFound, Detail: "it has ended, or there never was one"}
+}
+
+// within calls with the client of a session.
+func (s *Server) within(w *answered, keys map[string]string, call func(*sessions.Client)) {
+	client, done, ok := s.leases.Use(keys["session"])
+	if !ok {
+		noSession().send(w)
+		return
+	}
+	defer done()
+	call(client)
+}
+
+// sessionLines answers lines within a session.
+func (s *Server) sessionLines(w *answered, r *http.Request, keys map[string]string) {
+	s.within(w, keys, func(client *sessions.Client) { s.lines(w, r, client) })
+}
+
+// mark marks the table for a session.
+func (s *Server) mark(w *answered, r *http.Request, keys map[string]string) {
+	s.within(w, keys, func(client *sessions.Client) { s.one(w, r, client, `{"do":"mark"}`) })
+}
+
+// changed tells what changed since a session's mark.
+func (s *Server) changed(w *answered, r *http.Request, keys map[string]string) {
+	s.within(w, keys, func(client *sessions.Client) { s.one(w, r, client, `{"do":"notices"}`) })
+}
+
+// one asks one line within a session.
+func (s *Server) one(w *answered, r *http.Request, client *sessions.Client, l string) {
+	if err := s.Keeper.Await(r.Context()); err != nil {
+		problemFor(err).send(w)
+		return
+	}
+	call, err := keeper.Prepare([]byte(l), s.who(r), client)
+	if err != nil {
+		problemFor(err).send(w)
+		return
+	}
+	reply := s.Keeper.Send(r.Context(), call)
+	if reply.Err != nil {
+		problemFor(reply.Err).send(w)
+		return
+	}
+	if !refuse(w, reply.Body) {
+		sendJSON(w, reply.Body)
+	}
+}
