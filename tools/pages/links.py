@@ -5,7 +5,7 @@
     links.py --words     prints how many words each page has
 
 Each link in a page leads to a file of the repository, and where it names a heading, to one of that page; so does each
-path that stands in backticks (NAME stands for any, and a folder `out` is made by the kit). README.md has at
+path that stands in backticks (NAME stands for any, and a folder `out` is made by a build). README.md has at
 most 100 lines of at most 120 columns, and the pages in docs/ have at most 36,000 words."""
 import pathlib
 import re
@@ -53,7 +53,7 @@ def faults_of(path, known):
         elif anchor and anchor not in known.get(there, set()):
             yield f'no heading {target}'
     for name in PATH.findall(text):
-        if 'NAME' not in name and '/out/' not in name and not (ROOT / name).exists():
+        if 'NAME' not in name and 'out' not in name.split('/') and not (ROOT / name).exists():
             yield f'no `{name}`'
 
 
