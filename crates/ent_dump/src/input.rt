@@ -36,8 +36,8 @@ fn read_piece<R: Read>(
     }
 }
 
-/// All bytes of the reader, of which so many are asked for at once; or none of them, where it isn't at its end though no
-/// read is left.
+/// All bytes of the reader, of which so many are asked for at once; or none of them, where it isn't at its end though
+/// no read is left.
 fn read_pieces<R: Read>(
     alloc: Global,
     reader: &mut R,

@@ -105,7 +105,8 @@ fn common_values<'a>(
     second: &'a [Value],
 ) -> Result<Items<Value>, AllocError>
     ensures value { IfOk result (λ values. values ≡ in_both first.now second.now) }
-    ensures filled { OnErr result (are_many first.now second.now ≡ false → 0 < length (in_both first.now second.now)) }
+    ensures filled { OnErr result
+        (are_many first.now second.now ≡ false → 0 < length (in_both first.now second.now)) }
 {
     let among = Among::of(alloc, second, first)?;
     let mut found = Items::new(alloc);

@@ -99,7 +99,8 @@ pub(crate) fn set_day<J: JsonTree>(object: &J) -> Option<Command<'_, J>>
 /// `moment.set`.
 pub(crate) fn set_moment<J: JsonTree>(object: &J) -> Option<Command<'_, J>>
     ensures { option_map (command_view J.content) result
-        ≡ option_map asked.change (option_map asked.set_moment (null_or_text_at (codes "moment") (J.content object.now))) }
+        ≡ option_map asked.change
+        (option_map asked.set_moment (null_or_text_at (codes "moment") (J.content object.now))) }
 {
     let moment = null_or_text_at(object, "moment")?;
     Some(Command::Change(Change::SetMoment(moment)))

@@ -31,9 +31,9 @@ pub fn given_words<R: Env + AllocGlobal>(rt: &R) -> Result<Vec<String>, WordsFau
     Ok(words)
 }
 
-/// What `review --version` says behind the program's name: the version, and the toolchain that it is proved with, as
-/// `rt version` names it.
-const VERSION: &str = "1.0.0 (rattle-kit-13f logic dac8208d650f15bf)";
+/// What `review --version` says behind the program's name: the version, and the logic by which it is proved, as
+/// `rt version` names it behind the kit.
+const VERSION: &str = "1.0.0 (logic dac8208d650f15bf)";
 
 /// The argument of `check`, and of `test`: what is read.
 pub const FILE: &str = "FILE";

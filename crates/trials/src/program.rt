@@ -13,13 +13,13 @@ const POLICY: &str = r#"{"Policy":{"PolicyId":"p3","Version":"1",
 const RUNS: &[(&[&str], &str, &str, u8)] = &[
     (
         &["review", "--version"],
-        "review 1.0.0 (rattle-kit-13f logic dac8208d650f15bf)\n",
+        "review 1.0.0 (logic dac8208d650f15bf)\n",
         "",
         0,
     ),
     (
         &["review", "-V"],
-        "review 1.0.0 (rattle-kit-13f logic dac8208d650f15bf)\n",
+        "review 1.0.0 (logic dac8208d650f15bf)\n",
         "",
         0,
     ),
