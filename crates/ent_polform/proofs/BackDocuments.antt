@@ -5,7 +5,7 @@ use Rattle.std.proofs.lemmas.List.Folds.{flat_map-map}
 use Rattle.serde_json.specs.Data as json
 use Rattle.serde_json.specs.Data.{Data}
 use Rattle.serde_json.specs.View.{items_of}
-use Rattle.ent_values.specs.ReadBack.{IsReadable}
+use Rattle.ent_values.specs.ReadBack.{HasFewYears, IsReal}
 use Rattle.ent_values.specs.declared.value.Value.{Value}
 use Rattle.ent_combine.proofs.Naming.{policy_ids_read_back}
 use Rattle.ent_combine.specs.Identifiers.{policy_algorithm_of, policy_id_of}
@@ -38,7 +38,7 @@ use Rattle.ent_policy.specs.declared.raw.RawPolicy.{RawPolicy}
 use Rattle.ent_policy.specs.declared.raw.RawPolicySet.{RawPolicySet}
 use Rattle.ent_policy.proofs.Numbers.{is_version_of}
 use Rattle.ent_policy.proofs.WhatIsRead.{set_is_read}
-use Rattle.ent_policy.proofs.Wholes.{ReadOf}
+use Rattle.ent_policy.proofs.Wholes.{ReadOf, neither}
 use Rattle.ent_polform.specs.Form.{child_of, policy_of, raw_named, raw_of, set_by}
 use Rattle.ent_polform.specs.Given.{given_of}
 use Rattle.ent_polform.specs.Objects.{◌>>=◌, each_by}
@@ -47,7 +47,7 @@ use Rattle.ent_polform.specs.Targets.{target_or_empty}
 use Rattle.ent_json.specs.Members.{filled_list, only_member, optional}
 use Rattle.ent_polform.specs.Written.{child_step, child_written, policy_written, reference_written, set_with, target_written, written}
 use Rattle.ent_polform.specs.proofs_only.Written.{set_written}
-use Rattle.ent_polform.proofs.Back.{Back, Returns, both_readable, each_back, none_there}
+use Rattle.ent_polform.proofs.Back.{Back, Returns, alike, both_few, both_of, each_back, made_back, none_there}
 use Rattle.ent_polform.proofs.BackGiven.{advice_of, both_back, given_in, obligations_of}
 use Rattle.ent_polform.proofs.BackPolicies.{policy_back, version_back}
 use Rattle.ent_polform.proofs.BackReferences.{ReferenceReturns, kind_back, reference_back}
@@ -106,17 +106,30 @@ algorithm_back a = (policy_ids_read_back (policy_id_of a) a).1 refl
 
 set_back : (s : PolicySet) → is_version s.version ≡ true → AllByRecursion ChildReturns s.children → SetReturns s
 unfolding set_written
-set_back s version children clean readable =
+set_back s version children clean real =
     let none = none_there (set_faults s) clean in
-    let both = both_readable (target_values s.target) _ readable in
-    let inside = both_readable (flat_map child_values s.children) (given_values s.given) both.1 in
+    let first = target_values s.target in
+    let second = flat_map child_values s.children in
+    let both = both_of IsReal first _ real in
+    let inside = both_of IsReal second (given_values s.given) both.1 in
     let t = target_back s.target none.1.1.0 both.0 in
     let cs = each_back child_of child_written child_read limit_fault child_values s.children children none.1.1.1.0 inside.0 in
     let g = both_back s.given inside.1 in (
       record { id = s.id; version = version_text s.version; algorithm = policy_id_of s.algorithm; target = t.0; children = cs.0; given = g.0 },
       (
         set_form child_of s.id (version_text s.version) (policy_id_of s.algorithm) (target_written s.target) (map child_written s.children) (obligations_of s.given) (advice_of s.given) ∙ rw (t.1.0, cs.1.0, g.1.0) refl,
-        rw (version_back s.version version, algorithm_back s.algorithm, t.1.1, ap (λ r. r.value) cs.1.1, ap (λ r. r.fault) cs.1.1, g.1.1) refl,
+        record {
+          same = λ few.
+              let parts = both_of HasFewYears first _ few in
+              let others = both_of HasFewYears second (given_values s.given) parts.1 in
+              let members = cs.1.1.same others.0 in
+              rw (version_back s.version version, algorithm_back s.algorithm, t.1.1.same parts.0, ap (λ r. r.value) members, ap (λ r. r.fault) members, g.1.1.same others.1) refl;
+          few = λ clear.
+              let named = neither (reading.policy_algorithm_read (policy_id_of s.algorithm)).fault _ (neither (version_read (version_text s.version)).fault _ clear).1 in
+              let parts = neither (reading.target_read t.0).fault _ named.1 in
+              let others = neither (reading.each_read child_read cs.0).fault _ parts.1 in
+              both_few first _ (t.1.1.few parts.0) (both_few second (given_values s.given) (cs.1.1.few others.0) (g.1.1.few (neither (reading.given_read g.0).fault None others.1).0));
+        },
       ),
     )
 
@@ -138,42 +151,44 @@ policy_returns : (p : Policy) → PolicyReturns p → ChildReturns (children.Pol
 unfolding Rattle.ent_policy.specs.declared.raw.RawChild.TheViews.roll-RawChild Rattle.ent_policy.specs.declared.document.Child.TheViews.roll-Child denote.Hole.Carrier.roll raw_named raw_of
 policy_returns p returns =
     let spelled : child_written (children.Policy p) ≡ only_member (codes "Policy") (policy_written p) = fold-roll-Child Data Data child_step set_with (Child-F.Policy p) in
-    let inside : limit_fault (children.Policy p) ≡ None → AllByRecursion IsReadable (child_values (children.Policy p)) → Back (policy_of (policy_written p)) policy_read p =
-    λ clean readable.
-    returns (sym (fold-roll-Child (Option DocFault) (Option DocFault) child_limits set_limits (Child-F.Policy p)) ∙ clean)
-    (subst (AllByRecursion IsReadable) (fold-roll-Child (List Value) (List Value) values_in_level values_in_set (Child-F.Policy p)) readable) in (
-      λ clean readable. let b = inside clean readable in (
+    let holds : child_values (children.Policy p) ≡ policy_values p = fold-roll-Child (List Value) (List Value) values_in_level values_in_set (Child-F.Policy p) in
+    let inside : limit_fault (children.Policy p) ≡ None → AllByRecursion IsReal (child_values (children.Policy p)) → Back (policy_of (policy_written p)) policy_read (policy_values p) p =
+    λ clean real.
+    returns (sym (fold-roll-Child (Option DocFault) (Option DocFault) child_limits set_limits (Child-F.Policy p)) ∙ clean) (subst (AllByRecursion IsReal) holds real) in (
+      λ clean real. let b = inside clean real in (
         raw_children.Policy b.0,
         (
           ap child_of spelled ∙ child_of-step (only_member (codes "Policy") (policy_written p)) ∙ rw b.1.0 refl,
-          fold-roll-RawChild (ReadOf Child) (ReadOf PolicySet) reading.child_step reading.set_step (RawChild-F.Policy b.0) ∙ rw b.1.1 refl,
+          alike (fold-roll-RawChild (ReadOf Child) (ReadOf PolicySet) reading.child_step reading.set_step (RawChild-F.Policy b.0)) holds (made_back (λ x. children.Policy x) b.1.1),
         ),
       ),
-      λ clean readable. let b = inside clean readable in (raw.Policy b.0, (ap raw_of spelled ∙ rw b.1.0 refl, ap (reading.made (λ x. trees.Policy x)) b.1.1)),
+      λ clean real. let b = inside clean real in (raw.Policy b.0, (ap raw_of spelled ∙ rw b.1.0 refl, alike refl holds (made_back (λ x. trees.Policy x) b.1.1))),
     )
 
 set_returns : (s : PolicySet) → SetReturns s → ChildReturns (children.Set s) × TreeReturns (trees.Set s)
 unfolding raw_named raw_of
 set_returns s returns =
-    let inside : limit_fault (children.Set s) ≡ None → AllByRecursion IsReadable (child_values (children.Set s)) → Back (set_by child_of (set_written s)) set_read s =
-    λ clean readable. returns (sym (limit_of_set s) ∙ clean) (subst (AllByRecursion IsReadable) (values_of_set s) readable) in (
-      λ clean readable. let b = inside clean readable in (
+    let holds = values_of_set s in
+    let inside : limit_fault (children.Set s) ≡ None → AllByRecursion IsReal (child_values (children.Set s)) → Back (set_by child_of (set_written s)) set_read (set_values s) s =
+    λ clean real. returns (sym (limit_of_set s) ∙ clean) (subst (AllByRecursion IsReal) holds real) in (
+      λ clean real. let b = inside clean real in (
         raw_children.Set b.0,
         (
           ap child_of (set_is_written s) ∙ child_of-step (only_member (codes "PolicySet") (set_written s)) ∙ rw b.1.0 refl,
-          set_is_read b.0 ∙ ap (reading.made (λ x. children.Set x)) b.1.1,
+          alike (set_is_read b.0) holds (made_back (λ x. children.Set x) b.1.1),
         ),
       ),
-      λ clean readable. let b = inside clean readable in (raw.Set b.0, (ap raw_of (set_is_written s) ∙ rw b.1.0 refl, ap (reading.made (λ x. trees.Set x)) b.1.1)),
+      λ clean real. let b = inside clean real in (raw.Set b.0, (ap raw_of (set_is_written s) ∙ rw b.1.0 refl, alike refl holds (made_back (λ x. trees.Set x) b.1.1))),
     )
 
 reference_returns : (r : Reference) → ReferenceReturns r → ChildReturns (children.Reference r)
 unfolding Rattle.ent_policy.specs.declared.raw.RawChild.TheViews.roll-RawChild Rattle.ent_policy.specs.declared.document.Child.TheViews.roll-Child denote.Hole.Carrier.roll reference_written
-reference_returns r b clean readable = (
+reference_returns r b clean real = (
   raw_children.Reference b.0,
   (
     ap child_of (fold-roll-Child Data Data child_step set_with (Child-F.Reference r)) ∙ child_of-step (reference_written r) ∙ rw (kind_back r.kind, b.1.0) refl,
-    fold-roll-RawChild (ReadOf Child) (ReadOf PolicySet) reading.child_step reading.set_step (RawChild-F.Reference b.0) ∙ rw b.1.1 refl,
+    alike (fold-roll-RawChild (ReadOf Child) (ReadOf PolicySet) reading.child_step reading.set_step (RawChild-F.Reference b.0))
+        (fold-roll-Child (List Value) (List Value) values_in_level values_in_set (Child-F.Reference r)) (made_back (λ x. children.Reference x) b.1.1),
   ),
 )
 

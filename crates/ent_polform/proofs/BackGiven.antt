@@ -4,8 +4,8 @@ use Rattle.std.specs.List.{AllByRecursion, flat_map}
 use Rattle.serde_json.specs.Data as json
 use Rattle.serde_json.specs.Data.{Data, put}
 use Rattle.serde_json.specs.View.{items_of}
-use Rattle.ent_values.specs.ReadBack.{IsReadable}
-use Rattle.ent_policy.specs.Reading.{assignment_read, each_read, given_expression_read, given_read, made}
+use Rattle.ent_values.specs.ReadBack.{HasFewYears, IsReal}
+use Rattle.ent_policy.specs.Reading.{assignment_read, each_read, given_expression_read, given_read}
 use Rattle.ent_policy.specs.declared.document.Effect.{Effect}
 use Rattle.ent_policy.specs.declared.document.Effect.TheVariants.{Permit, Deny}
 use Rattle.ent_policy.specs.declared.fault.DocFault.{DocFault}
@@ -13,6 +13,7 @@ use Rattle.ent_policy.specs.declared.given.AssignmentExpression.{AssignmentExpre
 use Rattle.ent_policy.specs.declared.given.GivenExpression.{GivenExpression}
 use Rattle.ent_policy.specs.declared.given.GivenExpressions.{GivenExpressions}
 use Rattle.ent_policy.specs.declared.raw.RawGivenExpressions.{RawGivenExpressions}
+use Rattle.ent_policy.proofs.Wholes.{neither}
 use Rattle.ent_polform.specs.Expressions.{expression_of}
 use Rattle.ent_polform.specs.Given.{assignment_of, given_by}
 use Rattle.ent_json.specs.Members.{put_optional}
@@ -21,7 +22,7 @@ use Rattle.ent_policy.specs.Values.{assignment_values, given_values, values_give
 use Rattle.ent_json.specs.Members.{filled_list, optional}
 use Rattle.ent_polform.specs.Written.{expression_written}
 use Rattle.ent_polform.specs.Written.{assignment_written, effect_word, given_written}
-use Rattle.ent_polform.proofs.Back.{Back, Returns, all_back, both_readable, no_fault}
+use Rattle.ent_polform.proofs.Back.{Back, Returns, all_back, both_few, both_of, made_back, no_fault}
 use Rattle.ent_polform.proofs.BackExpressions.{expression_back}
 
 -- ---- assignments
@@ -38,10 +39,10 @@ assignment_form attribute (Some category) (Some issuer) e = refl
 
 assignment_back : (a : AssignmentExpression) → Returns (λ x. assignment_of (assignment_written x)) assignment_read (λ x. None) assignment_values a
 unfolding assignment_written assignment_read
-assignment_back a clean readable =
-    let b = expression_back a.expression refl readable in (
+assignment_back a clean real =
+    let b = expression_back a.expression refl real in (
       record { attribute = a.attribute; category = a.category; issuer = a.issuer; expression = b.0 },
-      (assignment_form a.attribute a.category a.issuer (expression_written a.expression) ∙ rw b.1.0 refl, rw b.1.1 refl),
+      (assignment_form a.attribute a.category a.issuer (expression_written a.expression) ∙ rw b.1.0 refl, made_back (λ x. record { attribute = a.attribute; category = a.category; issuer = a.issuer; expression = x }) b.1.1),
     )
 
 -- ---- obligations and advice
@@ -69,14 +70,14 @@ advice_form id Deny (a ∷ more) = refl
 module _ (id_key effect_key : List ℕ) (form : GivenForm id_key effect_key) where
   given_back : (g : GivenExpression) → Returns (λ x. given_by id_key effect_key (given_written id_key effect_key x)) given_expression_read (λ x. None) values_given g
   unfolding given_written given_expression_read
-  given_back g clean readable =
-      let written = all_back assignment_of assignment_written assignment_read (λ x. None) assignment_values assignment_back g.assignments (no_fault g.assignments) readable in (
+  given_back g clean real =
+      let written = all_back assignment_of assignment_written assignment_read (λ x. None) assignment_values assignment_back g.assignments (no_fault g.assignments) real in (
         record { id = g.id; effect = g.effect; assignments = written.0 },
-        (form g.id g.effect (map assignment_written g.assignments) ∙ rw written.1.0 refl, ap (made (λ assignments. record { id = g.id; effect = g.effect; assignments = assignments })) written.1.1),
+        (form g.id g.effect (map assignment_written g.assignments) ∙ rw written.1.0 refl, made_back (λ x. record { id = g.id; effect = g.effect; assignments = x }) written.1.1),
       )
 
   all_given_back : (gs : List GivenExpression) → Returns (λ xs. each_by (given_by id_key effect_key) (items_of (map (given_written id_key effect_key) xs))) (each_read given_expression_read) (λ xs. None) (flat_map values_given) gs
-  all_given_back gs clean readable = all_back (given_by id_key effect_key) (given_written id_key effect_key) given_expression_read (λ x. None) values_given given_back gs (no_fault gs) readable
+  all_given_back gs clean real = all_back (given_by id_key effect_key) (given_written id_key effect_key) given_expression_read (λ x. None) values_given given_back gs (no_fault gs) real
 
 -- what is read of the lists of both
 abbrev pub given_in : List Data → List Data → Result RawGivenExpressions DocFault
@@ -89,12 +90,26 @@ obligations_of g = map (given_written (codes "ObligationId") (codes "FulfillOn")
 abbrev pub advice_of : GivenExpressions → List Data
 advice_of g = map (given_written (codes "AdviceId") (codes "AppliesTo")) g.advice
 
-pub both_back : (g : GivenExpressions) → AllByRecursion IsReadable (given_values g) → Back (given_in (obligations_of g) (advice_of g)) given_read g
+pub both_back : (g : GivenExpressions) → AllByRecursion IsReal (given_values g) → Back (given_in (obligations_of g) (advice_of g)) given_read (given_values g) g
 unfolding given_read
-both_back g readable =
-    let both = both_readable (flat_map values_given g.obligations) (flat_map values_given g.advice) readable in
+both_back g real =
+    let first = flat_map values_given g.obligations in
+    let second = flat_map values_given g.advice in
+    let both = both_of IsReal first second real in
     let obligations = all_given_back _ _ obligation_form g.obligations refl both.0 in
     let advice = all_given_back _ _ advice_form g.advice refl both.1 in (
       record { obligations = obligations.0; advice = advice.0 },
-      (rw (obligations.1.0, advice.1.0) refl, rw (ap (λ r. r.value) obligations.1.1, ap (λ r. r.fault) obligations.1.1, ap (λ r. r.value) advice.1.1, ap (λ r. r.fault) advice.1.1) refl),
+      (
+        rw (obligations.1.0, advice.1.0) refl,
+        record {
+          same = λ few.
+              let parts = both_of HasFewYears first second few in
+              let os = obligations.1.1.same parts.0 in
+              let all = advice.1.1.same parts.1 in
+              rw (ap (λ r. r.value) os, ap (λ r. r.fault) os, ap (λ r. r.value) all, ap (λ r. r.fault) all) refl;
+          few = λ clear.
+              let parts = neither (each_read given_expression_read obligations.0).fault _ clear in
+              both_few first second (obligations.1.1.few parts.0) (advice.1.1.few (neither (each_read given_expression_read advice.0).fault None parts.1).0);
+        },
+      ),
     )

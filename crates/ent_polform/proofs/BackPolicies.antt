@@ -5,13 +5,14 @@ use Rattle.std.specs.Option.{option_to_list}
 use Rattle.serde_json.specs.Data as json
 use Rattle.serde_json.specs.Data.{Data}
 use Rattle.serde_json.specs.View.{items_of}
-use Rattle.ent_values.specs.ReadBack.{IsReadable}
+use Rattle.ent_values.specs.ReadBack.{HasFewYears, IsReal}
+use Rattle.ent_values.specs.declared.value.Value.{Value}
 use Rattle.ent_combine.proofs.Naming.{rule_ids_read_back}
 use Rattle.ent_combine.specs.Identifiers.{rule_algorithm_of, rule_id_of}
 use Rattle.ent_combine.specs.declared.outcome.RuleAlg.{RuleAlg}
 use Rattle.ent_policy.specs.First.{first_of, if_so}
 use Rattle.ent_policy.specs.Limits.{definition_fault, given_fault, has_double_rule, length_fault, maybe_fault, name_fault, policy_fault, rule_fault, target_fault, expression_fault}
-use Rattle.ent_policy.specs.Reading.{definition_read, done, expression_read, maybe_read, policy_read, rule_read, version_read}
+use Rattle.ent_policy.specs.Reading.{definition_read, done, each_read, expression_read, given_read, made, maybe_read, policy_read, rule_algorithm_read, rule_read, target_read, version_read}
 use Rattle.ent_policy.specs.Versions.{is_version, version_text}
 use Rattle.ent_policy.specs.declared.document.Effect.{Effect}
 use Rattle.ent_policy.specs.declared.document.Effect.TheVariants.{Permit, Deny}
@@ -20,6 +21,7 @@ use Rattle.ent_policy.specs.declared.document.Rule.{Rule}
 use Rattle.ent_policy.specs.declared.expression.Expression.{Expression}
 use Rattle.ent_policy.specs.declared.expression.VariableDefinition.{VariableDefinition}
 use Rattle.ent_policy.specs.declared.fault.DocFault.TheVariants.{Identifier}
+use Rattle.ent_policy.proofs.Wholes.{neither}
 use Rattle.ent_policy.proofs.Written.{reads_back}
 use Rattle.ent_polform.specs.Expressions.{expression_of}
 use Rattle.ent_polform.specs.Form.{definition_of, policy_of, rule_of}
@@ -30,7 +32,7 @@ use Rattle.ent_polform.specs.Reading.{maybe}
 use Rattle.ent_polform.specs.Targets.{target_or_empty}
 use Rattle.ent_json.specs.Members.{filled_list, optional}
 use Rattle.ent_polform.specs.Written.{definition_written, effect_word, expression_written, policy_written, rule_written, target_written}
-use Rattle.ent_polform.proofs.Back.{Back, Returns, all_back, both_readable, no_fault, none_there}
+use Rattle.ent_polform.proofs.Back.{Back, Returns, all_back, both_few, both_of, made_back, no_fault, none_there}
 use Rattle.ent_polform.proofs.BackExpressions.{expression_back}
 use Rattle.ent_polform.proofs.BackGiven.{advice_of, both_back, given_in, obligations_of}
 use Rattle.ent_polform.proofs.BackTargets.{target_back}
@@ -39,17 +41,28 @@ use Rattle.ent_polform.proofs.BackTargets.{target_back}
 
 definition_back : (d : VariableDefinition) → Returns (λ x. definition_of (definition_written x)) definition_read (λ x. None) definition_values d
 unfolding definition_of definition_written definition_read
-definition_back d clean readable =
-    let b = expression_back d.expression refl readable in
-    (record { id = d.id; expression = b.0 }, (rw b.1.0 refl, rw b.1.1 refl))
+definition_back d clean real =
+    let b = expression_back d.expression refl real in
+    (record { id = d.id; expression = b.0 }, (rw b.1.0 refl, made_back (λ x. record { id = d.id; expression = x }) b.1.1))
 
 -- ---- rules
 
-condition_back : (c : Option Expression) → AllByRecursion IsReadable (flat_map expression_values (option_to_list c)) → Back (maybe expression_of (option_map expression_written c)) (maybe_read expression_read) c
-condition_back None readable = (None, (refl, refl))
-condition_back (Some e) readable =
-    let b = expression_back e refl (both_readable (expression_values e) [] readable).0 in
-    (Some b.0, (rw b.1.0 refl, rw b.1.1 refl))
+abbrev condition_values : Option Expression → List Value
+condition_values c = flat_map expression_values (option_to_list c)
+
+condition_back : (c : Option Expression) → AllByRecursion IsReal (condition_values c) → Back (maybe expression_of (option_map expression_written c)) (maybe_read expression_read) (condition_values c) c
+condition_back None real = (None, (refl, record { same = λ few. refl; few = λ clear. tt }))
+condition_back (Some e) real =
+    let b = expression_back e refl (both_of IsReal (expression_values e) [] real).0 in (
+      Some b.0,
+      (
+        rw b.1.0 refl,
+        record {
+          same = λ few. ap (made (λ y. Some y)) (b.1.1.same (both_of HasFewYears (expression_values e) [] few).0);
+          few = λ clear. both_few (expression_values e) [] (b.1.1.few clear) tt;
+        },
+      ),
+    )
 
 rule_form : (id : List ℕ) (effect : Effect) (condition target : Option Data) (obligations advice : List Data) →
     rule_of (json.object (optional (codes "AdviceExpressions") (filled_list advice) (optional (codes "Condition") condition (json.member (codes "Effect") (json.string (effect_word effect))
@@ -91,17 +104,28 @@ rule_form id Deny (Some c) (Some t) (o ∷ os) (a ∷ rest) = refl
 
 rule_back : (r : Rule) → Returns (λ x. rule_of (rule_written x)) rule_read rule_fault rule_values r
 unfolding rule_written rule_read rule_fault
-rule_back r clean readable =
+rule_back r clean real =
     let none = none_there (name_fault r.id ∷ target_fault r.target ∷ maybe_fault expression_fault r.condition ∷ given_fault r.given ∷ []) clean in
-    let both = both_readable (target_values r.target) _ readable in
-    let inside = both_readable (flat_map expression_values (option_to_list r.condition)) (given_values r.given) both.1 in
+    let first = target_values r.target in
+    let second = condition_values r.condition in
+    let both = both_of IsReal first _ real in
+    let inside = both_of IsReal second (given_values r.given) both.1 in
     let t = target_back r.target none.1.0 both.0 in
     let c = condition_back r.condition inside.0 in
     let g = both_back r.given inside.1 in (
       record { id = r.id; effect = r.effect; target = t.0; condition = c.0; given = g.0 },
       (
         rule_form r.id r.effect (option_map expression_written r.condition) (target_written r.target) (obligations_of r.given) (advice_of r.given) ∙ rw (t.1.0, c.1.0, g.1.0) refl,
-        rw (t.1.1, c.1.1, g.1.1) refl,
+        record {
+          same = λ few.
+              let parts = both_of HasFewYears first _ few in
+              let others = both_of HasFewYears second (given_values r.given) parts.1 in
+              rw (t.1.1.same parts.0, c.1.1.same others.0, g.1.1.same others.1) refl;
+          few = λ clear.
+              let parts = neither (target_read t.0).fault _ clear in
+              let others = neither (maybe_read expression_read c.0).fault _ parts.1 in
+              both_few first _ (t.1.1.few parts.0) (both_few second (given_values r.given) (c.1.1.few others.0) (g.1.1.few (neither (given_read g.0).fault None others.1).0));
+        },
       ),
     )
 
@@ -155,11 +179,14 @@ policy_form id version algorithm (Some t) (v ∷ vs) (r ∷ rs) (o ∷ os) (a �
 
 pub policy_back : (p : Policy) → is_version p.version ≡ true → Returns (λ x. policy_of (policy_written x)) policy_read policy_fault policy_values p
 unfolding policy_written policy_read policy_fault
-policy_back p version clean readable =
+policy_back p version clean real =
     let none = none_there (name_fault p.id ∷ if_so (has_double_rule p.rules) Identifier ∷ length_fault p.variables ∷ length_fault p.rules ∷ target_fault p.target ∷ first_of (map definition_fault p.variables) ∷ first_of (map rule_fault p.rules) ∷ given_fault p.given ∷ []) clean in
-    let both = both_readable (target_values p.target) _ readable in
-    let inside = both_readable (flat_map definition_values p.variables) _ both.1 in
-    let last = both_readable (flat_map rule_values p.rules) (given_values p.given) inside.1 in
+    let first = target_values p.target in
+    let second = flat_map definition_values p.variables in
+    let third = flat_map rule_values p.rules in
+    let both = both_of IsReal first _ real in
+    let inside = both_of IsReal second _ both.1 in
+    let last = both_of IsReal third (given_values p.given) inside.1 in
     let t = target_back p.target none.1.1.1.1.0 both.0 in
     let ds = all_back definition_of definition_written definition_read (λ x. None) definition_values definition_back p.variables (no_fault p.variables) inside.0 in
     let rs = all_back rule_of rule_written rule_read rule_fault rule_values rule_back p.rules none.1.1.1.1.1.1.0 last.0 in
@@ -168,6 +195,21 @@ policy_back p version clean readable =
       (
         policy_form p.id (version_text p.version) (rule_id_of p.algorithm) (target_written p.target) (map definition_written p.variables) (map rule_written p.rules) (obligations_of p.given) (advice_of p.given)
             ∙ rw (t.1.0, ds.1.0, rs.1.0, g.1.0) refl,
-        rw (version_back p.version version, algorithm_back p.algorithm, t.1.1, ap (λ r. r.value) ds.1.1, ap (λ r. r.fault) ds.1.1, ap (λ r. r.value) rs.1.1, ap (λ r. r.fault) rs.1.1, g.1.1) refl,
+        record {
+          same = λ few.
+              let parts = both_of HasFewYears first _ few in
+              let others = both_of HasFewYears second _ parts.1 in
+              let ends = both_of HasFewYears third (given_values p.given) others.1 in
+              let definitions = ds.1.1.same others.0 in
+              let rules = rs.1.1.same ends.0 in
+              rw (version_back p.version version, algorithm_back p.algorithm, t.1.1.same parts.0, ap (λ r. r.value) definitions, ap (λ r. r.fault) definitions, ap (λ r. r.value) rules, ap (λ r. r.fault) rules, g.1.1.same ends.1) refl;
+          few = λ clear.
+              let named = neither (rule_algorithm_read (rule_id_of p.algorithm)).fault _ (neither (version_read (version_text p.version)).fault _ clear).1 in
+              let parts = neither (target_read t.0).fault _ named.1 in
+              let others = neither (each_read definition_read ds.0).fault _ parts.1 in
+              let ends = neither (each_read rule_read rs.0).fault _ others.1 in
+              both_few first _ (t.1.1.few parts.0)
+              (both_few second _ (ds.1.1.few others.0) (both_few third (given_values p.given) (rs.1.1.few ends.0) (g.1.1.few (neither (given_read g.0).fault None ends.1).0)));
+        },
       ),
     )

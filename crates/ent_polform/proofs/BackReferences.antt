@@ -61,7 +61,7 @@ reference_form kind id (Some version) (Some earliest) None = refl
 reference_form kind id (Some version) (Some earliest) (Some latest) = refl
 
 abbrev pub ReferenceReturns : Reference → Type 0
-ReferenceReturns r = Back (reference_by r.kind (reference_body r)) reference_read r
+ReferenceReturns r = Back (reference_by r.kind (reference_body r)) reference_read [] r
 
 -- what is written of what is read of a reference reads back
 pub reference_back : (raw : RawReference) → ReferenceReturns (reference_read raw).value
@@ -71,7 +71,10 @@ reference_back raw =
     let earliest = (maybe_read pattern_read raw.earliest).value in
     let latest = (maybe_read pattern_read raw.latest).value in (
       record { kind = raw.kind; id = (id_read raw.id).value; version = option_map pattern_text version; earliest = option_map pattern_text earliest; latest = option_map pattern_text latest },
-      (reference_form raw.kind (id_read raw.id).value version earliest latest, rw (id_again raw.id, constraint_again raw.version, constraint_again raw.earliest, constraint_again raw.latest) refl),
+      (
+        reference_form raw.kind (id_read raw.id).value version earliest latest,
+        record { same = λ few. rw (id_again raw.id, constraint_again raw.version, constraint_again raw.earliest, constraint_again raw.latest) refl; few = λ clear. tt },
+      ),
     )
 
 -- ---- a reference that stands alone

@@ -5,6 +5,7 @@ pub mod MemberLemmas
 pub mod WrittenLemmas
 pub mod BackValues
 pub mod Back
+pub mod BackYears
 pub mod BackTargets
 pub mod BackExpressions
 pub mod BackGiven
