@@ -3,7 +3,7 @@ use Rattle.std.specs.Prelude.{◌≡◌, List, Result, Ok, Err}
 use Rattle.ent_finder.specs.Rows.{Source}
 use Rattle.ent_finder.specs.Slots.{Slots}
 use Rattle.ent_table.specs.Tables.{KeepsTables, LeavesTables}
-use Rattle.ent_report.specs.World.{oldest}
+use Rattle.ent_report.specs.Desk.{oldest}
 use Rattle.ent_report.specs.declared.desk.Desk.{Desk}
 
 -- none is forgotten: as many are known as before, and each stays what it was

@@ -1,3 +1,4 @@
+pub mod Desk
 pub mod Differing
 pub mod Kept
 pub mod Notices

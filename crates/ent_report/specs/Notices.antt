@@ -1,13 +1,11 @@
 -- Notices: the difference of a table that was marked and the present one.
-use Rattle.std.specs.Prelude.{◌≡◌, List, map, Option, Some, None, option_map, Result, Ok, Err}
+use Rattle.std.specs.Prelude.{List, map, Option, option_map}
 use Rattle.ent_combine.specs.declared.outcome.Outcome.{Outcome}
 use Rattle.ent_eval.specs.declared.answer.Answer.{Answer}
 use Rattle.ent_table.specs.AnswerMap.{AnswerMap}
 use Rattle.ent_table.specs.State.{State}
 use Rattle.ent_table.specs.Tables.{changes_from}
 use Rattle.ent_table.specs.declared.since.Change.{Change}
-use Rattle.ent_report.specs.declared.fault.NoticeFault.{NoticeFault}
-use Rattle.ent_report.specs.declared.fault.NoticeFault.TheVariants.{NoMark, Memory}
 use Rattle.ent_report.specs.declared.notices.Notice.{Notice}
 
 -- the decision of an answer, none where there is none
@@ -22,9 +20,3 @@ notice_of c = record { person = c.person; action = c.action; resource = c.resour
 -- the law that they are)
 abbrev pub notices : AnswerMap → State → List Notice
 notices m s = map notice_of (changes_from m s)
-
--- what a session that has this mark is told
-abbrev pub IsNoticed : Option AnswerMap → State → Result (List Notice) NoticeFault → Type 0
-IsNoticed None s result = result ≡ Err NoMark
-IsNoticed (Some m) s (Ok ns) = ns ≡ notices m s
-IsNoticed (Some m) s (Err fault) = fault ≡ Memory

@@ -1,5 +1,5 @@
 -- Reports of the fresh table, in list order.
-use Rattle.std.specs.Prelude.{◌≡◌, ℕ, ◌-◌, List, map, filter, length, Bool, true, false, ◌&&◌, if◌then◌else◌, bytes_eq, Option, Some, None, slice_get, Result, Ok, Err}
+use Rattle.std.specs.Prelude.{ℕ, ◌-◌, List, map, filter, length, Bool, true, false, ◌&&◌, if◌then◌else◌, bytes_eq, Option, Some, None, slice_get, Result, Ok, Err}
 use Rattle.std.specs.List.{list_any}
 use Rattle.std.specs.Option.{option_map_or}
 use Rattle.ent_combine.specs.declared.outcome.Outcome.{Outcome}
@@ -11,7 +11,7 @@ use Rattle.ent_table.specs.Names.{Triple, has_name}
 use Rattle.ent_table.specs.State.{State, table_of}
 use Rattle.ent_report.specs.declared.counts.Counts.{Counts}
 use Rattle.ent_report.specs.declared.fault.ReportFault.{ReportFault}
-use Rattle.ent_report.specs.declared.fault.ReportFault.TheVariants.{NotThere, Memory}
+use Rattle.ent_report.specs.declared.fault.ReportFault.TheVariants.{NotThere}
 
 -- ---- counts
 
@@ -101,9 +101,3 @@ who s action resource =
 
 abbrev pub by_rule : State → List ℕ → Option (List ℕ) → List (List ℕ × List ℕ × List ℕ)
 by_rule s policy rule = by_rule_in policy rule (table_of s)
-
--- a report is that of its definition, or memory is wanting
-abbrev pub IsReported : {A : Type 0} → Result A ReportFault → Result A ReportFault → Type 0
-IsReported report (Ok x) = report ≡ Ok x
-IsReported report (Err NotThere) = report ≡ Err NotThere
-IsReported report (Err Memory) = Unit {0}

@@ -6,9 +6,10 @@ ghost use Rattle.ent_table.specs.Change.{Edits, IsSure};
 ghost use Rattle.ent_table.specs.Counted.{IsCounted};
 ghost use Rattle.ent_table.specs.Review.{IsFresh, IsIdle, OnlyEvaluates, state_of};
 ghost use Rattle.ent_table.specs.Step.{step};
+ghost use Rattle.ent_report.specs.Desk.{IsNoticedIn, IsReady, KeepsWorld, Marks, Reports, oldest, world_of};
 ghost use Rattle.ent_report.specs.Kept.{Forgets, Remembers};
 ghost use Rattle.ent_report.specs.Reports.{by_rule, can, counts, who};
-ghost use Rattle.ent_report.specs.World.{IsNoticedIn, IsReady, KeepsWorld, Marks, Reports, oldest, unmarked, world_of};
+ghost use Rattle.ent_report.specs.World.{unmarked};
 
 use crate::counts::{Counts, counted};
 use crate::fault::{NoticeFault, ReportFault};

@@ -1,7 +1,7 @@
 use Rattle.std.proofs.Common.{◌≡◌, ◌≤◌, arith, sym, ap, subst, ◌∙◌}
 use Rattle.ent_table.specs.Review.{state_of}
 use Rattle.ent_table.specs.Tables.{table_at_serial}
-use Rattle.ent_report.specs.World.{AreCountsOf, AreMarks}
+use Rattle.ent_report.specs.Desk.{AreCountsOf, AreMarks}
 use Rattle.ent_report.proofs.Marks.{marks_later, same_tables}
 use Rattle.ent_report.proofs.Serials.{serial_rises}
 use Rattle.ent_report.proofs.desk.Desk.edit.Goals as goal

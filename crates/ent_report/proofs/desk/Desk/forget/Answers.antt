@@ -1,7 +1,7 @@
 use Rattle.std.proofs.Common.{◌≡◌, map, arith, sym, ap, subst, ◌∙◌}
 use Rattle.std.specs.Prelude.{option_map}
 use Rattle.ent_table.specs.Tables.{table_at_serial}
-use Rattle.ent_report.specs.World.{AreCountsOf, AreMarks, oldest}
+use Rattle.ent_report.specs.Desk.{AreCountsOf, AreMarks, oldest}
 use Rattle.ent_report.proofs.Marks.{forgotten_before, known_from_oldest, oldest_reached, same_tables}
 use Rattle.ent_report.proofs.desk.Desk.forget.Goals as goal
 
