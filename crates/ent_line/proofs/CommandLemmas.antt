@@ -3,7 +3,6 @@ use Rattle.std.proofs.Common.{◌≡◌, ◌≤◌, ℕ, List, length, Bool, tru
 use Rattle.std.specs.Prelude.{codes, if◌then◌else◌, nat_lt}
 use Rattle.std.proofs.lemmas.Bool.{le-ltb}
 use Rattle.serde_json.specs.Data.{Data}
-use Rattle.serde_json.specs.Find.{get}
 use Rattle.ent_json.specs.Objects.{text_at}
 use Rattle.ent_polform.specs.Objects.{need, must}
 use Rattle.ent_table.specs.State.{State}
@@ -13,13 +12,13 @@ use Rattle.ent_table.specs.declared.edit.EditFault.{EditFault}
 use Rattle.ent_report.specs.World.{World}
 use Rattle.ent_line.specs.Asked as asked
 use Rattle.ent_line.specs.Asked.{Command, IsOfCommands, begun, command_in, command_of, form_of, in_session, name_of}
-use Rattle.ent_line.specs.Commands.{made, run, settled, table_marked}
+use Rattle.ent_line.specs.Commands.{heard, made, requested, respond, run, settled, table_marked}
 use Rattle.ent_line.specs.Edits.{edit_of}
 use Rattle.ent_line.specs.Keys.{number_at}
 use Rattle.ent_line.specs.Lines.{line_limit}
 use Rattle.ent_line.specs.Replies as replies
 use Rattle.ent_line.specs.Replies.{Answer, accepted, refused, text}
-use Rattle.ent_line.specs.Step.{Answers, data_of, heard, requested, respond}
+use Rattle.ent_line.specs.Step.{Answers, data_of}
 use Rattle.ent_line.specs.declared.making.NoEdit.{NoEdit}
 use Rattle.ent_line.specs.declared.making.NoEdit.TheVariants as no_edit
 use Rattle.ent_line.specs.declared.name.Name.{Name}

@@ -1,26 +1,23 @@
 -- The replies of the service are those of the headline.
-use Rattle.std.proofs.Common.{◌<◌, ◌≡◌, ℕ, Bool, true, false, List, [], ◌∷◌, length, Option, Some, None, Result, Ok, Err, ap, ◌∙◌, refl}
+use Rattle.std.proofs.Common.{◌<◌, ◌≡◌, ℕ, Bool, true, false, List, [], ◌∷◌, length, Option, Some, None, ap, ◌∙◌, refl}
 use Rattle.std.specs.Prelude.{if◌then◌else◌}
 use Rattle.std.specs.Option.{option_map_or}
 use Rattle.std.proofs.lemmas.Bool.{lt-ltb}
-use Rattle.ent_table.specs.State.{State, table_of}
+use Rattle.ent_table.specs.State.{State}
 use Rattle.ent_table.specs.declared.edit.Edit.{Edit}
 use Rattle.ent_dump.specs.Dumped.{dump_text}
-use Rattle.ent_report.specs.Reports as report
 use Rattle.ent_report.proofs.Counted.{are_the_difference}
 use Rattle.ent_report.specs.World.{World}
-use Rattle.ent_report.specs.declared.fault.ReportFault.TheVariants.{NotThere}
 use Rattle.ent_line.specs.Asked.{Change}
-use Rattle.ent_line.specs.Commands.{by_rule_told, can_told, cell_or_refusal, cell_told, changes_told, counts_told, made, notices_or_refusal, report_or_refusal}
-use Rattle.ent_line.specs.Commands.{dump_told, format_told, request_answered, response_or_refusal, run, settled, table_marked, table_told, told, who_told, work_told}
+use Rattle.ent_line.specs.Commands.{by_rule_told, can_told, cell_told, changes_told, counts_told, dump_told, format_told, heard, made, request_answered}
+use Rattle.ent_line.specs.Commands.{requested, respond, run, settled, table_marked, table_told, told, who_told, work_told}
 use Rattle.ent_line.specs.Dumping.{can_tell, format_text, is_version}
 use Rattle.ent_line.specs.Edits.{edit_of}
 use Rattle.ent_line.specs.Headline.{IsEdited, IsHeadline, IsHeard, IsTold}
 use Rattle.ent_line.specs.Lines.{line_limit}
 use Rattle.ent_line.specs.Replies.{Answer, refused, text}
-use Rattle.ent_line.specs.Reports.{can_text, who_text}
 use Rattle.ent_line.specs.Runs.{Run}
-use Rattle.ent_line.specs.Step.{Answers, data_of, heard, requested, respond}
+use Rattle.ent_line.specs.Step.{Answers, data_of}
 use Rattle.ent_line.specs.Work.{Counted, Counts}
 use Rattle.ent_line.specs.declared.making.NoEdit.{NoEdit}
 use Rattle.ent_line.specs.declared.refusal.Refusal.TheVariants.{BadValue, TooLong}
@@ -68,18 +65,13 @@ unfolding run told table_told cell_told counts_told can_told who_told by_rule_to
 is_told n w session = record {
   question = λ q. refl;
   table = refl;
-  cell = λ y a e. ap (cell_or_refusal y) e;
-  unlisted = λ y e. ap (cell_or_refusal y) e;
-  ask = λ d request e. ap (response_or_refusal w.state) e;
-  no_request = λ d e. ap (response_or_refusal w.state) e;
+  cell = λ y. refl;
+  ask = λ d. refl;
   counts = refl;
-  can = λ person found e. ap (report_or_refusal can_text) e;
-  can_unlisted = λ person e i. report_or_refusal can_text (if e i then Ok (report.can_in person (table_of w.state)) else Err NotThere);
-  who = λ action resource people e. ap (report_or_refusal who_text) e;
-  who_unlisted = λ action resource e i. report_or_refusal who_text (if e i then Ok (report.who_in action resource (table_of w.state)) else Err NotThere);
+  can = λ person. refl;
+  who = λ action resource. refl;
   by_rule = λ policy rule. refl;
-  notices = λ kept e. ap (notices_or_refusal w.state) e;
-  no_mark = λ e. ap (notices_or_refusal w.state) e;
+  notices = refl;
   work = refl;
   format = λ version e i. if e i then text (format_text version) else refused BadValue;
   no_format = no_format;

@@ -24,8 +24,9 @@ use Rattle.ent_report.specs.World.{World, mark_of}
 use Rattle.ent_report.specs.declared.fault.ReportFault.{ReportFault}
 use Rattle.ent_line.specs.Asked as asked
 use Rattle.ent_line.specs.Asked.{Change, Command, Question, command_in}
-use Rattle.ent_line.specs.Commands.{by_rule_told, can_told, cell_or_refusal, cell_told, changes_told, counts_told, made, notices_or_refusal, report_or_refusal}
-use Rattle.ent_line.specs.Commands.{dump_told, format_told, request_answered, response_or_refusal, run, settled, table_marked, table_told, told, who_told, work_told}
+use Rattle.ent_line.specs.Commands.{by_rule_told, can_told, cell_or_refusal, cell_told, changes_told, counts_told, dump_told, format_told, heard}
+use Rattle.ent_line.specs.Commands.{made, notices_or_refusal, report_or_refusal, request_answered, requested, respond, response_or_refusal, run}
+use Rattle.ent_line.specs.Commands.{settled, table_marked, table_told, told, who_told, work_told}
 use Rattle.ent_line.specs.Dumping.{can_tell, format_text, is_version}
 use Rattle.ent_line.specs.Edits.{edit_of, unread}
 use Rattle.ent_line.specs.Headline.{IsLed}
@@ -37,7 +38,7 @@ use Rattle.ent_line.specs.Replies as replies
 use Rattle.ent_line.specs.Replies.{Answer, accepted, refused, text}
 use Rattle.ent_line.specs.Reports.{can_text, who_text}
 use Rattle.ent_line.specs.Runs.{Run}
-use Rattle.ent_line.specs.Step.{Answers, data_of, heard, requested, respond}
+use Rattle.ent_line.specs.Step.{Answers, data_of}
 use Rattle.ent_line.specs.declared.making.NoEdit.{NoEdit}
 use Rattle.ent_line.specs.declared.making.NoEdit.TheVariants as no_edit
 use Rattle.ent_line.specs.declared.refusal.Refusal.{Refusal}
@@ -117,7 +118,7 @@ dump_quiet None s = tt
 dump_quiet (Some version) s = version_quiet (can_tell version s.held.environment) (dump_text version s)
 
 -- what is told changes nothing
-told_quiet : (n : ℕ) (w : World) (x : ℕ) (q : Question) → IsQuiet (told n w x q)
+pub told_quiet : (n : ℕ) (w : World) (x : ℕ) (q : Question) → IsQuiet (told n w x q)
 unfolding told table_told cell_told counts_told can_told who_told by_rule_told changes_told request_answered work_told
 told_quiet n w x asked.table = tt
 told_quiet n w x (asked.cell y) = cell_quiet y (answer_at w.state y)

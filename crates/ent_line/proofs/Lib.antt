@@ -2,6 +2,7 @@ pub mod ChangeLemmas
 mod CommandLemmas
 mod HeadlineLemmas
 mod HistoryLemmas
+pub mod KeptLemmas
 pub mod LineLemmas
 pub mod PieceLemmas
 mod PrintedLemmas

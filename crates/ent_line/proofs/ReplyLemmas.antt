@@ -22,18 +22,19 @@ use Rattle.ent_report.specs.World.{World, mark_of}
 use Rattle.ent_report.specs.declared.fault.ReportFault.{ReportFault}
 use Rattle.ent_line.specs.Asked as asked
 use Rattle.ent_line.specs.Asked.{Command, Question, command_in}
-use Rattle.ent_line.specs.Cells.{list_data, one_cell_data, one_cell_text, response_text, table_data, table_text}
-use Rattle.ent_line.specs.Commands.{by_rule_told, can_told, cell_or_refusal, cell_told, changes_told, counts_told, made, notices_or_refusal, report_or_refusal}
-use Rattle.ent_line.specs.Commands.{dump_told, format_told, request_answered, response_or_refusal, run, settled, table_marked, table_told, told, who_told, work_told}
+use Rattle.ent_line.specs.Cells.{cell_data, list_data, one_cell_text, reply_data, response_text, table_text}
+use Rattle.ent_line.specs.Commands.{by_rule_told, can_told, cell_or_refusal, cell_told, changes_told, counts_told, dump_told, format_told, heard}
+use Rattle.ent_line.specs.Commands.{made, notices_or_refusal, report_or_refusal, request_answered, requested, respond, response_or_refusal, run}
+use Rattle.ent_line.specs.Commands.{settled, table_marked, table_told, told, who_told, work_told}
 use Rattle.ent_line.specs.Dumping.{can_tell, format_text, is_version}
 use Rattle.ent_line.specs.Edits.{edit_of}
 use Rattle.ent_line.specs.Lines.{IsOneLine, line_limit}
 use Rattle.ent_line.specs.Refusals.{code_of, sub_of}
 use Rattle.ent_line.specs.Replies as replies
 use Rattle.ent_line.specs.Replies.{Answer, accepted, line_of, refusal_line, refused, text}
-use Rattle.ent_line.specs.Reports.{counts_data, notice_data, pair_data, reply_data, triple_data}
+use Rattle.ent_line.specs.Reports.{counts_data, notice_data, pair_data, triple_data}
 use Rattle.ent_line.specs.Reports.{by_rule_text, can_text, counts_text, notices_text, who_text, work_text}
-use Rattle.ent_line.specs.Step.{Answers, data_of, heard, requested, respond}
+use Rattle.ent_line.specs.Step.{Answers, data_of}
 use Rattle.ent_line.specs.declared.making.NoEdit.{NoEdit}
 use Rattle.ent_line.specs.declared.making.NoEdit.TheVariants as no_edit
 use Rattle.ent_line.specs.declared.refusal.Refusal.{Refusal}
@@ -51,12 +52,12 @@ IsPrinted (text s) = ArePrinted s
 
 table_printed : (cells : List (Triple × Evaluated)) → ArePrinted (table_text cells)
 unfolding table_text
-table_printed cells = text_printed (table_data cells)
+table_printed cells = text_printed (reply_data (codes "table") (list_data cell_data cells))
 
 cell_printed : (x : Triple) (o : Option Evaluated) → IsPrinted (cell_or_refusal x o)
 unfolding one_cell_text
 cell_printed x None = tt
-cell_printed x (Some answer) = text_printed (one_cell_data (x, answer))
+cell_printed x (Some answer) = text_printed (reply_data (codes "cell") (cell_data (x, answer)))
 
 response_printed : (s : State) (o : Option Request) → IsPrinted (response_or_refusal s o)
 unfolding response_text

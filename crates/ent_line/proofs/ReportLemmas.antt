@@ -2,7 +2,7 @@
 use Rattle.std.proofs.Common.{◌≡◌, List, Option, Some, None, Ok, Err, refl, sym, ap}
 use Rattle.ent_table.specs.AnswerMap.{AnswerMap}
 use Rattle.ent_table.specs.State.{State}
-use Rattle.ent_report.specs.Notices.{IsNoticed}
+use Rattle.ent_report.specs.Desk.{IsNoticed}
 use Rattle.ent_report.specs.declared.fault.NoticeFault.TheVariants.{NoMark}
 use Rattle.ent_report.specs.declared.notices.Notice.{Notice}
 use Rattle.ent_line.specs.Replies.{refused, text}

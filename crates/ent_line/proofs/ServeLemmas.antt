@@ -13,7 +13,8 @@ use Rattle.ent_line.specs.declared.input.Piece.TheVariants.{End, Part, Line}
 use Rattle.ent_line.specs.Lines.{NoNewline, ended, line_limit, Splits}
 use Rattle.ent_line.specs.proofs_only.Pieces.{AnswersLine, TakesPiece, kept_of}
 use Rattle.ent_line.specs.Replies.{Answer, line_of}
-use Rattle.ent_line.specs.Runs.{Handling, Run, LongLinesAlike}
+use Rattle.ent_line.specs.Answering.{LongLinesAlike}
+use Rattle.ent_line.specs.Runs.{Handling, Run}
 use Rattle.ent_line.specs.Serving.{with_last, Ends, ServesUntil}
 
 -- ---- what is kept of a line

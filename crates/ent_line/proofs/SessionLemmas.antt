@@ -6,11 +6,11 @@ use Rattle.std.specs.Result.{result_ok}
 use Rattle.serde_json.specs.Data.{Data}
 use Rattle.ent_report.specs.World.{World}
 use Rattle.ent_line.specs.Asked.{Command, command_in}
-use Rattle.ent_line.specs.Commands.{changes_told, notices_or_refusal, run, told}
+use Rattle.ent_line.specs.Commands.{changes_told, heard, notices_or_refusal, requested, run, told}
 use Rattle.ent_line.specs.History.{asked_by, history, next, seen_by}
 use Rattle.ent_line.specs.Replies.{Answer, refused}
 use Rattle.ent_line.specs.Sessions.{AsksNotices, SessionsAreSeparate}
-use Rattle.ent_line.specs.Step.{Answers, data_of, heard, requested}
+use Rattle.ent_line.specs.Step.{Answers, data_of}
 use Rattle.ent_line.specs.declared.refusal.Refusal.{Refusal}
 use Rattle.ent_line.specs.declared.refusal.Refusal.TheVariants.{Memory}
 use Rattle.ent_line.proofs.CommandLemmas.{short_heard}

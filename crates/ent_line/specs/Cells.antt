@@ -70,23 +70,19 @@ cell_data c = json.object (
     (json.member (codes "why") (list_data entry_data c.1.why)
     json.no_members))))))))
 
--- the reply to `cell`
-abbrev pub one_cell_data : Triple × Answer → Data
-one_cell_data c = json.object (json.member (codes "cell") (cell_data c) json.no_members)
-
--- the reply to `table`
-abbrev pub table_data : List (Triple × Answer) → Data
-table_data cells = json.object (json.member (codes "table") (list_data cell_data cells) json.no_members)
+-- a reply whose only key is a command's name
+abbrev pub reply_data : List ℕ → Data → Data
+reply_data name d = json.object (json.member name d json.no_members)
 
 -- ---- texts
 
 -- the text of the reply to `cell`
 unfoldable pub one_cell_text : Triple × Answer → List ℕ
-one_cell_text c = compact_text (one_cell_data c)
+one_cell_text c = compact_text (reply_data (codes "cell") (cell_data c))
 
 -- the text of the reply to `table`
 unfoldable pub table_text : List (Triple × Answer) → List ℕ
-table_text cells = compact_text (table_data cells)
+table_text cells = compact_text (reply_data (codes "table") (list_data cell_data cells))
 
 -- the text of the response to a request
 unfoldable pub response_text : Answer → Request → List ℕ

@@ -1,7 +1,10 @@
--- What each command is answered. A reader may skip this page: the headline (`IsEdited`, `IsTold`) fixes what `run` gives for every command, in the
--- words of `Edits`, `Reports` and the crates below, and nothing else rests on the words that stand here.
-use Rattle.std.specs.Prelude.{ℕ, List, if◌then◌else◌, Option, Some, None, Result, Ok, Err}
+-- What each line and each command is answered. A reader may skip this page: the headline fixes what `respond` gives for every line (`IsHeard`) and
+-- `run` for every command (`IsEdited`, `IsTold`), in the words of `Edits`, `Reports` and the crates below, and nothing else rests on the words that
+-- stand here.
+use Rattle.std.specs.Prelude.{ℕ, List, length, nat_lt, if◌then◌else◌, Option, Some, None, Result, Ok, Err}
+use Rattle.std.specs.Result.{result_ok}
 use Rattle.serde_json.specs.Data.{Data}
+use Rattle.ent_json.specs.Line.{data_of}
 use Rattle.ent_eval.specs.declared.answer.Answer.{Answer as Evaluated}
 use Rattle.ent_eval.specs.declared.request.Request.{Request}
 use Rattle.ent_profile.specs.Asks.{asks}
@@ -19,17 +22,19 @@ use Rattle.ent_report.specs.Reports as report
 use Rattle.ent_report.specs.World.{World, mark_of, marked}
 use Rattle.ent_report.specs.declared.fault.ReportFault.{ReportFault}
 use Rattle.ent_line.specs.Asked as asked
-use Rattle.ent_line.specs.Asked.{Command, Question}
+use Rattle.ent_line.specs.Asked.{Command, Question, command_in}
 use Rattle.ent_line.specs.Cells.{one_cell_text, response_text, table_text}
 use Rattle.ent_line.specs.Dumping.{can_tell, format_text, is_version}
 use Rattle.ent_line.specs.Edits.{edit_of, unread}
+use Rattle.ent_line.specs.Lines.{line_limit}
 use Rattle.ent_line.specs.Refusals.{refusal_of}
 use Rattle.ent_line.specs.Replies as replies
-use Rattle.ent_line.specs.Replies.{Answer, accepted, refused, text}
+use Rattle.ent_line.specs.Replies.{Answer, accepted, refused, text, text_or}
 use Rattle.ent_line.specs.Reports.{by_rule_text, can_text, counts_text, notices_text, who_text, work_text}
 use Rattle.ent_line.specs.declared.making.NoEdit.{NoEdit}
 use Rattle.ent_line.specs.declared.making.NoEdit.TheVariants as no_edit
-use Rattle.ent_line.specs.declared.refusal.Refusal.TheVariants.{BadValue, Document, Memory, NoMark, NotThere, Request as NoRequest}
+use Rattle.ent_line.specs.declared.refusal.Refusal.{Refusal}
+use Rattle.ent_line.specs.declared.refusal.Refusal.TheVariants.{BadValue, Document, Memory, NoMark, NotJson, NotThere, Request as NoRequest, TooLong}
 
 -- ---- changes
 
@@ -57,8 +62,7 @@ table_told s = text (table_text (table_of s))
 
 -- the cell of a request, if it is listed
 abbrev pub cell_or_refusal : Triple → Option Evaluated → Answer
-cell_or_refusal x None = refused NotThere
-cell_or_refusal x (Some answer) = text (one_cell_text (x, answer))
+cell_or_refusal x o = text_or NotThere (λ answer. one_cell_text (x, answer)) o
 
 -- the cell of a request with its fresh answer
 unfoldable pub cell_told : State → Triple → Answer
@@ -66,8 +70,7 @@ cell_told s x = cell_or_refusal x (answer_at s x)
 
 -- the response to a request that was read, or the refusal of what asks for none
 abbrev pub response_or_refusal : State → Option Request → Answer
-response_or_refusal s None = refused NoRequest
-response_or_refusal s (Some request) = text (response_text (answer_in s request) request)
+response_or_refusal s o = text_or NoRequest (λ request. response_text (answer_in s request) request) o
 
 -- the response to a request, by its answer in the state
 unfoldable pub request_answered : State → Data → Answer
@@ -79,8 +82,7 @@ counts_told s = text (counts_text (report.counts s))
 
 -- a report, or the refusal of a name that isn't listed. A definition of a report is never in want of memory
 abbrev pub report_or_refusal : {A : Type 0} → (A → List ℕ) → Result A ReportFault → Answer
-report_or_refusal written (Ok x) = text (written x)
-report_or_refusal written (Err fault) = refused NotThere
+report_or_refusal written r = text_or NotThere written (result_ok r)
 
 -- what a person can do
 unfoldable pub can_told : State → List ℕ → Answer
@@ -96,8 +98,7 @@ by_rule_told s policy rule = text (by_rule_text (report.by_rule s policy rule))
 
 -- what changed since a mark, or the refusal where there is none
 abbrev pub notices_or_refusal : State → Option AnswerMap → Answer
-notices_or_refusal s None = refused NoMark
-notices_or_refusal s (Some kept) = text (notices_text (notices kept s))
+notices_or_refusal s o = text_or NoMark (λ kept. notices_text (notices kept s)) o
 
 -- what changed since the mark of a session, which stays
 unfoldable pub changes_told : World → ℕ → Answer
@@ -142,3 +143,19 @@ unfoldable pub run : ℕ → World → ℕ → Command → Answer × World
 run n w session (asked.change c) = made w (edit_of c)
 run n w session (asked.question q) = (told n w session q, w)
 run n w session asked.mark = table_marked w session
+
+-- ---- lines
+
+-- a command of a session, or the refusal of what isn't one
+abbrev pub requested : ℕ → World → Result (ℕ × Command) Refusal → Answer × World
+requested n w (Ok x) = run n w x.0 x.1
+requested n w (Err refusal) = (refused refusal, w)
+
+-- what was read, or the refusal of what couldn't be
+abbrev pub heard : ℕ → World → Option Data → Answer × World
+heard n w None = (refused NotJson, w)
+heard n w (Some d) = requested n w (command_in d)
+
+-- what a line is answered after n evaluations, and the world after it
+unfoldable pub respond : ℕ → World → List ℕ → Answer × World
+respond n w line = if nat_lt line_limit (length line) then (refused TooLong, w) else heard n w (data_of line)

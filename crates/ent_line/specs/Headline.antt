@@ -9,23 +9,21 @@
 -- edits lead, one after the other, and a session's mark is the fresh table at the place of its last mark among them
 -- (`IsLed`).
 --
--- What `run` and `told` give for each command need not be read in `Commands`: `IsEdited` and `IsTold` say it of every
--- edit, question and mark. The last words on the page, `Headline`, are what the call `serve_review`, which the program
--- makes, ensures of the bytes that are read and written. What `dump` tells brings a new service to the same state: that
--- is a law of `ent_restart` (Restart), over the runs of this page.
-use Rattle.std.specs.Prelude.{◌≡◌, ◌⊎◌, ℕ, ◌<◌, ◌≤◌, ◌&&◌, false, true, List, length, fold}
+-- What `respond` gives for each line, `run` and `told` for each command, need not be read in `Commands`: `IsHeard` says
+-- it of every line, `IsEdited` and `IsTold` of every edit, question and mark. The last words on the page, `Headline`, are
+-- what the call `serve_review`, which the program makes, ensures of the bytes that are read and written. What `dump`
+-- tells brings a new service to the same state: that is a law of `ent_restart` (Restart), over the runs of this page.
+use Rattle.std.specs.Prelude.{◌≡◌, ◌⊎◌, ℕ, ◌<◌, ◌≤◌, false, true, List, length, fold}
 use Rattle.std.specs.Prelude.{Option, Some, None, Result, Ok, Err}
 use Rattle.std.specs.Option.{option_map_or}
+use Rattle.std.specs.Result.{result_ok}
 use Rattle.serde_json.specs.Data.{Data}
 use Rattle.ent_policy.specs.declared.fault.DocFault.{DocFault}
-use Rattle.ent_eval.specs.declared.answer.Answer.{Answer as Evaluated}
-use Rattle.ent_eval.specs.declared.request.Request.{Request}
 use Rattle.ent_profile.specs.Asks.{asks}
-use Rattle.ent_table.specs.AnswerMap.{AnswerMap}
 use Rattle.ent_table.specs.Ask.{answer_in}
 use Rattle.ent_table.specs.Difference.{changes}
 use Rattle.ent_table.specs.Doubles.{HasNoDoubles}
-use Rattle.ent_table.specs.Names.{Triple, has_name}
+use Rattle.ent_table.specs.Names.{Triple}
 use Rattle.ent_table.specs.State.{State, answer_at, table_of}
 use Rattle.ent_table.specs.Step as edits
 use Rattle.ent_table.specs.declared.edit.Edit.{Edit}
@@ -44,20 +42,20 @@ use Rattle.ent_line.specs.History.{Lead, accepted_edits, history, next, seen_by}
 use Rattle.ent_line.specs.Lines.{IsOneLine, line_limit}
 use Rattle.ent_line.specs.Refusals.{refusal_of}
 use Rattle.ent_line.specs.Replies as replies
-use Rattle.ent_line.specs.Replies.{Answer, accepted, line_of, refused, text}
+use Rattle.ent_line.specs.Replies.{Answer, accepted, line_of, refused, text, text_or}
 use Rattle.ent_line.specs.Reports.{by_rule_text, can_text, counts_text, notices_text, who_text, work_text}
 use Rattle.ent_line.specs.Runs.{Run}
 use Rattle.ent_line.specs.Serving.{Ends, ServesUntil}
 use Rattle.ent_line.specs.Sessions.{SessionsAreSeparate}
-use Rattle.ent_line.specs.Commands.{run, told}
-use Rattle.ent_line.specs.Step.{Answers, data_of, respond}
+use Rattle.ent_line.specs.Commands.{respond, run, told}
+use Rattle.ent_line.specs.Step.{Answers, data_of}
 use Rattle.ent_line.specs.Work.{Counted, Counts}
 use Rattle.ent_line.specs.declared.fault.ServeFault.{ServeFault}
 use Rattle.ent_line.specs.declared.making.NoEdit.TheVariants.{Faulty, Unreadable}
 use Rattle.ent_line.specs.declared.refusal.Refusal.{Refusal}
 use Rattle.ent_line.specs.declared.refusal.Refusal.TheVariants as refusals
 
--- what a line is answered in a world: after n evaluations, as `respond` says
+-- what a line is answered in a world after n evaluations, and the world after it: what `respond` gives
 pub record IsHeard (w : World) (line : List ℕ) : Type 0 where
   -- it is too long
   pub too_long : (n : ℕ) → line_limit < length line → respond n w line ≡ (refused refusals.TooLong, w)
@@ -101,31 +99,23 @@ pub record IsTold (n : ℕ) (w : World) (x : ℕ) : Type 0 where
   pub question : (q : Question) → run n w x (asked.question q) ≡ (told n w x q, w)
   -- the table: each listed request with its fresh answer, in list order
   pub table : told n w x asked.table ≡ text (table_text (table_of w.state))
-  -- a cell: the fresh answer to a listed request
-  pub cell : (y : Triple) (a : Evaluated) → answer_at w.state y ≡ Some a
-      → told n w x (asked.cell y) ≡ text (one_cell_text (y, a))
-  pub unlisted : (y : Triple) → answer_at w.state y ≡ None → told n w x (asked.cell y) ≡ refused refusals.NotThere
+  -- a cell: the fresh answer to a request, which is there where the request is listed
+  pub cell : (y : Triple) → told n w x (asked.cell y)
+      ≡ text_or refusals.NotThere (λ answer. one_cell_text (y, answer)) (answer_at w.state y)
   -- a request of the JSON Profile, listed or not: the response with its fresh answer
-  pub ask : (d : Data) (request : Request) → asks d ≡ Some request
-      → told n w x (asked.ask d) ≡ text (response_text (answer_in w.state request) request)
-  pub no_request : (d : Data) → asks d ≡ None → told n w x (asked.ask d) ≡ refused refusals.Request
+  pub ask : (d : Data) → told n w x (asked.ask d)
+      ≡ text_or refusals.Request (λ request. response_text (answer_in w.state request) request) (asks d)
   -- the reports: their definitions over the fresh table, of names that are listed
   pub counts : told n w x asked.counts ≡ text (counts_text (report.counts w.state))
-  pub can : (person : List ℕ) (found : List (List ℕ × List ℕ)) → report.can w.state person ≡ Ok found
-      → told n w x (asked.can person) ≡ text (can_text found)
-  pub can_unlisted : (person : List ℕ) → has_name person w.state.names.people ≡ false
-      → told n w x (asked.can person) ≡ refused refusals.NotThere
-  pub who : (action resource : List ℕ) (people : List (List ℕ)) → report.who w.state action resource ≡ Ok people
-      → told n w x (asked.who action resource) ≡ text (who_text people)
-  pub who_unlisted : (action resource : List ℕ)
-      → (has_name action w.state.names.actions && has_name resource w.state.names.resources) ≡ false
-      → told n w x (asked.who action resource) ≡ refused refusals.NotThere
+  pub can : (person : List ℕ) → told n w x (asked.can person)
+      ≡ text_or refusals.NotThere can_text (result_ok (report.can w.state person))
+  pub who : (action resource : List ℕ) → told n w x (asked.who action resource)
+      ≡ text_or refusals.NotThere who_text (result_ok (report.who w.state action resource))
   pub by_rule : (policy : List ℕ) (rule : Option (List ℕ))
       → told n w x (asked.by_rule policy rule) ≡ text (by_rule_text (report.by_rule w.state policy rule))
   -- notices: the requests whose answers differ between the marked table and the fresh one, and the mark stays
-  pub notices : (kept : AnswerMap) → mark_of w x ≡ Some kept
-      → told n w x asked.notices ≡ text (notices_text (notices kept w.state))
-  pub no_mark : mark_of w x ≡ None → told n w x asked.notices ≡ refused refusals.NoMark
+  pub notices : told n w x asked.notices
+      ≡ text_or refusals.NoMark (λ kept. notices_text (notices kept w.state)) (mark_of w x)
   -- the work: the number of evaluations
   pub work : told n w x asked.work ≡ text (work_text n)
   -- the format: a version that lines have, 1 or 2, which no negative number is

@@ -1,15 +1,15 @@
 -- The history of some lines: their accepted edits, whoever asked for them, and of a session its own accepted marks among them.
 use Rattle.std.specs.Prelude.{◌≡◌, ℕ, List, [], ◌∷◌, nat_eq, if◌then◌else◌, Option, Some, None, option_and_then, option_map, filter_map, zip, Ok}
 use Rattle.std.specs.Result.{result_ok, result_unwrap_or}
+use Rattle.ent_json.specs.Line.{data_of}
 use Rattle.ent_table.specs.AnswerMap.{AnswerMap, answers_of}
 use Rattle.ent_table.specs.State.{State}
 use Rattle.ent_table.specs.Step as table
 use Rattle.ent_table.specs.declared.edit.Edit.{Edit}
 use Rattle.ent_report.specs.World.{World, mark_of}
-use Rattle.ent_line.specs.Asked.{Command, change, command_in, mark, question}
+use Rattle.ent_line.specs.Asked.{Command, change, command_in}
 use Rattle.ent_line.specs.Edits.{edit_of}
-use Rattle.ent_line.specs.Replies.{Answer, accepted, refused, marked, text}
-use Rattle.ent_line.specs.Step.{data_of}
+use Rattle.ent_line.specs.Replies.{Answer, accepted, marked}
 
 -- the session and the command of a line that has them
 abbrev pub asked_by : List ℕ → Option (ℕ × Command)
@@ -20,15 +20,12 @@ asked_by line = option_and_then (λ d. result_ok (command_in d)) (data_of line)
 -- the edit that a command makes, if it makes one
 abbrev pub edit_in : Command → Option Edit
 edit_in (change c) = result_ok (edit_of c)
-edit_in (question q) = None
-edit_in mark = None
+edit_in other = None
 
 -- the edit of a command whose answer says that it was accepted
 abbrev pub edit_told : Answer → ℕ × Command → Option Edit
 edit_told (accepted changes serial) x = edit_in x.1
-edit_told (marked serial) x = None
-edit_told (refused refusal) x = None
-edit_told (text s) x = None
+edit_told other x = None
 
 -- the same of a line with its answer
 abbrev pub accepted_edit : List ℕ × Answer → Option Edit
@@ -56,8 +53,7 @@ pub data Matter : Type 0 where
 abbrev pub matter_of : ℕ → Answer → ℕ × Command → Option Matter
 matter_of session (accepted changes serial) x = option_map edit (edit_in x.1)
 matter_of session (marked serial) x = if nat_eq x.0 session then Some own_mark else None
-matter_of session (refused refusal) x = None
-matter_of session (text s) x = None
+matter_of session other x = None
 
 -- the same of a line with its answer
 abbrev pub matter : ℕ → List ℕ × Answer → Option Matter

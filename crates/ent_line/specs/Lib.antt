@@ -1,3 +1,4 @@
+pub mod Answering
 pub mod Asked
 pub mod Cells
 pub mod Commands
@@ -5,6 +6,7 @@ pub mod Dumping
 pub mod Edits
 pub mod Headline
 pub mod History
+pub mod Kept
 pub mod Keys
 pub mod Lines
 pub mod Pieces

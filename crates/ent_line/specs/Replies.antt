@@ -1,9 +1,7 @@
 -- Replies, and the lines that they are written as.
-use Rattle.std.specs.Prelude.{ℕ, List, ◌++◌, Option, Some, None, codes, decimal, string_bytes}
+use Rattle.std.specs.Prelude.{ℕ, List, ◌++◌, Option, Some, None, codes, decimal}
 use Rattle.ent_line.specs.Refusals.{code_of, sub_of}
 use Rattle.ent_line.specs.declared.refusal.Refusal.{Refusal}
-use Rattle.ent_line.specs.declared.reply.Reply.{Reply}
-use Rattle.ent_line.specs.declared.reply.Reply.TheVariants as replies
 
 -- what a line is answered by: a reply without where its text lies in memory
 pub data Answer : Type 0 where
@@ -16,12 +14,10 @@ pub data Answer : Type 0 where
   -- a JSON text
   text : List ℕ → Answer
 
--- what a reply of the code says
-abbrev pub reply_view : Reply → Answer
-reply_view (replies.Accepted a) = accepted a.changes a.serial
-reply_view (replies.Refused refusal) = refused refusal
-reply_view (replies.Marked serial) = marked serial
-reply_view (replies.Text s) = text (string_bytes s)
+-- the text of what is there, or a refusal where nothing is
+abbrev pub text_or : {A : Type 0} → Refusal → (A → List ℕ) → Option A → Answer
+text_or refusal written (Some x) = text (written x)
+text_or refusal written None = refused refusal
 
 -- the line of a refusal, by its number and its sub-code
 abbrev pub refusal_line : ℕ → Option ℕ → List ℕ

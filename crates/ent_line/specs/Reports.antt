@@ -4,7 +4,7 @@ use Rattle.serde_json.specs.Data as json
 use Rattle.serde_json.specs.Data.{Data}
 use Rattle.serde_json.specs.Written.{compact_text}
 use Rattle.ent_combine.specs.declared.outcome.Outcome.{Outcome}
-use Rattle.ent_line.specs.Cells.{decision_text, list_data}
+use Rattle.ent_line.specs.Cells.{decision_text, list_data, reply_data}
 use Rattle.ent_report.specs.declared.counts.Counts.{Counts}
 use Rattle.ent_report.specs.declared.notices.Notice.{Notice}
 
@@ -52,10 +52,6 @@ notice_data n = json.object (
     (json.member (codes "person") (json.string n.person)
     (json.member (codes "resource") (json.string n.resource)
     json.no_members)))))
-
--- a reply whose only key is a command's name
-abbrev pub reply_data : List ℕ → Data → Data
-reply_data name d = json.object (json.member name d json.no_members)
 
 -- ---- texts
 

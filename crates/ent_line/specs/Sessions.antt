@@ -1,5 +1,5 @@
 -- What a session's notices rest on: the accepted edits, whoever made them, and the session's own marks.
-use Rattle.std.specs.Prelude.{◌≡◌, ◌⊎◌, ◌<◌, ◌≤◌, ℕ, List, length, Some, None}
+use Rattle.std.specs.Prelude.{◌≡◌, ◌⊎◌, ◌<◌, ◌≤◌, ℕ, List, length, Some}
 use Rattle.ent_report.specs.World.{World, mark_of}
 use Rattle.ent_line.specs.Asked as asked
 use Rattle.ent_line.specs.History.{asked_by, history}

@@ -1,8 +1,9 @@
 //! What answers lines.
 
 ghost use Rattle.std.specs.Prelude.{ℕ, List};
-ghost use Rattle.ent_line.specs.Replies.{Answer, reply_view};
-ghost use Rattle.ent_line.specs.Runs.{Handling, LongLinesAlike};
+ghost use Rattle.ent_line.specs.Answering.{LongLinesAlike, reply_view};
+ghost use Rattle.ent_line.specs.Replies.{Answer};
+ghost use Rattle.ent_line.specs.Runs.{Handling};
 
 use crate::reply::Reply;
 

@@ -7,9 +7,8 @@ ghost use Rattle.ent_json.specs.proofs_only.Text.{items_tokens_of};
 ghost use Rattle.ent_profile.specs.Response.{given_written};
 ghost use Rattle.ent_table.specs.Left.{cells_left};
 ghost use Rattle.ent_table.specs.Names.{triple_of};
-ghost use Rattle.ent_line.specs.Cells.{cell_data, entry_data, key_data, list_data, one_cell_data, rule_data};
-ghost use Rattle.ent_line.specs.Cells.{decision_text, one_cell_text, response_text, status_text};
-ghost use Rattle.ent_line.specs.Cells.{table_data, table_text};
+ghost use Rattle.ent_line.specs.Cells.{cell_data, entry_data, key_data, list_data, reply_data, rule_data};
+ghost use Rattle.ent_line.specs.Cells.{decision_text, one_cell_text, response_text, status_text, table_text};
 
 use ent_combine::{IndKind, Outcome};
 use ent_eval::{Answer, Given, Request, Status, WhyEntry};
@@ -238,7 +237,8 @@ fn write_list(alloc: Global, out: &mut JsonText, cells: Cells<'_>) -> Result<(),
 
 /// Writes the reply to `table`.
 fn write_table(alloc: Global, out: &mut JsonText, cells: Cells<'_>) -> Result<(), AllocError>
-    ensures { OnOk result (out.new ≡ out.old ++ tokens_of (table_data (cells_left cells.entry))) }
+    ensures { OnOk result (out.new ≡ out.old
+        ++ tokens_of (reply_data (codes "table") (list_data cell_data (cells_left cells.entry)))) }
 {
     out.begin_object()?;
     out.key("table")?;
@@ -256,7 +256,8 @@ fn write_one_cell(
     answer: &Answer,
 ) -> Result<(), AllocError>
     ensures { OnOk result (out.new ≡ out.old
-        ++ tokens_of (one_cell_data (triple_of person.now action.now resource.now, answer.now))) }
+        ++ tokens_of (reply_data (codes "cell")
+        (cell_data (triple_of person.now action.now resource.now, answer.now)))) }
 {
     out.begin_object()?;
     out.key("cell")?;

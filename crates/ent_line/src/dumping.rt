@@ -1,9 +1,9 @@
 //! What the service answers of the lines that make its state anew.
 
 ghost use Rattle.std.specs.Prelude.{◌≡◌, IfOk, string_bytes};
+ghost use Rattle.ent_line.specs.Answering.{reply_view};
 ghost use Rattle.ent_line.specs.Commands.{dump_told, format_told};
 ghost use Rattle.ent_line.specs.Dumping.{can_tell, format_text, is_moment, is_version};
-ghost use Rattle.ent_line.specs.Replies.{reply_view};
 ghost use Rattle.ent_line.specs.proofs_only.Replying.{Tells};
 ghost use Rattle.ent_line.specs.World.{IsReady};
 

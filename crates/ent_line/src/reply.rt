@@ -1,8 +1,9 @@
 //! Replies, and how they are written.
 
 ghost use Rattle.std.specs.Prelude.{◌≡◌, Result, Some, None};
+ghost use Rattle.ent_line.specs.Answering.{reply_view};
 ghost use Rattle.ent_line.specs.Pieces.{Sends};
-ghost use Rattle.ent_line.specs.Replies.{accepted, marked, refusal_line, reply_view, line_of};
+ghost use Rattle.ent_line.specs.Replies.{accepted, marked, refusal_line, line_of};
 
 use crate::fault::ServeFault;
 use crate::output::send_all;

@@ -2,8 +2,8 @@
 
 ghost use Rattle.std.specs.Prelude.{◌≡◌, ◌<◌, IfOk};
 ghost use Rattle.std.specs.Option.{option_copied};
-ghost use Rattle.ent_line.specs.Replies.{reply_view};
-ghost use Rattle.ent_line.specs.proofs_only.Replying.{Replies, Tells};
+ghost use Rattle.ent_line.specs.Answering.{reply_view};
+ghost use Rattle.ent_line.specs.proofs_only.Replying.{Keeps, RemembersBy, Replies, Tells};
 ghost use Rattle.ent_line.specs.Commands.{by_rule_told, can_told, changes_told, counts_told};
 ghost use Rattle.ent_line.specs.Commands.{table_marked, who_told, work_told};
 ghost use Rattle.ent_line.specs.World.{IsReady, count_of};
@@ -24,6 +24,7 @@ impl<A: Attributes, P: Policies> Service<A, P> {
         ensures ready { IsReady A.sources P.slots self.new }
         ensures reply { Replies A.sources P.slots (λ w. (counts_told w.state, w)) self.old self.new result }
         ensures work { count_of self.new ≡ count_of self.old }
+        ensures kept { Keeps A.sources P.slots self.old self.new }
     {
         self.desk.keep_counts();
         let text = counts_text(self.alloc, self.desk.counts())?;
@@ -87,6 +88,7 @@ impl<A: Attributes, P: Policies> Service<A, P> {
         ensures ready { IsReady A.sources P.slots self.new }
         ensures reply { Replies A.sources P.slots (λ w. table_marked w session) self.old self.new result }
         ensures work { count_of self.new ≡ count_of self.old }
+        ensures remembered { RemembersBy A.sources P.slots self.old self.new result }
     {
         let serial = self.desk.mark(session)?;
         Ok(Reply::Marked(serial))

@@ -5,8 +5,8 @@ ghost use Rattle.json.specs.Token as token;
 ghost use Rattle.serde_json.specs.Data as json;
 ghost use Rattle.ent_json.specs.Text.{tokens_of};
 ghost use Rattle.ent_json.specs.proofs_only.Text.{items_tokens_of};
-ghost use Rattle.ent_line.specs.Cells.{list_data};
-ghost use Rattle.ent_line.specs.Reports.{counts_data, decision_data, notice_data, pair_data, reply_data, triple_data};
+ghost use Rattle.ent_line.specs.Cells.{list_data, reply_data};
+ghost use Rattle.ent_line.specs.Reports.{counts_data, decision_data, notice_data, pair_data, triple_data};
 ghost use Rattle.ent_line.specs.Reports.{by_rule_text, can_text, counts_text, notices_text, who_text, work_text};
 
 use crate::cell::{decision_text, write_text};
@@ -162,7 +162,8 @@ fn begin_list(out: &mut JsonText, name: &str) -> Result<(), AllocError>
 
 /// Writes the reply to `can`.
 fn write_can_reply(out: &mut JsonText, found: &[(Text, Text)]) -> Result<(), AllocError>
-    ensures { OnOk result (out.new ≡ out.old ++ tokens_of (reply_data (codes "can") (list_data pair_data found.now))) }
+    ensures { OnOk result (out.new ≡ out.old
+        ++ tokens_of (reply_data (codes "can") (list_data pair_data found.now))) }
 {
     begin_list(out, "can")?;
     write_pairs(out, found)?;
@@ -171,7 +172,8 @@ fn write_can_reply(out: &mut JsonText, found: &[(Text, Text)]) -> Result<(), All
 
 /// Writes the reply to `who`.
 fn write_who_reply(out: &mut JsonText, people: &[Text]) -> Result<(), AllocError>
-    ensures { OnOk result (out.new ≡ out.old ++ tokens_of (reply_data (codes "who") (list_data json.string people.now))) }
+    ensures { OnOk result (out.new ≡ out.old
+        ++ tokens_of (reply_data (codes "who") (list_data json.string people.now))) }
 {
     begin_list(out, "who")?;
     write_people(out, people)?;
@@ -180,7 +182,8 @@ fn write_who_reply(out: &mut JsonText, people: &[Text]) -> Result<(), AllocError
 
 /// Writes the reply to `by_rule`.
 fn write_by_rule_reply(out: &mut JsonText, found: &[(Text, Text, Text)]) -> Result<(), AllocError>
-    ensures { OnOk result (out.new ≡ out.old ++ tokens_of (reply_data (codes "by_rule") (list_data triple_data found.now))) }
+    ensures { OnOk result (out.new ≡ out.old
+        ++ tokens_of (reply_data (codes "by_rule") (list_data triple_data found.now))) }
 {
     begin_list(out, "by_rule")?;
     write_triples(out, found)?;
@@ -189,7 +192,8 @@ fn write_by_rule_reply(out: &mut JsonText, found: &[(Text, Text, Text)]) -> Resu
 
 /// Writes the reply to `notices`.
 fn write_notices_reply(out: &mut JsonText, notices: &[Notice]) -> Result<(), AllocError>
-    ensures { OnOk result (out.new ≡ out.old ++ tokens_of (reply_data (codes "notices") (list_data notice_data notices.now))) }
+    ensures { OnOk result (out.new ≡ out.old
+        ++ tokens_of (reply_data (codes "notices") (list_data notice_data notices.now))) }
 {
     begin_list(out, "notices")?;
     write_notices(out, notices)?;

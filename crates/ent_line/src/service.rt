@@ -3,15 +3,16 @@
 ghost use Rattle.std.specs.Prelude.{◌≡◌, ◌<◌, Ok};
 ghost use Rattle.std.specs.Result.{result_ok};
 ghost use Rattle.ent_table.specs.Names.{triple_of};
-ghost use Rattle.ent_report.specs.World as held;
+ghost use Rattle.ent_report.specs.Desk as held;
 ghost use Rattle.ent_line.specs.Asked as asked;
 ghost use Rattle.ent_line.specs.Asked.{command_in};
 ghost use Rattle.ent_line.specs.proofs_only.CommandView.{change_view, command_view, question_view};
-ghost use Rattle.ent_line.specs.proofs_only.Replying.{Replies, Tells, Works};
+ghost use Rattle.ent_line.specs.proofs_only.Replying.{Keeps, RemembersBy, Replies, Tells, Works};
 ghost use Rattle.ent_line.specs.History.{asked_by};
-ghost use Rattle.ent_line.specs.Commands.{cell_told, edited, made, request_answered, run, table_told, told};
+ghost use Rattle.ent_line.specs.Commands.{cell_told, edited, heard, made, request_answered, requested, run};
+ghost use Rattle.ent_line.specs.Commands.{table_told, told};
 ghost use Rattle.ent_line.specs.Edits.{edit_of, unread};
-ghost use Rattle.ent_line.specs.Step.{data_of, heard, requested};
+ghost use Rattle.ent_line.specs.Step.{data_of};
 ghost use Rattle.ent_line.specs.Work.{asked_work, command_work, edit_work};
 ghost use Rattle.ent_line.specs.World.{IsReady, count_of, world_of};
 
@@ -54,11 +55,13 @@ impl<A: Attributes, P: Policies> Service<A, P> {
     }
 
     /// Makes an edit.
+    #[tactic(auto, using(crate::proofs::KeptLemmas::edit_remembers))]
     pub(crate) fn edit(&mut self, edit: Edit) -> Result<Reply, AllocError>
         requires { IsReady A.sources P.slots self.old }
         ensures ready { IsReady A.sources P.slots self.new }
         ensures reply { Replies A.sources P.slots (λ w. edited w edit) self.old self.new result }
         ensures work { Works A.sources P.slots (λ s. edit_work s (Ok edit)) self.old self.new result }
+        ensures remembered { RemembersBy A.sources P.slots self.old self.new result }
     {
         match self.desk.edit(edit) {
             Ok(accepted) => Ok(Reply::Accepted(accepted)),
@@ -78,6 +81,7 @@ impl<A: Attributes, P: Policies> Service<A, P> {
     }
 
     /// Makes the edit of a change.
+    #[tactic(auto, using(crate::proofs::KeptLemmas::edit_remembers))]
     fn change<J: JsonTree>(&mut self, change: Change<'_, J>) -> Result<Reply, AllocError>
         requires { IsReady A.sources P.slots self.old }
         ensures ready { IsReady A.sources P.slots self.new }
@@ -85,6 +89,7 @@ impl<A: Attributes, P: Policies> Service<A, P> {
             self.old self.new result }
         ensures work { Works A.sources P.slots (λ s. edit_work s (edit_of (change_view J.content change.entry)))
             self.old self.new result }
+        ensures remembered { RemembersBy A.sources P.slots self.old self.new result }
     {
         match read_edit(self.alloc, change) {
             Ok(edit) => self.edit(edit),
@@ -121,7 +126,7 @@ impl<A: Attributes, P: Policies> Service<A, P> {
     }
 
     /// `ask`.
-    #[tactic(auto, unfolding(crate::specs::Commands::request_answered))]
+    #[tactic(auto, using(crate::proofs::KeptLemmas::ask_keeps), unfolding(crate::specs::Commands::request_answered))]
     fn ask<J: JsonTree>(&mut self, json: &J) -> Result<Reply, AllocError>
         requires { IsReady A.sources P.slots self.old }
         ensures ready { IsReady A.sources P.slots self.new }
@@ -129,6 +134,7 @@ impl<A: Attributes, P: Policies> Service<A, P> {
             self.old self.new result }
         ensures work { Works A.sources P.slots (λ s. command_work s (asked.question (asked.ask (J.content json.now))))
             self.old self.new result }
+        ensures kept { Keeps A.sources P.slots self.old self.new }
     {
         match read_request(self.alloc, json) {
             Ok(request) => {
@@ -156,6 +162,7 @@ impl<A: Attributes, P: Policies> Service<A, P> {
             self.old self.new result }
         ensures work { Works A.sources P.slots
             (λ s. command_work s (asked.question (question_view J.content question.entry))) self.old self.new result }
+        ensures kept { Keeps A.sources P.slots self.old self.new }
     {
         match question {
             Question::Table => self.table(),
@@ -186,6 +193,7 @@ impl<A: Attributes, P: Policies> Service<A, P> {
             (λ w. run (count_of self.old) w session (command_view J.content command.entry)) self.old self.new result }
         ensures work { Works A.sources P.slots (λ s. command_work s (command_view J.content command.entry))
             self.old self.new result }
+        ensures remembered { RemembersBy A.sources P.slots self.old self.new result }
     {
         match command {
             Command::Change(change) => self.change(change),
@@ -202,6 +210,7 @@ impl<A: Attributes, P: Policies> Service<A, P> {
             (λ w. requested (count_of self.old) w (command_in (J.content value.now))) self.old self.new result }
         ensures work { Works A.sources P.slots (λ s. asked_work s (result_ok (command_in (J.content value.now))))
             self.old self.new result }
+        ensures remembered { RemembersBy A.sources P.slots self.old self.new result }
     {
         match command_in(value) {
             Ok((session, command)) => self.run(session, command),
@@ -216,6 +225,7 @@ impl<A: Attributes, P: Policies> Service<A, P> {
         ensures reply { Replies A.sources P.slots (λ w. heard (count_of self.old) w (data_of line.now))
             self.old self.new result }
         ensures work { Works A.sources P.slots (λ s. asked_work s (asked_by line.now)) self.old self.new result }
+        ensures remembered { RemembersBy A.sources P.slots self.old self.new result }
     {
         let mut scratch = Scratch::new(self.alloc);
         match read_json(self.alloc, line, &mut scratch)? {
@@ -226,7 +236,8 @@ impl<A: Attributes, P: Policies> Service<A, P> {
 }
 
 impl<A: Attributes, P: Policies> Answering for Service<A, P> {
-    ghost use Rattle.ent_line.specs.Replies.{reply_view};
+    ghost use Rattle.ent_line.specs.Answering.{reply_view};
+    ghost use Rattle.ent_line.specs.Kept.{Remembers};
     ghost use Rattle.ent_line.specs.Work.{Counted, Counts};
     ghost use Rattle.ent_line.specs.World.{counted_of};
     ghost use Rattle.ent_line.specs.proofs_only.LongLines.{long_lines_alike};
@@ -246,12 +257,15 @@ impl<A: Attributes, P: Policies> Answering for Service<A, P> {
     ///
     /// An accepted edit evaluates each cell that it touches once, and an answered request is evaluated once; where they
     /// are refused for want of memory, no more than these are. Every other line evaluates nothing.
-    #[tactic(auto, unfolding(crate::specs::Step::respond))]
+    ///
+    /// An accepted edit and a mark forget the tables from before the oldest mark, every other line forgets none.
+    #[tactic(auto, unfolding(crate::specs::Commands::respond))]
     fn handle(&mut self, line: &[u8]) -> Reply
         requires { IsReady A.sources P.slots self.old }
         ensures ready { IsReady A.sources P.slots self.new }
         ensures answer { Counts (counted_of A.sources P.slots self.old) line.now (reply_view result)
             (counted_of A.sources P.slots self.new) }
+        ensures remembered { Remembers A.sources P.slots self.old self.new (reply_view result) }
     {
         // The count is a number of the type, so what is raised by nothing stays.
         let _before = self.desk.review().evaluations();

@@ -3,10 +3,10 @@ use Rattle.std.proofs.Common.{◌≡◌, ◌<◌, ℕ, List, length, Option, Non
 use Rattle.std.proofs.lemmas.Bool.{lt-ltb}
 use Rattle.ent_report.specs.World.{World}
 use Rattle.ent_table.specs.State.{State}
+use Rattle.ent_line.specs.Answering.{LongLinesAlike}
+use Rattle.ent_line.specs.Commands.{respond}
 use Rattle.ent_line.specs.Lines.{line_limit}
 use Rattle.ent_line.specs.Replies.{refused}
-use Rattle.ent_line.specs.Runs.{LongLinesAlike}
-use Rattle.ent_line.specs.Step.{respond}
 use Rattle.ent_line.specs.Work.{Counts, IsWorked, line_work}
 use Rattle.ent_line.specs.declared.refusal.Refusal.TheVariants.{TooLong}
 

@@ -4,9 +4,12 @@ use Rattle.std.specs.declared.alloc.AllocError.{AllocError}
 use Rattle.ent_cells.specs.Count.{CountsAtMost}
 use Rattle.ent_finder.specs.Rows.{Source}
 use Rattle.ent_finder.specs.Slots.{Slots}
+use Rattle.ent_report.specs.Kept as desk
 use Rattle.ent_report.specs.World.{World}
 use Rattle.ent_table.specs.State.{State}
-use Rattle.ent_line.specs.Replies.{Answer, reply_view}
+use Rattle.ent_line.specs.Answering.{reply_view}
+use Rattle.ent_line.specs.Kept as kept
+use Rattle.ent_line.specs.Replies.{Answer}
 use Rattle.ent_line.specs.Work.{IsWorked}
 use Rattle.ent_line.specs.World.{count_of, world_of}
 use Rattle.ent_line.specs.declared.reply.Reply.{Reply}
@@ -34,3 +37,12 @@ IsWorkedBy work before after (Err e) = IsWorkedAtMost work before after
 -- the count of a service became what is asked for in its state
 abbrev pub Works : {A P : Type 0} → (A → List Source) → (P → List Slots) → (State → Option ℕ) → Service A P → Service A P → Result Reply AllocError → Type 0
 Works sources slots work old new result = IsWorkedBy (work (world_of sources slots old).state) (count_of old) (count_of new) result
+
+-- none of the tables that the desk of a service has is forgotten
+abbrev pub Keeps : {A P : Type 0} → (A → List Source) → (P → List Slots) → Service A P → Service A P → Type 0
+Keeps sources slots old new = desk.Keeps sources slots old.desk new.desk
+
+-- the reply says which are, and where memory is wanting none is
+abbrev pub RemembersBy : {A P : Type 0} → (A → List Source) → (P → List Slots) → Service A P → Service A P → Result Reply AllocError → Type 0
+RemembersBy sources slots old new (Ok reply) = kept.Remembers sources slots old new (reply_view reply)
+RemembersBy sources slots old new (Err e) = Keeps sources slots old new

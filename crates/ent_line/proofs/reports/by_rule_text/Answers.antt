@@ -1,7 +1,8 @@
 use Rattle.std.proofs.Common.{◌∙◌, codes, map}
 use Rattle.serde_json.specs.Data as json
 use Rattle.serde_json.specs.View.{items_of}
-use Rattle.ent_line.specs.Reports.{by_rule_text, reply_data, triple_data}
+use Rattle.ent_line.specs.Cells.{reply_data}
+use Rattle.ent_line.specs.Reports.{by_rule_text, triple_data}
 use Rattle.ent_line.proofs.TextLemmas.{written}
 use Rattle.ent_line.proofs.reports.by_rule_text.Goals as goal
 

@@ -1,7 +1,8 @@
 use Rattle.std.proofs.Common.{◌∙◌, codes, map}
 use Rattle.serde_json.specs.Data as json
 use Rattle.serde_json.specs.View.{items_of}
-use Rattle.ent_line.specs.Reports.{can_text, pair_data, reply_data}
+use Rattle.ent_line.specs.Cells.{reply_data}
+use Rattle.ent_line.specs.Reports.{can_text, pair_data}
 use Rattle.ent_line.proofs.TextLemmas.{written}
 use Rattle.ent_line.proofs.reports.can_text.Goals as goal
 

@@ -1,5 +1,6 @@
 use Rattle.std.proofs.Common.{◌∙◌, codes}
-use Rattle.ent_line.specs.Reports.{counts_data, counts_text, reply_data}
+use Rattle.ent_line.specs.Cells.{reply_data}
+use Rattle.ent_line.specs.Reports.{counts_data, counts_text}
 use Rattle.ent_line.proofs.TextLemmas.{written}
 use Rattle.ent_line.proofs.reports.counts_text.Goals as goal
 
