@@ -1,5 +1,5 @@
 -- Which edit a line makes of the state, if it makes one.
-use Rattle.std.proofs.Common.{◌≡◌, ◌≤◌, ℕ, List, length, Bool, true, false, Option, Some, None, Result, Ok, Err, refl, sym, ap, subst, ◌∙◌, inl, inr}
+use Rattle.std.proofs.Common.{◌≡◌, ◌≤◌, ℕ, List, length, Bool, true, false, Option, Some, None, Result, Ok, Err, refl, sym, ap, subst, inl, inr}
 use Rattle.std.specs.Prelude.{◌⊎◌, if◌then◌else◌, nat_lt}
 use Rattle.std.proofs.lemmas.Bool.{le-ltb}
 use Rattle.serde_json.specs.Data.{Data}
@@ -11,11 +11,11 @@ use Rattle.ent_dump.specs.Edits.{edit_data}
 use Rattle.ent_report.specs.World.{World}
 use Rattle.ent_line.specs.Asked as asked
 use Rattle.ent_line.specs.Asked.{Change, Command, command_in}
-use Rattle.ent_line.specs.Commands.{edited, made, run, settled, table_marked}
+use Rattle.ent_line.specs.Commands.{edited, heard, made, requested, respond, run, settled, table_marked}
 use Rattle.ent_line.specs.Edits.{edit_of}
 use Rattle.ent_line.specs.Lines.{line_limit}
 use Rattle.ent_line.specs.Replies.{Answer, refused}
-use Rattle.ent_line.specs.Step.{Answers, data_of, heard, requested, respond}
+use Rattle.ent_line.specs.Step.{Answers, data_of}
 use Rattle.ent_line.specs.declared.making.NoEdit.{NoEdit}
 use Rattle.ent_line.specs.declared.making.NoEdit.TheVariants as no_edit
 use Rattle.ent_line.specs.declared.refusal.Refusal.{Refusal}

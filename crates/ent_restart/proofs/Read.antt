@@ -9,7 +9,6 @@ use Rattle.ent_values.specs.Reading.{date_of, date_time_of}
 use Rattle.ent_values.specs.Types.{datatype_of, type_of}
 use Rattle.ent_values.specs.declared.datatype.DataType.{DataType}
 use Rattle.ent_values.specs.declared.value.Value.{Value}
-use Rattle.ent_values.specs.declared.value.Value.TheVariants as values
 use Rattle.ent_policy.proofs.Numbers.{is_version_of}
 use Rattle.ent_policy.specs.Check.{IsChecked, checked, reference_checked}
 use Rattle.ent_policy.specs.Versions.{version_of}
@@ -34,7 +33,7 @@ use Rattle.ent_line.specs.Keys.{AskedRow, category_named}
 use Rattle.ent_restart.specs.Carried.{IsRead, IsReadRow}
 use Rattle.ent_restart.proofs.Categories.{IsOfLine, IsWhole, change_read}
 use Rattle.ent_restart.proofs.References.{checked_reference}
-use Rattle.ent_polform.proofs.TypedValues.{AreSized, IsOf, IsSized, date_real, moment_real, value_typed}
+use Rattle.ent_polform.proofs.TypedValues.{AreSized, IsOf, date_real, moment_real, value_typed}
 
 -- ---- steps of a reading
 
@@ -70,7 +69,7 @@ reference_is_checked d r h =
 -- ---- rows
 
 -- the first and the others of a list that was read
-first_read : (o : Option Value) (rest : Option (List Value)) (vs : List Value) → option_and_then (λ v. option_map (λ vs. v ∷ vs) rest) o ≡ Some vs
+pub first_read : (o : Option Value) (rest : Option (List Value)) (vs : List Value) → option_and_then (λ v. option_map (λ vs. v ∷ vs) rest) o ≡ Some vs
     → (x : Value) × (xs : List Value) × (o ≡ Some x) × (rest ≡ Some xs) × (vs ≡ (x ∷ xs))
 first_read (Some x) (Some xs) vs h = (x, xs, refl, refl, cc)
 first_read (Some x) None vs h = absurd cc

@@ -1,5 +1,5 @@
 -- The lines of a reply that tells a dump.
-use Rattle.std.proofs.Common.{◌≡◌, ℕ, ◌≤◌, List, [], ◌∷◌, map, Bool, true, false, Some, None, refl, sym, ap, subst, ◌∙◌, arith, IsUtf8}
+use Rattle.std.proofs.Common.{◌≡◌, ℕ, ◌≤◌, List, [], ◌∷◌, map, Bool, true, false, Some, refl, sym, ap, subst, ◌∙◌, arith, IsUtf8}
 use Rattle.std.specs.Prelude.{◌==◌, codes, if◌then◌else◌, option_and_then}
 use Rattle.std.specs.List.{AllByRecursion, list_any}
 use Rattle.std.proofs.lemmas.Bool.Decides.{nat_tests}
@@ -113,7 +113,7 @@ replies_restart version start w v lines told answers others reply nothing few ru
     (subst (λ (ls : List (List ℕ)). Run Answers start ls others v) (sym same.1) again) plenty
 
 pub taken_replies_restart : TakenRepliesRestart
-taken_replies_restart version start w v lines told answers others reply nothing few run answered reads brief again all =
+taken_replies_restart version start w v lines told answers others reply nothing few run answered reads again all =
     let same = lines_told version start w lines told answers reply nothing few run answered reads in
-    taken_dumps_restart version start w v lines answers others nothing few run (version_told version (is_moment w.state.held.environment) same.0) brief
+    taken_dumps_restart version start w v lines answers others nothing few run (version_told version (is_moment w.state.held.environment) same.0)
     (subst (λ (ls : List (List ℕ)). Run Answers start ls others v) (sym same.1) again) all

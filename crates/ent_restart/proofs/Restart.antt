@@ -1,6 +1,6 @@
 -- A new service that is told the dump of a state is made anew.
 use Rattle.std.proofs.Common.{◌≡◌, ℕ, ◌≤◌, ◌<◌, ◌^◌, List, [], ◌∷◌, length, Bool, true, false, Some, None, Result, Ok, Err, arith, refl, sym, ap, subst, ◌∙◌, inl, inr}
-use Rattle.std.specs.Prelude.{◌==◌, ◌||◌, ◌&&◌, if◌then◌else◌, map, nat_lt, not, Option}
+use Rattle.std.specs.Prelude.{◌==◌, ◌||◌, ◌&&◌, if◌then◌else◌, map, nat_lt, not}
 use Rattle.std.specs.FinMap.{empty, get, get-empty}
 use Rattle.std.specs.List.{AllByRecursion}
 use Rattle.std.proofs.lemmas.Bool.{ltb-false}
@@ -30,17 +30,20 @@ use Rattle.ent_dump.specs.Edits.{edit_data}
 use Rattle.ent_report.specs.World.{World}
 use Rattle.ent_line.specs.Asked as asked
 use Rattle.ent_line.specs.Asked.{command_in, form_of, name_of}
-use Rattle.ent_line.specs.Commands.{edited, format_told, run, settled, told}
+use Rattle.ent_line.specs.Commands.{edited, format_told, heard, made, requested, respond, run, settled, told}
 use Rattle.ent_line.specs.Dumping.{format_text, is_moment, is_version}
+use Rattle.ent_line.specs.Edits.{edit_of}
 use Rattle.ent_line.specs.Lines.{line_limit}
 use Rattle.ent_line.specs.Replies.{Answer, accepted, refused, text}
 use Rattle.ent_line.specs.Runs.{Run}
-use Rattle.ent_line.specs.Step.{Answers, data_of, heard, requested, respond}
+use Rattle.ent_line.specs.Step.{Answers, data_of}
+use Rattle.ent_line.specs.declared.making.NoEdit.{NoEdit}
+use Rattle.ent_line.specs.declared.making.NoEdit.TheVariants as no_edit
 use Rattle.ent_line.specs.declared.refusal.Refusal.{Refusal}
 use Rattle.ent_line.specs.declared.refusal.Refusal.TheVariants.{Memory, TooLong}
 use Rattle.ent_restart.specs.Carried.{IsRead, values_of}
 use Rattle.ent_restart.specs.Restart.{AreTaken, DumpsRestart, HasFewModules, IsAccepted, IsNoWant, IsRestarted, IsShortState, IsShortText, TakenDumpsRestart}
-use Rattle.ent_restart.proofs.Asked.{read_back}
+use Rattle.ent_restart.proofs.Asked.{asked_of, command_asked, edit_few, read_back}
 use Rattle.ent_polform.proofs.Fitting.{Fits, fits_more}
 use Rattle.ent_restart.proofs.FittingEdits.{IsSmall, edit_fits, format_fits, small_made}
 use Rattle.ent_restart.proofs.Moves.{IsSaid, Moves, line_moves, run_edits, short_heard}
@@ -315,7 +318,39 @@ run_told u v (line ∷ lines) (a ∷ answers) h (mid, one, others) =
     let more = run_told mid v lines answers h.1 others in
     ((told_short u mid line a h.0 one, more.0), (λ is. h.0 Memory is, more.1))
 
+-- the line of an edit is answered by what the change that it asks for makes
+line_made : (n : ℕ) (w : World) (line : List ℕ) (e : Edit) → IsLineOf (edit_data e) line → IsRead e → respond n w line ≡ made w (edit_of (asked_of e))
+unfolding run
+line_made n w line e is good = short_heard n w line is.short ∙ ap (heard n w) is.reads ∙ ap (requested n w) (command_asked e good)
+
+-- an edit whose line was accepted has durations of few years
+accepted_few : (w v : World) (line : List ℕ) (a : Answer) (e : Edit) → IsLineOf (edit_data e) line → IsRead e → IsAccepted a → Answers w line a v → AllByRecursion HasFewYears (values_of e)
+accepted_few w v line a e is good taken (n, inr (refusal, same, short)) = absurd (subst IsAccepted refusal taken)
+accepted_few w v line a e is good taken (n, inl same) = by (edit_of (asked_of e)) refl (ap (λ y. y.0) (same ∙ line_made n w line e is good))
+  where
+    by : (r : Result Edit NoEdit) → edit_of (asked_of e) ≡ r → a ≡ (made w r).0 → AllByRecursion HasFewYears (values_of e)
+    by (Ok other) makes told = edit_few e other good makes
+    by (Err (no_edit.Faulty fault)) makes told = absurd (subst IsAccepted told taken)
+    by (Err (no_edit.Unreadable fault)) makes told = absurd (subst IsAccepted told taken)
+    by (Err no_edit.Memory) makes told = absurd (subst IsAccepted told taken)
+
+all_few : (es : List Edit) (u v : World) (lines : List (List ℕ)) (answers : List Answer) → AllByRecursion IsRead es → AreLinesOf (map edit_data es) lines → Run Answers u lines answers v
+    → AllByRecursion IsAccepted answers → AllByRecursion (λ e. AllByRecursion HasFewYears (values_of e)) es
+all_few [] u v lines answers good are run taken = tt
+all_few (e ∷ es) u v [] answers good are run taken = absurd are
+all_few (e ∷ es) u v (line ∷ lines) [] good are run taken = absurd run
+all_few (e ∷ es) u v (line ∷ lines) (a ∷ answers) good are (mid, one, others) taken =
+    (accepted_few u mid line a e are.0 good.0 taken.0 one, all_few es mid v lines answers good.1 are.1 others taken.1)
+
+taken_few : (version : ℕ) (es : List Edit) (u v : World) (line : List ℕ) (lines : List (List ℕ)) (answers : List Answer) → AllByRecursion IsRead es → AreLinesOf (map edit_data es) lines
+    → Run Answers u (line ∷ lines) answers v → AreTaken version answers → AllByRecursion (λ e. AllByRecursion HasFewYears (values_of e)) es
+taken_few version es u v line lines [] good are run all = absurd run
+taken_few version es u v line lines (a ∷ answers) good are (mid, one, others) all = all_few es mid v lines answers good are others all.1
+
 pub taken_dumps_restart : TakenDumpsRestart
-taken_dumps_restart version start w v lines answers others nothing few run is brief again all =
+taken_dumps_restart version start w v lines answers others nothing few run is again all =
     let fine = run_told start v (dumped version w.state) others (all_told version others all) again in
+    let known = after_run start w lines answers nothing run in
+    let es = rebuilding w.state in
+    let brief = taken_few version es start v _ _ others known.made (text_lines es known.made known.utf8 (few_modules w start known.same few) fine.0.1) again all in
     restarted version start w v lines answers others nothing few run is brief fine.0 again fine.1

@@ -1,5 +1,5 @@
 -- The line of an edit that a UTF-8 line asked for is UTF-8.
-use Rattle.std.proofs.Common.{◌≡◌, ℕ, ℤ, List, [], ◌∷◌, map, true, Option, Some, None, option_map, Result, Ok, Err, codes, refl, sym, subst, IsUtf8}
+use Rattle.std.proofs.Common.{◌≡◌, ℕ, ℤ, List, [], ◌∷◌, map, true, Option, Some, None, option_map, Ok, codes, refl, subst, IsUtf8}
 use Rattle.std.specs.Prelude.{option_and_then}
 use Rattle.std.specs.List.{AllByRecursion}
 use Rattle.json.proofs.Printed.Utf8.{IsUtf8-are_ascii, are_ascii}
@@ -7,7 +7,6 @@ use Rattle.serde_json.specs.Data as json
 use Rattle.serde_json.specs.Data.{Data, Items}
 use Rattle.serde_json.specs.Find.{as_i64}
 use Rattle.serde_json.specs.View.{items_of}
-use Rattle.ent_values.specs.Calendar.{Day}
 use Rattle.ent_values.specs.Reading.{date_of, date_time_of}
 use Rattle.ent_values.specs.Types.{type_of, uri_of}
 use Rattle.ent_values.specs.Writing.{date_text, date_time_text}
@@ -44,7 +43,7 @@ use Rattle.ent_line.specs.Asked.{Change, command_in}
 use Rattle.ent_line.specs.Keys.{AskedRow}
 use Rattle.ent_line.specs.Edits.{edit_of, key_of_row, root_of, row_fault, row_read, values_in}
 use Rattle.ent_restart.proofs.Categories.{IsOfLine, IsWhole, IsWholeRow, category_utf8, change_read}
-use Rattle.ent_polform.proofs.TypedValues.{date_real, moment_real, then_there}
+use Rattle.ent_polform.proofs.TypedValues.{date_real, moment_real}
 use Rattle.ent_restart.proofs.Read.{read_if, read_with, then_read}
 use Rattle.ent_restart.proofs.Utf8Data.{AreUtf8Items, IfThere, IsUtf8Data, one_utf8}
 use Rattle.ent_restart.proofs.Utf8Documents.{Utf8Reference, document_utf8, reference_reads, version_utf8}

@@ -1,5 +1,5 @@
 -- A new service that is told the dump of a state.
-use Rattle.std.specs.Prelude.{◌≡◌, ◌≢◌, ℕ, ◌≤◌, List, [], ◌∷◌, length, Some, None, ◌^◌, true}
+use Rattle.std.specs.Prelude.{◌≡◌, ◌≢◌, ℕ, ◌≤◌, List, [], ◌∷◌, length, Some, ◌^◌, true}
 use Rattle.std.specs.List.{AllByRecursion}
 use Rattle.ent_values.specs.ReadBack.{HasFewYears}
 use Rattle.ent_table.specs.State.{State, table_of}
@@ -64,13 +64,13 @@ DumpsRestart =
     → Run Answers start (dumped version w.state) others v → AllByRecursion IsNoWant others
     → IsRestarted version start w v others
 
--- the same by what is seen of it: whatever was asked of a service that held nothing at its start, a service with the same start that is told the dump
--- of its state, answers the first line by its version and accepts each other, is made anew
+-- the same by what is seen of it alone: whatever was asked of a service that held nothing at its start, a service with the same start that is told the
+-- dump of its state, answers the first line by its version and accepts each other, is made anew
 abbrev pub TakenDumpsRestart : Type 0
 TakenDumpsRestart =
     (version : ℕ) (start w v : World) (lines : List (List ℕ)) (answers others : List Answer)
     → start.state ≡ emptied start.state → HasFewModules start.state → Run Answers start lines answers w
-    → is_version version ≡ true → IsShortState w.state → Run Answers start (dumped version w.state) others v → AreTaken version others
+    → is_version version ≡ true → Run Answers start (dumped version w.state) others v → AreTaken version others
     → IsRestarted version start w v others
 
 -- the dump of a service's state is lines, and of the reply that tells it these lines are read
@@ -96,7 +96,7 @@ TakenRepliesRestart =
     (version : ℕ) (start w v : World) (lines told : List (List ℕ)) (answers others : List Answer) (reply : List ℕ)
     → start.state ≡ emptied start.state → HasFewModules start.state → Run Answers start lines answers w
     → dump_told (Some version) w.state ≡ text reply → texts_of reply ≡ Some told
-    → IsShortState w.state → Run Answers start told others v → AreTaken version others
+    → Run Answers start told others v → AreTaken version others
     → IsRestarted version start w v others
 
 -- a state in which nothing was ever held, listed or set is as one that is emptied, if the numbers of its modules can be written

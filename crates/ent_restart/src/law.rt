@@ -31,9 +31,8 @@ pub fn dumps_restart()
     ensures { DumpsRestart }
 {}
 
-/// A law, with nothing to run: the same by what is seen of it. If the first line of the dump was answered by its version
-/// and each other as accepted, the service has come to the same state, if no duration in the state has more years than
-/// can be read.
+/// A law, with nothing to run: the same by what is seen of it alone. If the first line of the dump was answered by its
+/// version and each other as accepted, the service has come to the same state.
 pub fn taken_dumps_restart()
     ensures { TakenDumpsRestart }
 {}
