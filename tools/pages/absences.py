@@ -15,8 +15,8 @@ PAGE = ROOT / 'docs' / 'ARCHITECTURE.md'
 COMMANDS = (r'"(?:(?:person|action|resource)\.(?:add|drop)|(?:attr|day|moment|root)\.set'
             r'|policy\.(?:add|replace|withdraw))')
 PROGRAMS = ['conformance', 'faults_told', 'attributes_told', 'review', 'review_with_options']
-BELOW_LINES = ['ent_values', 'ent_functions', 'ent_combine', 'ent_policy', 'ent_finder', 'ent_eval', 'ent_index',
-               'ent_log', 'ent_cells', 'ent_table', 'ent_rebuild']
+BELOW_LINES = ['ent_values', 'ent_functions', 'ent_combine', 'ent_policy', 'ent_finder', 'ent_eval', 'ent_reach',
+               'ent_index', 'ent_log', 'ent_cells', 'ent_table', 'ent_rebuild']
 
 
 def lines_of_crates():

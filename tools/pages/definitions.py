@@ -2,7 +2,7 @@
 """Keeps what the pages say of the definitions' modules, which stand in crates/*/specs.
 
     definitions.py             writes the lists of docs/DEFINITIONS.md, and the numbers of lines into docs/READING.md
-    definitions.py --check     says whether they are up to date, whether the reading list is at most 900 lines long,
+    definitions.py --check     says whether they are up to date, whether the reading list is at most 1,080 lines long,
                                whether each word on the headline's page is defined on the list or named in the
                                notation, whether docs/VERIFIED.md names modules that there are, and whether no module
                                outside of proofs_only rests on one of proofs_only; fails if not
@@ -22,7 +22,7 @@ ROOT = pathlib.Path(__file__).resolve().parents[2]
 DOCS = ROOT / 'docs'
 CRATES = ROOT / 'crates'
 HEADLINE = 'Rattle.ent_line.specs.Headline'
-MOST = 900
+MOST = 1080
 USE = re.compile(r'^\s*(pub )?use ([^\s{}]+?)(?:\.\{([^}]*)\})?(?: as (\w+))?$', re.M)
 TOP = re.compile(r'^(?:(?:pub|abbrev|unfoldable) )*(?:(?:record|data) (\w+)|([\w◌>=]+) :)', re.M)
 MEMBER = re.compile(r'^  (?:pub )?(\w+) :', re.M)

@@ -74,6 +74,10 @@ form_asks P d names.Notices h = of_question P (Some asked.notices)
 form_asks P d names.Work h = of_question P (Some asked.work)
 form_asks P d names.Format h = of_question P _
 form_asks P d names.Dump h = of_question P _
+form_asks P d names.State h = of_question P (Some asked.state)
+form_asks P d names.Cells h = of_question P _
+form_asks P d names.Attributes h = of_question P _
+form_asks P d names.Documents h = of_question P _
 
 -- ---- a line
 

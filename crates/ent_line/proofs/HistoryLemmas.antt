@@ -1,7 +1,7 @@
 -- Where lines lead: the state by their accepted edits, and the mark of a session by its history.
 use Rattle.std.proofs.Common.{◌≡◌, ◌≢◌, ◌<◌, ◌⊎◌, ℕ, List, [], ◌∷◌, length, nat_eq, Bool, true, false, get_or, Option, Some, None, Result, Ok, Err}
 use Rattle.std.proofs.Common.{refl, sym, ap, subst, ◌∙◌, inl, inr}
-use Rattle.std.specs.Prelude.{if◌then◌else◌, nat_lt, slice_set, option_and_then, option_map}
+use Rattle.std.specs.Prelude.{filter, if◌then◌else◌, nat_lt, slice_set, option_and_then, option_map}
 use Rattle.std.specs.List.{cons_option, fold}
 use Rattle.std.specs.Result.{result_ok, result_unwrap_or}
 use Rattle.std.proofs.lemmas.List.{get_or-set_same, get_or-set_other, length-set}
@@ -10,23 +10,23 @@ use Rattle.serde_json.specs.Data.{Data}
 use Rattle.ent_eval.specs.declared.answer.Answer.{Answer as Evaluated}
 use Rattle.ent_eval.specs.declared.request.Request.{Request}
 use Rattle.ent_profile.specs.Asks.{asks}
-use Rattle.ent_table.specs.AnswerMap.{AnswerMap, answers_of}
+use Rattle.ent_table.specs.AnswerMap.{AnswerMap}
 use Rattle.ent_table.specs.Doubles.{HasNoDoubles}
 use Rattle.ent_table.specs.Names.{Triple}
-use Rattle.ent_table.specs.State.{State, answer_at}
+use Rattle.ent_table.specs.State.{State, answer_at, table_of}
 use Rattle.ent_table.specs.Step as table
 use Rattle.ent_table.specs.declared.edit.Edit.{Edit}
 use Rattle.ent_table.specs.declared.edit.EditFault.{EditFault}
 use Rattle.ent_table.proofs.Doubles.{no_name_is_twice}
 use Rattle.ent_dump.specs.Dumped.{dump_text}
 use Rattle.ent_report.specs.Reports as report
-use Rattle.ent_report.specs.World.{World, mark_of}
+use Rattle.ent_report.specs.World.{Mark, World, mark_in, mark_of, marked_table}
 use Rattle.ent_report.specs.declared.fault.ReportFault.{ReportFault}
 use Rattle.ent_line.specs.Asked as asked
 use Rattle.ent_line.specs.Asked.{Change, Command, Question, command_in}
-use Rattle.ent_line.specs.Commands.{by_rule_told, can_told, cell_or_refusal, cell_told, changes_told, counts_told, dump_told, format_told, heard}
+use Rattle.ent_line.specs.Commands.{attributes_told, by_rule_told, can_told, cell_or_refusal, cell_told, cells_told, changes_told, counts_told, documents_told, dump_told, format_told, heard}
 use Rattle.ent_line.specs.Commands.{made, notices_or_refusal, report_or_refusal, request_answered, requested, respond, response_or_refusal, run}
-use Rattle.ent_line.specs.Commands.{settled, table_marked, table_told, told, who_told, work_told}
+use Rattle.ent_line.specs.Commands.{settled, state_told, table_marked, table_told, told, who_told, work_told}
 use Rattle.ent_line.specs.Dumping.{can_tell, format_text, is_version}
 use Rattle.ent_line.specs.Edits.{edit_of, unread}
 use Rattle.ent_line.specs.Headline.{IsLed}
@@ -37,12 +37,14 @@ use Rattle.ent_line.specs.Refusals.{refusal_of}
 use Rattle.ent_line.specs.Replies as replies
 use Rattle.ent_line.specs.Replies.{Answer, accepted, refused, text}
 use Rattle.ent_line.specs.Reports.{can_text, who_text}
+use Rattle.ent_line.specs.Cells.{cells_text}
 use Rattle.ent_line.specs.Runs.{Run}
 use Rattle.ent_line.specs.Step.{Answers, data_of}
+use Rattle.ent_line.specs.Wanted.{are_listed, is_asked}
 use Rattle.ent_line.specs.declared.making.NoEdit.{NoEdit}
 use Rattle.ent_line.specs.declared.making.NoEdit.TheVariants as no_edit
 use Rattle.ent_line.specs.declared.refusal.Refusal.{Refusal}
-use Rattle.ent_line.specs.declared.refusal.Refusal.TheVariants.{BadValue, Document, Memory, NotJson, TooLong}
+use Rattle.ent_line.specs.declared.refusal.Refusal.TheVariants.{BadValue, Document, Memory, NotJson, NotThere, TooLong}
 use Rattle.ent_line.proofs.CommandLemmas.{IsQuiet}
 
 -- ---- what a line leads to
@@ -107,6 +109,10 @@ version_quiet : (b : Bool) (written : List ℕ) → IsQuiet (if b then text writ
 version_quiet true written = tt
 version_quiet false written = tt
 
+cells_quiet : (b : Bool) (written : List ℕ) → IsQuiet (if b then text written else refused NotThere)
+cells_quiet true written = tt
+cells_quiet false written = tt
+
 format_quiet : (version : Option ℕ) → IsQuiet (format_told version)
 unfolding format_told
 format_quiet None = tt
@@ -119,7 +125,7 @@ dump_quiet (Some version) s = version_quiet (can_tell version s.held.environment
 
 -- what is told changes nothing
 pub told_quiet : (n : ℕ) (w : World) (x : ℕ) (q : Question) → IsQuiet (told n w x q)
-unfolding told table_told cell_told counts_told can_told who_told by_rule_told changes_told request_answered work_told
+unfolding told table_told cell_told counts_told can_told who_told by_rule_told changes_told request_answered work_told state_told cells_told attributes_told documents_told
 told_quiet n w x asked.table = tt
 told_quiet n w x (asked.cell y) = cell_quiet y (answer_at w.state y)
 told_quiet n w x (asked.ask d) = response_quiet w.state (asks d)
@@ -127,10 +133,15 @@ told_quiet n w x asked.counts = tt
 told_quiet n w x (asked.can person) = report_quiet can_text (report.can w.state person)
 told_quiet n w x (asked.who action resource) = report_quiet who_text (report.who w.state action resource)
 told_quiet n w x (asked.by_rule policy rule) = tt
-told_quiet n w x asked.notices = notices_quiet w.state (mark_of w x)
+told_quiet n w x asked.notices = notices_quiet w.state (marked_table w x)
 told_quiet n w x asked.work = tt
 told_quiet n w x (asked.format version) = format_quiet version
 told_quiet n w x (asked.dump version) = dump_quiet version w.state
+told_quiet n w x asked.state = tt
+told_quiet n w x (asked.cells wanted) = cells_quiet (are_listed w.state.names wanted) (cells_text (filter (is_asked wanted) (table_of w.state)))
+told_quiet n w x (asked.attributes None entity) = tt
+told_quiet n w x (asked.attributes (Some category) entity) = tt
+told_quiet n w x (asked.documents id) = tt
 
 -- ---- edits
 
@@ -157,10 +168,10 @@ mark_follows : (i : ℕ) (w : World) (x : ℕ) → Follows i w (Some (x, asked.m
 unfolding table_marked
 mark_follows i w x = record { lead = refl; mark = by (eqb_tells x i); places = length-set w.marks x kept }
   where
-    kept : Option AnswerMap
-    kept = Some (answers_of w.state)
+    kept : Option Mark
+    kept = Some (mark_in w.state)
 
-    seen : Bool → Option AnswerMap
+    seen : Bool → Option Mark
     seen b = (after (seen_by w i) (if b then Some session.own_mark else None)).mark
 
     by : ((nat_eq x i ≡ true) × (x ≡ i)) ⊎ ((nat_eq x i ≡ false) × (x ≢ i)) → i < length w.marks → get_or (slice_set w.marks x kept) i None ≡ seen (nat_eq x i)

@@ -10,5 +10,7 @@ pub mod ReadLemmas
 pub mod ServeLemmas
 mod ReplyLemmas
 pub mod ReportLemmas
+pub mod SelectingLemmas
 mod SessionLemmas
+pub mod StandingLemmas
 mod TextLemmas

@@ -1,11 +1,12 @@
 -- Each reply is written as one line.
 use Rattle.std.proofs.Common.{◌≡◌, ℕ, List, ◌++◌, length, Bool, true, false, Option, Some, None, Result, Ok, Err, refl, sym, ap, subst, inl, inr}
-use Rattle.std.specs.Prelude.{codes, decimal, if◌then◌else◌, nat_le, nat_lt}
+use Rattle.std.specs.Prelude.{codes, decimal, filter, if◌then◌else◌, nat_le, nat_lt}
 use Rattle.std.specs.List.{list_all}
 use Rattle.serde_json.specs.Data as json
 use Rattle.serde_json.specs.Data.{Data}
 use Rattle.ent_eval.specs.declared.answer.Answer.{Answer as Evaluated}
 use Rattle.ent_eval.specs.declared.request.Request.{Request}
+use Rattle.ent_json.specs.Members.{only_member}
 use Rattle.ent_profile.specs.Asks.{asks}
 use Rattle.ent_profile.specs.Response.{response}
 use Rattle.ent_table.specs.AnswerMap.{AnswerMap}
@@ -16,16 +17,19 @@ use Rattle.ent_table.specs.Step as table
 use Rattle.ent_table.specs.declared.edit.Edit.{Edit}
 use Rattle.ent_table.specs.declared.edit.EditFault.{EditFault}
 use Rattle.ent_dump.specs.Dumped.{dump_data, dump_text}
+use Rattle.ent_held.specs.Attributes.{attributes_text}
+use Rattle.ent_held.specs.Documents.{documents_text}
+use Rattle.ent_held.specs.proofs_only.Walk.{attributes_data, documents_data}
 use Rattle.ent_report.specs.Notices.{notices}
 use Rattle.ent_report.specs.Reports as report
-use Rattle.ent_report.specs.World.{World, mark_of}
+use Rattle.ent_report.specs.World.{World, marked_table}
 use Rattle.ent_report.specs.declared.fault.ReportFault.{ReportFault}
 use Rattle.ent_line.specs.Asked as asked
 use Rattle.ent_line.specs.Asked.{Command, Question, command_in}
-use Rattle.ent_line.specs.Cells.{cell_data, list_data, one_cell_text, reply_data, response_text, table_text}
-use Rattle.ent_line.specs.Commands.{by_rule_told, can_told, cell_or_refusal, cell_told, changes_told, counts_told, dump_told, format_told, heard}
+use Rattle.ent_line.specs.Cells.{cell_data, cells_text, list_data, one_cell_text, reply_data, response_text, table_text}
+use Rattle.ent_line.specs.Commands.{attributes_told, by_rule_told, can_told, cell_or_refusal, cell_told, cells_told, changes_told, counts_told, documents_told, dump_told, format_told, heard}
 use Rattle.ent_line.specs.Commands.{made, notices_or_refusal, report_or_refusal, request_answered, requested, respond, response_or_refusal, run}
-use Rattle.ent_line.specs.Commands.{settled, table_marked, table_told, told, who_told, work_told}
+use Rattle.ent_line.specs.Commands.{settled, state_told, table_marked, table_told, told, who_told, work_told}
 use Rattle.ent_line.specs.Dumping.{can_tell, format_text, is_version}
 use Rattle.ent_line.specs.Edits.{edit_of}
 use Rattle.ent_line.specs.Lines.{IsOneLine, line_limit}
@@ -34,11 +38,13 @@ use Rattle.ent_line.specs.Replies as replies
 use Rattle.ent_line.specs.Replies.{Answer, accepted, line_of, refusal_line, refused, text}
 use Rattle.ent_line.specs.Reports.{counts_data, notice_data, pair_data, triple_data}
 use Rattle.ent_line.specs.Reports.{by_rule_text, can_text, counts_text, notices_text, who_text, work_text}
+use Rattle.ent_line.specs.Standing.{state_data, state_text}
 use Rattle.ent_line.specs.Step.{Answers, data_of}
+use Rattle.ent_line.specs.Wanted.{are_listed, is_asked}
 use Rattle.ent_line.specs.declared.making.NoEdit.{NoEdit}
 use Rattle.ent_line.specs.declared.making.NoEdit.TheVariants as no_edit
 use Rattle.ent_line.specs.declared.refusal.Refusal.{Refusal}
-use Rattle.ent_line.specs.declared.refusal.Refusal.TheVariants.{BadValue, TooLong}
+use Rattle.ent_line.specs.declared.refusal.Refusal.TheVariants.{BadValue, NotThere, TooLong}
 use Rattle.ent_line.proofs.PrintedLemmas.{ArePrinted, IsPrintedLine, behind, both_printed, decimal_printed, one_line, text_printed, word_printed}
 
 -- the text of an answer has no control character
@@ -115,8 +121,13 @@ unfolding dump_told
 dump_told_printed None s = tt
 dump_told_printed (Some version) s = version_printed (can_tell version s.held.environment) (dump_text version s) (dump_printed version s)
 
+cells_printed : (b : Bool) (cells : List (Triple × Evaluated)) → IsPrinted (if b then text (cells_text cells) else refused NotThere)
+unfolding cells_text
+cells_printed true cells = text_printed (only_member (codes "cells") (list_data cell_data cells))
+cells_printed false cells = tt
+
 told_printed : (n : ℕ) (w : World) (x : ℕ) (q : Question) → IsPrinted (told n w x q)
-unfolding told table_told cell_told counts_told can_told who_told by_rule_told changes_told request_answered work_told counts_text
+unfolding told table_told cell_told counts_told can_told who_told by_rule_told changes_told request_answered work_told counts_text state_told state_text cells_told attributes_told attributes_text documents_told documents_text
 told_printed n w x asked.table = table_printed (table_of w.state)
 told_printed n w x (asked.cell y) = cell_printed y (answer_at w.state y)
 told_printed n w x (asked.ask d) = response_printed w.state (asks d)
@@ -124,10 +135,15 @@ told_printed n w x asked.counts = text_printed (reply_data (codes "counts") (cou
 told_printed n w x (asked.can person) = report_printed can_text can_printed (report.can w.state person)
 told_printed n w x (asked.who action resource) = report_printed who_text who_printed (report.who w.state action resource)
 told_printed n w x (asked.by_rule policy rule) = by_rule_printed (report.by_rule w.state policy rule)
-told_printed n w x asked.notices = notices_printed w.state (mark_of w x)
+told_printed n w x asked.notices = notices_printed w.state (marked_table w x)
 told_printed n w x asked.work = work_printed n
 told_printed n w x (asked.format version) = format_told_printed version
 told_printed n w x (asked.dump version) = dump_told_printed version w.state
+told_printed n w x asked.state = text_printed (reply_data (codes "state") (state_data w))
+told_printed n w x (asked.cells wanted) = cells_printed (are_listed w.state.names wanted) (filter (is_asked wanted) (table_of w.state))
+told_printed n w x (asked.attributes None entity) = tt
+told_printed n w x (asked.attributes (Some category) entity) = text_printed (attributes_data w.state.held.sources category entity)
+told_printed n w x (asked.documents id) = text_printed (documents_data w.state.held id)
 
 -- ---- commands and lines
 

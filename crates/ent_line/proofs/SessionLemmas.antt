@@ -1,10 +1,10 @@
 -- What a session is told rests on the accepted edits and on its own marks.
 use Rattle.std.proofs.Common.{◌≡◌, ◌⊎◌, ℕ, List, Option, Some, None, Result, Ok, Err, refl, sym, ap, subst, ◌∙◌, inl, inr}
-use Rattle.std.specs.Prelude.{option_and_then}
+use Rattle.std.specs.Prelude.{option_and_then, option_map}
 use Rattle.std.specs.List.{fold}
 use Rattle.std.specs.Result.{result_ok}
 use Rattle.serde_json.specs.Data.{Data}
-use Rattle.ent_report.specs.World.{World}
+use Rattle.ent_report.specs.World.{Mark, World}
 use Rattle.ent_line.specs.Asked.{Command, command_in}
 use Rattle.ent_line.specs.Commands.{changes_told, heard, notices_or_refusal, requested, run, told}
 use Rattle.ent_line.specs.History.{asked_by, history, next, seen_by}
@@ -56,7 +56,7 @@ separate i w other v end lines others answers other_answers alike run other_run 
     let start : seen_by w i ≡ seen_by other i = λ j. record { state = alike.state j; mark = alike.mark j } in
     let both : fold next (seen_by w i) (history i lines answers) ≡ fold next (seen_by other i) (history i others other_answers) = λ j. fold next (start j) (same j) in
     let seen : seen_by v i ≡ seen_by end i = run_seen i w v lines answers alike.first run ∙ both ∙ sym (run_seen i other end others other_answers alike.second other_run) in
-    let told : changes_told v i ≡ changes_told end i = λ j. notices_or_refusal (seen j).state (seen j).mark in
+    let told : changes_told v i ≡ changes_told end i = λ j. notices_or_refusal (seen j).state (option_map (λ (m : Mark). m.table) (seen j).mark) in
     record {
       notices = told;
       replies = λ line line_too a b x y asks asks_too is is_too.

@@ -8,7 +8,8 @@ use Rattle.ent_polform.specs.Objects.{need, must}
 use Rattle.ent_table.specs.Names.{Triple, triple_of}
 use Rattle.ent_table.specs.declared.edit.List.{List as Which}
 use Rattle.ent_table.specs.declared.edit.List.TheVariants.{People, Actions, Resources}
-use Rattle.ent_line.specs.Keys.{◌>>=◌, AskedRow, kind_named, module_in, null_or_text_at, number_at, number_in, row_in}
+use Rattle.ent_line.specs.Keys.{◌>>=◌, AskedRow, category_named, kind_named, module_in, null_or_text_at, number_at, number_in, row_in}
+use Rattle.ent_line.specs.Wanted.{Wanted, optional_text, wanted_in}
 use Rattle.ent_line.specs.declared.name.Name.{Name}
 use Rattle.ent_line.specs.declared.name.Name.TheVariants as names
 use Rattle.ent_line.specs.declared.refusal.Refusal.{Refusal}
@@ -59,6 +60,14 @@ pub data Question : Type 0 where
   format : Option ℕ → Question
   -- the lines of that version that make the state anew
   dump : Option ℕ → Question
+  -- what stands, in numbers
+  state : Question
+  -- the cells of some person, action, resource and decisions
+  cells : Wanted → Question
+  -- the values that are held of an entity of a category, which may be none
+  attributes : Option (List ℕ) → List ℕ → Question
+  -- the documents that are held, or those of an id
+  documents : Option (List ℕ) → Question
 
 pub data Command : Type 0 where
   change : Change → Command
@@ -98,6 +107,10 @@ cell_asked d = do
 -- who can do an action to a resource
 unfoldable pub who_asked : Data → Option Question
 who_asked d = text_at (codes "action") d >>= λ action. option_map (who action) (text_at (codes "resource") d)
+
+-- the values of an entity
+unfoldable pub attributes_asked : Data → Option Question
+attributes_asked d = text_at (codes "category") d >>= λ word. option_map (attributes (category_named word)) (text_at (codes "entity") d)
 
 -- which cells a rule decides
 unfoldable pub by_rule_asked : Data → Option Question
@@ -144,6 +157,10 @@ form_of names.Mark = record { word = codes "mark"; keys = []; asked = λ d. Some
 form_of names.Notices = asks (codes "notices") [] (λ d. Some notices)
 form_of names.Work = asks (codes "work") [] (λ d. Some work)
 form_of names.Format = asks (codes "format") (codes "version" ∷ []) (λ d. option_map format (get (codes "version") d >>= number_in))
+form_of names.State = asks (codes "state") [] (λ d. Some state)
+form_of names.Cells = asks (codes "cells") (codes "action" ∷ codes "decisions" ∷ codes "person" ∷ codes "resource" ∷ []) (λ d. option_map cells (wanted_in d))
+form_of names.Attributes = asks (codes "attributes") (codes "category" ∷ codes "entity" ∷ []) attributes_asked
+form_of names.Documents = asks (codes "documents") (codes "id" ∷ []) (λ d. option_map documents (optional_text (codes "id") d))
 form_of names.Dump = asks (codes "dump") (codes "version" ∷ []) (λ d. option_map dump (number_at (codes "version") 2 d))
 
 -- every name
@@ -152,7 +169,8 @@ every_name =
     names.PersonAdd ∷ names.ActionAdd ∷ names.ResourceAdd ∷ names.PersonDrop ∷ names.ActionDrop ∷ names.ResourceDrop ∷
     names.PolicyAdd ∷ names.PolicyReplace ∷ names.PolicyWithdraw ∷ names.AttributeSet ∷ names.RootSet ∷ names.DaySet ∷
     names.MomentSet ∷ names.Table ∷ names.Cell ∷ names.Ask ∷ names.Counts ∷ names.Can ∷ names.Who ∷ names.ByRule ∷
-    names.Mark ∷ names.Notices ∷ names.Work ∷ names.Format ∷ names.Dump ∷ []
+    names.Mark ∷ names.Notices ∷ names.Work ∷ names.Format ∷ names.Dump ∷ names.State ∷
+    names.Cells ∷ names.Attributes ∷ names.Documents ∷ []
 
 -- the name that a word is
 unfoldable pub name_of : List ℕ → Option Name

@@ -15,6 +15,7 @@ use Rattle.ent_eval.specs.declared.answer.Status.{Status}
 use Rattle.ent_eval.specs.declared.answer.Status.TheVariants as status
 use Rattle.ent_eval.specs.declared.answer.WhyEntry.{WhyEntry}
 use Rattle.ent_eval.specs.declared.request.Request.{Request}
+use Rattle.ent_json.specs.Members.{only_member}
 use Rattle.ent_profile.specs.Response.{given_written, response}
 use Rattle.ent_table.specs.Names.{Triple}
 
@@ -83,6 +84,10 @@ one_cell_text c = compact_text (reply_data (codes "cell") (cell_data c))
 -- the text of the reply to `table`
 unfoldable pub table_text : List (Triple × Answer) → List ℕ
 table_text cells = compact_text (reply_data (codes "table") (list_data cell_data cells))
+
+-- the text of the reply to `cells`
+unfoldable pub cells_text : List (Triple × Answer) → List ℕ
+cells_text cells = compact_text (reply_data (codes "cells") (list_data cell_data cells))
 
 -- the text of the response to a request
 unfoldable pub response_text : Answer → Request → List ℕ

@@ -1,7 +1,7 @@
 -- What each line and each command is answered. A reader may skip this page: the headline fixes what `respond` gives for every line (`IsHeard`) and
 -- `run` for every command (`IsEdited`, `IsTold`), in the words of `Edits`, `Reports` and the crates below, and nothing else rests on the words that
 -- stand here.
-use Rattle.std.specs.Prelude.{ℕ, List, length, nat_lt, if◌then◌else◌, Option, Some, None, Result, Ok, Err}
+use Rattle.std.specs.Prelude.{ℕ, List, filter, length, nat_lt, if◌then◌else◌, Option, Some, None, Result, Ok, Err}
 use Rattle.std.specs.Result.{result_ok}
 use Rattle.serde_json.specs.Data.{Data}
 use Rattle.ent_json.specs.Line.{data_of}
@@ -17,13 +17,15 @@ use Rattle.ent_table.specs.Step as table
 use Rattle.ent_table.specs.declared.edit.Edit.{Edit}
 use Rattle.ent_table.specs.declared.edit.EditFault.{EditFault}
 use Rattle.ent_dump.specs.Dumped.{dump_text}
+use Rattle.ent_held.specs.Attributes.{attributes_text}
+use Rattle.ent_held.specs.Documents.{documents_text}
 use Rattle.ent_report.specs.Notices.{notices}
 use Rattle.ent_report.specs.Reports as report
-use Rattle.ent_report.specs.World.{World, mark_of, marked}
+use Rattle.ent_report.specs.World.{World, marked, marked_table}
 use Rattle.ent_report.specs.declared.fault.ReportFault.{ReportFault}
 use Rattle.ent_line.specs.Asked as asked
 use Rattle.ent_line.specs.Asked.{Command, Question, command_in}
-use Rattle.ent_line.specs.Cells.{one_cell_text, response_text, table_text}
+use Rattle.ent_line.specs.Cells.{cells_text, one_cell_text, response_text, table_text}
 use Rattle.ent_line.specs.Dumping.{can_tell, format_text, is_version}
 use Rattle.ent_line.specs.Edits.{edit_of, unread}
 use Rattle.ent_line.specs.Lines.{line_limit}
@@ -31,10 +33,12 @@ use Rattle.ent_line.specs.Refusals.{refusal_of}
 use Rattle.ent_line.specs.Replies as replies
 use Rattle.ent_line.specs.Replies.{Answer, accepted, refused, text, text_or}
 use Rattle.ent_line.specs.Reports.{by_rule_text, can_text, counts_text, notices_text, who_text, work_text}
+use Rattle.ent_line.specs.Standing.{state_text}
+use Rattle.ent_line.specs.Wanted.{Wanted, are_listed, is_asked}
 use Rattle.ent_line.specs.declared.making.NoEdit.{NoEdit}
 use Rattle.ent_line.specs.declared.making.NoEdit.TheVariants as no_edit
 use Rattle.ent_line.specs.declared.refusal.Refusal.{Refusal}
-use Rattle.ent_line.specs.declared.refusal.Refusal.TheVariants.{BadValue, Document, Memory, NoMark, NotJson, NotThere, Request as NoRequest, TooLong}
+use Rattle.ent_line.specs.declared.refusal.Refusal.TheVariants.{BadValue, Document, Memory, NoMark, NotJson, NotThere, Request as NoRequest, Reserved, TooLong}
 
 -- ---- changes
 
@@ -102,7 +106,7 @@ notices_or_refusal s o = text_or NoMark (λ kept. notices_text (notices kept s))
 
 -- what changed since the mark of a session, which stays
 unfoldable pub changes_told : World → ℕ → Answer
-changes_told w session = notices_or_refusal w.state (mark_of w session)
+changes_told w session = notices_or_refusal w.state (marked_table w session)
 
 -- how many times a request was evaluated
 unfoldable pub work_told : ℕ → Answer
@@ -118,6 +122,23 @@ unfoldable pub dump_told : Option ℕ → State → Answer
 dump_told None s = refused BadValue
 dump_told (Some version) s = if can_tell version s.held.environment then text (dump_text version s) else refused BadValue
 
+-- what stands, in numbers
+unfoldable pub state_told : World → Answer
+state_told w = text (state_text w)
+
+-- the cells that are asked for, or the refusal where a name isn't listed
+unfoldable pub cells_told : State → Wanted → Answer
+cells_told s wanted = if are_listed s.names wanted then text (cells_text (filter (is_asked wanted) (table_of s))) else refused NotThere
+
+-- the values that are held of an entity, or the refusal of a category that there isn't
+unfoldable pub attributes_told : State → Option (List ℕ) → List ℕ → Answer
+attributes_told s None entity = refused Reserved
+attributes_told s (Some category) entity = text (attributes_text s.held.sources category entity)
+
+-- the documents that are held, or those of an id
+unfoldable pub documents_told : State → Option (List ℕ) → Answer
+documents_told s id = text (documents_text s.held id)
+
 -- what a question of a session is answered after n evaluations. Only `work` tells n
 unfoldable pub told : ℕ → World → ℕ → Question → Answer
 told n w session asked.table = table_told w.state
@@ -131,6 +152,10 @@ told n w session asked.notices = changes_told w session
 told n w session asked.work = work_told n
 told n w session (asked.format version) = format_told version
 told n w session (asked.dump version) = dump_told version w.state
+told n w session asked.state = state_told w
+told n w session (asked.cells wanted) = cells_told w.state wanted
+told n w session (asked.attributes category entity) = attributes_told w.state category entity
+told n w session (asked.documents id) = documents_told w.state id
 
 -- ---- commands
 

@@ -13,7 +13,7 @@
 -- it of every line, `IsEdited` and `IsTold` of every edit, question and mark. The last words on the page, `Headline`, are
 -- what the call `serve_review`, which the program makes, ensures of the bytes that are read and written. What `dump`
 -- tells brings a new service to the same state: that is a law of `ent_restart` (Restart), over the runs of this page.
-use Rattle.std.specs.Prelude.{◌≡◌, ◌⊎◌, ℕ, ◌<◌, ◌≤◌, false, true, List, length, fold}
+use Rattle.std.specs.Prelude.{◌≡◌, ◌⊎◌, ℕ, ◌<◌, ◌≤◌, false, true, List, length, filter, fold}
 use Rattle.std.specs.Prelude.{Option, Some, None, Result, Ok, Err}
 use Rattle.std.specs.Option.{option_map_or}
 use Rattle.std.specs.Result.{result_ok}
@@ -29,13 +29,15 @@ use Rattle.ent_table.specs.Step as edits
 use Rattle.ent_table.specs.declared.edit.Edit.{Edit}
 use Rattle.ent_table.specs.declared.edit.EditFault.{EditFault}
 use Rattle.ent_dump.specs.Dumped.{dump_text}
+use Rattle.ent_held.specs.Attributes.{attributes_text}
+use Rattle.ent_held.specs.Documents.{documents_text}
 use Rattle.ent_report.specs.Differing.{NoticesAreTheDifference}
 use Rattle.ent_report.specs.Notices.{notices}
 use Rattle.ent_report.specs.Reports as report
-use Rattle.ent_report.specs.World.{World, mark_of, marked}
+use Rattle.ent_report.specs.World.{World, marked, marked_table}
 use Rattle.ent_line.specs.Asked as asked
 use Rattle.ent_line.specs.Asked.{Change, Command, IsOfCommands, Question, command_in}
-use Rattle.ent_line.specs.Cells.{one_cell_text, response_text, table_text}
+use Rattle.ent_line.specs.Cells.{cells_text, one_cell_text, response_text, table_text}
 use Rattle.ent_line.specs.Dumping.{can_tell, format_text, is_version}
 use Rattle.ent_line.specs.Edits.{edit_of, unread}
 use Rattle.ent_line.specs.History.{Lead, accepted_edits, history, next, seen_by}
@@ -47,8 +49,10 @@ use Rattle.ent_line.specs.Reports.{by_rule_text, can_text, counts_text, notices_
 use Rattle.ent_line.specs.Runs.{Run}
 use Rattle.ent_line.specs.Serving.{Ends, ServesUntil}
 use Rattle.ent_line.specs.Sessions.{SessionsAreSeparate}
+use Rattle.ent_line.specs.Standing.{state_text}
 use Rattle.ent_line.specs.Commands.{respond, run, told}
 use Rattle.ent_line.specs.Step.{Answers, data_of}
+use Rattle.ent_line.specs.Wanted.{Wanted, are_listed, is_asked}
 use Rattle.ent_line.specs.Work.{Counted, Counts}
 use Rattle.ent_line.specs.declared.fault.ServeFault.{ServeFault}
 use Rattle.ent_line.specs.declared.making.NoEdit.TheVariants.{Faulty, Unreadable}
@@ -115,7 +119,7 @@ pub record IsTold (n : ℕ) (w : World) (x : ℕ) : Type 0 where
       → told n w x (asked.by_rule policy rule) ≡ text (by_rule_text (report.by_rule w.state policy rule))
   -- notices: the requests whose answers differ between the marked table and the fresh one, and the mark stays
   pub notices : told n w x asked.notices
-      ≡ text_or refusals.NoMark (λ kept. notices_text (notices kept w.state)) (mark_of w x)
+      ≡ text_or refusals.NoMark (λ kept. notices_text (notices kept w.state)) (marked_table w x)
   -- the work: the number of evaluations
   pub work : told n w x asked.work ≡ text (work_text n)
   -- the format: a version that lines have, 1 or 2, which no negative number is
@@ -128,6 +132,20 @@ pub record IsTold (n : ℕ) (w : World) (x : ℕ) : Type 0 where
       → told n w x (asked.dump (Some version)) ≡ text (dump_text version w.state)
   pub no_dump : (version : Option ℕ) → option_map_or (λ v. can_tell v w.state.held.environment) version false ≡ false
       → told n w x (asked.dump version) ≡ refused refusals.BadValue
+  -- what stands, in numbers
+  pub state : told n w x asked.state ≡ text (state_text w)
+  -- cells: those of the fresh table that have all that is asked for, in list order
+  pub cells : (wanted : Wanted) → are_listed w.state.names wanted ≡ true
+      → told n w x (asked.cells wanted) ≡ text (cells_text (filter (is_asked wanted) (table_of w.state)))
+  pub cells_unlisted : (wanted : Wanted) → are_listed w.state.names wanted ≡ false
+      → told n w x (asked.cells wanted) ≡ refused refusals.NotThere
+  -- attributes: the values that are held of an entity of a category, which is one of three
+  pub attributes : (category entity : List ℕ)
+      → told n w x (asked.attributes (Some category) entity)
+      ≡ text (attributes_text w.state.held.sources category entity)
+  pub no_category : (entity : List ℕ) → told n w x (asked.attributes None entity) ≡ refused refusals.Reserved
+  -- documents: those that are held, or those of an id
+  pub documents : (id : Option (List ℕ)) → told n w x (asked.documents id) ≡ text (documents_text w.state.held id)
   -- a mark: the fresh table of that moment is kept for its session alone
   pub mark : run n w x asked.mark ≡ (replies.marked w.state.serial, marked w x)
 

@@ -2,11 +2,10 @@
 use Rattle.std.specs.Prelude.{◌≡◌, ℕ, List, [], ◌∷◌, nat_eq, if◌then◌else◌, Option, Some, None, option_and_then, option_map, filter_map, zip, Ok}
 use Rattle.std.specs.Result.{result_ok, result_unwrap_or}
 use Rattle.ent_json.specs.Line.{data_of}
-use Rattle.ent_table.specs.AnswerMap.{AnswerMap, answers_of}
 use Rattle.ent_table.specs.State.{State}
 use Rattle.ent_table.specs.Step as table
 use Rattle.ent_table.specs.declared.edit.Edit.{Edit}
-use Rattle.ent_report.specs.World.{World, mark_of}
+use Rattle.ent_report.specs.World.{Mark, World, mark_in, mark_of}
 use Rattle.ent_line.specs.Asked.{Command, change, command_in}
 use Rattle.ent_line.specs.Edits.{edit_of}
 use Rattle.ent_line.specs.Replies.{Answer, accepted, marked}
@@ -66,7 +65,7 @@ history session lines answers = filter_map (matter session) (zip lines answers)
 -- what a session sees of a world: the state, and its own mark
 pub record Seen : Type 0 where
   pub state : State
-  pub mark : Option AnswerMap
+  pub mark : Option Mark
 
 abbrev pub seen_by : World → ℕ → Seen
 seen_by w session = record { state = w.state; mark = mark_of w session }
@@ -74,4 +73,4 @@ seen_by w session = record { state = w.state; mark = mark_of w session }
 -- what it sees next: after an edit, which was accepted, the state that this leads to; after a mark of its own the fresh table of that moment as its mark
 abbrev pub next : Seen → Matter → Seen
 next s (edit e) = record s { state = result_unwrap_or (table.step s.state e) s.state }
-next s own_mark = record s { mark = Some (answers_of s.state) }
+next s own_mark = record s { mark = Some (mark_in s.state) }

@@ -16,7 +16,9 @@ pub mod Reports
 pub mod Runs
 pub mod Serving
 pub mod Sessions
+pub mod Standing
 pub mod Step
+pub mod Wanted
 pub mod Work
 pub mod World
 pub mod proofs_only

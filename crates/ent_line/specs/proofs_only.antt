@@ -4,3 +4,5 @@ pub mod Making
 pub mod Pieces
 pub mod Refusing
 pub mod Replying
+pub mod Selecting
+pub mod Standing

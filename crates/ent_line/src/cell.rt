@@ -200,7 +200,7 @@ fn write_reason(
 }
 
 /// Writes a cell.
-fn write_cell(
+pub(crate) fn write_cell(
     alloc: Global,
     out: &mut JsonText,
     person: &str,

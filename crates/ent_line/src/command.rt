@@ -7,6 +7,7 @@ ghost use Rattle.ent_line.specs.proofs_only.CommandView.{asked_view, session_vie
 use crate::keys::{AskedRow, number_at};
 use crate::name::Name;
 use crate::refusal::Refusal;
+use crate::wanted::Wanted;
 use ent_json::{JsonTree, text_at};
 use ent_policy::Kind;
 use ent_report::SESSIONS;
@@ -71,6 +72,14 @@ pub(crate) enum Question<'a, J> {
     Format(Option<u64>),
     /// The lines of that version that make the state anew.
     Dump(Option<u64>),
+    /// What stands, in numbers.
+    State,
+    /// The cells of some person, action, resource and decisions.
+    Cells(Wanted<'a, J>),
+    /// The values that are held of an entity of a category, which may be none.
+    Attributes(Option<&'a str>, &'a str),
+    /// The documents that are held, or those of an id.
+    Documents(Option<&'a str>),
 }
 
 /// The command of that name that an object asks for, or why there is none.

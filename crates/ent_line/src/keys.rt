@@ -59,7 +59,7 @@ pub(crate) fn kind_named(word: &str) -> Option<Kind>
 }
 
 /// The URI of the category that a word or the URI itself names.
-fn category_named(word: &str) -> Option<&str>
+pub(crate) fn category_named(word: &str) -> Option<&str>
     ensures { option_copied result ≡ category_named word.now }
 {
     if word == "AccessSubject" || word == ACCESS_SUBJECT {

@@ -10,7 +10,7 @@ use crate::changes::{
     withdraw_policy,
 };
 use crate::command::{Command, Question};
-use crate::questions::{ask, by_rule, can, cell, dump, format, who};
+use crate::questions::{ask, attributes, by_rule, can, cell, cells, documents, dump, format, who};
 use ent_json::JsonTree;
 use ent_table::List;
 
@@ -42,6 +42,10 @@ pub(crate) enum Name {
     Work,
     Format,
     Dump,
+    State,
+    Cells,
+    Attributes,
+    Documents,
 }
 
 impl Name {
@@ -72,6 +76,10 @@ impl Name {
         Name::Work,
         Name::Format,
         Name::Dump,
+        Name::State,
+        Name::Cells,
+        Name::Attributes,
+        Name::Documents,
     ];
 
     /// The name that a word is.
@@ -113,6 +121,10 @@ impl Name {
             Name::Work => "work",
             Name::Format => "format",
             Name::Dump => "dump",
+            Name::State => "state",
+            Name::Cells => "cells",
+            Name::Attributes => "attributes",
+            Name::Documents => "documents",
         }
     }
 
@@ -159,6 +171,17 @@ impl Name {
             Name::Work => object.has_only(&["do", "session"]),
             Name::Format => object.has_only(&["do", "session", "version"]),
             Name::Dump => object.has_only(&["do", "session", "version"]),
+            Name::State => object.has_only(&["do", "session"]),
+            Name::Cells => object.has_only(&[
+                "do",
+                "session",
+                "action",
+                "decisions",
+                "person",
+                "resource",
+            ]),
+            Name::Attributes => object.has_only(&["do", "session", "category", "entity"]),
+            Name::Documents => object.has_only(&["do", "session", "id"]),
         }
     }
 
@@ -193,6 +216,10 @@ impl Name {
             Name::Work => Some(Command::Question(Question::Work)),
             Name::Format => format(object),
             Name::Dump => dump(object),
+            Name::State => Some(Command::Question(Question::State)),
+            Name::Cells => cells(object),
+            Name::Attributes => attributes(object),
+            Name::Documents => documents(object),
         }
     }
 }

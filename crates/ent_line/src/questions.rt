@@ -4,12 +4,14 @@ ghost use Rattle.std.specs.Prelude.{◌≡◌, codes, option_and_then, option_ma
 ghost use Rattle.serde_json.specs.Find.{get};
 ghost use Rattle.ent_json.specs.Objects.{text_at};
 ghost use Rattle.ent_line.specs.Asked as asked;
-ghost use Rattle.ent_line.specs.Asked.{by_rule_asked, cell_asked, who_asked};
+ghost use Rattle.ent_line.specs.Asked.{attributes_asked, by_rule_asked, cell_asked, who_asked};
 ghost use Rattle.ent_line.specs.Keys.{number_at, number_in};
+ghost use Rattle.ent_line.specs.Wanted.{optional_text, wanted_in};
 ghost use Rattle.ent_line.specs.proofs_only.CommandView.{command_view};
 
 use crate::command::{Command, Question};
-use crate::keys::{null_or_text_at, number_at, number_in};
+use crate::keys::{category_named, null_or_text_at, number_at, number_in};
+use crate::wanted::{optional_text, wanted_in};
 use ent_json::{JsonTree, text_at};
 
 /// `cell`.
@@ -80,4 +82,33 @@ pub(crate) fn dump<J: JsonTree>(object: &J) -> Option<Command<'_, J>>
 {
     let version = number_at(object, "version", 2)?;
     Some(Command::Question(Question::Dump(version)))
+}
+
+/// `cells`.
+pub(crate) fn cells<J: JsonTree>(object: &J) -> Option<Command<'_, J>>
+    ensures { option_map (command_view J.content) result
+        ≡ option_map asked.question (option_map asked.cells (wanted_in (J.content object.now))) }
+{
+    let wanted = wanted_in(object)?;
+    Some(Command::Question(Question::Cells(wanted)))
+}
+
+/// `attributes`.
+#[tactic(auto, unfolding(crate::specs::Asked::attributes_asked))]
+pub(crate) fn attributes<J: JsonTree>(object: &J) -> Option<Command<'_, J>>
+    ensures { option_map (command_view J.content) result
+        ≡ option_map asked.question (attributes_asked (J.content object.now)) }
+{
+    let category = category_named(text_at(object, "category")?);
+    let entity = text_at(object, "entity")?;
+    Some(Command::Question(Question::Attributes(category, entity)))
+}
+
+/// `documents`.
+pub(crate) fn documents<J: JsonTree>(object: &J) -> Option<Command<'_, J>>
+    ensures { option_map (command_view J.content) result
+        ≡ option_map asked.question (option_map asked.documents (optional_text (codes "id") (J.content object.now))) }
+{
+    let id = optional_text(object, "id")?;
+    Some(Command::Question(Question::Documents(id)))
 }

@@ -17,8 +17,8 @@ use ent_values::Text;
 use itoa::Buffer;
 use std::alloc::{AllocError, Global};
 
-/// Writes a number of cells at a key.
-fn write_count(out: &mut JsonText, key: &str, count: u64) -> Result<(), AllocError>
+/// Writes a number at a key.
+pub(crate) fn write_count(out: &mut JsonText, key: &str, count: u64) -> Result<(), AllocError>
     ensures { OnOk result (out.new ≡ out.old ++ token.key key.now ∷ token.number (decimal count) ∷ []) }
 {
     out.key(key)?;

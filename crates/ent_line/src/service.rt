@@ -176,6 +176,10 @@ impl<A: Attributes, P: Policies> Service<A, P> {
             Question::Work => self.work(),
             Question::Format(version) => self.format(version),
             Question::Dump(version) => self.dump(version),
+            Question::State => self.state(),
+            Question::Cells(wanted) => self.cells(wanted),
+            Question::Attributes(category, entity) => self.attributes(category, entity),
+            Question::Documents(id) => self.documents(id),
         }
     }
 

@@ -83,3 +83,9 @@ same_tables f g from serial (mark ∷ marks) are same =
     by : (m : Option ℕ) → IsMark from serial m → option_map f m ≡ option_map g m
     by None h = refl
     by (Some n) h = ap Some (same n h.0 h.1)
+
+-- what is read of each of them, where it is a part of what is made of it
+pub read_back : {X : Type 0} (f : ℕ → X) (g : X → ℕ) → ((n : ℕ) → g (f n) ≡ n) → (marks : List (Option ℕ)) → map (option_map g) (map (option_map f) marks) ≡ marks
+read_back f g same [] = refl
+read_back f g same (None ∷ marks) = ap (λ ms. None ∷ ms) (read_back f g same marks)
+read_back f g same (Some n ∷ marks) = λ i. Some (same n i) ∷ read_back f g same marks i

@@ -6,10 +6,10 @@ use Rattle.ent_finder.specs.Slots.{Slots}
 use Rattle.ent_table.specs.AnswerMap.{AnswerMap}
 use Rattle.ent_table.specs.Review.{IsFresh, state_of}
 use Rattle.ent_table.specs.State.{State}
-use Rattle.ent_table.specs.Tables.{table_at_serial}
 use Rattle.ent_report.specs.Notices.{notices}
 use Rattle.ent_report.specs.Reports.{counts}
-use Rattle.ent_report.specs.World.{World, mark_of, marked}
+use Rattle.ent_report.specs.Serials.{mark_at}
+use Rattle.ent_report.specs.World.{World, marked, marked_table}
 use Rattle.ent_report.specs.declared.counts.Counts.{Counts}
 use Rattle.ent_report.specs.declared.desk.Desk.{Desk}
 use Rattle.ent_report.specs.declared.fault.NoticeFault.{NoticeFault}
@@ -22,7 +22,7 @@ use Rattle.ent_report.specs.declared.notices.Notice.{Notice}
 abbrev pub world_of : {A P : Type 0} → (A → List Source) → (P → List Slots) → Desk A P → World
 world_of sources slots desk = record {
   state = state_of sources slots desk.review;
-  marks = map (option_map (table_at_serial sources slots desk.review)) desk.marks;
+  marks = map (option_map (mark_at sources slots desk.review)) desk.marks;
 }
 
 -- ---- when a desk is ready
@@ -77,4 +77,4 @@ IsNoticed (Some m) s (Err fault) = fault ≡ notice_fault.Memory
 
 -- a session is told what changed since its mark
 abbrev pub IsNoticedIn : World → ℕ → Result (List Notice) NoticeFault → Type 0
-IsNoticedIn w session result = IsNoticed (mark_of w session) w.state result
+IsNoticedIn w session result = IsNoticed (marked_table w session) w.state result

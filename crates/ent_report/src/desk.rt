@@ -9,6 +9,7 @@ ghost use Rattle.ent_table.specs.Step.{step};
 ghost use Rattle.ent_report.specs.Desk.{IsNoticedIn, IsReady, KeepsWorld, Marks, Reports, oldest, world_of};
 ghost use Rattle.ent_report.specs.Kept.{Forgets, Remembers};
 ghost use Rattle.ent_report.specs.Reports.{by_rule, can, counts, who};
+ghost use Rattle.ent_report.specs.Serials.{mark_serials};
 ghost use Rattle.ent_report.specs.World.{unmarked};
 
 use crate::counts::{Counts, counted};
@@ -74,6 +75,13 @@ impl<A: Attributes, P: Policies> Desk<A, P> {
         ensures { result.now ≡ self.now.review }
     {
         &self.review
+    }
+
+    /// The serial of each session's mark, in the order of the sessions.
+    pub fn marks(&self) -> &[Option<u64>]
+        ensures { result.now ≡ mark_serials (world_of A.sources P.slots self.now) }
+    {
+        &self.marks
     }
 
     /// Forgets what changed before the oldest mark, or before now where there is none. The marks stay.

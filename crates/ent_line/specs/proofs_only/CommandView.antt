@@ -1,17 +1,19 @@
 -- What the commands of the code ask for, by the data that their JSON values have.
-use Rattle.std.specs.Prelude.{ℕ, map, option_copied, Result, Ok, Err}
+use Rattle.std.specs.Prelude.{ℕ, map, option_copied, option_map, Result, Ok, Err}
 use Rattle.serde_json.specs.Data.{Data}
 use Rattle.serde_json.specs.View.{items_of}
 use Rattle.ent_line.specs.Asked as asked
 use Rattle.ent_line.specs.Keys as keys
+use Rattle.ent_line.specs.Wanted as wanted
 use Rattle.ent_line.specs.declared.command.Change.{Change}
 use Rattle.ent_line.specs.declared.command.Change.TheVariants.{AddName, DropName, AddPolicy, ReplacePolicy, WithdrawPolicy, SetAttribute, SetRoot, SetDay, SetMoment}
 use Rattle.ent_line.specs.declared.command.Command as command
 use Rattle.ent_line.specs.declared.command.Command.TheVariants as commands
 use Rattle.ent_line.specs.declared.command.Question.{Question}
-use Rattle.ent_line.specs.declared.command.Question.TheVariants.{Table, Cell, Ask, Counts, Can, Who, ByRule, Notices, Work, Format, Dump}
+use Rattle.ent_line.specs.declared.command.Question.TheVariants.{Table, Cell, Ask, Counts, Can, Who, ByRule, Notices, Work, Format, Dump, State, Cells, Attributes, Documents}
 use Rattle.ent_line.specs.declared.keys.AskedRow.{AskedRow}
 use Rattle.ent_line.specs.declared.refusal.Refusal.{Refusal}
+use Rattle.ent_line.specs.declared.wanted.Wanted.{Wanted}
 use Rattle.ent_table.specs.Names.{triple_of}
 
 -- a row without where its parts lie in memory
@@ -37,6 +39,15 @@ change_view content (SetRoot reference) = asked.set_root (content reference.now)
 change_view content (SetDay day) = asked.set_day (option_copied day)
 change_view content (SetMoment moment) = asked.set_moment (option_copied moment)
 
+-- which cells are asked for, without where its parts lie in memory
+abbrev pub wanted_view : {J : Type 0} → (J → Data) → Wanted J → wanted.Wanted
+wanted_view content w = record {
+  person = option_copied w.person;
+  action = option_copied w.action;
+  resource = option_copied w.resource;
+  decisions = option_map (λ ds. items_of (map content ds.now)) w.decisions;
+}
+
 -- a question without where its parts lie in memory
 abbrev pub question_view : {J : Type 0} → (J → Data) → Question J → asked.Question
 question_view content Table = asked.table
@@ -50,6 +61,10 @@ question_view content Notices = asked.notices
 question_view content Work = asked.work
 question_view content (Format version) = asked.format version
 question_view content (Dump version) = asked.dump version
+question_view content State = asked.state
+question_view content (Cells wanted) = asked.cells (wanted_view content wanted)
+question_view content (Attributes category entity) = asked.attributes (option_copied category) entity.now
+question_view content (Documents id) = asked.documents (option_copied id)
 
 -- the same of a command
 abbrev pub command_view : {J : Type 0} → (J → Data) → command.Command J → asked.Command

@@ -1,6 +1,6 @@
-use Rattle.std.proofs.Common.{◌≡◌, ◌≤◌, arith, sym, ap, subst, ◌∙◌}
+use Rattle.std.proofs.Common.{◌≤◌, arith, sym, ap, subst, ◌∙◌}
 use Rattle.ent_table.specs.Review.{state_of}
-use Rattle.ent_table.specs.Tables.{table_at_serial}
+use Rattle.ent_report.specs.Serials.{mark_at}
 use Rattle.ent_report.specs.Desk.{AreCountsOf, AreMarks}
 use Rattle.ent_report.proofs.Marks.{marks_later, same_tables}
 use Rattle.ent_report.proofs.Serials.{serial_rises}
@@ -28,9 +28,10 @@ returns-in_err-accepted-clause-ready g c =
 pub returns-in_err-accepted-clause-marks : goal.returns-in_err-accepted-clause-marks
 returns-in_err-accepted-clause-marks g c =
     let d = c.args.self.now in
-    let table = table_at_serial g.A.Attributes.sources g.P.Policies.slots in
+    let mark = mark_at g.A.Attributes.sources g.P.Policies.slots in
     let old = d.review.log in
-    same_tables (table c.edit.new.self) (table d.review) old.from old.serial d.marks c.requires.kept (λ n from le. c.edit.ensures.tables.each n le)
+    same_tables (mark c.edit.new.self) (mark d.review) old.from old.serial d.marks c.requires.kept
+    (λ n from le i. record { serial = n; table = c.edit.ensures.tables.each n le i })
 
 pub forget-requires : goal.forget-requires
 forget-requires g c =
@@ -51,10 +52,11 @@ forget-requires g c =
 pub returns-clause-marks : goal.returns-clause-marks
 returns-clause-marks g c =
     let d = c.args.self.now in
-    let table = table_at_serial g.A.Attributes.sources g.P.Policies.slots in
+    let mark = mark_at g.A.Attributes.sources g.P.Policies.slots in
     let old = d.review.log in
     ap (λ w. w.marks) c.forget.ensures.world
-    ∙ same_tables (table c.edit.new.self) (table d.review) old.from old.serial d.marks c.requires.kept (λ n from le. c.edit.ensures.tables.each n le)
+    ∙ same_tables (mark c.edit.new.self) (mark d.review) old.from old.serial d.marks c.requires.kept
+    (λ n from le i. record { serial = n; table = c.edit.ensures.tables.each n le i })
 
 -- forgetting leaves the tables from the oldest mark on, and the edit all of them
 pub returns-clause-remembered : goal.returns-clause-remembered

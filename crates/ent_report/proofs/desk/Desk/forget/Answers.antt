@@ -1,6 +1,6 @@
 use Rattle.std.proofs.Common.{◌≡◌, map, arith, sym, ap, subst, ◌∙◌}
 use Rattle.std.specs.Prelude.{option_map}
-use Rattle.ent_table.specs.Tables.{table_at_serial}
+use Rattle.ent_report.specs.Serials.{mark_at}
 use Rattle.ent_report.specs.Desk.{AreCountsOf, AreMarks, oldest}
 use Rattle.ent_report.proofs.Marks.{forgotten_before, known_from_oldest, oldest_reached, same_tables}
 use Rattle.ent_report.proofs.desk.Desk.forget.Goals as goal
@@ -30,12 +30,13 @@ returns-clause-world g c =
     let d = c.args.self.now in
     let old = d.review.log in
     let new = c.forget_before.new.self.log in
-    let table = table_at_serial g.A.Attributes.sources g.P.Policies.slots in
+    let mark = mark_at g.A.Attributes.sources g.P.Policies.slots in
     let from : new.from ≡ oldest d.marks old.serial = forgotten_before old.from old.serial c.serial.result c.oldest-oldest.result new.from d.marks
     c.requires.kept old.within c.serial.ensures c.oldest-oldest.ensures c.forget_before.ensures.from in
     let kept : AreMarks new.from old.serial d.marks = known_from_oldest old.from old.serial new.from d.marks c.requires.kept (omega (arith, from)) in
-    let marks : map (option_map (table c.forget_before.new.self)) d.marks ≡ map (option_map (table d.review)) d.marks =
-    same_tables (table c.forget_before.new.self) (table d.review) new.from old.serial d.marks kept c.forget_before.ensures.tables in
+    let marks : map (option_map (mark c.forget_before.new.self)) d.marks ≡ map (option_map (mark d.review)) d.marks =
+    same_tables (mark c.forget_before.new.self) (mark d.review) new.from old.serial d.marks kept
+    (λ n from le i. record { serial = n; table = c.forget_before.ensures.tables n from le i }) in
     λ i. record { state = c.forget_before.ensures.state i; marks = marks i }
 
 pub returns-clause-forgotten : goal.returns-clause-forgotten

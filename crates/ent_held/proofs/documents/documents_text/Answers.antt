@@ -1,0 +1,13 @@
+use Rattle.std.proofs.Common.{◌∙◌}
+use Rattle.std.specs.Option.{option_copied}
+use Rattle.ent_eval.specs.LooksOf.{held_by}
+use Rattle.ent_held.specs.Documents.{documents_text}
+use Rattle.ent_held.specs.proofs_only.Walk.{documents_data}
+use Rattle.ent_held.proofs.Told.{text_written}
+use Rattle.ent_held.proofs.documents.documents_text.Goals as goal
+
+pub returns : goal.returns
+unfolding documents_text
+returns g c =
+    let held = held_by g.A.Attributes.sources g.P.Policies.slots c.args.pdp.now in
+    c.into_string.ensures ∙ text_written (documents_data held (option_copied c.args.id)) _ _ c.in_ok-out.ensures c.in_ok-write_documents.ensures

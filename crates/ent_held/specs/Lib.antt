@@ -1,0 +1,3 @@
+pub mod Attributes
+pub mod Documents
+pub mod proofs_only

@@ -1,0 +1,10 @@
+use Rattle.std.proofs.Common.{[], ◌∷◌, codes, decimal}
+use Rattle.json.specs.Token as token
+use Rattle.ent_line.proofs.TextLemmas.{ends}
+use Rattle.ent_line.proofs.standing.write_mark.Goals as goal
+
+pub returns : goal.returns
+returns c =
+    ends _ _ _ _ (token.begin_object ∷ []) _ c.in_ok-begin_object.ensures.ok
+    (ends _ _ _ _ (token.key (codes "serial") ∷ token.number (decimal c.args.serial) ∷ []) _ c.in_ok-write_count.ensures
+    (ends _ _ _ _ (token.key (codes "session") ∷ token.number (decimal c.args.session) ∷ []) _ c.in_ok-write_count-2.ensures c.end_object.ensures.ok))

@@ -1,0 +1,267 @@
+//! What stands, in numbers: the reply to `state`.
+
+ghost use Rattle.std.specs.Prelude.{◌≡◌, ◌<◌, ◌++◌, [], ◌∷◌, IfOk, OnOk, codes, decimal, filter, length, map};
+ghost use Rattle.std.specs.Prelude.{string_bytes};
+ghost use Rattle.std.specs.FinMap.{len};
+ghost use Rattle.json.specs.Token as token;
+ghost use Rattle.serde_json.specs.Data as json;
+ghost use Rattle.ent_finder.specs.RowEntry.{row_entry};
+ghost use Rattle.ent_finder.specs.Rows.{filled_source, is_filled, source_at};
+ghost use Rattle.ent_finder.specs.Slots.{document_count, held};
+ghost use Rattle.ent_json.specs.Members.{only_member};
+ghost use Rattle.ent_json.specs.Text.{tokens_of};
+ghost use Rattle.ent_json.specs.proofs_only.Text.{items_tokens_of};
+ghost use Rattle.ent_dump.specs.Edits.{written_root};
+ghost use Rattle.ent_report.specs.Desk as desks;
+ghost use Rattle.ent_line.specs.Commands.{state_told};
+ghost use Rattle.ent_line.specs.Cells.{reply_data};
+ghost use Rattle.ent_line.specs.Standing.{environment_data, mark_data, state_data, state_text};
+ghost use Rattle.ent_line.specs.proofs_only.Standing.{marked_from, row_count};
+ghost use Rattle.ent_line.specs.World.{IsReady};
+ghost use Rattle.ent_line.specs.proofs_only.Replying.{Tells};
+
+use crate::cell::write_text;
+use crate::reply::Reply;
+use crate::reports::write_count;
+use crate::service::Service;
+use ent_eval::Environment;
+use ent_finder::{Attributes, Policies, Row};
+use ent_json::JsonText;
+use ent_polform::write_reference_text;
+use ent_policy::Reference;
+use ent_report::Desk;
+use ent_table::List;
+use ent_values::Value;
+use std::alloc::{AllocError, Global};
+
+/// How many documents are held. There is no memory for more than the type can count.
+fn document_count<P: Policies>(policies: &P) -> Result<u64, AllocError>
+    ensures { IfOk result (λ n. n ≡ document_count (map held (P.slots policies.now))) }
+{
+    let count = policies.document_count();
+    if count > u64::MAX as u128 {
+        return Err(AllocError);
+    }
+    Ok(count as u64)
+}
+
+/// One for a row that has a value, none for an empty one.
+fn filled(row: &Row) -> usize
+    ensures { result ≡ length (filter (λ e. is_filled e.1) (row_entry row.now ∷ [])) }
+{
+    if row.values.as_slice().is_empty() {
+        0
+    } else {
+        1
+    }
+}
+
+/// How many rows of the module of that number have a value.
+fn rows_in<A: Attributes>(attributes: &A, number: usize) -> usize
+    requires { number < length (A.sources attributes.now) }
+    ensures { result ≡ len (filled_source (source_at (A.sources attributes.now) number)).rows }
+{
+    // Each row has an index.
+    let _ = attributes.row_at(number, 0);
+    let mut count = 0;
+    for index in 0..usize::MAX {
+        let Some(row) = attributes.row_at(number, index) else {
+            return count;
+        };
+        count += filled(row);
+    }
+    count
+}
+
+/// How many rows have a value, in all modules. There is no memory for more than the type can count.
+fn row_count<A: Attributes>(attributes: &A) -> Result<u64, AllocError>
+    ensures { IfOk result (λ n. n ≡ row_count (map filled_source (A.sources attributes.now))) }
+{
+    let mut count: u64 = 0;
+    for number in 0..attributes.len() {
+        let rows = rows_in(attributes, number) as u64;
+        if rows > u64::MAX - count {
+            return Err(AllocError);
+        }
+        count += rows;
+    }
+    Ok(count)
+}
+
+/// Writes an object with one text.
+fn write_only(out: &mut JsonText, key: &str, text: &str) -> Result<(), AllocError>
+    ensures { OnOk result (out.new ≡ out.old ++ tokens_of (only_member key.now (json.string text.now))) }
+{
+    out.begin_object()?;
+    write_text(out, key, text)?;
+    out.end_object()
+}
+
+/// Writes what is known of the time, as a dump has it.
+#[tactic(auto, unfolding(ent_values::specs::Writing::text_of))]
+fn write_environment(
+    alloc: Global,
+    out: &mut JsonText,
+    environment: Environment,
+) -> Result<(), AllocError>
+    ensures { OnOk result (out.new ≡ out.old ++ tokens_of (environment_data environment)) }
+{
+    match environment {
+        Environment::Empty => out.null(),
+        Environment::Day(day) => {
+            let text = Value::Date(day).text(alloc)?;
+            write_only(out, "day", text.as_str())
+        }
+        Environment::Moment(moment) => {
+            let text = Value::DateTime(moment).text(alloc)?;
+            write_only(out, "moment", text.as_str())
+        }
+    }
+}
+
+/// Writes the root, null for none.
+fn write_root(alloc: Global, out: &mut JsonText, root: &Option<Reference>) -> Result<(), AllocError>
+    ensures { OnOk result (out.new ≡ out.old ++ tokens_of (written_root root.now)) }
+{
+    match root {
+        None => out.null(),
+        Some(root) => write_reference_text(alloc, out, root),
+    }
+}
+
+/// Writes the mark of a session.
+fn write_mark(out: &mut JsonText, session: u64, serial: u64) -> Result<(), AllocError>
+    ensures { OnOk result (out.new ≡ out.old ++ tokens_of (mark_data (session, serial))) }
+{
+    out.begin_object()?;
+    write_count(out, "serial", serial)?;
+    write_count(out, "session", session)?;
+    out.end_object()
+}
+
+/// Writes the marks of the sessions that have one, to the end of their list.
+fn write_marks(out: &mut JsonText, serials: &[Option<u64>]) -> Result<(), AllocError>
+    ensures { OnOk result (out.new ≡ out.old ++ items_tokens_of (map mark_data (marked_from 0 serials.now))) }
+{
+    for (session, serial) in serials.iter().enumerate() {
+        if let Some(serial) = serial {
+            write_mark(out, session as u64, *serial)?;
+        }
+    }
+    out.end_array()
+}
+
+/// Begins with how many actions, cells and documents there are.
+fn write_front(
+    out: &mut JsonText,
+    actions: usize,
+    cells: usize,
+    documents: u64,
+) -> Result<(), AllocError>
+    ensures { OnOk result (out.new ≡ out.old ++ token.begin_object
+        ∷ token.key (codes "actions") ∷ token.number (decimal actions)
+        ∷ token.key (codes "cells") ∷ token.number (decimal cells)
+        ∷ token.key (codes "documents") ∷ token.number (decimal documents) ∷ []) }
+{
+    out.begin_object()?;
+    write_count(out, "actions", actions as u64)?;
+    write_count(out, "cells", cells as u64)?;
+    write_count(out, "documents", documents)
+}
+
+/// Goes on with how many people and resources there are, and the root.
+fn write_listed(
+    alloc: Global,
+    out: &mut JsonText,
+    people: usize,
+    resources: usize,
+    root: &Option<Reference>,
+) -> Result<(), AllocError>
+    ensures { OnOk result (out.new ≡ out.old
+        ++ token.key (codes "people") ∷ token.number (decimal people)
+        ∷ token.key (codes "resources") ∷ token.number (decimal resources)
+        ∷ token.key (codes "root") ∷ tokens_of (written_root root.now)) }
+{
+    write_count(out, "people", people as u64)?;
+    write_count(out, "resources", resources as u64)?;
+    out.key("root")?;
+    write_root(alloc, out, root)
+}
+
+/// Ends with how many rows there are and how many edits were accepted.
+fn write_end(out: &mut JsonText, rows: u64, serial: u64) -> Result<(), AllocError>
+    ensures { OnOk result (out.new ≡ out.old
+        ++ token.key (codes "rows") ∷ token.number (decimal rows)
+        ∷ token.key (codes "serial") ∷ token.number (decimal serial) ∷ token.end_object ∷ []) }
+{
+    write_count(out, "rows", rows)?;
+    write_count(out, "serial", serial)?;
+    out.end_object()
+}
+
+/// Writes what stands, in numbers.
+fn write_state<A: Attributes, P: Policies>(
+    alloc: Global,
+    out: &mut JsonText,
+    desk: &Desk<A, P>,
+) -> Result<(), AllocError>
+    requires { desks.IsReady A.sources P.slots desk.now }
+    ensures { OnOk result (out.new ≡ out.old ++ tokens_of (state_data (desks.world_of A.sources P.slots desk.now))) }
+{
+    let review = desk.review();
+    let pdp = review.pdp();
+    let documents = document_count(pdp.policies())?;
+    let rows = row_count(pdp.attributes())?;
+    let actions = review.names(List::Actions).len();
+    let people = review.names(List::People).len();
+    let resources = review.names(List::Resources).len();
+    write_front(out, actions, review.cell_count(), documents)?;
+    out.key("environment")?;
+    write_environment(alloc, out, pdp.environment())?;
+    out.key("marks")?;
+    out.begin_array()?;
+    write_marks(out, desk.marks())?;
+    write_listed(alloc, out, people, resources, pdp.root())?;
+    write_end(out, rows, review.serial())
+}
+
+/// Writes the reply to `state`.
+fn write_state_reply<A: Attributes, P: Policies>(
+    alloc: Global,
+    out: &mut JsonText,
+    desk: &Desk<A, P>,
+) -> Result<(), AllocError>
+    requires { desks.IsReady A.sources P.slots desk.now }
+    ensures { OnOk result (out.new
+        ≡ out.old ++ tokens_of (reply_data (codes "state") (state_data (desks.world_of A.sources P.slots desk.now)))) }
+{
+    out.begin_object()?;
+    out.key("state")?;
+    write_state(alloc, out, desk)?;
+    out.end_object()
+}
+
+/// The text of the reply to `state`.
+fn state_text<A: Attributes, P: Policies>(
+    alloc: Global,
+    desk: &Desk<A, P>,
+) -> Result<String, AllocError>
+    requires { desks.IsReady A.sources P.slots desk.now }
+    ensures { IfOk result (λ s. string_bytes s ≡ state_text (desks.world_of A.sources P.slots desk.now)) }
+{
+    let mut out = JsonText::with_room(alloc)?;
+    write_state_reply(alloc, &mut out, desk)?;
+    Ok(out.into_string())
+}
+
+impl<A: Attributes, P: Policies> Service<A, P> {
+    /// `state`.
+    #[tactic(auto, unfolding(crate::specs::Commands::state_told))]
+    pub(crate) fn state(&self) -> Result<Reply, AllocError>
+        requires { IsReady A.sources P.slots self.now }
+        ensures { Tells A.sources P.slots state_told self.now result }
+    {
+        let text = state_text(self.alloc, &self.desk)?;
+        Ok(Reply::Text(text))
+    }
+}

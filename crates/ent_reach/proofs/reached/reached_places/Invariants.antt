@@ -1,0 +1,8 @@
+use Rattle.std.proofs.Common.{◌≡◌, map}
+use Rattle.ent_finder.specs.Slots.{held}
+use Rattle.ent_reach.specs.Reached.{has_place, places_within}
+use Rattle.ent_reach.specs.declared.place.Place.{Place}
+use Rattle.ent_reach.proofs.reached.reached_places.Given as goal
+
+abbrev pub invariant-loop : goal.invariant-loop
+invariant-loop g l = (place : Place) → has_place place l.places.keys ≡ has_place place (places_within l.counter (map held (g.P.Policies.slots l.policies)) l.root)

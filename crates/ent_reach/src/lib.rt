@@ -1,0 +1,9 @@
+//! To which documents the root leads.
+#![tactic(auto)]
+
+mod place;
+mod reached;
+mod walk;
+
+pub use place::Place;
+pub use reached::{Reached, reached_places};
