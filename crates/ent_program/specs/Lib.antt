@@ -1,4 +1,5 @@
 pub mod Checking
+pub mod Comparing
 pub mod Declaring
 pub mod Options
 pub mod Sentences

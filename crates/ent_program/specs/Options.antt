@@ -4,6 +4,7 @@ use Rattle.std.specs.Str.Parse.{IsNumeral, digits_value, without_leading_plus}
 use Rattle.clap.specs.Walk.{Row, all_of, first_of, one_of}
 use Rattle.ent_program.specs.Sources.{path_named, path_of}
 use Rattle.ent_program.specs.Starting.{IsFew}
+use Rattle.ent_program.specs.declared.asked_tests.AskedTests.{AskedTests}
 use Rattle.ent_program.specs.declared.options.Task.{Task}
 use Rattle.ent_program.specs.declared.options.Task.TheVariants.{Serve, Check, Lines, Test}
 use Rattle.ent_program.specs.declared.options.Modules.{Modules}
@@ -22,13 +23,19 @@ pub record AreModules (options : List Row) (modules : Modules) : Type 0 where
   pub attributes : IsWritten (one_of (codes "attribute-modules") options) modules.attributes
   pub policies : IsWritten (one_of (codes "policy-modules") options) modules.policies
 
+-- the tests of the files that are named, behind the lines of a file if the option for it is given, and those of a name if one is given
+pub record AreAsked (options : List Row) (tests : AskedTests) : Type 0 where
+  pub files : (texts : List (List ℕ)) → all_of (codes "FILE") options ≡ Some texts → map (λ w. w.now) tests.files.now ≡ texts
+  pub state : option_map path_of tests.state ≡ option_map path_named (first_of (codes "state") options)
+  pub only : option_map (λ n. n.now) tests.only ≡ first_of (codes "run") options
+
 -- what is asked for, by the subcommand that was found, with its options and arguments
 pub record IsTaskOf (found : Option (List ℕ × List Row)) (task : Option Task) : Type 0 where
   pub serve : (options : List Row) → found ≡ Some (codes "serve", options) → (modules : Modules) × (task ≡ Some (Serve modules)) × AreModules options modules
   pub check : (options : List Row) → found ≡ Some (codes "check", options) → (source attributes : _) × (task ≡ Some (Check source attributes)) × (path_of source ≡ path_named (unwrap_or (first_of (codes "FILE") options) []))
       × (option_map path_of attributes ≡ option_map path_named (first_of (codes "attributes") options))
   pub lines : (options : List Row) → found ≡ Some (codes "lines", options) → task ≡ Some Lines
-  pub test : (options : List Row) → found ≡ Some (codes "test", options) → (texts : List (List ℕ)) → all_of (codes "FILE") options ≡ Some texts → (words : _) × (task ≡ Some (Test words)) × (map (λ w. w.now) words.now ≡ texts)
+  pub test : (options : List Row) → found ≡ Some (codes "test", options) → (texts : List (List ℕ)) → all_of (codes "FILE") options ≡ Some texts → (tests : _) × (task ≡ Some (Test tests)) × AreAsked options tests
 
 -- a task that is served is served by from 1 to 4 modules of each sort
 abbrev pub HasFew : Option Task → Type 0

@@ -1,5 +1,5 @@
 -- The exit statuses of the program.
-use Rattle.std.specs.Prelude.{ℕ, ◌==◌, Bool, true, false, Result, Ok, Err, ⊤, if◌then◌else◌}
+use Rattle.std.specs.Prelude.{ℕ, ◌==◌, ◌&&◌, nat_lt, Bool, true, false, Result, Ok, Err, ⊤, if◌then◌else◌}
 use Rattle.clap.specs.declared.error.kind.ErrorKind.{ErrorKind}
 use Rattle.clap.specs.declared.error.kind.ErrorKind.TheVariants.{DisplayHelp, DisplayVersion, OutOfMemory}
 use Rattle.ent_dump.specs.declared.fault.LinesFault.{LinesFault}
@@ -39,9 +39,9 @@ abbrev pub lines_status : Result ⊤ LinesFault → ℕ
 lines_status (Ok done) = 0
 lines_status (Err e) = lines_fault_status e
 
--- tests that all passed give 0, any that failed 1, and a fault its own status
+-- tests that all passed give 0, any that failed 1, none 1 too, and a fault its own status
 abbrev pub test_status : Result Tally ServeFault → ℕ
-test_status (Ok tally) = if tally.failed == 0 then 0 else 1
+test_status (Ok tally) = if tally.failed == 0 && nat_lt 0 tally.passed then 0 else 1
 test_status (Err e) = fault_status e
 
 -- a word of the command line that isn't UTF-8 gives 1, want of memory 3

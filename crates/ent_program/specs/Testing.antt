@@ -1,9 +1,12 @@
 -- Tests of policies: sessions, and whether a service replies to them as they expect.
-use Rattle.std.specs.Prelude.{◌≡◌, ◌≢◌, ℕ, ◌+◌, ◌==◌, ◌&&◌, Bool, true, false, not, nat_le, List, [], ◌∷◌, ◌++◌, map, Option, Some, None, IfSome, Result, Ok, Err, ⊤, bytes_eq, codes, decimal, if◌then◌else◌}
+use Rattle.std.specs.Prelude.{◌≡◌, ◌≢◌, ℕ, ◌+◌, ◌&&◌, ◌||◌, Bool, true, false, not, nat_le, List, [], ◌∷◌, ◌++◌, map, Option, Some, None, IfSome, Result, Ok, Err, ⊤, bytes_eq, codes, decimal, if◌then◌else◌}
+use Rattle.std.specs.Borrow.{Bor}
 use Rattle.std.specs.Io.KnownBytes.{Appends}
-use Rattle.std.specs.List.{All, after_first, before_first, count_by, flat_map}
-use Rattle.ent_sessions.specs.Cut.{begins}
+use Rattle.std.specs.List.{All, count_by, filter, flat_map, list_any}
+use Rattle.std.specs.Option.{is_some}
 use Rattle.ent_sessions.specs.Sessions.{sessions_of}
+use Rattle.ent_sessions.specs.declared.fault.Mistake.{Mistake}
+use Rattle.ent_sessions.specs.declared.fault.Mistake.TheVariants as mistake
 use Rattle.ent_sessions.specs.declared.fault.SessionFault.{SessionFault}
 use Rattle.ent_sessions.specs.declared.fault.SessionFault.TheVariants as unread
 use Rattle.ent_sessions.specs.declared.session.Session.{Session}
@@ -13,7 +16,9 @@ use Rattle.ent_line.specs.Lines.{ended}
 use Rattle.ent_line.specs.Work.{Counted}
 use Rattle.ent_line.specs.declared.fault.ServeFault.{ServeFault}
 use Rattle.ent_line.specs.declared.fault.ServeFault.TheVariants as fault
+use Rattle.ent_program.specs.Comparing.{are_sure, behind, differences, pass, told_at}
 use Rattle.ent_program.specs.Starting.{start_of}
+use Rattle.ent_program.specs.declared.testing.Plan.{Plan}
 use Rattle.ent_program.specs.declared.testing.Tally.{Tally}
 
 -- what is sent in these steps: the line of each, with a newline
@@ -24,111 +29,133 @@ asked steps = flat_map (λ step. ended step.line) steps
 abbrev pub few : ℕ → ℕ
 few count = if nat_le 1 count && nat_le count 4 then count else 2
 
--- these bytes are what a new service, of as many modules as the session says, replies to its lines
-unfoldable pub AreRepliesTo : Session → List ℕ → Type 0
-AreRepliesTo session replies = (end : Counted) × (left : Option (List ℕ)) × (number : ℕ) × Headline (record {
-  start = record { world = start_of (few session.modules) (few session.modules); count = 0 };
+-- these bytes are what a new service of that number of modules of each sort replies to the lines that are sent
+unfoldable pub AreRepliesTo : ℕ → List ℕ → List ℕ → Type 0
+AreRepliesTo modules sent replies = (end : Counted) × (left : Option (List ℕ)) × (number : ℕ) × Headline (record {
+  start = record { world = start_of (few modules) (few modules); count = 0 };
   end = end;
-  unread = Some (asked session.steps);
+  unread = Some sent;
   left = left;
   wrote = Some [];
   holds = Some replies;
 }) (Ok number)
 
--- what a refusal begins with
-abbrev pub refusal : List ℕ
-refusal = codes "{\"refused\":"
+-- steps say of a reply what it is to be
+abbrev pub has_expected : List Step → Bool
+has_expected steps = list_any (λ step. is_some step.expected) steps
 
--- a reply is the one that is expected; where none is expected, it isn't a refusal
-abbrev pub meets : Option (List ℕ) → List ℕ → Bool
-meets (Some expected) reply = bytes_eq reply expected
-meets None reply = not (begins refusal reply)
-
--- a byte is a newline
-abbrev pub is_newline : ℕ → Bool
-is_newline byte = byte == 10
-
--- each of the replies, which are lines, is as its step expects
+-- a session passes with these replies: one is expected, and each is as it is to be
 abbrev pub passes : List Step → List ℕ → Bool
-passes [] replies = true
-passes (step ∷ steps) replies = meets step.expected (before_first is_newline replies) && passes steps (after_first is_newline replies)
+passes steps replies = has_expected steps && pass steps replies
 
--- what a step is told to expect
-abbrev pub wanted : Option (List ℕ) → List ℕ
-wanted (Some expected) = expected
-wanted None = codes "no refusal"
+-- what is sent to the service of a session: the lines of a state, and then its own
+abbrev pub sent_to : List Step → Session → List ℕ
+sent_to state session = asked (state ++ session.steps)
 
--- a line on the line of a file: the file's name, the number, a word and what is said
-abbrev pub told_at : List ℕ → ℕ → List ℕ → List ℕ → List ℕ
-told_at name number word said = name ++ (codes ":" ++ (decimal number ++ (word ++ (said ++ codes "\n"))))
-
--- what is told of a reply that isn't as a step expects: what was expected, and what was replied
-abbrev pub difference : List ℕ → Step → List ℕ → List ℕ
-difference name step reply =
-    told_at name step.number (codes ": expected ") (wanted step.expected) ++ told_at name step.number (codes ": replied ") reply
-
--- what is told of a reply: nothing where it is as the step expects
-abbrev pub told_of_one : List ℕ → Step → List ℕ → List ℕ
-told_of_one name step reply = if meets step.expected reply then [] else difference name step reply
-
--- what is told of the replies, one after the other
-abbrev pub differences : List ℕ → List Step → List ℕ → List ℕ
-differences name [] replies = []
-differences name (step ∷ steps) replies = told_of_one name step (before_first is_newline replies) ++ differences name steps (after_first is_newline replies)
-
--- a session that was run, with the replies to it
+-- a session that was run, with the replies to the lines of the state and to its own
 abbrev pub Ran : Type 0
 Ran = Session × List ℕ
 
--- it passed
-abbrev pub passed : Ran → Bool
-passed run = passes run.0.steps run.1
+-- the lines of the state were accepted
+abbrev pub accepted : Plan → Ran → Bool
+accepted plan run = pass plan.state.now run.1
+
+-- the replies to its own lines
+abbrev pub own_replies : Plan → Ran → List ℕ
+own_replies plan run = behind plan.state.now run.1
+
+-- it passed: the lines of the state were accepted, and it passes with the replies to its own
+abbrev pub passed : Plan → Ran → Bool
+passed plan run = accepted plan run && passes run.0.steps (own_replies plan run)
+
+-- it isn't for want of memory that it didn't
+abbrev pub sure : Plan → Ran → Bool
+sure plan run = are_sure plan.state.now run.1 && (not (accepted plan run) || are_sure run.0.steps (own_replies plan run))
 
 -- how many of these passed, and how many failed
-abbrev pub tally_of : List Ran → Tally
-tally_of runs = record { passed = count_by passed runs; failed = count_by (λ run. not (passed run)) runs }
+abbrev pub tally_of : Plan → List Ran → Tally
+tally_of plan runs = record { passed = count_by (passed plan) runs; failed = count_by (λ run. not (passed plan run)) runs }
 
 -- a tally and one more test, which passed or failed
 abbrev pub with_one : Tally → Bool → Tally
 with_one tally true = record { passed = tally.passed + 1; failed = tally.failed }
 with_one tally false = record { passed = tally.passed; failed = tally.failed + 1 }
 
--- what is told of a run
-abbrev pub told_of : List ℕ → Ran → List ℕ
-told_of name run = differences name run.0.steps run.1
+-- what is told where no reply is expected
+abbrev pub unexpecting : List ℕ → Session → List ℕ
+unexpecting name session = if has_expected session.steps then [] else told_at name session.number (codes ": ") (codes "no reply is expected")
 
--- these sessions were run one after the other, each over a new service; so many passed, and this is told of their replies
-abbrev pub AreTested : List ℕ → List Session → Tally → List ℕ → Type 0
-AreTested name sessions tally told = (runs : List Ran) × (map (λ run. run.0) runs ≡ sessions) × All (λ run. AreRepliesTo run.0 run.1) runs
-    × (tally ≡ tally_of runs) × (told ≡ flat_map (told_of name) runs)
+-- what is told of the replies to a session's own lines
+abbrev pub told_of_test : List ℕ → Session → List ℕ → List ℕ
+told_of_test name session replies = unexpecting name session ++ differences name session.steps replies
 
--- what a test of sessions writes and gives; it reads nothing, so no reader fails
-abbrev pub TestsEach : List ℕ → List Session → Option (List ℕ) → Option (List ℕ) → Result Tally ServeFault → Type 0
-TestsEach name sessions before after (Ok tally) = (told : List ℕ) × AreTested name sessions tally told × Appends before after told
-TestsEach name sessions before after (Err e) = e ≢ fault.Read
+-- what is told of replies: of those to the state if they aren't all accepted, else of the session's own
+abbrev pub told_of_replies : List ℕ → Plan → Ran → List ℕ
+told_of_replies name plan run = differences plan.state_name.now plan.state.now run.1 ++ (if accepted plan run then told_of_test name run.0 (own_replies plan run) else [])
+
+-- what is told of a run: of the replies, and what the session is called if it didn't pass
+abbrev pub told_of : List ℕ → Plan → Ran → List ℕ
+told_of name plan run = told_of_replies name plan run ++ (if passed plan run then [] else told_at name run.0.number (codes ": failed ") run.0.name)
+
+-- a session runs: all do, or those of a name
+abbrev pub is_chosen : Option (Bor (List ℕ)) → Session → Bool
+is_chosen None session = true
+is_chosen (Some name) session = bytes_eq session.name name.now
+
+-- the sessions that run
+abbrev pub chosen : Plan → List Session → List Session
+chosen plan sessions = filter (is_chosen plan.only) sessions
+
+-- these sessions were run one after the other, each over a new service and behind the lines of the state; so many passed, of none that didn't
+-- memory was wanting, and this is told of their replies
+abbrev pub AreTested : Plan → List ℕ → List Session → Tally → List ℕ → Type 0
+AreTested plan name sessions tally told = (runs : List Ran) × (map (λ run. run.0) runs ≡ sessions)
+    × All (λ run. AreRepliesTo run.0.modules (sent_to plan.state.now run.0) run.1 × (sure plan run ≡ true)) runs
+    × (tally ≡ tally_of plan runs) × (told ≡ flat_map (told_of name plan) runs)
+
+-- what a test of those of the sessions that are chosen writes and gives; it reads nothing, so no reader fails
+abbrev pub TestsEach : Plan → List ℕ → List Session → Option (List ℕ) → Option (List ℕ) → Result Tally ServeFault → Type 0
+TestsEach plan name sessions before after (Ok tally) = (told : List ℕ) × AreTested plan name (chosen plan sessions) tally told × Appends before after told
+TestsEach plan name sessions before after (Err e) = e ≢ fault.Read
+
+-- why a line can't stand where it stands
+abbrev pub mistake_text : Mistake → List ℕ
+mistake_text mistake.NoHeading = codes "a test begins with # NAME"
+mistake_text mistake.NoLine = codes "a reply stands right below the line that is sent"
+mistake_text mistake.Repeated = codes "what comes many times ends with an empty line"
+mistake_text mistake.Modules = codes "a test has from 1 to 4 modules of each sort"
+mistake_text mistake.NoMark = codes "a line begins with # > < = ~ * and a space, or with --"
 
 -- the line on a file of which the line of this number can't stand where it stands
-abbrev pub misplaced_line : List ℕ → ℕ → List ℕ
-misplaced_line name number = told_at name number (codes ": ") (codes "this line can't stand here")
+abbrev pub misplaced_line : List ℕ → ℕ → Mistake → List ℕ
+misplaced_line name number why = told_at name number (codes ": this line can't stand here: ") (mistake_text why)
+
+-- a test that failed, with a line on it
+abbrev pub Fails : Option (List ℕ) → Option (List ℕ) → Tally → List ℕ → Type 0
+Fails before after tally line = (tally ≡ record { passed = 0; failed = 1 }) × Appends before after line
+
+-- what a test of sessions writes and gives: of none, that there are none, which is a test that failed
+abbrev pub TestsAll : Plan → List ℕ → List Session → Option (List ℕ) → Option (List ℕ) → Tally → Type 0
+TestsAll plan name [] before after tally = Fails before after tally (told_at name 1 (codes ": ") (codes "no test begins here"))
+TestsAll plan name (session ∷ sessions) before after tally = TestsEach plan name (session ∷ sessions) before after (Ok tally)
 
 -- what a test of what a file spells writes and gives: its sessions are tested, and a file that spells none counts as a test that failed
-abbrev pub TestsSpelled : List ℕ → Result (List Session) SessionFault → Option (List ℕ) → Option (List ℕ) → Tally → Type 0
-TestsSpelled name (Ok sessions) before after tally = TestsEach name sessions before after (Ok tally)
-TestsSpelled name (Err (unread.Form number)) before after tally =
-    (tally ≡ record { passed = 0; failed = 1 }) × Appends before after (misplaced_line name number)
-TestsSpelled name (Err unread.Memory) before after tally = ⊥
+abbrev pub TestsSpelled : Plan → List ℕ → Result (List Session) SessionFault → Option (List ℕ) → Option (List ℕ) → Tally → Type 0
+TestsSpelled plan name (Ok sessions) before after tally = TestsAll plan name sessions before after tally
+TestsSpelled plan name (Err (unread.Form number why)) before after tally = Fails before after tally (misplaced_line name number why)
+TestsSpelled plan name (Err unread.Memory) before after tally = ⊥
 
 -- what a test of the bytes of a file writes and gives
-abbrev pub TestsBytes : List ℕ → List ℕ → Option (List ℕ) → Option (List ℕ) → Result Tally ServeFault → Type 0
-TestsBytes name bytes before after (Ok tally) = TestsSpelled name (sessions_of bytes) before after tally
-TestsBytes name bytes before after (Err e) = e ≢ fault.Read
+abbrev pub TestsBytes : Plan → List ℕ → List ℕ → Option (List ℕ) → Option (List ℕ) → Result Tally ServeFault → Type 0
+TestsBytes plan name bytes before after (Ok tally) = TestsSpelled plan name (sessions_of bytes) before after tally
+TestsBytes plan name bytes before after (Err e) = e ≢ fault.Read
 
 -- the same of all that the reader has, where that is known; where it fails, nothing is written
-abbrev pub Tests : List ℕ → Option (List ℕ) → Option (List ℕ) → Option (List ℕ) → Result Tally ServeFault → Type 0
-Tests name unread before after (Ok tally) = IfSome unread (λ all. TestsBytes name all before after (Ok tally))
-Tests name unread before after (Err fault.Read) = Appends before after []
-Tests name unread before after (Err fault.Write) = ⊤
-Tests name unread before after (Err fault.Memory) = ⊤
+abbrev pub Tests : Plan → List ℕ → Option (List ℕ) → Option (List ℕ) → Option (List ℕ) → Result Tally ServeFault → Type 0
+Tests plan name unread before after (Ok tally) = IfSome unread (λ all. TestsBytes plan name all before after (Ok tally))
+Tests plan name unread before after (Err fault.Read) = Appends before after []
+Tests plan name unread before after (Err fault.Write) = ⊤
+Tests plan name unread before after (Err fault.Memory) = ⊤
 
 -- the line of a tally, its newline included
 abbrev pub tally_line : Tally → List ℕ

@@ -1,6 +1,6 @@
 //! What the program does, over the runtime that it is started with.
 
-ghost use Rattle.std.specs.Prelude.{◌≡◌, IfOk};
+ghost use Rattle.std.specs.Prelude.{◌≡◌};
 ghost use Rattle.clap.specs.Values.{kind_of};
 ghost use Rattle.ent_program.specs.Starting.{IsFew};
 ghost use Rattle.ent_program.specs.Statuses.{usage_status};
@@ -12,10 +12,9 @@ use crate::running::serve_from;
 use crate::sentences::{declared_sentence, file_sentence, terminal_sentence, undeclared_sentence};
 use crate::sources::Source;
 use crate::status::{
-    REFUSED, check_status, lines_status, serve_status, status_of, test_status, usage_status,
-    words_status,
+    REFUSED, check_status, lines_status, serve_status, status_of, usage_status, words_status,
 };
-use crate::testing::{Tally, send_tally, test_from};
+use crate::trying::run_tests;
 use crate::watching::Watched;
 use crate::words::{command, given_words};
 use clap::ArgMatches;
@@ -25,7 +24,7 @@ use ent_line::{LinesFault, ServeFault, dump_lines};
 use ent_values::Items;
 use std::fs::File;
 use std::io;
-use std::io::{BufReader, BufWriter, Read, Write};
+use std::io::{BufReader, BufWriter, Read};
 use std::rt::{Env, Files};
 
 /// Says on standard error which source can't be read, and why, if that is known.
@@ -97,7 +96,7 @@ fn read_from<R: Eprint + AllocGlobal, S: Read + Drop>(
 }
 
 /// The bytes of a source, at most so many, or the exit status of a fault, which is told on standard error.
-fn read_source<R: Files + Input + Eprint + AllocGlobal>(
+pub(crate) fn read_source<R: Files + Input + Eprint + AllocGlobal>(
     rt: &R,
     source: Source<'_>,
     most: u64,
@@ -202,48 +201,6 @@ fn check_source<R: Files + Input + Print + Eprint + AllocGlobal>(
     }
 }
 
-/// Runs the tests of each source that the words name, in turn, and writes each reply that isn't as expected. Gives how
-/// many passed, or the exit status of a fault, which is told on standard error.
-fn test_each<R: Files + Input + Eprint + AllocGlobal, W: Write>(
-    rt: &R,
-    words: &[&str],
-    writer: &mut W,
-) -> Result<Tally, u8> {
-    let mut all = Tally::none();
-    for &word in words {
-        let source = Source::named(word);
-        let bytes = read_source(rt, source, u64::MAX)?;
-        match test_from(rt.alloc(), source.name(), &mut bytes.as_slice(), writer) {
-            Ok(tally) => all = all.and(tally),
-            Err(fault) => return Err(status_of(rt, fault)),
-        }
-    }
-    Ok(all)
-}
-
-/// Writes how many tests passed, and flushes the writer.
-fn write_tally<W: Write>(writer: &mut W, tally: Tally) -> Result<Tally, ServeFault>
-    ensures { IfOk result (λ t. t ≡ tally) }
-{
-    send_tally(writer, tally)?;
-    match writer.flush() {
-        Ok(()) => Ok(tally),
-        Err(_) => Err(ServeFault::Write),
-    }
-}
-
-/// Runs the tests of the sources that the words name, writes to standard output each reply that isn't as expected and
-/// how many tests passed, and gives the exit status.
-fn test_words<R: Files + Input + Print + Eprint + AllocGlobal>(rt: &R, words: &[&str]) -> u8 {
-    let Ok(mut writer) = BufWriter::new(rt.alloc(), io::writer(rt)) else {
-        return status_of(rt, ServeFault::Memory);
-    };
-    match test_each(rt, words, &mut writer) {
-        Ok(tally) => test_status(rt, write_tally(&mut writer, tally)),
-        Err(status) => status,
-    }
-}
-
 /// Says what the command line asks to be told, or why it can't be used, and gives the exit status for it.
 fn tell_usage(rt: &(impl Print + Eprint), error: &clap::Error) -> u8
     ensures { result ≡ usage_status (kind_of error.now) }
@@ -265,7 +222,7 @@ fn act<R: Files + Input + Print + Eprint + AllocGlobal>(
         Some(Task::Serve(modules)) => serve_input(rt, modules, is_terminal),
         Some(Task::Check(source, declared)) => check_source(rt, source, declared),
         Some(Task::Lines) => write_lines(rt),
-        Some(Task::Test(words)) => test_words(rt, words),
+        Some(Task::Test(tests)) => run_tests(rt, tests),
         None => REFUSED,
     }
 }

@@ -3,7 +3,9 @@
 #![tactic(auto)]
 
 mod acting;
+mod asked_tests;
 mod checking;
+mod comparing;
 mod declaring;
 mod options;
 mod running;
@@ -11,10 +13,12 @@ mod sentences;
 mod sources;
 mod status;
 mod testing;
+mod trying;
 mod watching;
 mod words;
 
 pub use acting::run;
+pub use asked_tests::AskedTests;
 pub use checking::{FILE_LIMIT, FileFault, check_from};
 pub use declaring::DeclaredFault;
 pub use options::{Modules, Task, task_of};
@@ -27,5 +31,5 @@ pub use sources::Source;
 pub use status::{
     check_status, lines_status, serve_status, status_of, test_status, usage_status, words_status,
 };
-pub use testing::{Tally, send_tally, test_from};
+pub use testing::{Plan, Tally, send_tally, test_from};
 pub use words::{WordsFault, command, given_words};

@@ -8,6 +8,7 @@ ghost use Rattle.ent_program.specs.Options.{AreFew, AreModules, HasFew, IsTaskOf
 ghost use Rattle.ent_program.specs.Sources.{path_named, path_of};
 ghost use Rattle.ent_program.specs.Starting.{IsFew};
 
+use crate::asked_tests::{AskedTests, asked_tests};
 use crate::sources::Source;
 use crate::words::{ATTRIBUTE_MODULES, ATTRIBUTES, FILE, POLICY_MODULES};
 use clap::ArgMatches;
@@ -30,8 +31,8 @@ pub enum Task<'m, 'a> {
     Check(Source<'a>, Option<Source<'a>>),
     /// To write the lines of the dump on standard input.
     Lines,
-    /// To run the tests in the sources that these words name.
-    Test(&'m [&'a str]),
+    /// To run tests.
+    Test(AskedTests<'m, 'a>),
 }
 
 /// The number of modules that an option of `serve` gives. What the command line takes is from 1 to 4.
@@ -80,7 +81,7 @@ pub fn task_of<'m, 'a: 'm>(matches: &'m ArgMatches<'a>) -> Option<Task<'m, 'a>>
         "serve" => Some(Task::Serve(modules_of(options))),
         "check" => Some(Task::Check(file_of(options), attributes_of(options))),
         "lines" => Some(Task::Lines),
-        "test" => Some(Task::Test(options.get_strs(FILE)?)),
+        "test" => Some(Task::Test(asked_tests(options)?)),
         _ => None,
     }
 }

@@ -77,12 +77,13 @@ pub fn lines_status(rt: &impl Eprint, written: Result<(), LinesFault>) -> u8
     }
 }
 
-/// The exit status of tests, by how many passed and how many failed; a fault is told on standard error.
+/// The exit status of tests, by how many passed and how many failed: all passed only where there is one. A fault is
+/// told on standard error.
 pub fn test_status(rt: &impl Eprint, tested: Result<Tally, ServeFault>) -> u8
     ensures { result ≡ test_status tested }
 {
     match tested {
-        Ok(tally) if tally.failed == 0 => OKAY,
+        Ok(tally) if tally.failed == 0 && tally.passed > 0 => OKAY,
         Ok(_) => REFUSED,
         Err(fault) => status_of(rt, fault),
     }

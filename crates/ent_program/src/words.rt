@@ -38,6 +38,12 @@ const VERSION: &str = "1.0.0 (logic dac8208d650f15bf)";
 /// The argument of `check`, and of `test`: what is read.
 pub const FILE: &str = "FILE";
 
+/// The option of `test` that names a file of the lines with which each test begins.
+pub const STATE: &str = "state";
+
+/// The option of `test` that names the tests that run.
+pub const RUN: &str = "run";
+
 /// The option of `check` that names a file of declared attributes.
 pub const ATTRIBUTES: &str = "attributes";
 
@@ -103,8 +109,17 @@ fn test<'a>(alloc: Global) -> Result<Command<'a>, AllocError> {
         .help("Tests: lines with the replies that are expected; - is standard input")
         .num_args(1..)
         .required(true);
+    let state = Arg::new(alloc, STATE).long(STATE).value_name("STATE").help(
+        "Lines with which each test begins, as those of a dump; all have to be accepted",
+    );
+    let run = Arg::new(alloc, RUN)
+        .long(RUN)
+        .value_name("NAME")
+        .help("Run the tests of that name alone");
     Command::new(alloc, "test")
         .about("Runs the tests in files, and says which replies are not as expected")
+        .arg(state)?
+        .arg(run)?
         .arg(files)
 }
 

@@ -10,22 +10,28 @@ use Rattle.ent_sessions.specs.declared.line.Content.{Content}
 use Rattle.ent_sessions.specs.declared.line.Content.TheVariants.{Empty, Heading, Sent, Reply, Times}
 use Rattle.ent_sessions.specs.declared.line.Heading.{Heading as HeadingText}
 use Rattle.ent_sessions.specs.declared.line.Line.{Line}
+use Rattle.ent_sessions.specs.declared.fault.Mistake.{Mistake}
+use Rattle.ent_sessions.specs.declared.session.Expected.{Expected}
 use Rattle.ent_sessions.specs.declared.session.Session.{Session}
 use Rattle.ent_sessions.specs.declared.session.Step.{Step}
 
--- the text of a reply
-abbrev pub reply_of : Content → Option (List ℕ)
-reply_of (Reply text) = Some text
+-- the reply that is expected
+abbrev pub reply_of : Content → Option Expected
+reply_of (Reply reply) = Some reply
 reply_of _ = None
 
--- the text of the reply that these lines begin with
-abbrev pub reply_in : List Line → Option (List ℕ)
+-- the reply that these lines begin with
+abbrev pub reply_in : List Line → Option Expected
 reply_in [] = None
 reply_in (line ∷ lines) = reply_of line.content
 
+-- what a reply of the file stands for, once or at a time
+abbrev pub reply_at : Option ℕ → Expected → Expected
+reply_at time reply = record { comparison = reply.comparison; text = written time reply.text }
+
 -- the step of what stands in a line of this number, if it is sent, with the reply right below it if there is one, both once or at a time
 abbrev pub step_in : Option ℕ → ℕ → Content → List Line → List Step
-step_in time number (Sent text) behind = record { number = number; line = written time text; expected = option_map (written time) (reply_in behind) } ∷ []
+step_in time number (Sent text) behind = record { number = number; line = written time text; expected = option_map (reply_at time) (reply_in behind) } ∷ []
 step_in time number _ behind = []
 
 -- the step of a line with these behind it
@@ -64,25 +70,25 @@ body lines = flat_map paragraph (slice_split (λ line. is_empty line.content) li
 abbrev pub up_to_heading : List Line → List Line
 up_to_heading lines = before_first (λ line. is_heading line.content) lines
 
--- the session of a heading and the lines behind it
-abbrev pub session_at : HeadingText → List Line → Session
-session_at heading behind = record { name = heading.name; modules = heading.modules; steps = body (up_to_heading behind) }
+-- the session of a heading in the line of this number and the lines behind it
+abbrev pub session_at : ℕ → HeadingText → List Line → Session
+session_at number heading behind = record { name = heading.name; number = number; modules = heading.modules; steps = body (up_to_heading behind) }
 
--- the session that begins with this, if it is a heading
-abbrev pub session_in : Content → List Line → List Session
-session_in (Heading heading) behind = session_at heading behind ∷ []
-session_in _ behind = []
+-- the session that begins with this in the line of this number, if it is a heading
+abbrev pub session_in : ℕ → Content → List Line → List Session
+session_in number (Heading heading) behind = session_at number heading behind ∷ []
+session_in number _ behind = []
 
 -- the sessions of lines: one for each heading
 abbrev pub sessions_in : List Line → List Session
 sessions_in [] = []
-sessions_in (line ∷ lines) = session_in line.content lines ++ sessions_in lines
+sessions_in (line ∷ lines) = session_in line.number line.content lines ++ sessions_in lines
 
--- the sessions of lines, or the number of the first line that can't stand where it stands
-abbrev pub sessions_unless : Option ℕ → List Line → Result (List Session) SessionFault
-sessions_unless (Some number) lines = Err (Form number)
+-- the sessions of lines, or the number of the first line that can't stand where it stands, and why
+abbrev pub sessions_unless : Option (ℕ × Mistake) → List Line → Result (List Session) SessionFault
+sessions_unless (Some (number, mistake)) lines = Err (Form number mistake)
 sessions_unless None lines = Ok (sessions_in lines)
 
--- the sessions that the bytes of a file spell, or the number of the first line that can't stand where it stands
+-- the sessions that the bytes of a file spell, or the number of the first line that can't stand where it stands, and why
 abbrev pub sessions_of : List ℕ → Result (List Session) SessionFault
 sessions_of bytes = sessions_unless (misplaced [] (lines_of bytes)) (lines_of bytes)

@@ -1,8 +1,10 @@
 -- Which lines can stand behind which.
-use Rattle.std.specs.Prelude.{ℕ, ◌&&◌, Bool, true, false, not, List, [], ◌∷◌, Option, Some, None, if◌then◌else◌}
+use Rattle.std.specs.Prelude.{ℕ, Bool, true, false, List, [], ◌∷◌, Option, Some, None, if◌then◌else◌}
 use Rattle.std.specs.List.{list_any}
+use Rattle.ent_sessions.specs.declared.fault.Mistake.{Mistake}
+use Rattle.ent_sessions.specs.declared.fault.Mistake.TheVariants.{NoHeading, NoLine, Repeated, Modules, NoMark}
 use Rattle.ent_sessions.specs.declared.line.Content.{Content}
-use Rattle.ent_sessions.specs.declared.line.Content.TheVariants.{Empty, Comment, Heading, Sent, Reply, Times, Other}
+use Rattle.ent_sessions.specs.declared.line.Content.TheVariants.{Empty, Comment, Heading, Sent, Reply, Times, NoModules, Other}
 use Rattle.ent_sessions.specs.declared.line.Line.{Line}
 use Rattle.ent_sessions.specs.declared.standing.Place.{Place}
 
@@ -42,22 +44,24 @@ sent (line ∷ before) = is_sent line.content
 abbrev pub place_of : List Line → Place
 place_of before = record { begun = begun before; repeats = repeats before; sent = sent before }
 
--- what can stand at a place: nothing and a comment anywhere, a heading where nothing comes many times, what is sent in a session, a reply
--- right below it, and a number of times in a session, where nothing comes many times
-abbrev pub content_stands : Place → Content → Bool
-content_stands place Empty = true
-content_stands place Comment = true
-content_stands place (Heading heading) = not place.repeats
-content_stands place (Sent text) = place.begun
-content_stands place (Reply text) = place.sent
-content_stands place (Times times) = place.begun && not place.repeats
-content_stands place Other = false
+-- why what stands in a line can't stand at a place: nothing and a comment can anywhere, a heading where nothing comes many times, what is sent in a
+-- session, a reply right below it, and a number of times in a session, where nothing comes many times
+abbrev pub mistake_at : Place → Content → Option Mistake
+mistake_at place Empty = None
+mistake_at place Comment = None
+mistake_at place (Heading heading) = if place.repeats then Some Repeated else None
+mistake_at place (Sent text) = if place.begun then None else Some NoHeading
+mistake_at place (Reply reply) = if place.sent then None else Some NoLine
+mistake_at place (Times times) = if place.begun then (if place.repeats then Some Repeated else None) else Some NoHeading
+mistake_at place NoModules = Some Modules
+mistake_at place Other = Some NoMark
 
--- a line can stand at a place
-abbrev pub stands_at : Place → Line → Bool
-stands_at place line = content_stands place line.content
+-- the mistake in the line of this number, if it has one, or else one behind it
+abbrev pub first_mistake : ℕ → Option Mistake → Option (ℕ × Mistake) → Option (ℕ × Mistake)
+first_mistake number (Some mistake) behind = Some (number, mistake)
+first_mistake number None behind = behind
 
--- the number of the first line that can't stand behind those before it
-abbrev pub misplaced : List Line → List Line → Option ℕ
+-- the number of the first line that can't stand behind those before it, and why
+abbrev pub misplaced : List Line → List Line → Option (ℕ × Mistake)
 misplaced before [] = None
-misplaced before (line ∷ lines) = if stands_at (place_of before) line then misplaced (line ∷ before) lines else Some line.number
+misplaced before (line ∷ lines) = first_mistake line.number (mistake_at (place_of before) line.content) (misplaced (line ∷ before) lines)

@@ -2,24 +2,35 @@
 
 ghost use Rattle.std.specs.Prelude.{◌≡◌, ◌<◌, ◌++◌, ◌∷◌, [], IfNone, IfOk, IfSome, OnOk, Some, length, option_map};
 ghost use Rattle.std.specs.List.{slice_split};
-ghost use Rattle.ent_sessions.specs.Sessions.{body, is_empty, paragraph, reply_in, session_at, sessions_in, step_at};
+ghost use Rattle.ent_sessions.specs.Sessions.{body, is_empty, paragraph, reply_at, reply_in, session_at, sessions_in, step_at};
 ghost use Rattle.ent_sessions.specs.Sessions.{steps_at, steps_of, up_to_heading};
 ghost use Rattle.ent_sessions.specs.Standing.{is_heading};
 
 use crate::line::{Content, Heading, Line};
-use crate::session::{Session, Step};
+use crate::session::{Expected, Session, Step};
 use crate::writing::written;
 use ent_values::Items;
 use std::alloc::{AllocError, Global};
 
-/// The text of the reply that these lines begin with.
-fn reply_in(lines: &[Line]) -> Option<&[u8]>
-    ensures { option_map (λ text. text.now) result ≡ reply_in lines.now }
+/// The reply that these lines begin with.
+fn reply_in(lines: &[Line]) -> Option<&Expected>
+    ensures { option_map (λ reply. reply.now) result ≡ reply_in lines.now }
 {
     match &lines.first()?.content {
-        Content::Reply(text) => Some(text.as_slice()),
+        Content::Reply(reply) => Some(reply),
         _ => None,
     }
+}
+
+/// What a reply of the file stands for, once or at a time.
+fn reply_at(alloc: Global, time: Option<u32>, reply: &Expected) -> Result<Expected, AllocError>
+    ensures { IfOk result (λ e. e ≡ reply_at time reply.now) }
+{
+    let text = written(alloc, time, reply.text.as_slice())?;
+    Ok(Expected {
+        comparison: reply.comparison,
+        text,
+    })
 }
 
 /// Puts the step of a line, if it is one, behind others. The second list is what stands behind the line.
@@ -37,7 +48,7 @@ fn push_step(
     };
     let expected = match reply_in(behind) {
         None => None,
-        Some(reply) => Some(written(alloc, time, reply)?),
+        Some(reply) => Some(reply_at(alloc, time, reply)?),
     };
     let text = written(alloc, time, text.as_slice())?;
     steps.push(Step {
@@ -144,14 +155,20 @@ fn up_to_heading(lines: &[Line]) -> &[Line]
     lines
 }
 
-/// The session of a heading and the lines behind it.
-fn session(alloc: Global, heading: &Heading, behind: &[Line]) -> Result<Session, AllocError>
-    ensures { IfOk result (λ s. s ≡ session_at heading.now behind.now) }
+/// The session of a heading in the line of this number and the lines behind it.
+fn session(
+    alloc: Global,
+    number: u64,
+    heading: &Heading,
+    behind: &[Line],
+) -> Result<Session, AllocError>
+    ensures { IfOk result (λ s. s ≡ session_at number heading.now behind.now) }
 {
     let steps = body(alloc, up_to_heading(behind))?;
     let name = Vec::from_slice(alloc, heading.name.as_slice())?;
     Ok(Session {
         name: Items::from_vec(name),
+        number,
         modules: heading.modules,
         steps,
     })
@@ -164,7 +181,8 @@ pub(crate) fn sessions_in(alloc: Global, lines: &[Line]) -> Result<Items<Session
     let mut sessions = Items::new(alloc);
     for i in 0..lines.len() {
         if let Content::Heading(heading) = &lines[i].content {
-            sessions.push(session(alloc, heading, &lines[i + 1..])?)?;
+            let session = session(alloc, lines[i].number, heading, &lines[i + 1..])?;
+            sessions.push(session)?;
         }
     }
     Ok(sessions)

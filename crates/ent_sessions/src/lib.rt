@@ -8,10 +8,12 @@ mod fault;
 mod line;
 mod number;
 mod reading;
+mod sending;
 mod session;
 mod standing;
 mod writing;
 
-pub use fault::SessionFault;
+pub use fault::{Mistake, SessionFault};
 pub use reading::read_sessions;
-pub use session::{Session, Step};
+pub use sending::read_lines;
+pub use session::{Comparison, Expected, Session, Step};

@@ -1,15 +1,17 @@
 //! The lines of a file of sessions.
 
 ghost use Rattle.std.specs.Prelude.{◌≡◌, IfOk};
-ghost use Rattle.ent_sessions.specs.Lines.{content_of, headed, heading_of, lines_of, marked, modules_in, times_of};
+ghost use Rattle.ent_sessions.specs.Lines.{content_of, expected, headed, heading_of, lines_of, marked, modules_in};
+ghost use Rattle.ent_sessions.specs.Lines.{times_of, without_end};
 
 use crate::cut::cut;
 use crate::number::leading_number;
+use crate::session::{Comparison, Expected};
 use ent_values::Items;
 use std::alloc::{AllocError, Global};
 
 /// What ends a line.
-const NEWLINE: &[u8] = b"\n";
+pub(crate) const NEWLINE: &[u8] = b"\n";
 
 /// How many modules of each sort a service has, where its heading doesn't say it.
 const MODULES: usize = 2;
@@ -32,10 +34,12 @@ pub(crate) enum Content {
     Heading(Heading),
     /// A text that is sent.
     Sent(Items<u8>),
-    /// A reply that is expected.
-    Reply(Items<u8>),
+    /// A reply that is expected, as it is written.
+    Reply(Expected),
     /// How many times what stands behind it comes.
     Times(u32),
+    /// The heading of a session over a number of modules that there can't be.
+    NoModules,
     /// Anything else.
     Other,
 }
@@ -47,12 +51,12 @@ pub(crate) struct Line {
     pub(crate) content: Content,
 }
 
-/// The number from 1 to 4 that two bytes, a space and a digit, write.
+/// The number that two bytes, a space and a digit, write.
 fn modules_in(end: &[u8]) -> Option<usize>
     ensures { result ≡ modules_in end.now }
 {
     match end {
-        [b' ', digit @ b'1'..=b'4'] => Some(usize::from(*digit - b'0')),
+        [b' ', digit @ b'0'..=b'9'] => Some(usize::from(*digit - b'0')),
         _ => None,
     }
 }
@@ -74,7 +78,8 @@ fn heading_of(alloc: Global, text: &[u8]) -> Result<Content, AllocError>
     }
     let at = text.len().saturating_sub(2);
     match modules_in(&text[at..]) {
-        Some(modules) => headed(alloc, &text[..at], modules),
+        Some(modules @ 1..=4) => headed(alloc, &text[..at], modules),
+        Some(_) => Ok(Content::NoModules),
         None => headed(alloc, text, MODULES),
     }
 }
@@ -89,6 +94,14 @@ fn times_of(text: &[u8]) -> Content
     }
 }
 
+/// A reply that is expected, which is compared in this way.
+fn expected(alloc: Global, comparison: Comparison, text: &[u8]) -> Result<Content, AllocError>
+    ensures { IfOk result (λ c. c ≡ expected comparison text.now) }
+{
+    let text = Items::from_vec(Vec::from_slice(alloc, text)?);
+    Ok(Content::Reply(Expected { comparison, text }))
+}
+
 /// What a line is that has this text behind a mark.
 fn marked(alloc: Global, mark: u8, text: &[u8]) -> Result<Content, AllocError>
     ensures { IfOk result (λ c. c ≡ marked mark text.now) }
@@ -96,7 +109,9 @@ fn marked(alloc: Global, mark: u8, text: &[u8]) -> Result<Content, AllocError>
     match mark {
         b'#' => heading_of(alloc, text),
         b'>' => Ok(Content::Sent(Items::from_vec(Vec::from_slice(alloc, text)?))),
-        b'<' => Ok(Content::Reply(Items::from_vec(Vec::from_slice(alloc, text)?))),
+        b'<' => expected(alloc, Comparison::Bytes, text),
+        b'=' => expected(alloc, Comparison::Data, text),
+        b'~' => expected(alloc, Comparison::Part, text),
         b'*' => Ok(times_of(text)),
         _ => Ok(Content::Other),
     }
@@ -115,6 +130,16 @@ fn content_of(alloc: Global, line: &[u8]) -> Result<Content, AllocError>
     }
 }
 
+/// A text without a byte at its end, if it ends with it.
+pub(crate) fn without_end(byte: u8, text: &[u8]) -> &[u8]
+    ensures { result.now ≡ without_end byte text.now }
+{
+    match text {
+        [front @ .., last] if *last == byte => front,
+        _ => text,
+    }
+}
+
 /// The lines of a file of these bytes.
 pub(crate) fn lines_of(alloc: Global, bytes: &[u8]) -> Result<Vec<Line>, AllocError>
     ensures { IfOk result (λ v. v.items ≡ lines_of bytes.now) }
@@ -124,7 +149,7 @@ pub(crate) fn lines_of(alloc: Global, bytes: &[u8]) -> Result<Vec<Line>, AllocEr
     let mut number = 0;
     for part in parts.as_slice() {
         number += 1;
-        let content = content_of(alloc, part)?;
+        let content = content_of(alloc, without_end(b'\r', part))?;
         lines.push(Line { number, content })?;
     }
     Ok(lines)

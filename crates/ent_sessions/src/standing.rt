@@ -1,9 +1,10 @@
 //! Which lines can stand behind which.
 
 ghost use Rattle.std.specs.Prelude.{◌≡◌, [], ◌∷◌, List};
-ghost use Rattle.ent_sessions.specs.Standing.{misplaced, place_of, stands_at};
+ghost use Rattle.ent_sessions.specs.Standing.{misplaced, mistake_at, place_of};
 ghost use Rattle.ent_sessions.specs.declared.line.Line.{Line};
 
+use crate::fault::Mistake;
 use crate::line::{Content, Line};
 
 /// What the lines before a line say of which can stand there.
@@ -29,17 +30,19 @@ impl Place {
         }
     }
 
-    /// Whether a line can stand here.
-    fn takes(self, line: &Line) -> bool
-        ensures { result ≡ stands_at self line.now }
+    /// Why a line can't stand here, if it can't.
+    fn mistake(self, line: &Line) -> Option<Mistake>
+        ensures { result ≡ mistake_at self line.now.content }
     {
         match line.content {
-            Content::Empty | Content::Comment => true,
-            Content::Heading(_) => !self.repeats,
-            Content::Sent(_) => self.begun,
-            Content::Reply(_) => self.sent,
-            Content::Times(_) => self.begun && !self.repeats,
-            Content::Other => false,
+            Content::Heading(_) if self.repeats => Some(Mistake::Repeated),
+            Content::Sent(_) if !self.begun => Some(Mistake::NoHeading),
+            Content::Reply(_) if !self.sent => Some(Mistake::NoLine),
+            Content::Times(_) if !self.begun => Some(Mistake::NoHeading),
+            Content::Times(_) if self.repeats => Some(Mistake::Repeated),
+            Content::NoModules => Some(Mistake::Modules),
+            Content::Other => Some(Mistake::NoMark),
+            _ => None,
         }
     }
 
@@ -54,20 +57,20 @@ impl Place {
             Content::Heading(_) => place.begun = true,
             Content::Sent(_) => place.sent = true,
             Content::Times(_) => place.repeats = true,
-            Content::Comment | Content::Reply(_) | Content::Other => {}
+            Content::Comment | Content::Reply(_) | Content::NoModules | Content::Other => {}
         }
         place
     }
 }
 
-/// The number of the first line that can't stand behind those before it, if there is one.
-pub(crate) fn misplaced(lines: &[Line]) -> Option<u64>
+/// The number of the first line that can't stand behind those before it, if there is one, and why it can't.
+pub(crate) fn misplaced(lines: &[Line]) -> Option<(u64, Mistake)>
     ensures { result ≡ misplaced [] lines.now }
 {
     let mut place = Place::first();
     for line in lines {
-        if !place.takes(line) {
-            return Some(line.number);
+        if let Some(mistake) = place.mistake(line) {
+            return Some((line.number, mistake));
         }
         place = place.behind(line);
     }

@@ -1,9 +1,10 @@
-use Rattle.std.proofs.Common.{◌∙◌, ap, codes, refl, rules}
+use Rattle.std.proofs.Common.{◌∙◌, ap, codes, refl, rules, subst}
 use Rattle.std.specs.Prelude.{[], option_map, unwrap_or}
 use Rattle.clap.specs.Matches.{found_of}
 use Rattle.clap.specs.Simple.{subcommand_rows_of}
-use Rattle.clap.specs.Walk.{first_of, rows_of}
-use Rattle.ent_program.proofs.Rows.{arguments_found, arguments_missing, rows_found}
+use Rattle.clap.specs.Walk.{all_of, first_of, rows_of}
+use Rattle.ent_program.proofs.Rows.{rows_found}
+use Rattle.ent_program.specs.Options.{AreAsked}
 use Rattle.ent_program.specs.Sources.{path_named}
 use Rattle.ent_program.proofs.options.task_of.Goals as goal
 
@@ -22,24 +23,22 @@ returns-in-check-clause-task c = record {
   test = search rules;
 }
 
-pub returns-in_ok-get_strs-in-test-clause-task : goal.returns-in_ok-get_strs-in-test-clause-task
-returns-in_ok-get_strs-in-test-clause-task c = record {
+pub returns-in_ok-asked_tests-in-test-clause-task : goal.returns-in_ok-asked_tests-in-test-clause-task
+returns-in_ok-asked_tests-in-test-clause-task c = record {
   serve = search rules;
   check = search rules;
   lines = search rules;
-  test = λ options found texts is. (
-    c.in_ok-get_strs-in-test.field-0,
-    refl,
-    arguments_found c.in_ok-get_strs-in-test.field-0 c.get_strs.result (found_of c.in_ok-name.options.now) (codes "FILE") options texts c.in_ok-get_strs-in-test.was c.get_strs.ensures
-        (rows_found (rows_of (found_of c.in_ok-name.options.now)) options (subcommand_rows_of c.args.matches.now) (codes "test") c.in_ok-name.ensures.rows found) is,
-  );
+  test = λ options found texts is.
+      let rows = rows_found (rows_of (found_of c.in_ok-name.options.now)) options (subcommand_rows_of c.args.matches.now) (codes "test") c.in_ok-name.ensures.rows found in
+      (c.in_ok-asked_tests-in-test.field-0, refl, subst (λ rs. AreAsked rs c.in_ok-asked_tests-in-test.field-0) rows c.in_ok-asked_tests-in-test.ensures.asked);
 }
 
-pub returns-in_err-get_strs-in-test-clause-task : goal.returns-in_err-get_strs-in-test-clause-task
-returns-in_err-get_strs-in-test-clause-task c = record {
+pub returns-in_err-asked_tests-in-test-clause-task : goal.returns-in_err-asked_tests-in-test-clause-task
+returns-in_err-asked_tests-in-test-clause-task c = record {
   serve = search rules;
   check = search rules;
   lines = search rules;
-  test = λ options found texts is. absurd (arguments_missing c.get_strs.result (found_of c.in_ok-name.options.now) (codes "FILE") options texts c.in_err-get_strs-in-test.was c.get_strs.ensures
-      (rows_found (rows_of (found_of c.in_ok-name.options.now)) options (subcommand_rows_of c.args.matches.now) (codes "test") c.in_ok-name.ensures.rows found) is);
+  test = λ options found texts is.
+      let rows = rows_found (rows_of (found_of c.in_ok-name.options.now)) options (subcommand_rows_of c.args.matches.now) (codes "test") c.in_ok-name.ensures.rows found in
+      absurd (c.in_err-asked_tests-in-test.ensures.none texts (ap (all_of (codes "FILE")) rows ∙ is));
 }

@@ -1,6 +1,6 @@
 use Rattle.std.proofs.Common.{◌≡◌, false, ℕ, ◌<◌, get_or}
-use Rattle.ent_program.specs.Testing.{is_newline}
-use Rattle.ent_program.proofs.testing.split_reply.Given as goal
+use Rattle.ent_program.specs.Comparing.{is_newline}
+use Rattle.ent_program.proofs.comparing.split_reply.Given as goal
 
 -- no byte so far is a newline
 abbrev pub invariant-loop-i : goal.invariant-loop-i

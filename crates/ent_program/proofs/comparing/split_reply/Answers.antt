@@ -1,7 +1,7 @@
 use Rattle.std.proofs.Common.{ap}
 use Rattle.ent_sessions.proofs.Firsts.{after_first_at, after_first_nowhere, before_first_at, before_first_nowhere}
-use Rattle.ent_program.specs.Testing.{is_newline}
-use Rattle.ent_program.proofs.testing.split_reply.Goals as goal
+use Rattle.ent_program.specs.Comparing.{is_newline}
+use Rattle.ent_program.proofs.comparing.split_reply.Goals as goal
 
 pub returns-then-replies-i-eq10-clause-first : goal.returns-then-replies-i-eq10-clause-first
 returns-then-replies-i-eq10-clause-first c =

@@ -1,0 +1,8 @@
+//! Whether a text is JSON with the same data as another, or JSON of which another is a part.
+#![tactic(auto)]
+
+mod compared;
+mod fits;
+
+pub use compared::{is_part, is_same};
+pub use fits::have_same_data;

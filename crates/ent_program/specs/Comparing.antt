@@ -1,0 +1,88 @@
+-- Replies beside those that a file of tests expects.
+use Rattle.std.specs.Prelude.{ℕ, ◌==◌, ◌&&◌, ◌||◌, Bool, true, not, List, [], ◌∷◌, ◌++◌, Option, Some, None, bytes_eq, codes, decimal, if◌then◌else◌}
+use Rattle.std.specs.List.{after_first, before_first}
+use Rattle.ent_matching.specs.Matching.{is_part, is_same}
+use Rattle.ent_sessions.specs.Cut.{begins}
+use Rattle.ent_sessions.specs.declared.session.Comparison.{Comparison}
+use Rattle.ent_sessions.specs.declared.session.Comparison.TheVariants.{Bytes, Data, Part}
+use Rattle.ent_sessions.specs.declared.session.Expected.{Expected}
+use Rattle.ent_sessions.specs.declared.session.Step.{Step}
+
+-- what a refusal begins with
+abbrev pub refusal : List ℕ
+refusal = codes "{\"refused\":"
+
+-- a reply is as a text says: the same bytes, the same JSON, or JSON of which the text is a part
+abbrev pub is_as : Comparison → List ℕ → List ℕ → Bool
+is_as Bytes text reply = bytes_eq reply text
+is_as Data text reply = is_same text reply
+is_as Part text reply = is_part text reply
+
+-- a reply is as it is expected; where nothing is said of it, it isn't a refusal
+abbrev pub meets : Option Expected → List ℕ → Bool
+meets (Some expected) reply = is_as expected.comparison expected.text reply
+meets None reply = not (begins refusal reply)
+
+-- a reply is the refusal for want of memory
+abbrev pub is_wanting : List ℕ → Bool
+is_wanting reply = bytes_eq reply (codes "{\"refused\":15}")
+
+-- a reply is as it is expected, or it isn't for want of memory that it isn't
+abbrev pub is_sure : Option Expected → List ℕ → Bool
+is_sure expected reply = meets expected reply || not (is_wanting reply)
+
+-- a byte is a newline
+abbrev pub is_newline : ℕ → Bool
+is_newline byte = byte == 10
+
+-- each of the replies, which are lines, passes a test beside what its step expects
+abbrev pub each : (Option Expected → List ℕ → Bool) → List Step → List ℕ → Bool
+each p [] replies = true
+each p (step ∷ steps) replies = p step.expected (before_first is_newline replies) && each p steps (after_first is_newline replies)
+
+-- each of the replies is as its step expects
+abbrev pub pass : List Step → List ℕ → Bool
+pass steps replies = each meets steps replies
+
+-- no reply that isn't as its step expects is the refusal for want of memory
+abbrev pub are_sure : List Step → List ℕ → Bool
+are_sure steps replies = each is_sure steps replies
+
+-- what stands behind the replies to these steps
+abbrev pub behind : List Step → List ℕ → List ℕ
+behind [] replies = replies
+behind (step ∷ steps) replies = behind steps (after_first is_newline replies)
+
+-- the words before what is expected of a reply that is compared in this way
+abbrev pub comparison_word : Comparison → List ℕ
+comparison_word Bytes = codes ": expected "
+comparison_word Data = codes ": expected = "
+comparison_word Part = codes ": expected ~ "
+
+-- the words before what is expected: the mark that it has in the file, but for bytes
+abbrev pub expected_word : Option Expected → List ℕ
+expected_word None = codes ": expected "
+expected_word (Some expected) = comparison_word expected.comparison
+
+-- what a step is told to expect
+abbrev pub wanted : Option Expected → List ℕ
+wanted (Some expected) = expected.text
+wanted None = codes "no refusal"
+
+-- a line on the line of a file: the file's name, the number, a word and what is said
+abbrev pub told_at : List ℕ → ℕ → List ℕ → List ℕ → List ℕ
+told_at name number word said = name ++ (codes ":" ++ (decimal number ++ (word ++ (said ++ codes "\n"))))
+
+-- what is told of a reply that isn't as a step expects: what was expected, and what was replied
+abbrev pub difference : List ℕ → Step → List ℕ → List ℕ
+difference name step reply =
+    told_at name step.number (expected_word step.expected) (wanted step.expected) ++ told_at name step.number (codes ": replied ") reply
+
+-- what is told of a reply: nothing where it is as the step expects
+abbrev pub told_of_one : List ℕ → Step → List ℕ → List ℕ
+told_of_one name step reply = if meets step.expected reply then [] else difference name step reply
+
+-- what is told of the replies, one after the other
+abbrev pub differences : List ℕ → List Step → List ℕ → List ℕ
+differences name [] replies = []
+differences name (step ∷ steps) replies = told_of_one name step (before_first is_newline replies) ++ differences name steps (after_first is_newline replies)

@@ -1,0 +1,56 @@
+//! Which tests the command line asks for.
+
+ghost use Rattle.std.specs.Prelude.{◌≡◌, codes, option_map, IfNone, IfSome, List, ℕ, Some};
+ghost use Rattle.clap.specs.Matches.{found_of};
+ghost use Rattle.clap.specs.Walk.{all_of, first_of, rows_of};
+ghost use Rattle.ent_program.specs.Options.{AreAsked};
+ghost use Rattle.ent_program.specs.Sources.{path_named, path_of};
+
+use crate::sources::Source;
+use crate::words::{FILE, RUN, STATE};
+use clap::ArgMatches;
+
+/// Which tests are asked for.
+#[derive(Clone, Copy, Debug, PartialEq, Eq)]
+pub struct AskedTests<'m, 'a> {
+    /// The words that name the files.
+    pub files: &'m [&'a str],
+    /// The source of the lines with which each test begins, if there is one.
+    pub state: Option<Source<'a>>,
+    /// What the tests are called that run, where not all do.
+    pub only: Option<&'a str>,
+}
+
+/// The source that the option for the lines with which each test begins names, if it is given.
+fn state_of<'a>(options: &ArgMatches<'a>) -> Option<Source<'a>>
+    ensures { option_map path_of result
+        ≡ option_map path_named (first_of (codes "state") (rows_of (found_of options.now))) }
+{
+    match options.get_str(STATE) {
+        Some(word) => Some(Source::named(word)),
+        None => None,
+    }
+}
+
+/// What the tests are called that are to run, where that is said.
+fn only_of<'a>(options: &ArgMatches<'a>) -> Option<&'a str>
+    ensures { option_map (λ n. n.now) result ≡ first_of (codes "run") (rows_of (found_of options.now)) }
+{
+    options.get_str(RUN)
+}
+
+/// The tests that the options of `test` ask for; none where no file is named.
+pub(crate) fn asked_tests<'m, 'a: 'm>(options: &'m ArgMatches<'a>) -> Option<AskedTests<'m, 'a>>
+    ensures none { IfNone result ((texts : List (List ℕ))
+        → all_of (codes "FILE") (rows_of (found_of options.now)) ≡ Some texts → ⊥) }
+    ensures asked { IfSome result (AreAsked (rows_of (found_of options.now))) }
+{
+    match options.get_strs(FILE) {
+        Some(files) => Some(AskedTests {
+            files,
+            state: state_of(options),
+            only: only_of(options),
+        }),
+        None => None,
+    }
+}
