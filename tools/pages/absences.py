@@ -14,7 +14,7 @@ CRATES = ROOT / 'crates'
 PAGE = ROOT / 'docs' / 'ARCHITECTURE.md'
 COMMANDS = (r'"(?:(?:person|action|resource)\.(?:add|drop)|(?:attr|day|moment|root)\.set'
             r'|policy\.(?:add|replace|withdraw))')
-PROGRAMS = ['conformance', 'faults_told', 'attributes_told', 'review', 'review_with_options']
+PROGRAMS = ['conformance', 'faults_told', 'attributes_told', 'together_told', 'review', 'review_with_options']
 BELOW_LINES = ['ent_values', 'ent_functions', 'ent_combine', 'ent_policy', 'ent_finder', 'ent_eval', 'ent_reach',
                'ent_index', 'ent_log', 'ent_cells', 'ent_table', 'ent_rebuild']
 
@@ -89,8 +89,9 @@ def in_sessions_files():
 
 
 def places_in_the_service():
-    words = ['ent_places', 'ent_explain', 'ent_declared']
-    yield from named(words, but=words + ['ent_program', 'faults_told', 'attributes_told'] + TRIALS)
+    words = ['ent_places', 'ent_explain', 'ent_declared', 'ent_together']
+    told = ['faults_told', 'attributes_told', 'together_told']
+    yield from named(words, but=words + ['ent_program'] + told + TRIALS)
 
 
 def around_combining():
@@ -164,7 +165,7 @@ CHECKS = {
     'places of faults in the service': places_in_the_service,
     'any other crate, and memory, in `ent_combine`': around_combining,
     'commands below `ent_dump` and `ent_line`':
-        lambda: found(COMMANDS, but=['ent_dump/', 'ent_line/'] + TRIALS),
+        lambda: found(COMMANDS, but=['ent_dump/', 'ent_line/', 'ent_together/src/state.rt'] + TRIALS),
     'sessions and marks in a review': lambda: found(r'(?i)session', BELOW_LINES, ('src', 'specs')),
     'the table in the log and in the index': table_in_the_log,
     'finders and modules in the evaluator':

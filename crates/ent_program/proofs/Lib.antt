@@ -1,3 +1,4 @@
+pub mod CheckAsked
 pub mod Compared
 pub mod Rows
 pub mod Starting

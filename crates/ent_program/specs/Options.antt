@@ -1,12 +1,12 @@
 -- What the command line asks for, by what is found in its words.
-use Rattle.std.specs.Prelude.{◌≡◌, ⊤, ℕ, List, [], Option, Some, codes, map, option_map, unwrap_or}
+use Rattle.std.specs.Prelude.{◌≡◌, ◌≢◌, ◌⊎◌, ⊤, ℕ, List, [], ◌∷◌, length, Option, Some, None, codes, map, option_map}
 use Rattle.std.specs.Str.Parse.{IsNumeral, digits_value, without_leading_plus}
 use Rattle.clap.specs.Walk.{Row, all_of, first_of, one_of}
 use Rattle.ent_program.specs.Sources.{path_named, path_of}
 use Rattle.ent_program.specs.Starting.{IsFew}
 use Rattle.ent_program.specs.declared.asked_tests.AskedTests.{AskedTests}
 use Rattle.ent_program.specs.declared.options.Task.{Task}
-use Rattle.ent_program.specs.declared.options.Task.TheVariants.{Serve, Check, Lines, Test}
+use Rattle.ent_program.specs.declared.options.Task.TheVariants.{Serve, Check, Together, Lines, Test}
 use Rattle.ent_program.specs.declared.options.Modules.{Modules}
 
 -- where the text of an option writes a number from 1 to 4 in decimal digits, that is the count
@@ -23,6 +23,13 @@ pub record AreModules (options : List Row) (modules : Modules) : Type 0 where
   pub attributes : IsWritten (one_of (codes "attribute-modules") options) modules.attributes
   pub policies : IsWritten (one_of (codes "policy-modules") options) modules.policies
 
+-- what `check` is asked for, by the texts of its files and of its options: one document by itself; several, or any with those of a state, together
+pub record IsCheckOf (texts : List (List ℕ)) (attributes stored : Option (List ℕ)) (task : Option Task) : Type 0 where
+  pub alone : (text : List ℕ) → texts ≡ text ∷ [] → stored ≡ None → (source declared : _) × (task ≡ Some (Check source declared)) × (path_of source ≡ path_named text)
+      × (option_map path_of declared ≡ option_map path_named attributes)
+  pub together : (length texts ≢ 1) ⊎ (stored ≢ None) → (words declared state : _) × (task ≡ Some (Together words declared state)) × (map (λ w. w.now) words.now ≡ texts)
+      × (option_map path_of declared ≡ option_map path_named attributes) × (option_map path_of state ≡ option_map path_named stored)
+
 -- the tests of the files that are named, behind the lines of a file if the option for it is given, and those of a name if one is given
 pub record AreAsked (options : List Row) (tests : AskedTests) : Type 0 where
   pub files : (texts : List (List ℕ)) → all_of (codes "FILE") options ≡ Some texts → map (λ w. w.now) tests.files.now ≡ texts
@@ -32,8 +39,8 @@ pub record AreAsked (options : List Row) (tests : AskedTests) : Type 0 where
 -- what is asked for, by the subcommand that was found, with its options and arguments
 pub record IsTaskOf (found : Option (List ℕ × List Row)) (task : Option Task) : Type 0 where
   pub serve : (options : List Row) → found ≡ Some (codes "serve", options) → (modules : Modules) × (task ≡ Some (Serve modules)) × AreModules options modules
-  pub check : (options : List Row) → found ≡ Some (codes "check", options) → (source attributes : _) × (task ≡ Some (Check source attributes)) × (path_of source ≡ path_named (unwrap_or (first_of (codes "FILE") options) []))
-      × (option_map path_of attributes ≡ option_map path_named (first_of (codes "attributes") options))
+  pub check : (options : List Row) → found ≡ Some (codes "check", options) → (texts : List (List ℕ)) → all_of (codes "FILE") options ≡ Some texts
+      → IsCheckOf texts (first_of (codes "attributes") options) (first_of (codes "stored") options) task
   pub lines : (options : List Row) → found ≡ Some (codes "lines", options) → task ≡ Some Lines
   pub test : (options : List Row) → found ≡ Some (codes "test", options) → (texts : List (List ℕ)) → all_of (codes "FILE") options ≡ Some texts → (tests : _) × (task ≡ Some (Test tests)) × AreAsked options tests
 

@@ -59,6 +59,10 @@ declared_sentence declared.TooLong = codes "review: the file of attributes has m
 declared_sentence declared.NotJson = codes "review: the file of attributes isn't JSON"
 declared_sentence (declared.Attributes e) = codes "review: the file of attributes hasn't the form of one"
 
+-- of a file of a state that can't be used
+abbrev pub state_sentence : List ℕ
+state_sentence = codes "review: the file of the state hasn't the lines of a dump"
+
 -- to somebody who serves lines that are typed at a terminal
 abbrev pub terminal_sentence : List ℕ
 terminal_sentence = codes "review: one command a line, as docs/COMMANDS.md says; Ctrl-D at the beginning of a line ends; a terminal cuts lines at 4,095 bytes"

@@ -14,6 +14,7 @@ use crate::sources::Source;
 use crate::status::{
     REFUSED, check_status, lines_status, serve_status, status_of, usage_status, words_status,
 };
+use crate::together::check_together;
 use crate::trying::run_tests;
 use crate::watching::Watched;
 use crate::words::{command, given_words};
@@ -111,14 +112,14 @@ pub(crate) fn read_source<R: Files + Input + Eprint + AllocGlobal>(
 }
 
 /// Says on standard error where in a source what is wrong, if that can be said.
-fn tell_place(rt: &impl Eprint, source: Source<'_>, told: &Option<String>) {
+pub(crate) fn tell_place(rt: &impl Eprint, source: Source<'_>, told: &Option<String>) {
     if let Some(told) = told {
         let _ = eprintln!(rt; "{}: {told}", source.name());
     }
 }
 
 /// Says on standard error what is wrong with a file, if anything is, and where in it.
-fn tell_refused(rt: &impl Eprint, source: Source<'_>, judged: &Judged) {
+pub(crate) fn tell_refused(rt: &impl Eprint, source: Source<'_>, judged: &Judged) {
     if !is_fine(judged) {
         let sentence = match judged.verdict {
             Verdict::Passed(_, _, _) => undeclared_sentence(),
@@ -141,7 +142,7 @@ fn checked_status(rt: &impl Eprint, source: Source<'_>, checked: Result<Judged, 
 }
 
 /// The attributes that a source declares, or the exit status where they can't be had, which is told on standard error.
-fn read_declared<R: Files + Input + Eprint + AllocGlobal>(
+pub(crate) fn read_declared<R: Files + Input + Eprint + AllocGlobal>(
     rt: &R,
     source: Source<'_>,
 ) -> Result<Items<Attribute>, u8> {
@@ -221,6 +222,9 @@ fn act<R: Files + Input + Print + Eprint + AllocGlobal>(
     match task_of(matches) {
         Some(Task::Serve(modules)) => serve_input(rt, modules, is_terminal),
         Some(Task::Check(source, declared)) => check_source(rt, source, declared),
+        Some(Task::Together(words, declared, stored)) => {
+            check_together(rt, words, declared, stored)
+        }
         Some(Task::Lines) => write_lines(rt),
         Some(Task::Test(tests)) => run_tests(rt, tests),
         None => REFUSED,

@@ -1,4 +1,4 @@
-//! The program as a library: what `review serve`, `review check FILE`, `review lines` and `review test FILE..` do, and
+//! The program as a library: what `review serve`, `review check FILE..`, `review lines` and `review test FILE..` do, and
 //! the exit statuses that they end with.
 #![tactic(auto)]
 
@@ -13,6 +13,7 @@ mod sentences;
 mod sources;
 mod status;
 mod testing;
+mod together;
 mod trying;
 mod watching;
 mod words;
@@ -25,7 +26,7 @@ pub use options::{Modules, Task, task_of};
 pub use running::serve_from;
 pub use sentences::{
     declared_sentence, document_sentence, fault_sentence, file_sentence, lines_sentence,
-    terminal_sentence, undeclared_sentence, words_sentence,
+    state_sentence, terminal_sentence, undeclared_sentence, words_sentence,
 };
 pub use sources::Source;
 pub use status::{

@@ -2,7 +2,8 @@
 
 ghost use Rattle.std.specs.Prelude.{◌≡◌};
 ghost use Rattle.ent_program.specs.Sentences.{declared_sentence, document_sentence, fault_sentence, file_sentence};
-ghost use Rattle.ent_program.specs.Sentences.{lines_sentence, terminal_sentence, undeclared_sentence, words_sentence};
+ghost use Rattle.ent_program.specs.Sentences.{lines_sentence, state_sentence, terminal_sentence, undeclared_sentence};
+ghost use Rattle.ent_program.specs.Sentences.{words_sentence};
 
 use crate::checking::{FILE_LIMIT, FileFault};
 use crate::declaring::DeclaredFault;
@@ -100,6 +101,13 @@ pub fn declared_sentence(fault: DeclaredFault) -> &'static str
         DeclaredFault::NotJson => "review: the file of attributes isn't JSON",
         DeclaredFault::Attributes(_) => "review: the file of attributes hasn't the form of one",
     }
+}
+
+/// What is said of a file of a state that can't be used.
+pub fn state_sentence() -> &'static str
+    ensures { result.now ≡ state_sentence }
+{
+    "review: the file of the state hasn't the lines of a dump"
 }
 
 /// What somebody is told who serves lines that are typed at a terminal.

@@ -47,6 +47,9 @@ pub const RUN: &str = "run";
 /// The option of `check` that names a file of declared attributes.
 pub const ATTRIBUTES: &str = "attributes";
 
+/// The option of `check` that names a file with the lines of a state.
+pub const STORED: &str = "stored";
+
 /// The option of `serve` that says how many modules hold values of attributes.
 pub const ATTRIBUTE_MODULES: &str = "attribute-modules";
 
@@ -84,15 +87,23 @@ fn serve<'a>(alloc: Global) -> Result<Command<'a>, AllocError> {
 /// The subcommand `check`.
 fn check<'a>(alloc: Global) -> Result<Command<'a>, AllocError> {
     let file = Arg::new(alloc, FILE)
-        .help("A policy or policy set in JSON, of at most 1048576 bytes; - is standard input")
+        .help(
+            "Policies and policy sets in JSON, each of at most 1048576 bytes; - is standard input",
+        )
+        .num_args(1..)
         .required(true);
     let attributes = Arg::new(alloc, ATTRIBUTES)
         .long(ATTRIBUTES)
         .value_name("DECLARED")
-        .help("The attributes that the policy may ask for, in JSON");
+        .help("The attributes that the policies may ask for, in JSON");
+    let stored = Arg::new(alloc, STORED)
+        .long(STORED)
+        .value_name("STATE")
+        .help("The lines of a dump, with whose policies the references are looked up");
     Command::new(alloc, "check")
-        .about("Says whether the policy in a file may be stored, or why not")
+        .about("Says whether the policies in files may be stored, or why not")
         .arg(attributes)?
+        .arg(stored)?
         .arg(file)
 }
 

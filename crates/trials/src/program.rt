@@ -97,6 +97,15 @@ const DECLARED: &str =
 /// A list without attributes.
 const NONE_DECLARED: &str = r#"{"Attributes":[]}"#;
 
+/// A set with references to two policies.
+const TWO_REFERENCES: &str = r#"{"PolicySet":{"PolicySetId":"s","Version":"1",
+ "PolicyCombiningAlgId":"urn:oasis:names:tc:xacml:3.0:policy-combining-algorithm:deny-overrides",
+ "Children":[{"PolicyIdReference":{"Id":"p"}},{"PolicyIdReference":{"Id":"q"}}]}}"#;
+
+/// The line of a dump that adds one of them.
+const STORED: &str =
+    r#"{"do":"policy.add","document":{"Policy":{"PolicyId":"p","Version":"1","RuleCombiningAlgId":"urn:oasis:names:tc:xacml:3.0:rule-combining-algorithm:deny-overrides"}},"module":0}"#;
+
 /// Words that check the file or the input, with the file and the input, what is written, what is said at the beginning,
 /// and the status.
 const CHECKED: &[(&[&str], &str, &str, &str, &str, u8)] = &[
@@ -138,6 +147,30 @@ const CHECKED: &[(&[&str], &str, &str, &str, &str, u8)] = &[
         ASKING,
         "",
         "review: the file of attributes hasn't the form of one\nwhole: ",
+        1,
+    ),
+    (
+        &["review", "check", "whole", "-"],
+        SMALL_LETTER,
+        TWO_REFERENCES,
+        "refused 6 9\nok PolicySet s 1\n",
+        "review: a key is unknown or missing, or what stands at it has the wrong form\nwhole: /",
+        1,
+    ),
+    (
+        &["review", "check", "--stored", "whole", "-"],
+        STORED,
+        TWO_REFERENCES,
+        "ok PolicySet s 1\n",
+        "standard input: /PolicySet/Children/1: line 3, column 48: no Policy q is stored\nreview: 1 fault\n",
+        1,
+    ),
+    (
+        &["review", "check", "--stored", "whole", "-"],
+        "{\"do\":\"work\"}",
+        TWO_REFERENCES,
+        "",
+        "review: the file of the state hasn't the lines of a dump\nwhole: line 1\n",
         1,
     ),
 ];

@@ -80,6 +80,15 @@ const TAKEN: &[(&[&str], &str)] = &[
         &["check", "--attributes", "-", "a"],
         "Check(File(\"a\"), Some(Input))",
     ),
+    (&["check", "a", "-"], "Together([\"a\", \"-\"], None, None)"),
+    (
+        &["check", "--stored", "s", "a"],
+        "Together([\"a\"], None, Some(File(\"s\")))",
+    ),
+    (
+        &["check", "--attributes", "d", "--stored", "-", "a", "b"],
+        "Together([\"a\", \"b\"], Some(File(\"d\")), Some(Input))",
+    ),
     (&["lines"], "Lines"),
     (&["test", "a", "-", "b"], "Test([\"a\", \"-\", \"b\"])"),
 ];

@@ -1,24 +1,17 @@
 use Rattle.std.proofs.Common.{◌∙◌, ap, codes, refl, rules, subst}
-use Rattle.std.specs.Prelude.{[], option_map, unwrap_or}
 use Rattle.clap.specs.Matches.{found_of}
 use Rattle.clap.specs.Simple.{subcommand_rows_of}
 use Rattle.clap.specs.Walk.{all_of, first_of, rows_of}
 use Rattle.ent_program.proofs.Rows.{rows_found}
-use Rattle.ent_program.specs.Options.{AreAsked}
-use Rattle.ent_program.specs.Sources.{path_named}
+use Rattle.ent_program.specs.Options.{AreAsked, IsCheckOf}
 use Rattle.ent_program.proofs.options.task_of.Goals as goal
 
 pub returns-in-check-clause-task : goal.returns-in-check-clause-task
 returns-in-check-clause-task c = record {
   serve = search rules;
-  check = λ options found.
-      let rows = rows_found (rows_of (found_of c.in_ok-name.options.now)) options (subcommand_rows_of c.args.matches.now) (codes "check") c.in_ok-name.ensures.rows found in (
-        c.file_of.result,
-        c.attributes_of.result,
-        refl,
-        c.file_of.ensures ∙ ap (λ rs. path_named (unwrap_or (first_of (codes "FILE") rs) [])) rows,
-        c.attributes_of.ensures ∙ ap (λ rs. option_map path_named (first_of (codes "attributes") rs)) rows,
-      );
+  check = λ options found texts is.
+      let rows = rows_found (rows_of (found_of c.in_ok-name.options.now)) options (subcommand_rows_of c.args.matches.now) (codes "check") c.in_ok-name.ensures.rows found in
+      subst (λ rs. IsCheckOf texts (first_of (codes "attributes") rs) (first_of (codes "stored") rs) c.check_of.result) rows (c.check_of.ensures.task texts (ap (all_of (codes "FILE")) rows ∙ is));
   lines = search rules;
   test = search rules;
 }

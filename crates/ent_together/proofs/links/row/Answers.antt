@@ -1,0 +1,13 @@
+use Rattle.std.proofs.Common.{◌∙◌, ap, map}
+use Rattle.std.specs.FinMap.{entries}
+use Rattle.ent_finder.specs.Finding.{most_recent}
+use Rattle.ent_finder.specs.Slots.{held}
+use Rattle.ent_together.proofs.Numbers.{row_step}
+use Rattle.ent_together.specs.proofs_only.Rows.{numbered}
+use Rattle.ent_together.proofs.links.row.Goals as goal
+
+pub loop-one-preserved : goal.loop-one-preserved
+loop-one-preserved c =
+    let docs = held c.args.docs.now in
+    ap (map (numbered (entries docs))) c.in_ok-put.ensures
+    ∙ row_step (numbered (entries docs)) (λ p. most_recent p.reference docs) _ c.loop-one.one-index c.one-item.result c.loop-one-test.true c.one-item.is c.loop-one.row.items c.number_found.result c.number_found.ensures c.loop-one.invariant

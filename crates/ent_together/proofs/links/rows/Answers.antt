@@ -1,0 +1,11 @@
+use Rattle.std.proofs.Common.{◌∙◌, Some, ap, map}
+use Rattle.std.proofs.lemmas.List.{take_all}
+use Rattle.ent_finder.specs.Slots.{held}
+use Rattle.ent_together.proofs.Flags.{rows_all}
+use Rattle.ent_together.specs.Together.{leads_to}
+use Rattle.ent_together.proofs.links.rows.Goals as goal
+
+pub returns : goal.returns
+returns c =
+    rows_all (held c.args.docs.now) (λ row. row.items) c.loop-one.rows.items c.args.all.now c.requires
+    (c.loop-one.invariant ∙ ap (λ all. map (λ one. map Some (leads_to (held c.args.docs.now) one.document.now)) all) (take_all c.loop-one.one-index c.args.all.now c.loop-one-test.false))

@@ -1,0 +1,4 @@
+pub mod Law
+pub mod References
+pub mod Together
+pub mod proofs_only

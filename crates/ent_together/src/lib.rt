@@ -1,0 +1,18 @@
+//! What documents come to that are stored together: references that find none of them, and where references lead.
+#![tactic(auto)]
+
+mod held;
+mod law;
+mod links;
+mod missing;
+mod placed;
+mod sentences;
+mod state;
+mod together;
+
+pub use held::Held;
+pub use law::{endless_is_without_end, unfound_references_find_none};
+pub use missing::unfound;
+pub use placed::{PlacedReference, references_of};
+pub use state::{State, StateFault};
+pub use together::Together;
