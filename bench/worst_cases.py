@@ -195,13 +195,21 @@ def chain(share):
     return policy('p', [rule(variable('v0'), f'r{i}') for i in range(count)], VariableDefinition=definitions)
 
 
-def named(count, others):
-    """So many variables, each of which names so many of those behind it, and the last a fault."""
+def those_that_name(count, others, last):
+    """So many variables, each of which names so many of those behind it, and the last that is that."""
     def expression(i):
         return apply('and', *[variable(f'v{min(i + 1 + k, count)}') for k in range(others)])
-    definitions = [definition(f'v{i}', expression(i)) for i in range(count)]
-    definitions.append(definition(f'v{count}', variable('nowhere')))
+    return [*[definition(f'v{i}', expression(i)) for i in range(count)], definition(f'v{count}', last)]
+
+
+def over(definitions):
+    """A policy of definitions and a rule that begins with the first."""
     return policy('p', [rule(variable('v0'))], VariableDefinition=definitions)
+
+
+def named(count, others):
+    """So many variables, each of which names so many of those behind it, and the last a fault."""
+    return over(those_that_name(count, others, variable('nowhere')))
 
 
 def wide_variables(share):
@@ -221,6 +229,42 @@ def many_literals(share):
 def many_names(share):
     """254 variables that each name 80 others."""
     return named(int(254 * share), 80)
+
+
+def many_names_first(share):
+    """The same, but the fault in the last argument of the first."""
+    definitions = those_that_name(int(254 * share), 80, value(True))
+    definitions[0]['Expression']['Apply']['Arguments'][-1] = variable('nowhere')
+    return over(definitions)
+
+
+def many_arguments(share):
+    """120 definitions of 90 literals, and a condition of 15 levels of 250 arguments whose fault is deepest and last."""
+    definitions = [definition(f'v{i}', apply('and', *[value(True)] * 90)) for i in range(int(120 * share))]
+    condition = variable('nowhere')
+    for _ in range(14):
+        condition = apply('and', *[variable('v1')] * int(250 * share), condition)
+    return policy('p', [rule(condition)], VariableDefinition=definitions)
+
+
+def all_faulty(share):
+    """254 variables that each name 80 others, each of which has the fault: so none has it but for others, and the last."""
+    definitions = those_that_name(int(254 * share), 80, variable('nowhere'))
+    for each in definitions[:-1]:
+        each['Expression']['Apply']['Arguments'].append(variable('nowhere'))
+    return over(definitions)
+
+
+def in_a_ring(share):
+    """254 variables that each name 80 others, all of which lead to themselves."""
+    count = int(254 * share)
+    return over([definition(f'v{i}', apply('and', *[variable(f'v{(i + 1 + k) % count}') for k in range(80)]))
+                 for i in range(count)])
+
+
+def too_many_nodes(share):
+    """254 variables that each name 80 others, together too many nodes."""
+    return over(those_that_name(int(254 * share), 80, value(True)))
 
 
 # What is measured by the reply to a line, behind other lines.
@@ -248,4 +292,9 @@ CHECKS = {
     'check-wide': wide_variables,
     'check-literals': many_literals,
     'check-names': many_names,
+    'check-first': many_names_first,
+    'check-arguments': many_arguments,
+    'check-all': all_faulty,
+    'check-ring': in_a_ring,
+    'check-nodes': too_many_nodes,
 }

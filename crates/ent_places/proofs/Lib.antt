@@ -1,7 +1,15 @@
+pub mod Alone
 pub mod ArgumentLemmas
 pub mod Finding
+pub mod Gathered
 pub mod Inside
+pub mod Judged
 pub mod LeafLemmas
 pub mod LedLemmas
+pub mod Lightly
 pub mod ListLemmas
+pub mod Named
+pub mod NotedLemmas
+pub mod Ranks
+pub mod Resolved
 pub mod Smallest

@@ -1,63 +1,78 @@
 //! To which variable definitions of a policy one of them leads.
 
-ghost use Rattle.std.specs.Prelude.{◌≡◌, ◌++◌, ◌∷◌, [], IfOk, OnOk, false, get_or, if◌then◌else◌, map};
+ghost use Rattle.std.specs.Prelude.{◌≡◌, ◌++◌, ◌∷◌, ◌||◌, [], IfOk, List, OnOk, false, get_or, if◌then◌else◌, map, ℕ};
 ghost use Rattle.std.specs.List.{list_any, zip};
+ghost use Rattle.ent_policy.specs.proofs_only.Order.{has_id};
 ghost use Rattle.ent_polform.specs.Form.{definition_of};
 ghost use Rattle.ent_places.specs.Led.{led, links, numbers_of, only, readable, referring, refers, refers_to};
-ghost use Rattle.ent_places.specs.proofs_only.Rows.{is_reached_by};
+ghost use Rattle.ent_places.specs.proofs_only.Rows.{by_noted, is_reached_by};
 
 use ent_json::JsonTree;
 use ent_polform::raw_definition;
 use ent_policy::{CheckFault, RawExpression, RawVariableDefinition};
 use std::alloc::{AllocError, Global};
+use std::collections::BTreeSet;
 
-/// Whether an expression refers to the variable, itself or in an argument.
-#[cycle(refers)]
-fn refers(expression: &RawExpression, id: &str) -> bool
-    ensures { result ≡ refers id.now expression.now }
+/// Notes the variables to which an expression refers, itself or in an argument.
+#[cycle(note)]
+pub(crate) fn note<'r>(
+    expression: &'r RawExpression,
+    ids: &mut BTreeSet<&'r str>,
+) -> Result<(), AllocError>
+    ensures { OnOk result ((q : List ℕ) → has_id ids.new q ≡ (has_id ids.old q || refers q expression.now)) }
 {
     match expression {
-        RawExpression::Variable(other) => other.as_str() == id,
-        RawExpression::Apply(_, arguments) => one_refers(arguments.as_slice(), id),
-        _ => false,
+        RawExpression::Variable(id) => {
+            ids.insert(id.as_str())?;
+            Ok(())
+        }
+        RawExpression::Apply(_, arguments) => note_all(arguments.as_slice(), ids),
+        _ => Ok(()),
     }
 }
 
-/// Whether one of some expressions refers to the variable.
-#[cycle(refers)]
-fn one_refers(expressions: &[RawExpression], id: &str) -> bool
-    ensures { result ≡ list_any (λ argument. argument) (map (refers id.now) expressions.now) }
+/// Notes the variables to which some expressions refer.
+#[cycle(note)]
+fn note_all<'r>(
+    expressions: &'r [RawExpression],
+    ids: &mut BTreeSet<&'r str>,
+) -> Result<(), AllocError>
+    ensures { OnOk result ((q : List ℕ)
+        → has_id ids.new q ≡ (has_id ids.old q || list_any (λ argument. argument) (map (refers q) expressions.now))) }
 {
     for expression in expressions {
-        if refers(expression, id) {
-            return true;
-        }
+        note(expression, ids)?;
     }
-    false
+    Ok(())
 }
 
-/// Whether a definition refers to the variable; one that can't be read refers to none.
-fn refers_to(definition: &Option<RawVariableDefinition>, id: &str) -> bool
-    ensures { result ≡ refers_to id.now definition.now }
+/// The variables to which a definition refers; one that can't be read refers to none.
+fn noted(
+    alloc: Global,
+    definition: &Option<RawVariableDefinition>,
+) -> Result<BTreeSet<&str>, AllocError>
+    ensures { IfOk result (λ ids. (q : List ℕ) → has_id ids q ≡ refers_to q definition.now) }
 {
-    match definition {
-        None => false,
-        Some(definition) => refers(&definition.expression, id),
+    let mut ids = BTreeSet::new(alloc);
+    if let Some(definition) = definition {
+        note(&definition.expression, &mut ids)?;
     }
+    Ok(ids)
 }
 
-/// The numbers of the definitions that refer to the variable of one of them.
-fn referring(
+/// For each definition the variables to which it refers.
+fn each_noted(
     alloc: Global,
     definitions: &[Option<RawVariableDefinition>],
-    definition: &Option<RawVariableDefinition>,
-) -> Result<Vec<usize>, AllocError>
-    ensures { IfOk result (λ row. row.items ≡ referring definitions.now definition.now) }
+) -> Result<Vec<BTreeSet<&str>>, AllocError>
+    ensures { IfOk result (λ all. (q : List ℕ)
+        → map (λ ids. has_id ids q) all.items ≡ map (refers_to q) definitions.now) }
 {
-    match definition {
-        None => Ok(Vec::new(alloc)),
-        Some(definition) => referring_to(alloc, definitions, definition.id.as_str()),
+    let mut all = Vec::with_capacity(alloc, definitions.len())?;
+    for definition in definitions {
+        all.push(noted(alloc, definition)?)?;
     }
+    Ok(all)
 }
 
 /// Puts a number last, if it is to be.
@@ -71,18 +86,28 @@ fn put(row: &mut Vec<usize>, number: usize, is_wanted: bool) -> Result<(), Alloc
 }
 
 /// The numbers of the definitions that refer to the variable.
-fn referring_to(
-    alloc: Global,
-    definitions: &[Option<RawVariableDefinition>],
-    id: &str,
-) -> Result<Vec<usize>, AllocError>
-    ensures { IfOk result (λ row. row.items ≡ numbers_of (refers_to id.now) 0 definitions.now) }
+fn referring_to(alloc: Global, noted: &[BTreeSet<&str>], id: &str) -> Result<Vec<usize>, AllocError>
+    ensures { IfOk result (λ row. row.items ≡ numbers_of (λ ids. has_id ids id.now) 0 noted.now) }
 {
     let mut row = Vec::new(alloc);
-    for (number, definition) in definitions.iter().enumerate() {
-        put(&mut row, number, refers_to(definition, id))?;
+    for (number, ids) in noted.iter().enumerate() {
+        put(&mut row, number, ids.contains(id))?;
     }
     Ok(row)
+}
+
+/// The numbers of the definitions that refer to the variable of one of them.
+fn referring(
+    alloc: Global,
+    noted: &[BTreeSet<&str>],
+    definition: &Option<RawVariableDefinition>,
+) -> Result<Vec<usize>, AllocError>
+    ensures { IfOk result (λ row. row.items ≡ by_noted noted.now definition.now) }
+{
+    match definition {
+        None => Ok(Vec::new(alloc)),
+        Some(definition) => referring_to(alloc, noted, definition.id.as_str()),
+    }
 }
 
 /// For each definition the numbers of those that refer to its variable.
@@ -92,9 +117,10 @@ fn rows_of(
 ) -> Result<Vec<Vec<usize>>, AllocError>
     ensures { IfOk result (λ rows. map (λ row. row.items) rows.items ≡ map (referring definitions.now) definitions.now) }
 {
+    let noted = each_noted(alloc, definitions)?;
     let mut rows = Vec::with_capacity(alloc, definitions.len())?;
     for definition in definitions {
-        rows.push(referring(alloc, definitions, definition)?)?;
+        rows.push(referring(alloc, noted.as_slice(), definition)?)?;
     }
     Ok(rows)
 }

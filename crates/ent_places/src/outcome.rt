@@ -29,7 +29,7 @@ pub(crate) fn told(first: Option<DocFault>) -> Result<(), CheckFault>
 }
 
 /// The place of a fault in the order in which faults are told.
-fn place(fault: DocFault) -> u8
+pub(crate) fn place(fault: DocFault) -> u8
     ensures { result ≡ place fault }
 {
     match fault {

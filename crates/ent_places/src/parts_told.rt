@@ -84,6 +84,7 @@ fn definitions<J: JsonTree>(alloc: Global, values: &[J]) -> Result<(), CheckFaul
         definitions: values,
         aside: None,
         standing: Vec::new(alloc),
+        clear: false,
     };
     variables(alloc, &scope)
 }

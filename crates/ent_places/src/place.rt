@@ -1,21 +1,26 @@
 //! The smallest part of a document that has its first fault.
 
-ghost use Rattle.std.specs.Prelude.{◌≡◌, ◌++◌, ◌∷◌, [], Err, IfOk, None, Some, codes, find, map, option_map};
+ghost use Rattle.std.specs.Prelude.{◌≡◌, ◌++◌, ◌∷◌, [], Err, IfOk, None, Some, codes, false, find, get_or, map};
+ghost use Rattle.std.specs.Prelude.{option_map};
 ghost use Rattle.std.specs.Prelude.{string_bytes, true};
 ghost use Rattle.serde_json.specs.Find.{get};
 ghost use Rattle.ent_polform.specs.Form.{document_of};
 ghost use Rattle.ent_places.specs.Parts.{item};
+ghost use Rattle.ent_places.specs.proofs_only.Clear.{AreMarked, IsMarked, IsMarkedAs};
 ghost use Rattle.ent_places.specs.proofs_only.Rows.{links_in};
+ghost use Rattle.ent_places.specs.proofs_only.Suspects.{AreSuspectsIn};
 ghost use Rattle.ent_places.specs.Places.{IsSmallest, StandsAt, at_key, at_keys, at_numbers, has_fault, in_list};
-ghost use Rattle.ent_places.specs.Places.{inside, is_fault, is_faulty, listed, scope_at, scope_in, scope_of_member};
+ghost use Rattle.ent_places.specs.Places.{inside, listed, scope_at, scope_in, scope_of_member};
 ghost use Rattle.ent_places.specs.Places.{whole};
 ghost use Rattle.ent_places.specs.Views.{scope_of, spot_of};
 
+use crate::clear::marked;
+use crate::faulty::has_fault;
 use crate::led::links;
 use crate::members::listed;
 use crate::part::Part;
-use crate::parts_told::{scope_told, told};
 use crate::scope::Scope;
+use crate::suspects::suspects;
 use ent_json::JsonTree;
 use ent_policy::DocFault;
 use std::alloc::{AllocError, Global};
@@ -33,10 +38,19 @@ pub struct Place<'a, J> {
     pub json: &'a J,
 }
 
+/// What is known of the members of a list before one is judged: of definitions, which refer to which, and which may
+/// have the fault.
+#[derive(Drop)]
+struct Known {
+    links: Vec<Vec<usize>>,
+    suspects: Vec<bool>,
+}
+
 impl<'a, J: JsonTree> Place<'a, J> {
     /// The place of a whole document.
     fn whole(alloc: Global, json: &'a J) -> Place<'a, J>
-        ensures { spot_of J.content result ≡ whole (J.content json.now) }
+        ensures spot { spot_of J.content result ≡ whole (J.content json.now) }
+        ensures clear { result.scope.clear ≡ false }
     {
         Place {
             pointer: String::new(alloc),
@@ -47,36 +61,23 @@ impl<'a, J: JsonTree> Place<'a, J> {
     }
 
     /// The definitions around what stands in this part.
-    fn scope_in(&self, alloc: Global) -> Result<Scope<'a, J>, AllocError>
-        ensures { IfOk result (λ s. scope_of J.content s
+    fn scope_in(&self, alloc: Global, fault: DocFault) -> Result<Scope<'a, J>, AllocError>
+        requires { IsMarked J.content fault self.now.scope }
+        ensures scope { IfOk result (λ s. scope_of J.content s
             ≡ scope_in self.now.part (scope_of J.content self.now.scope) (J.content self.now.json.now)) }
+        ensures marked { IfOk result (λ s. IsMarked J.content fault s) }
     {
         match self.part {
-            Part::Policy => Ok(Scope::of(alloc, self.json.get("VariableDefinition"))),
+            Part::Policy => {
+                marked(
+                    alloc,
+                    fault,
+                    Scope::of(alloc, self.json.get("VariableDefinition")),
+                )
+            }
             Part::Set => Ok(Scope::nowhere(alloc)),
+            Part::Definition => marked(alloc, fault, self.scope.copied(alloc)?),
             _ => self.scope.copied(alloc),
-        }
-    }
-
-    /// The definitions around what stands at a key of this part, which is for that.
-    fn scope_at(&self, alloc: Global, part: Part) -> Result<Scope<'a, J>, AllocError>
-        ensures { IfOk result (λ s. scope_of J.content s
-            ≡ scope_at part (scope_in self.now.part (scope_of J.content self.now.scope) (J.content self.now.json.now))) }
-    {
-        match part {
-            Part::Definitions
-            | Part::Name
-            | Part::Description
-            | Part::Version
-            | Part::Pattern
-            | Part::RuleAlgorithm
-            | Part::PolicyAlgorithm
-            | Part::Function
-            | Part::DataType
-            | Part::Literal
-            | Part::Effect
-            | Part::Flag => Ok(Scope::nowhere(alloc)),
-            _ => self.scope_in(alloc),
         }
     }
 
@@ -91,6 +92,29 @@ impl<'a, J: JsonTree> Place<'a, J> {
         }
     }
 
+    /// Which members of this list may have the fault; behind the end of the list each may.
+    fn suspects(&self, alloc: Global, fault: DocFault) -> Result<Vec<bool>, AllocError>
+        ensures { IfOk result (λ v. AreSuspectsIn fault self.now.part (scope_of J.content self.now.scope)
+            (listed (Some (J.content self.now.json.now))) v.items) }
+    {
+        match self.part {
+            Part::Definitions => suspects(alloc, listed(Some(self.json)), fault),
+            _ => Ok(Vec::new(alloc)),
+        }
+    }
+
+    /// What is known of the members of this list before one is judged.
+    fn known(&self, alloc: Global, fault: DocFault) -> Result<Known, AllocError>
+        ensures links { IfOk result (λ k. map (λ row. row.items) k.links.items
+            ≡ links_in self.now.part (listed (Some (J.content self.now.json.now)))) }
+        ensures suspects { IfOk result (λ k. AreSuspectsIn fault self.now.part (scope_of J.content self.now.scope)
+            (listed (Some (J.content self.now.json.now))) k.suspects.items) }
+    {
+        let suspects = self.suspects(alloc, fault)?;
+        let links = self.links(alloc)?;
+        Ok(Known { links, suspects })
+    }
+
     /// The definitions around the member of that number of this list.
     fn scope_of_member(
         &self,
@@ -98,9 +122,11 @@ impl<'a, J: JsonTree> Place<'a, J> {
         links: &[Vec<usize>],
         number: usize,
     ) -> Result<Scope<'a, J>, AllocError>
-        requires { map (λ row. row.items) links.now ≡ links_in self.now.part (listed (Some (J.content self.now.json.now))) }
-        ensures { IfOk result (λ s. scope_of J.content s ≡ scope_of_member self.now.part (scope_of J.content self.now.scope)
-            (listed (Some (J.content self.now.json.now))) number) }
+        requires { map (λ row. row.items) links.now
+            ≡ links_in self.now.part (listed (Some (J.content self.now.json.now))) }
+        ensures scope { IfOk result (λ s. scope_of J.content s ≡ scope_of_member self.now.part
+            (scope_of J.content self.now.scope) (listed (Some (J.content self.now.json.now))) number) }
+        ensures clear { IfOk result (λ s. IsMarkedAs J.content self.now.scope s) }
     {
         match self.part {
             Part::Definitions => Scope::around(alloc, listed(Some(self.json)), links, number),
@@ -108,22 +134,27 @@ impl<'a, J: JsonTree> Place<'a, J> {
         }
     }
 
-    /// What stands at the key of this part, if it has the fault.
+    /// What stands at the key of this part, if it has the fault; the definitions are those around what stands in it.
     fn at_key(
         &self,
         alloc: Global,
+        scope: &Scope<'a, J>,
         key: &str,
         part: Part,
         fault: DocFault,
     ) -> Result<Option<Place<'a, J>>, AllocError>
-        ensures { IfOk result (λ o. option_map (spot_of J.content) o ≡ find (has_fault fault)
+        requires scope { scope_of J.content scope.now
+            ≡ scope_in self.now.part (scope_of J.content self.now.scope) (J.content self.now.json.now) }
+        requires marked { IsMarked J.content fault scope.now }
+        ensures found { IfOk result (λ o. option_map (spot_of J.content) o ≡ find (has_fault fault)
             (at_key (spot_of J.content self.now) (key.now, part) (get key.now (J.content self.now.json.now)))) }
+        ensures marked { IfOk result (λ o. AreMarked J.content fault o) }
     {
         let Some(json) = self.json.get(key) else {
             return Ok(None);
         };
-        let scope = self.scope_at(alloc, part)?;
-        if !is_faulty(alloc, fault, part, &scope, json)? {
+        let scope = scope_at(alloc, part, scope)?;
+        if !has_fault(alloc, fault, part, &scope, json)? {
             return Ok(None);
         }
         let pointer = pointer_to(alloc, self.pointer.as_str(), key)?;
@@ -137,10 +168,14 @@ impl<'a, J: JsonTree> Place<'a, J> {
 
     /// The first part at a key of this part that has the fault.
     fn at_keys(&self, alloc: Global, fault: DocFault) -> Result<Option<Place<'a, J>>, AllocError>
-        ensures { IfOk result (λ o. option_map (spot_of J.content) o ≡ find (has_fault fault) (at_keys (spot_of J.content self.now))) }
+        requires { IsMarked J.content fault self.now.scope }
+        ensures found { IfOk result (λ o. option_map (spot_of J.content) o
+            ≡ find (has_fault fault) (at_keys (spot_of J.content self.now))) }
+        ensures marked { IfOk result (λ o. AreMarked J.content fault o) }
     {
+        let scope = self.scope_in(alloc, fault)?;
         for row in self.part.rows() {
-            if let Some(found) = self.at_key(alloc, row.0, row.1, fault)? {
+            if let Some(found) = self.at_key(alloc, &scope, row.0, row.1, fault)? {
                 return Ok(Some(found));
             }
         }
@@ -151,18 +186,28 @@ impl<'a, J: JsonTree> Place<'a, J> {
     fn member(
         &self,
         alloc: Global,
-        links: &[Vec<usize>],
+        known: &Known,
         number: usize,
         part: Part,
         json: &'a J,
         fault: DocFault,
     ) -> Result<Option<Place<'a, J>>, AllocError>
-        requires { map (λ row. row.items) links.now ≡ links_in self.now.part (listed (Some (J.content self.now.json.now))) }
-        ensures { IfOk result (λ o. option_map (spot_of J.content) o ≡ find (has_fault fault)
-            (at_numbers (spot_of J.content self.now) part (listed (Some (J.content self.now.json.now))) number (J.content json.now ∷ []))) }
+        requires item { item self.now.part ≡ Some part }
+        requires links { map (λ row. row.items) known.now.links.items
+            ≡ links_in self.now.part (listed (Some (J.content self.now.json.now))) }
+        requires suspects { AreSuspectsIn fault self.now.part (scope_of J.content self.now.scope)
+            (listed (Some (J.content self.now.json.now))) known.now.suspects.items }
+        requires marked { IsMarked J.content fault self.now.scope }
+        ensures found { IfOk result (λ o. option_map (spot_of J.content) o ≡ find (has_fault fault)
+            (at_numbers (spot_of J.content self.now) part (listed (Some (J.content self.now.json.now))) number
+            (J.content json.now ∷ []))) }
+        ensures marked { IfOk result (λ o. AreMarked J.content fault o) }
     {
-        let scope = self.scope_of_member(alloc, links, number)?;
-        if !is_faulty(alloc, fault, part, &scope, json)? {
+        if !is_suspect(known.suspects.as_slice(), number) {
+            return Ok(None);
+        }
+        let scope = self.scope_of_member(alloc, known.links.as_slice(), number)?;
+        if !has_fault(alloc, fault, part, &scope, json)? {
             return Ok(None);
         }
         let name = format!(in alloc; "{number}")?;
@@ -177,19 +222,49 @@ impl<'a, J: JsonTree> Place<'a, J> {
 
     /// The first member of this list that has the fault.
     fn in_list(&self, alloc: Global, fault: DocFault) -> Result<Option<Place<'a, J>>, AllocError>
-        ensures { IfOk result (λ o. option_map (spot_of J.content) o
+        requires { IsMarked J.content fault self.now.scope }
+        ensures found { IfOk result (λ o. option_map (spot_of J.content) o
             ≡ find (has_fault fault) (in_list (spot_of J.content self.now) (item self.now.part))) }
+        ensures marked { IfOk result (λ o. AreMarked J.content fault o) }
     {
         let Some(part) = self.part.item() else {
             return Ok(None);
         };
-        let links = self.links(alloc)?;
+        let known = self.known(alloc, fault)?;
         for (number, json) in listed(Some(self.json)).iter().enumerate() {
-            if let Some(found) = self.member(alloc, links.as_slice(), number, part, json, fault)? {
+            if let Some(found) = self.member(alloc, &known, number, part, json, fault)? {
                 return Ok(Some(found));
             }
         }
         Ok(None)
+    }
+
+    /// The first part one level inside of this one that has the fault.
+    fn inside(&self, alloc: Global, fault: DocFault) -> Result<Option<Place<'a, J>>, AllocError>
+        requires { IsMarked J.content fault self.now.scope }
+        ensures found { IfOk result (λ o. option_map (spot_of J.content) o
+            ≡ find (has_fault fault) (inside (spot_of J.content self.now))) }
+        ensures marked { IfOk result (λ o. AreMarked J.content fault o) }
+    {
+        match self.at_keys(alloc, fault)? {
+            Some(found) => Ok(Some(found)),
+            None => self.in_list(alloc, fault),
+        }
+    }
+
+    /// The same place, in a scope that isn't marked.
+    fn unmarked(&self, alloc: Global) -> Result<Place<'a, J>, AllocError>
+        ensures same { IfOk result (λ p. spot_of J.content p ≡ spot_of J.content self.now) }
+        ensures unmarked { IfOk result (λ p. p.scope.clear ≡ false) }
+    {
+        let mut scope = self.scope.copied(alloc)?;
+        scope.clear = false;
+        Ok(Place {
+            pointer: String::from_str(alloc, self.pointer.as_str())?,
+            part: self.part,
+            scope,
+            json: self.json,
+        })
     }
 
     /// The first part one level inside of this one that has the fault.
@@ -202,12 +277,46 @@ impl<'a, J: JsonTree> Place<'a, J> {
         alloc: Global,
         fault: DocFault,
     ) -> Result<Option<Place<'a, J>>, AllocError>
-        ensures { IfOk result (λ o. option_map (spot_of J.content) o ≡ find (has_fault fault) (inside (spot_of J.content self.now))) }
+        ensures { IfOk result (λ o. option_map (spot_of J.content) o
+            ≡ find (has_fault fault) (inside (spot_of J.content self.now))) }
     {
-        match self.at_keys(alloc, fault)? {
-            Some(found) => Ok(Some(found)),
-            None => self.in_list(alloc, fault),
-        }
+        self.unmarked(alloc)?.inside(alloc, fault)
+    }
+}
+
+/// Whether the member of that number may have the fault.
+fn is_suspect(suspects: &[bool], number: usize) -> bool
+    ensures { result ≡ get_or suspects.now number true }
+{
+    match suspects.get(number) {
+        Some(is_suspect) => *is_suspect,
+        None => true,
+    }
+}
+
+/// The definitions around what stands at a key and is for that, by those around what stands in its object.
+fn scope_at<'a, J: JsonTree>(
+    alloc: Global,
+    part: Part,
+    scope: &Scope<'a, J>,
+) -> Result<Scope<'a, J>, AllocError>
+    ensures scope { IfOk result (λ s. scope_of J.content s ≡ scope_at part (scope_of J.content scope.now)) }
+    ensures clear { IfOk result (λ s. IsMarkedAs J.content scope.now s) }
+{
+    match part {
+        Part::Definitions
+        | Part::Name
+        | Part::Description
+        | Part::Version
+        | Part::Pattern
+        | Part::RuleAlgorithm
+        | Part::PolicyAlgorithm
+        | Part::Function
+        | Part::DataType
+        | Part::Literal
+        | Part::Effect
+        | Part::Flag => Ok(Scope::nowhere(alloc)),
+        _ => scope.copied(alloc),
     }
 }
 
@@ -221,46 +330,17 @@ fn pointer_to(alloc: Global, place: &str, name: &str) -> Result<String, AllocErr
     Ok(pointer)
 }
 
-/// Whether it is that fault.
-fn is_fault(fault: DocFault, told: Option<DocFault>) -> bool
-    ensures { result ≡ is_fault fault told }
-{
-    match told {
-        None => false,
-        Some(told) => fault.code() == told.code(),
-    }
-}
-
-/// Whether a part has the fault: it is told of the part, and not of the definitions around it alone.
-///
-/// # Errors
-///
-/// `AllocError` if memory runs out.
-pub fn is_faulty<J: JsonTree>(
-    alloc: Global,
-    fault: DocFault,
-    part: Part,
-    scope: &Scope<'_, J>,
-    json: &J,
-) -> Result<bool, AllocError>
-    ensures { IfOk result (λ b. b ≡ is_faulty fault part (scope_of J.content scope.now) (J.content json.now)) }
-{
-    if !is_fault(fault, told(alloc, part, scope, json)?) {
-        return Ok(false);
-    }
-    Ok(!is_fault(fault, scope_told(alloc, scope)?))
-}
-
 /// The smallest part that has the fault, of a place that has it.
 fn smallest<'a, J: JsonTree>(
     alloc: Global,
     place: Place<'a, J>,
     fault: DocFault,
 ) -> Result<Place<'a, J>, AllocError>
-    requires { has_fault fault (spot_of J.content place) ≡ true }
+    requires faulty { has_fault fault (spot_of J.content place) ≡ true }
+    requires marked { IsMarked J.content fault place.scope }
     ensures { IfOk result (λ p. IsSmallest fault (spot_of J.content p) (spot_of J.content place.entry)) }
 {
-    match place.inside_with(alloc, fault)? {
+    match place.inside(alloc, fault)? {
         None => Ok(place),
         Some(found) => smallest(alloc, found, fault),
     }

@@ -2,17 +2,19 @@
 
 ghost use Rattle.std.specs.Prelude.{◌≡◌, codes, map};
 ghost use Rattle.ent_policy.specs.Gives.{Gives};
-ghost use Rattle.ent_polform.specs.Form.{child_of, rule_of};
+ghost use Rattle.ent_polform.specs.Form.{child_of, definition_of, rule_of};
 ghost use Rattle.ent_polform.specs.Given.{assignment_of, given_by};
 ghost use Rattle.ent_polform.specs.Targets.{match_of, one_all_of, one_any_of};
 ghost use Rattle.ent_places.specs.Told.{each};
 
 use ent_json::JsonTree;
 use ent_polform::{
-    raw_all_of, raw_any_of, raw_assignment, raw_child, raw_given, raw_match, raw_rule,
+    raw_all_of, raw_any_of, raw_assignment, raw_child, raw_definition, raw_given, raw_match,
+    raw_rule,
 };
 use ent_policy::{
     CheckFault, RawAllOf, RawAnyOf, RawAssignment, RawChild, RawGivenExpression, RawMatch, RawRule,
+    RawVariableDefinition,
 };
 use ent_values::Items;
 use std::alloc::Global;
@@ -42,6 +44,14 @@ pub(crate) fn all<R: Readable, J: JsonTree>(
         all.push(R::read(alloc, value)?)?;
     }
     Ok(all)
+}
+
+impl Readable for RawVariableDefinition {
+    ghost reads = { definition_of };
+
+    fn read<J: JsonTree>(alloc: Global, json: &J) -> Result<RawVariableDefinition, CheckFault> {
+        raw_definition(alloc, json)
+    }
 }
 
 impl Readable for RawChild {

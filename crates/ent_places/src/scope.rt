@@ -1,6 +1,6 @@
 //! The variable definitions around a part of a document.
 
-ghost use Rattle.std.specs.Prelude.{◌≡◌, [], IfOk, None, Some, get_or, map, option_map, slice_set, true};
+ghost use Rattle.std.specs.Prelude.{◌≡◌, [], IfOk, None, Some, false, get_or, map, option_map, slice_set, true};
 ghost use Rattle.std.specs.Option.{option_copied};
 ghost use Rattle.ent_policy.specs.Gives.{Gives};
 ghost use Rattle.ent_places.specs.Led.{links};
@@ -8,6 +8,7 @@ ghost use Rattle.ent_places.specs.Places.{listed};
 ghost use Rattle.ent_places.specs.Told.{id_or_dash, nowhere, set_aside, standing_with, standing_without};
 ghost use Rattle.ent_places.specs.Told.{variable_at, variables_in, variables_of};
 ghost use Rattle.ent_places.specs.Views.{scope_of};
+ghost use Rattle.ent_places.specs.proofs_only.Clear.{bare};
 
 use crate::led::led;
 use crate::members::listed;
@@ -29,6 +30,8 @@ pub struct Scope<'a, J> {
     pub aside: Option<usize>,
     /// Which of them stand; what is behind the end of the list stands.
     pub standing: Vec<bool>,
+    /// Whether the fault that is looked for is known to have nothing to do with what they say.
+    pub(crate) clear: bool,
 }
 
 /// The same flags.
@@ -61,24 +64,31 @@ fn with_flag(
 impl<'a, J: JsonTree> Scope<'a, J> {
     /// The scope of what stands in no policy.
     pub fn nowhere(alloc: Global) -> Scope<'a, J>
-        ensures { scope_of J.content result ≡ nowhere }
+        ensures scope { scope_of J.content result ≡ nowhere }
+        ensures clear { result.clear ≡ false }
     {
         Scope {
             definitions: &[],
             aside: None,
             standing: Vec::new(alloc),
+            clear: false,
         }
     }
 
     /// The scope of the definitions that this array has; without one it has none.
     pub(crate) fn of(alloc: Global, json: Option<&'a J>) -> Scope<'a, J>
-        ensures { scope_of J.content result
-            ≡ record { definitions = listed (option_map J.content (option_copied json.entry)); aside = None; standing = [] } }
+        ensures scope { scope_of J.content result ≡ record {
+          definitions = listed (option_map J.content (option_copied json.entry));
+          aside = None;
+          standing = [];
+        } }
+        ensures clear { result.clear ≡ false }
     {
         Scope {
             definitions: listed(json),
             aside: None,
             standing: Vec::new(alloc),
+            clear: false,
         }
     }
 
@@ -90,17 +100,19 @@ impl<'a, J: JsonTree> Scope<'a, J> {
         number: usize,
     ) -> Result<Scope<'a, J>, AllocError>
         requires { map (λ row. row.items) rows.now ≡ links (map J.content definitions.now) }
-        ensures { IfOk result (λ s. scope_of J.content s ≡ record {
+        ensures scope { IfOk result (λ s. scope_of J.content s ≡ record {
           definitions = map J.content definitions.now;
           aside = Some number;
           standing = standing_without (map J.content definitions.now) number;
         }) }
+        ensures clear { IfOk result (λ s. s.clear ≡ false) }
     {
         let led = led(alloc, definitions, rows, number)?;
         Ok(Scope {
             definitions,
             aside: Some(number),
             standing: with_flag(alloc, led.as_slice(), number, false)?,
+            clear: false,
         })
     }
 
@@ -110,12 +122,30 @@ impl<'a, J: JsonTree> Scope<'a, J> {
     ///
     /// `AllocError` if memory runs out.
     pub fn copied(&self, alloc: Global) -> Result<Scope<'a, J>, AllocError>
-        ensures { IfOk result (λ s. scope_of J.content s ≡ scope_of J.content self.now) }
+        ensures same { IfOk result (λ s. scope_of J.content s ≡ scope_of J.content self.now) }
+        ensures clear { IfOk result (λ s. s.clear ≡ self.now.clear) }
     {
         Ok(Scope {
             definitions: self.definitions,
             aside: self.aside,
             standing: copied(alloc, self.standing.as_slice())?,
+            clear: self.clear,
+        })
+    }
+
+    /// The same definitions, of which none is looked into, but each has its name.
+    pub(crate) fn bare(&self, alloc: Global) -> Result<Scope<'a, J>, AllocError>
+        ensures { IfOk result (λ s. scope_of J.content s ≡ bare (scope_of J.content self.now)) }
+    {
+        let mut standing = Vec::with_capacity(alloc, self.definitions.len())?;
+        for _ in self.definitions {
+            standing.push(false)?;
+        }
+        Ok(Scope {
+            definitions: self.definitions,
+            aside: None,
+            standing,
+            clear: false,
         })
     }
 

@@ -39,7 +39,7 @@ IsEndless docs document = (hops : ℕ) → has_chain docs hops document ≡ true
 abbrev pub is_endless : Docs → Tree → Bool
 is_endless docs = has_chain docs (len docs)
 
--- so many lines tell how far a document leads: one where it leads into a circle, or else over more references than are followed
+-- how many lines tell how far a document leads: one where into a circle, or else over more references than are followed
 abbrev pub far : Bool → Bool → ℕ
 far true is_long = 1
 far false true = 1

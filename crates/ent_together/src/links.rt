@@ -37,7 +37,8 @@ fn is_named(one: &Held<'_>, reference: &Reference) -> bool
 /// The number of the document that a reference finds, if it finds one.
 fn number_found(docs: &MapDocs, all: &[Held<'_>], reference: &Reference) -> Option<usize>
     requires { map entry_of all.now ≡ entries (held docs.now) }
-    ensures { option_map (numbered (entries (held docs.now))) result ≡ option_map Some (most_recent reference.now (held docs.now)) }
+    ensures { option_map (numbered (entries (held docs.now))) result
+        ≡ option_map Some (most_recent reference.now (held docs.now)) }
 {
     docs.find_reference(reference)?;
     let mut found = None;
@@ -81,7 +82,8 @@ fn row(
 /// For each document the numbers of those that its references find.
 fn rows(alloc: Global, docs: &MapDocs, all: &[Held<'_>]) -> Result<Vec<Vec<usize>>, AllocError>
     requires { map entry_of all.now ≡ entries (held docs.now) }
-    ensures { IfOk result (λ rows. rows_lead (held docs.now) (map (λ row. row.items) rows.items) ≡ leads (held docs.now)) }
+    ensures { IfOk result (λ rows.
+        rows_lead (held docs.now) (map (λ row. row.items) rows.items) ≡ leads (held docs.now)) }
 {
     let mut rows = Vec::new(alloc);
     for one in all {
@@ -156,9 +158,12 @@ impl Links {
     ///
     /// `AllocError` if memory runs out.
     pub fn of(alloc: Global, docs: &MapDocs, hops: usize) -> Result<Links, AllocError>
-        ensures rows { IfOk result (λ l. rows_lead (held docs.now) (map (λ row. row.items) l.rows.items) ≡ leads (held docs.now)) }
-        ensures long { IfOk result (λ l. l.long.items ≡ map (λ e. has_chain (held docs.now) hops e.1) (entries (held docs.now))) }
-        ensures endless { IfOk result (λ l. l.endless.items ≡ map (λ e. is_endless (held docs.now) e.1) (entries (held docs.now))) }
+        ensures rows { IfOk result (λ l.
+            rows_lead (held docs.now) (map (λ row. row.items) l.rows.items) ≡ leads (held docs.now)) }
+        ensures long { IfOk result (λ l.
+            l.long.items ≡ map (λ e. has_chain (held docs.now) hops e.1) (entries (held docs.now))) }
+        ensures endless { IfOk result (λ l.
+            l.endless.items ≡ map (λ e. is_endless (held docs.now) e.1) (entries (held docs.now))) }
     {
         let all = held_in(alloc, docs)?;
         let rows = rows(alloc, docs, all.as_slice())?;

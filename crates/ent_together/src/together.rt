@@ -144,7 +144,8 @@ impl<'a> Together<'a> {
         one: &Held<'_>,
         lines: &mut Vec<String>,
     ) -> Result<(), AllocError>
-        ensures { OnOk result (vec_len lines.new ≡ vec_len lines.old + length (unfound (held self.now.state.docs) one.now.document.now)) }
+        ensures { OnOk result (vec_len lines.new
+            ≡ vec_len lines.old + length (unfound (held self.now.state.docs) one.now.document.now)) }
     {
         let alloc = self.alloc;
         let unfound = unfound(alloc, &self.state.docs, one.document)?;
@@ -166,7 +167,8 @@ impl<'a> Together<'a> {
     ) -> Result<(), AllocError>
         requires { number < length all.now }
         ensures { OnOk result (vec_len lines.new
-            ≡ vec_len lines.old + far (get_or links.now.endless.items number false) (get_or links.now.long.items number false)) }
+            ≡ vec_len lines.old
+            + far (get_or links.now.endless.items number false) (get_or links.now.long.items number false)) }
     {
         let alloc = self.alloc;
         let key = all[number].key;

@@ -162,7 +162,7 @@ const CHECKED: &[(&[&str], &str, &str, &str, &str, u8)] = &[
         STORED,
         TWO_REFERENCES,
         "ok PolicySet s 1\n",
-        "standard input: /PolicySet/Children/1: line 3, column 48: no Policy q is stored\nreview: 1 fault\n",
+        "standard input: /PolicySet/Children/1: line 3, column 47: no Policy q is stored\nreview: 1 fault\n",
         1,
     ),
     (

@@ -9,20 +9,20 @@ use Rattle.ent_places.proofs.place.+smallest.Goals as goal
 
 pub returns-in-None : goal.returns-in-None
 returns-in-None g t c =
-    let none = rw c.in-None.is at c.in_ok-inside_with.ensures in
-    is_last c.args.fault (spot_of g.J.JsonTree.content c.args.place) c.requires none
+    let none = rw c.in-None.is at c.in_ok-inside.ensures.found in
+    is_last c.args.fault (spot_of g.J.JsonTree.content c.args.place) c.requires.faulty none
 
 pub smallest-requires : goal.smallest-requires
 smallest-requires g t c κs within =
-    let some = rw c.in-Some.is at c.in_ok-inside_with.ensures in
+    let some = rw c.in-Some.is at c.in_ok-inside.ensures.found in
     let found = goes_inside c.args.fault (spot_of g.J.JsonTree.content c.args.place) (spot_of g.J.JsonTree.content c.in-Some.found) some in
     let less : depth (g.J.JsonTree.content c.in-Some.found.json.now) < depth (g.J.JsonTree.content c.args.place.json.now) =
     depth-inside (spot_of g.J.JsonTree.content c.args.place) (spot_of g.J.JsonTree.content c.in-Some.found) found.0 in
-    (omega (arith, less), (within, found.1))
+    (omega (arith, less), (within, (found.1, rw c.in-Some.is at c.in_ok-inside.ensures.marked)))
 
 pub returns : goal.returns
 returns g t c =
-    let some = rw c.in-Some.is at c.in_ok-inside_with.ensures in
+    let some = rw c.in-Some.is at c.in_ok-inside.ensures.found in
     let found = goes_inside c.args.fault (spot_of g.J.JsonTree.content c.args.place) (spot_of g.J.JsonTree.content c.in-Some.found) some in
     IfOk-weaker c.smallest.result (λ p. IsSmallest c.args.fault (spot_of g.J.JsonTree.content p) (spot_of g.J.JsonTree.content c.in-Some.found))
     (λ p. IsSmallest c.args.fault (spot_of g.J.JsonTree.content p) (spot_of g.J.JsonTree.content c.args.place))
