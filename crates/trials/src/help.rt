@@ -54,13 +54,15 @@ Options:
 const HELP_OF_TEST: &str = "\
 Runs the tests in files, and says which replies are not as expected
 
-Usage: review test <FILE>...
+Usage: review test [OPTIONS] <FILE>...
 
 Arguments:
   <FILE>...  Tests: lines with the replies that are expected; - is standard input
 
 Options:
-  -h, --help  Print help
+      --state <STATE>  Lines with which each test begins, as those of a dump; all have to be accepted
+      --run <NAME>     Run the tests of that name alone
+  -h, --help           Print help
 ";
 
 const NO_COMMAND: &str = "\

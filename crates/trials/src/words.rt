@@ -90,7 +90,14 @@ const TAKEN: &[(&[&str], &str)] = &[
         "Together([\"a\", \"b\"], Some(File(\"d\")), Some(Input))",
     ),
     (&["lines"], "Lines"),
-    (&["test", "a", "-", "b"], "Test([\"a\", \"-\", \"b\"])"),
+    (
+        &["test", "a", "-", "b"],
+        "Test(AskedTests { files: [\"a\", \"-\", \"b\"], state: None, only: None })",
+    ),
+    (
+        &["test", "--state", "s", "--run", "n", "a"],
+        "Test(AskedTests { files: [\"a\"], state: Some(File(\"s\")), only: Some(\"n\") })",
+    ),
 ];
 
 /// Whether what was found asks for that.
