@@ -238,13 +238,23 @@ def many_names_first(share):
     return over(definitions)
 
 
+def deep_among(share, argument, fault):
+    """120 definitions of 90 literals, and a condition of 15 levels of 250 such arguments, in the deepest this one last."""
+    definitions = [definition(f'v{i}', apply('and', *[value(True)] * 90)) for i in range(int(120 * share))]
+    condition = fault
+    for _ in range(14):
+        condition = apply('and', *[argument] * int(250 * share), condition)
+    return policy('p', [rule(condition)], VariableDefinition=definitions)
+
+
 def many_arguments(share):
     """120 definitions of 90 literals, and a condition of 15 levels of 250 arguments whose fault is deepest and last."""
-    definitions = [definition(f'v{i}', apply('and', *[value(True)] * 90)) for i in range(int(120 * share))]
-    condition = variable('nowhere')
-    for _ in range(14):
-        condition = apply('and', *[variable('v1')] * int(250 * share), condition)
-    return policy('p', [rule(condition)], VariableDefinition=definitions)
+    return deep_among(share, variable('v1'), variable('nowhere'))
+
+
+def many_types(share):
+    """The same, of literals, the last of another type."""
+    return deep_among(share, value(True), value('x'))
 
 
 def all_faulty(share):
@@ -294,6 +304,7 @@ CHECKS = {
     'check-names': many_names,
     'check-first': many_names_first,
     'check-arguments': many_arguments,
+    'check-types': many_types,
     'check-all': all_faulty,
     'check-ring': in_a_ring,
     'check-nodes': too_many_nodes,
