@@ -1,7 +1,7 @@
 -- What policy sets and answers rest on.
 use Rattle.std.proofs.Common.{◌≡◌, ℕ, zero, suc, Bool, true, false, List, [], ◌∷◌, ◌++◌, map, get_or, refl, sym, ap, ◌∙◌, subst, Option, Some, None}
 use Rattle.std.specs.Prelude.{if◌then◌else◌}
-use Rattle.std.specs.List.{AllByRecursion}
+use Rattle.std.specs.List.{AllByRecursion, flat_map}
 use Rattle.std.proofs.lemmas.List.{map-append}
 use Rattle.ent_combine.specs.Choose.{choose, is_bad}
 use Rattle.ent_combine.specs.Seen.{rest_to_passing}
@@ -22,39 +22,39 @@ use Rattle.ent_policy.specs.declared.key.Reference.{Reference}
 use Rattle.ent_eval.specs.declared.answer.Answer.{Answer}
 use Rattle.ent_eval.specs.declared.only.Only.{Only}
 use Rattle.ent_eval.specs.declared.only.Only.TheVariants as only
-use Rattle.ent_eval.specs.declared.key.ReadKey.TheVariants.{Root, Ref}
-use Rattle.ent_eval.specs.declared.request.Request.{Request}
+use Rattle.ent_eval.specs.declared.question.Question.TheVariants.{Root, Ref}
 use Rattle.ent_eval.specs.declared.target.Targeted.{Targeted}
-use Rattle.ent_eval.specs.Answer.{answer_part, looked_up, most_hops, recorded, root_part}
+use Rattle.ent_eval.specs.Answer.{answer_part, asked, looked_up, most_hops, recorded, root_part}
 use Rattle.ent_eval.specs.Given.{finished}
 use Rattle.ent_eval.specs.Judged.{nothing}
-use Rattle.ent_eval.specs.Law.{EqualLookUpsGiveEqualAnswers, IsSameLook}
-use Rattle.ent_eval.specs.Looks.{Looks}
+use Rattle.ent_eval.specs.Law.{EqualFindingsGiveEqualAnswers, EqualLookUpsGiveEqualAnswers, FindsSame, IsSameLook}
 use Rattle.ent_eval.specs.Node.{Node, child_step, children_part, combined, followed, found_node, node_with, refer, set_step}
 use Rattle.ent_eval.specs.proofs_only.Node.{set_node_with}
 use Rattle.ent_eval.specs.Noted.{noted}
+use Rattle.ent_eval.specs.Sources.{keys_of}
 use Rattle.ent_eval.specs.Only.{chosen_part, choice_part, chosen, only_one, result_of_target, results, seen_choice, spoils}
-use Rattle.ent_eval.specs.Part.{Part, after_look, without_look, reads_of, values}
+use Rattle.ent_eval.specs.Part.{Part, after_look, without_look, questions_of, values}
+use Rattle.ent_eval.proofs.Finds.{all-find}
 use Rattle.ent_eval.proofs.Keys.{all_noted, by_recursion}
-use Rattle.ent_eval.proofs.Rests.{AllRest, Rests, and_then-rests, combined-rests, element-rests, finished-rests, first_looks, later_looks, policy-rests, rests-by, target-rests}
+use Rattle.ent_eval.proofs.Rests.{AllRest, Rests, Same, World, and_then-rests, combined-rests, element-rests, finished-rests, first_looks, later_looks, policy-rests, rests-by, target-rests}
 use Rattle.ent_eval.proofs.Sets.{map-map}
 use Rattle.ent_eval.proofs.Choices.{values-append}
 
 -- ---- the only child that applies
 
 -- parts up to the first that makes those before it pass are seen alike
-rest-rests : {X A : Type 0} (s t : Looks) (passes : List (Part A) → Bool) (part : Looks → X → Part A) (before : List (Part A)) (xs : List X) → AllRest s t part xs
-    → AllByRecursion (IsSameLook s t) (reads_of (rest_to_passing passes before (map (part s) xs))) → rest_to_passing passes before (map (part t) xs) ≡ rest_to_passing passes before (map (part s) xs)
+rest-rests : {X A : Type 0} (s t : World) (passes : List (Part A) → Bool) (part : World → X → Part A) (before : List (Part A)) (xs : List X) → AllRest s t part xs
+    → AllByRecursion (Same s t) (questions_of (rest_to_passing passes before (map (part s) xs))) → rest_to_passing passes before (map (part t) xs) ≡ rest_to_passing passes before (map (part s) xs)
 rest-rests s t passes part before [] each h = refl
 rest-rests {X} {A} s t passes part before (x ∷ xs) each h = at (passes (before ++ part s x ∷ [])) (part s x) (part t x) refl each.0 (rest-rests s t passes part (before ++ part s x ∷ []) xs each.1) h where
-  at : (b : Bool) (p q : Part A) → passes (before ++ p ∷ []) ≡ b → (AllByRecursion (IsSameLook s t) p.reads → q ≡ p)
-      → (AllByRecursion (IsSameLook s t) (reads_of (rest_to_passing passes (before ++ p ∷ []) (map (part s) xs))) → rest_to_passing passes (before ++ p ∷ []) (map (part t) xs) ≡ rest_to_passing passes (before ++ p ∷ []) (map (part s) xs))
-      → AllByRecursion (IsSameLook s t) (reads_of (if b then p ∷ [] else p ∷ rest_to_passing passes (before ++ p ∷ []) (map (part s) xs)))
+  at : (b : Bool) (p q : Part A) → passes (before ++ p ∷ []) ≡ b → (AllByRecursion (Same s t) p.asked → q ≡ p)
+      → (AllByRecursion (Same s t) (questions_of (rest_to_passing passes (before ++ p ∷ []) (map (part s) xs))) → rest_to_passing passes (before ++ p ∷ []) (map (part t) xs) ≡ rest_to_passing passes (before ++ p ∷ []) (map (part s) xs))
+      → AllByRecursion (Same s t) (questions_of (if b then p ∷ [] else p ∷ rest_to_passing passes (before ++ p ∷ []) (map (part s) xs)))
       → (if passes (before ++ q ∷ []) then q ∷ [] else q ∷ rest_to_passing passes (before ++ q ∷ []) (map (part t) xs)) ≡ (if b then p ∷ [] else p ∷ rest_to_passing passes (before ++ p ∷ []) (map (part s) xs))
-  at true p q is same later h = rw (same (first_looks (IsSameLook s t) p.reads [] h), is) refl
+  at true p q is same later h = rw (same (first_looks (Same s t) p.asked [] h), is) refl
   at false p q is same later h =
       let rest : List (Part A) = rest_to_passing passes (before ++ p ∷ []) (map (part s) xs) in
-      rw (same (first_looks (IsSameLook s t) p.reads (reads_of rest) h), is) (ap (λ rs. p ∷ rs) (later (later_looks (IsSameLook s t) p.reads (reads_of rest) h)))
+      rw (same (first_looks (Same s t) p.asked (questions_of rest) h), is) (ap (λ rs. p ∷ rs) (later (later_looks (Same s t) p.asked (questions_of rest) h)))
 
 -- what is chosen by, of several parts
 abbrev results_of : List (Part Targeted) → List TargetResult
@@ -77,52 +77,52 @@ rest-results before (p ∷ rest) =
 
 -- a choice by the targets that are seen
 abbrev by_seen : List (Part Targeted) → Part Only
-by_seen ps = record { value = chosen (choose (results_of ps)) (values ps); reads = reads_of ps }
+by_seen ps = record { value = chosen (choose (results_of ps)) (values ps); asked = questions_of ps }
 
 choice-seen : (ps : List (Part Targeted)) → choice_part ps ≡ by_seen (seen_choice ps)
 choice-seen ps =
-    ap (λ c. record { value = chosen c (values (seen_choice ps)); reads = reads_of (seen_choice ps) })
+    ap (λ c. record { value = chosen c (values (seen_choice ps)); asked = questions_of (seen_choice ps) })
     (seen_targets_enough (results_of ps) ∙ ap choose (sym (rest-results [] ps)))
 
-choice-rests : {X : Type 0} (s t : Looks) (target : Looks → X → Part Targeted) (xs : List X) → AllRest s t target xs → Rests s t (λ u. choice_part (map (target u) xs))
+choice-rests : {X : Type 0} (s t : World) (target : World → X → Part Targeted) (xs : List X) → AllRest s t target xs → Rests s t (λ u. choice_part (map (target u) xs))
 choice-rests s t target xs each h =
     choice-seen (map (target t) xs) ∙ ap by_seen (rest-rests s t spoils target [] xs each h) ∙ sym (choice-seen (map (target s) xs))
 
-place-rests : {X : Type 0} (s t : Looks) (part : Looks → X → Part Answer) (xs : List X) → AllRest s t part xs → (place : ℕ) → Rests s t (λ u. get_or (map (part u) xs) place (without_look nothing))
+place-rests : {X : Type 0} (s t : World) (part : World → X → Part Answer) (xs : List X) → AllRest s t part xs → (place : ℕ) → Rests s t (λ u. get_or (map (part u) xs) place (without_look nothing))
 place-rests s t part [] each place = λ h. refl
 place-rests s t part (x ∷ xs) each zero = each.0
 place-rests s t part (x ∷ xs) each (suc place) = place-rests s t part xs each.1 place
 
-chosen-rests : {X : Type 0} (s t : Looks) (part : Looks → X → Part Answer) (xs : List X) → AllRest s t part xs → (choice : Only) → Rests s t (λ u. chosen_part (map (part u) xs) choice)
+chosen-rests : {X : Type 0} (s t : World) (part : World → X → Part Answer) (xs : List X) → AllRest s t part xs → (choice : Only) → Rests s t (λ u. chosen_part (map (part u) xs) choice)
 chosen-rests s t part xs each only.Nobody = λ h. refl
 chosen-rests s t part xs each (only.Child place) = place-rests s t part xs each place
 chosen-rests s t part xs each (only.Bad status) = λ h. refl
 
-only_one-rests : {X : Type 0} (s t : Looks) (target : Looks → X → Part Targeted) (part : Looks → X → Part Answer) (xs : List X) → AllRest s t target xs → AllRest s t part xs
+only_one-rests : {X : Type 0} (s t : World) (target : World → X → Part Targeted) (part : World → X → Part Answer) (xs : List X) → AllRest s t target xs → AllRest s t part xs
     → Rests s t (λ u. only_one (map (target u) xs) (map (part u) xs))
 only_one-rests s t target part xs targets answers =
     and_then-rests s t (λ u. choice_part (map (target u) xs)) (λ u. chosen_part (map (part u) xs)) (choice-rests s t target xs targets) (chosen-rests s t part xs answers)
 
 -- ---- policies, sets and references
 
-module _ (s t : Looks) (request : Request) where
+module _ (s t : World) where
   -- a node rests on its look-ups, by its target alone and as a whole
-  abbrev BothRest : (Looks → Node) → Type 0
+  abbrev BothRest : (World → Node) → Type 0
   BothRest node = Rests s t (λ u. (node u).target) × ((path : List DocKey) → Rests s t (λ u. (node u).answer path))
 
-  both-by : (p q : Looks → Node) → ((u : Looks) → p u ≡ q u) → BothRest q → BothRest p
+  both-by : (p q : World → Node) → ((u : World) → p u ≡ q u) → BothRest q → BothRest p
   both-by p q e rests = (
     rests-by s t (λ u. (p u).target) (λ u. (q u).target) (λ u. ap (λ (n : Node). n.target) (e u)) rests.0,
     λ path. rests-by s t (λ u. (p u).answer path) (λ u. (q u).answer path) (λ u. ap (λ (n : Node). n.answer path) (e u)) (rests.1 path),
   )
 
   -- where each reference does
-  module _ (refers : Looks → Reference → Node) (each : (r : Reference) → BothRest (λ u. refers u r)) where
-    abbrev node : Looks → Child → Node
-    node u = node_with u request (refers u)
+  module _ (refers : World → Reference → Node) (each : (r : Reference) → BothRest (λ u. refers u r)) where
+    abbrev node : World → Child → Node
+    node u = node_with u.looks u.request (refers u)
 
-    abbrev set_node : Looks → PolicySet → Node
-    set_node u = set_node_with u request (refers u)
+    abbrev set_node : World → PolicySet → Node
+    set_node u = set_node_with u.looks u.request (refers u)
 
     abbrev ChildRests : Type 0
     ChildRests = (c : Child) × BothRest (λ u. node u c)
@@ -130,14 +130,14 @@ module _ (s t : Looks) (request : Request) where
     abbrev SetRests : Type 0
     SetRests = (p : PolicySet) × BothRest (λ u. set_node u p)
 
-    node_rolls : (x : Child-F Child PolicySet) (u : Looks) → node u (roll-Child x) ≡ child_step u request (refers u) (map-Child Child PolicySet Node Node (node u) (set_node u) x)
-    node_rolls x u = fold-roll-Child Node Node (child_step u request (refers u)) (set_step u request) x
+    node_rolls : (x : Child-F Child PolicySet) (u : World) → node u (roll-Child x) ≡ child_step u.looks u.request (refers u) (map-Child Child PolicySet Node Node (node u) (set_node u) x)
+    node_rolls x u = fold-roll-Child Node Node (child_step u.looks u.request (refers u)) (set_step u.looks u.request) x
 
-    set_rolls : (x : PolicySet-F Child PolicySet) (u : Looks) → set_node u (roll-PolicySet x) ≡ set_step u request (map-PolicySet Child PolicySet Node Node (node u) (set_node u) x)
-    set_rolls x u = fold-roll-PolicySet Node Node (child_step u request (refers u)) (set_step u request) x
+    set_rolls : (x : PolicySet-F Child PolicySet) (u : World) → set_node u (roll-PolicySet x) ≡ set_step u.looks u.request (map-PolicySet Child PolicySet Node Node (node u) (set_node u) x)
+    set_rolls x u = fold-roll-PolicySet Node Node (child_step u.looks u.request (refers u)) (set_step u.looks u.request) x
 
     node_layer : (y : Child-F ChildRests SetRests) → BothRest (λ u. node u (roll-Child (map-Child ChildRests SetRests Child PolicySet (λ e. e.0) (λ e. e.0) y)))
-    node_layer (Child-F.Policy policy) = both-by _ _ (node_rolls (Child-F.Policy policy)) (target-rests s t request policy.target, λ path. policy-rests s t request path policy)
+    node_layer (Child-F.Policy policy) = both-by _ _ (node_rolls (Child-F.Policy policy)) (target-rests s t policy.target, λ path. policy-rests s t path policy)
     node_layer (Child-F.Set set) = both-by _ _ (node_rolls (Child-F.Set set.0)) set.1
     node_layer (Child-F.Reference reference) = both-by _ _ (node_rolls (Child-F.Reference reference)) (each reference)
 
@@ -164,8 +164,8 @@ module _ (s t : Looks) (request : Request) where
     set_layer : (y : PolicySet-F ChildRests SetRests) → BothRest (λ u. set_node u (roll-PolicySet (map-PolicySet ChildRests SetRests Child PolicySet (λ e. e.0) (λ e. e.0) y)))
     set_layer y =
         both-by _ _ (set_rolls (map-PolicySet ChildRests SetRests Child PolicySet (λ e. e.0) (λ e. e.0) y)) (
-          target-rests s t request y.target,
-          λ path. element-rests s t request y.target (λ u. finished u request [] y.given) (finished-rests s t request [] y.given) (λ u. children_part y.algorithm (map (node u) (map (λ e. e.0) y.children)) (path ++ record { kind = kind.PolicySet; id = y.id; version = y.version } ∷ []))
+          target-rests s t y.target,
+          λ path. element-rests s t y.target (λ u. finished u.looks u.request [] y.given) (finished-rests s t [] y.given) (λ u. children_part y.algorithm (map (node u) (map (λ e. e.0) y.children)) (path ++ record { kind = kind.PolicySet; id = y.id; version = y.version } ∷ []))
               (children-rest y.algorithm (path ++ record { kind = kind.PolicySet; id = y.id; version = y.version } ∷ []) y.children),
         )
 
@@ -178,26 +178,35 @@ module _ (s t : Looks) (request : Request) where
     found-rests None = (λ h. refl, λ path h. refl)
     found-rests (Some document) = node-rests (as_child document)
 
-    followed-rests : (r : Reference) → BothRest (λ u. followed u request (refers u) r)
+    followed-rests : (r : Reference) → BothRest (λ u. followed u.looks u.request (refers u) r)
     followed-rests r = (
-      λ h. ap (λ o. after_look (Ref r) (found_node (node t) o).target) (sym h.0) ∙ ap (after_look (Ref r)) ((found-rests (s.document r)).0 h.1),
-      λ path h. ap (λ o. after_look (Ref r) ((found_node (node t) o).answer path)) (sym h.0) ∙ ap (after_look (Ref r)) ((found-rests (s.document r)).1 path h.1),
+      λ h. ap (λ o. after_look (Ref r) (found_node (node t) o).target) (sym h.0) ∙ ap (after_look (Ref r)) ((found-rests (s.looks.document r)).0 h.1),
+      λ path h. ap (λ o. after_look (Ref r) ((found_node (node t) o).answer path)) (sym h.0) ∙ ap (after_look (Ref r)) ((found-rests (s.looks.document r)).1 path h.1),
     )
 
-  refer-rests : (hops : ℕ) (r : Reference) → BothRest (λ u. refer u request hops r)
+  refer-rests : (hops : ℕ) (r : Reference) → BothRest (λ u. refer u.looks u.request hops r)
   refer-rests zero r = (λ h. refl, λ path h. refl)
-  refer-rests (suc hops) r = followed-rests (λ u. refer u request hops) (refer-rests hops) r
+  refer-rests (suc hops) r = followed-rests (λ u. refer u.looks u.request hops) (refer-rests hops) r
 
 -- ---- the answer
 
-root-rests : (s t : Looks) (request : Request) (root : Option Reference) → Rests s t (λ u. root_part u request root)
-root-rests s t request None h = refl
-root-rests s t request (Some r) h = (followed-rests s t request (λ u. refer u request most_hops) (refer-rests s t request most_hops) r).1 [] h
+root-rests : (s t : World) (root : Option Reference) → Rests s t (λ u. root_part u.looks u.request root)
+root-rests s t None h = refl
+root-rests s t (Some r) h = (followed-rests s t (λ u. refer u.looks u.request most_hops) (refer-rests s t most_hops) r).1 [] h
 
-answer-rests : (s t : Looks) (request : Request) → Rests s t (λ u. answer_part u request)
-answer-rests s t request h = ap (after_look Root) (ap (root_part t request) (sym h.0) ∙ root-rests s t request s.root h.1)
+answer-rests : (s t : World) → Rests s t (λ u. answer_part u.looks u.request)
+answer-rests s t h = ap (after_look Root) (ap (root_part t.looks t.request) (sym h.0) ∙ root-rests s t s.looks.root h.1)
 
+-- where what is asked for an answer finds the same, the answer is the same, and so is what is asked
+pub findings-rest : EqualFindingsGiveEqualAnswers
+findings-rest s t q r h =
+    let same : answer_part t r ≡ answer_part s q = answer-rests (record { looks = s; request = q }) (record { looks = t; request = r }) (by_recursion (FindsSame s q t r) (asked s q) h) in
+    (ap (λ p. p.value) same, ap (λ p. p.asked) same)
+
+-- and where each recorded look-up gives the same, for one request, so does what is asked
 pub answers-rest : EqualLookUpsGiveEqualAnswers
 answers-rest s t request h =
-    let same : answer_part t request ≡ answer_part s request = answer-rests s t request (all_noted (IsSameLook s t) [] (looked_up s request) (by_recursion (IsSameLook s t) (recorded s request) h)).1 in
-    (ap (λ p. p.value) same, ap (λ p. noted [] p.reads) same)
+    let looks = (all_noted (IsSameLook s t) [] (looked_up s request) (by_recursion (IsSameLook s t) (recorded s request) h)).1 in
+    let same : answer_part t request ≡ answer_part s request =
+    answer-rests (record { looks = s; request = request }) (record { looks = t; request = request }) (all-find s t request (asked s request) looks) in
+    (ap (λ p. p.value) same, ap (λ p. noted [] (flat_map (keys_of request) p.asked)) same)

@@ -17,7 +17,7 @@ use Rattle.ent_eval.specs.declared.request.Category.{Category}
 use Rattle.ent_eval.specs.declared.request.Request.{Request}
 use Rattle.ent_eval.specs.Own.{attributes_in, own_values, values_in}
 use Rattle.ent_eval.specs.proofs_only.Sought.{AreSeveral, IsWhole, designator_of, values_of}
-use Rattle.ent_eval.proofs.Walk.{at_item}
+use Rattle.ent_eval.proofs.Going.{at_item}
 
 -- what stands where there is none
 pub is_none : {A : Type 0} (o : Option A) (P : Type 0) (Q : A → Type 0) → o ≡ None → P → MatchOption o P Q

@@ -18,10 +18,10 @@ use Rattle.ent_eval.specs.declared.evaluated.Evaluated.{Evaluated}
 use Rattle.ent_eval.specs.declared.evaluated.Evaluated.TheVariants.{Known, Indeterminate}
 use Rattle.ent_eval.specs.Expression.{arguments_of, evaluated_of, decides, is_result, result_of}
 use Rattle.ent_eval.specs.proofs_only.Noted.{Notes, noting}
-use Rattle.ent_eval.specs.Part.{Part, reads_of, seen_parts, values}
+use Rattle.ent_eval.specs.Part.{Part, questions_of, seen_parts, values}
 use Rattle.ent_eval.specs.proofs_only.Typed.{HasType}
 use Rattle.ent_eval.proofs.Booleans.{find_behind, find_none}
-use Rattle.ent_eval.proofs.Walk.{IsGoing, at_item, goes_on, stops_at, values_to, values_to-next}
+use Rattle.ent_eval.proofs.Going.{IsGoing, at_item, goes_on, stops_at, values_to, values_to-next}
 
 known_arguments : (done : List Arg) → arguments_of (map Known done) ≡ done
 known_arguments [] = refl
@@ -127,7 +127,7 @@ module _ {X : Type 0} (f : Function) (part : X → Part Evaluated) (type : X →
       first_some (type x) (map type (drop (i + 1) xs)) (subst (λ ys. IsSome (all_typed (map type ys))) (at_item xs i x below at) left)
 
   pub next_argument : (x : X) (v : Evaluated) (a : Arg) (more : List Arg) (next : Notes) → i < length xs → x ≡ get_or xs i x → AreEvaluated f part type xs i done start now
-      → v ≡ (part x).value → next ≡ noting now (part x).reads → HasType (type x) v → v ≡ Known a → is_result f v ≡ false → more ≡ done ++ a ∷ []
+      → v ≡ (part x).value → next ≡ noting now (part x).asked → HasType (type x) v → v ≡ Known a → is_result f v ≡ false → more ≡ done ++ a ∷ []
       → AreEvaluated f part type xs (i + 1) more start next
   next_argument x v a more next below at so_far v-is next-is has a-is not more-is = record {
     going = goes_on (is_result f) part xs i x start now next below at so_far.going (ap (is_result f) (sym v-is) ∙ not) next-is;
@@ -142,9 +142,9 @@ module _ {X : Type 0} (f : Function) (part : X → Part Evaluated) (type : X →
       sym (ap (result_of f) (so_far.going.all ∙ ap (λ ys. values_to part xs i ++ values (map part ys)) (at_item xs i x below at) ∙ ap (λ w. values_to part xs i ++ w ∷ values (map part (drop (i + 1) xs))) (sym v-is))
       ∙ result_settled f (values_to part xs i) v (values (map part (drop (i + 1) xs))) so_far.going.passed fixed)
 
-  pub settled-reads : (x : X) (v : Evaluated) (next : Notes) → i < length xs → x ≡ get_or xs i x → AreEvaluated f part type xs i done start now → v ≡ (part x).value → is_result f v ≡ true
-      → next ≡ noting now (part x).reads → next ≡ noting start (reads_of (seen_parts (is_result f) (map part xs)))
-  settled-reads x v next below at so_far v-is fixed next-is = (stops_at (is_result f) part xs i x start now next below at so_far.going (ap (is_result f) (sym v-is) ∙ fixed) next-is).reads
+  pub settled-notes : (x : X) (v : Evaluated) (next : Notes) → i < length xs → x ≡ get_or xs i x → AreEvaluated f part type xs i done start now → v ≡ (part x).value → is_result f v ≡ true
+      → next ≡ noting now (part x).asked → next ≡ noting start (questions_of (seen_parts (is_result f) (map part xs)))
+  settled-notes x v next below at so_far v-is fixed next-is = (stops_at (is_result f) part xs i x start now next below at so_far.going (ap (is_result f) (sym v-is) ∙ fixed) next-is).notes
 
   all_left : length xs ≤ i → AreEvaluated f part type xs i done start now → Some (map type_of_arg done) ≡ all_typed (map type xs)
   all_left past so_far =
@@ -158,8 +158,8 @@ module _ {X : Type 0} (f : Function) (part : X → Part Evaluated) (type : X →
       sym (ap (result_of f) (so_far.going.all ∙ ap (λ ys. values_to part xs i ++ values (map part ys)) (drop_of_length-le xs past) ∙ append-nil (values_to part xs i))
       ∙ result_unsettled f (values_to part xs i) done so_far.going.passed so_far.known)
 
-  pub all-reads : length xs ≤ i → AreEvaluated f part type xs i done start now → now ≡ noting start (reads_of (seen_parts (is_result f) (map part xs)))
-  all-reads past so_far = ap (λ ys. noting now (reads_of (seen_parts (is_result f) (map part ys)))) (sym (drop_of_length-le xs past)) ∙ so_far.going.reads
+  pub all-notes : length xs ≤ i → AreEvaluated f part type xs i done start now → now ≡ noting start (questions_of (seen_parts (is_result f) (map part xs)))
+  all-notes past so_far = ap (λ ys. noting now (questions_of (seen_parts (is_result f) (map part ys)))) (sym (drop_of_length-le xs past)) ∙ so_far.going.notes
 
 pub settled-type : (f : Function) (v : Evaluated) (types : Option (List ArgType)) → is_result f v ≡ true → IsSome (option_and_then (result_type_of f) types) → HasType (option_and_then (result_type_of f) types) v
 settled-type f v types is some = settled_typed f v types is some

@@ -21,15 +21,15 @@ use Rattle.ent_eval.specs.declared.target.Targeted.TheVariants.{Match, NoMatch, 
 use Rattle.ent_eval.specs.proofs_only.Noted.{Notes, noting}
 use Rattle.ent_eval.specs.Only.{chosen, first_target_status, result_of_target, results, seen_choice, spoils}
 use Rattle.ent_eval.specs.proofs_only.Only.{status_of_target}
-use Rattle.ent_eval.specs.Part.{Part, reads_of, values}
-use Rattle.ent_eval.proofs.Walk.{at_item, noting-append, values_to, values_to-next}
+use Rattle.ent_eval.specs.Part.{Part, questions_of, values}
+use Rattle.ent_eval.proofs.Going.{at_item, noting-append, values_to, values_to-next}
 
 -- the first i targets don't choose Bad, and those left are looked at as they would be from the start
 pub record IsChoosing {X : Type 0} (target : X → Part Targeted) (xs : List X) (i : ℕ) (chooser : Chosen) (start now : Notes) : Type 0 where
   pub taken : HasSeen chooser (results (values_to target xs i))
   pub good : is_bad (choose (results (values_to target xs i))) ≡ false
   pub seen : seen_choice (map target xs) ≡ map target (take i xs) ++ rest_to_passing spoils (map target (take i xs)) (map target (drop i xs))
-  pub reads : noting now (reads_of (rest_to_passing spoils (map target (take i xs)) (map target (drop i xs)))) ≡ noting start (reads_of (seen_choice (map target xs)))
+  pub notes : noting now (questions_of (rest_to_passing spoils (map target (take i xs)) (map target (drop i xs)))) ≡ noting start (questions_of (seen_choice (map target xs)))
 
 go_good : (c : Choice) → Go ≡ progress_of c → is_bad c ≡ false
 go_good choice.Nobody e = refl
@@ -88,7 +88,7 @@ module _ {X : Type 0} (target : X → Part Targeted) (xs : List X) (i : ℕ) (ch
   pub room : i < length xs → length xs ≤ 256 → chooser.taken < 256
   room h below = let e : chooser.taken ≡ i = so_far.taken.taken ∙ length_to (omega (arith, h)) in omega (arith, e)
 
-  module _ (x : X) (t : Targeted) (after : Chosen) (progress : Progress) (next : Notes) (below : i < length xs) (at : x ≡ get_or xs i x) (t-is : t ≡ (target x).value) (next-is : next ≡ noting now (target x).reads)
+  module _ (x : X) (t : Targeted) (after : Chosen) (progress : Progress) (next : Notes) (below : i < length xs) (at : x ≡ get_or xs i x) (t-is : t ≡ (target x).value) (next-is : next ≡ noting now (target x).asked)
       (takes : (ts : List TargetResult) → HasSeen chooser ts → HasSeen after (ts ++ result_of_target t ∷ [])) (says : (ts : List TargetResult) → HasSeen chooser ts → progress ≡ progress_at_target ts (result_of_target t)) where
     results_next : results (values_to target xs (i + 1)) ≡ results (values_to target xs i) ++ result_of_target t ∷ []
     results_next = ap results (values_to-next target xs i x below at) ∙ map-append result_of_target (values_to target xs i) ((target x).value ∷ []) ∙ ap (λ v. results (values_to target xs i) ++ result_of_target v ∷ []) (sym t-is)
@@ -113,9 +113,9 @@ module _ {X : Type 0} (target : X → Part Targeted) (xs : List X) (i : ℕ) (ch
           good = ap (λ rs. is_bad (choose rs)) results_next ∙ good;
           seen = so_far.seen ∙ ap (λ ps. map target (take i xs) ++ ps) on ∙ sym (append_assoc (map target (take i xs)) (target x ∷ []) (rest_to_passing spoils (map target (take (i + 1) xs)) (map target (drop (i + 1) xs))))
               ∙ ap (λ ps. ps ++ rest_to_passing spoils (map target (take (i + 1) xs)) (map target (drop (i + 1) xs))) (sym parts_next);
-          reads = ap (λ ks. noting ks (reads_of (rest_to_passing spoils (map target (take (i + 1) xs)) (map target (drop (i + 1) xs))))) next-is
-              ∙ sym (noting-append now (target x).reads (reads_of (rest_to_passing spoils (map target (take (i + 1) xs)) (map target (drop (i + 1) xs)))))
-              ∙ ap (λ ps. noting now (reads_of ps)) (sym on) ∙ so_far.reads;
+          notes = ap (λ ks. noting ks (questions_of (rest_to_passing spoils (map target (take (i + 1) xs)) (map target (drop (i + 1) xs))))) next-is
+              ∙ sym (noting-append now (target x).asked (questions_of (rest_to_passing spoils (map target (take (i + 1) xs)) (map target (drop (i + 1) xs)))))
+              ∙ ap (λ ps. noting now (questions_of ps)) (sym on) ∙ so_far.notes;
         }
 
     off : progress ≡ Stop → rest_to_passing spoils (map target (take i xs)) (map target (drop i xs)) ≡ target x ∷ []
@@ -139,8 +139,8 @@ module _ {X : Type 0} (target : X → Part Targeted) (xs : List X) (i : ℕ) (ch
         ∙ ap (λ o. unwrap_or o ProcessingError) (first_after (values_to target xs i) t (none_indeterminate (results (values_to target xs i)) so_far.good)) ∙ alone t in
         ap only.Bad (sym status) ∙ ap (λ c. chosen c (values (seen_choice (map target xs)))) (sym (all_bad stop))
 
-    pub stop_reads : progress ≡ Stop → next ≡ noting start (reads_of (seen_choice (map target xs)))
-    stop_reads stop = next-is ∙ ap (noting now) (sym (append-nil (target x).reads)) ∙ ap (λ ps. noting now (reads_of ps)) (sym (off stop)) ∙ so_far.reads
+    pub stop_notes : progress ≡ Stop → next ≡ noting start (questions_of (seen_choice (map target xs)))
+    stop_notes stop = next-is ∙ ap (noting now) (sym (append-nil (target x).asked)) ∙ ap (λ ps. noting now (questions_of ps)) (sym (off stop)) ∙ so_far.notes
 
   -- where all targets were looked at
   all_results : length xs ≤ i → results (values_to target xs i) ≡ results (values (map target xs))
@@ -155,5 +155,5 @@ module _ {X : Type 0} (target : X → Part Targeted) (xs : List X) (i : ℕ) (ch
       let good = so_far.good in
       let f : true ≡ false = ap is_bad e ∙ good in cc
 
-  pub end_reads : length xs ≤ i → now ≡ noting start (reads_of (seen_choice (map target xs)))
-  end_reads past = ap (λ ys. noting now (reads_of (rest_to_passing spoils (map target (take i xs)) (map target ys)))) (sym (drop_of_length-le xs past)) ∙ so_far.reads
+  pub end_notes : length xs ≤ i → now ≡ noting start (questions_of (seen_choice (map target xs)))
+  end_notes past = ap (λ ys. noting now (questions_of (rest_to_passing spoils (map target (take i xs)) (map target ys)))) (sym (drop_of_length-le xs past)) ∙ so_far.notes

@@ -11,9 +11,9 @@ use Rattle.ent_eval.specs.declared.evaluated.Evaluated.{Evaluated}
 use Rattle.ent_eval.specs.declared.evaluated.Evaluated.TheVariants.{Known, Indeterminate}
 use Rattle.ent_eval.specs.Given.{joined, together}
 use Rattle.ent_eval.specs.proofs_only.Noted.{Notes, noting}
-use Rattle.ent_eval.specs.Part.{Part, reads_of, seen_parts, values}
+use Rattle.ent_eval.specs.Part.{Part, questions_of, seen_parts, values}
 use Rattle.ent_eval.specs.proofs_only.Typed.{HasType, is_held}
-use Rattle.ent_eval.proofs.Walk.{IsGoing, at_item, goes_on, stops_at}
+use Rattle.ent_eval.proofs.Going.{IsGoing, at_item, goes_on, stops_at}
 
 joined-assoc : {A : Type 0} (a b c : Result (List A) Status) → joined (joined a b) c ≡ joined a (joined b c)
 joined-assoc (Err status) b c = refl
@@ -41,7 +41,7 @@ pub record IsGiving {X A : Type 0} (part : X → Part (Result (List A) Status)) 
 -- at the start nothing is given
 pub starts : {X A : Type 0} (part : X → Part (Result (List A) Status)) (xs : List X) (so_far : List A) (start : Notes) → so_far ≡ [] → IsGiving part xs 0 so_far start start
 starts part xs so_far start is = record {
-  going = record { passed = refl; seen = refl; all = refl; reads = refl };
+  going = record { passed = refl; seen = refl; all = refl; notes = refl };
   given = ap (λ ys. joined (Ok ys) (together (values (map part xs)))) is ∙ joined-nil (together (values (map part xs)));
 }
 
@@ -51,7 +51,7 @@ module _ {X A : Type 0} (part : X → Part (Result (List A) Status)) (xs : List 
       let left = together (values (map part (drop (i + 1) xs))) in
       ap (λ s. joined s left) is ∙ joined-assoc (Ok so_far) (part x).value left ∙ ap (λ ys. joined (Ok so_far) (together (values (map part ys)))) (sym (at_item xs i x below at)) ∙ giving.given
 
-  pub gives_on : (x : X) (more : List A) (next : Notes) → i < length xs → x ≡ get_or xs i x → Ok more ≡ joined (Ok so_far) (part x).value → next ≡ noting now (part x).reads → IsGiving part xs (i + 1) more start next
+  pub gives_on : (x : X) (more : List A) (next : Notes) → i < length xs → x ≡ get_or xs i x → Ok more ≡ joined (Ok so_far) (part x).value → next ≡ noting now (part x).asked → IsGiving part xs (i + 1) more start next
   gives_on x more next below at is next-is = record {
     going = goes_on is_err part xs i x start now next below at giving.going (isn't_err so_far more (part x).value is) next-is;
     given = one_more x (Ok more) below at is;
@@ -60,15 +60,15 @@ module _ {X A : Type 0} (part : X → Part (Result (List A) Status)) (xs : List 
   pub stopped-value : (x : X) (status : Status) → i < length xs → x ≡ get_or xs i x → Err status ≡ joined (Ok so_far) (part x).value → Err status ≡ together (values (map part xs))
   stopped-value x status below at is = one_more x (Err status) below at is
 
-  pub stopped-reads : (x : X) (status : Status) (next : Notes) → i < length xs → x ≡ get_or xs i x → Err status ≡ joined (Ok so_far) (part x).value → next ≡ noting now (part x).reads
-      → next ≡ noting start (reads_of (seen_parts is_err (map part xs)))
-  stopped-reads x status next below at is next-is = (stops_at is_err part xs i x start now next below at giving.going (is_an_err so_far status (part x).value is) next-is).reads
+  pub stopped-notes : (x : X) (status : Status) (next : Notes) → i < length xs → x ≡ get_or xs i x → Err status ≡ joined (Ok so_far) (part x).value → next ≡ noting now (part x).asked
+      → next ≡ noting start (questions_of (seen_parts is_err (map part xs)))
+  stopped-notes x status next below at is next-is = (stops_at is_err part xs i x start now next below at giving.going (is_an_err so_far status (part x).value is) next-is).notes
 
   pub whole-value : length xs ≤ i → Ok so_far ≡ together (values (map part xs))
   whole-value past = ap Ok (sym (append-nil so_far)) ∙ ap (λ ys. joined (Ok so_far) (together (values (map part ys)))) (sym (drop_of_length-le xs past)) ∙ giving.given
 
-  pub whole-reads : length xs ≤ i → now ≡ noting start (reads_of (seen_parts is_err (map part xs)))
-  whole-reads past = ap (λ ys. noting now (reads_of (seen_parts is_err (map part ys)))) (sym (drop_of_length-le xs past)) ∙ giving.going.reads
+  pub whole-notes : length xs ≤ i → now ≡ noting start (questions_of (seen_parts is_err (map part xs)))
+  whole-notes past = ap (λ ys. noting now (questions_of (seen_parts is_err (map part ys)))) (sym (drop_of_length-le xs past)) ∙ giving.going.notes
 
 -- ---- types
 

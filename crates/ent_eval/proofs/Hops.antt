@@ -4,10 +4,10 @@ use Rattle.ent_policy.specs.Children.{as_child}
 use Rattle.ent_policy.specs.declared.document.Tree.{Tree}
 use Rattle.ent_policy.specs.declared.key.DocKey.{DocKey}
 use Rattle.ent_policy.specs.declared.key.Reference.{Reference}
-use Rattle.ent_eval.specs.declared.key.ReadKey.TheVariants.{Ref}
+use Rattle.ent_eval.specs.declared.question.Question.TheVariants.{Ref}
 use Rattle.ent_eval.specs.declared.request.Request.{Request}
 use Rattle.ent_eval.specs.Looks.{Looks}
-use Rattle.ent_eval.specs.proofs_only.Hops.{child_target, followed_part, node_of, reference_part, reference_target}
+use Rattle.ent_eval.specs.proofs_only.Hops.{child_part, child_target, followed_part, node_of, reference_part, reference_target}
 use Rattle.ent_eval.specs.Node.{Node, followed, found_node, refer}
 use Rattle.ent_eval.specs.Part.{after_look}
 
@@ -27,3 +27,8 @@ module _ (looks : Looks) (request : Request) (hops : ℕ) (reference : Reference
   -- and it comes to what following it comes to
   pub answer_followed : (path : List DocKey) → followed_part looks request (hops - 1) path reference ≡ reference_part looks request hops path reference
   answer_followed path = ap (λ (n : Node). n.answer path) (sym is_followed)
+
+-- what follows a reference comes to what the document comes to that it names
+pub followed_found : (looks : Looks) (request : Request) (hops : ℕ) (reference : Reference) (t : Tree) → looks.document reference ≡ Some t → (path : List DocKey)
+    → followed_part looks request hops path reference ≡ after_look (Ref reference) (child_part looks request hops path (as_child t))
+followed_found looks request hops reference t found path = ap (λ o. after_look (Ref reference) ((found_node (node_of looks request hops) o).answer path)) found

@@ -1,5 +1,5 @@
 -- What functions come to for literals and designators.
-use Rattle.std.proofs.Common.{◌≡◌, ℕ, Bool, true, false, List, [], ◌∷◌, map, refl, sym, ap, ap₂, ◌∙◌, subst, Option, Some, None}
+use Rattle.std.proofs.Common.{◌≡◌, ℕ, Bool, true, false, List, [], ◌∷◌, ◌++◌, map, refl, sym, ap, ap₂, ◌∙◌, subst, Option, Some, None}
 use Rattle.std.specs.Prelude.{IsSome, option_and_then, if◌then◌else◌}
 use Rattle.std.specs.Cmp.Lexicographic.{pointwise}
 use Rattle.std.proofs.lemmas.List.{append-nil}
@@ -24,14 +24,16 @@ use Rattle.ent_policy.specs.declared.expression.VariableDefinition.{VariableDefi
 use Rattle.ent_eval.specs.declared.answer.Status.TheVariants.{MissingAttribute}
 use Rattle.ent_eval.specs.declared.evaluated.Evaluated.{Evaluated}
 use Rattle.ent_eval.specs.declared.evaluated.Evaluated.TheVariants.{Indeterminate, Known}
+use Rattle.ent_eval.specs.declared.question.Question.{Question}
+use Rattle.ent_eval.specs.declared.question.Question.TheVariants.{Of}
 use Rattle.ent_eval.specs.declared.request.Request.{Request}
 use Rattle.ent_eval.specs.Expression.{bag_of, decides, designated, is_result, meaning, meaning_step, result_of, variable_part}
 use Rattle.ent_eval.specs.Looks.{Looks}
 use Rattle.ent_eval.specs.Own.{is_empty, own_values}
-use Rattle.ent_eval.specs.Part.{Part, without_look, mapped, reads_of, seen_parts, whole}
-use Rattle.ent_eval.specs.Sources.{source_part, values_part}
+use Rattle.ent_eval.specs.Part.{Part, after_look, and_then, without_look, mapped, questions_of, seen_parts, whole}
+use Rattle.ent_eval.specs.Sources.{asked_of, source_values, values_part}
 use Rattle.ent_eval.specs.proofs_only.Typed.{HasType, apply_type, type_of}
-use Rattle.ent_eval.specs.proofs_only.Uncopied.{member, member_part}
+use Rattle.ent_eval.specs.proofs_only.Uncopied.{member}
 
 -- a value is no result of a function that no boolean decides
 goes-on : (f : Function) (v : Value) → ((b : Bool) → decides f b ≡ false) → is_result f (Known (One v)) ≡ false
@@ -60,23 +62,33 @@ in_bag e v d [] = at d.must_be_present where
   at false = rw (goes-on (functions.IsIn e) v (λ b. refl)) refl
 in_bag e v d (w ∷ ws) = sym (found e d v (w ∷ ws) refl)
 
--- the look-ups of two parts of which the first has none
-two_seen : {A : Type 0} (stop : A → Bool) (a : A) (p : Part A) → stop a ≡ false → reads_of (seen_parts stop (without_look a ∷ p ∷ [])) ≡ p.reads
-two_seen stop a p goes = ap (λ b. reads_of (if b then without_look a ∷ [] else without_look a ∷ (if stop p.value then p ∷ [] else p ∷ []))) goes ∙ last (stop p.value) where
-  last : (b : Bool) → reads_of (without_look a ∷ (if b then p ∷ [] else p ∷ [])) ≡ p.reads
-  last true = append-nil p.reads
-  last false = append-nil p.reads
+-- what is asked for two parts of which the first isn't the result
+two_asked : {A : Type 0} (stop : A → Bool) (p q : Part A) → stop p.value ≡ false → questions_of (seen_parts stop (p ∷ q ∷ [])) ≡ p.asked ++ q.asked
+two_asked stop p q goes = ap (λ b. questions_of (if b then p ∷ [] else p ∷ (if stop q.value then q ∷ [] else q ∷ []))) goes ∙ last (stop q.value) where
+  last : (b : Bool) → questions_of (p ∷ (if b then q ∷ [] else q ∷ [])) ≡ p.asked ++ q.asked
+  last true = ap (λ qs. p.asked ++ qs) (append-nil q.asked)
+  last false = ap (λ qs. p.asked ++ qs) (append-nil q.asked)
+
+-- a value for which this is asked
+abbrev known : Value → List Question → Part Evaluated
+known v questions = record { value = Known (One v); asked = questions }
 
 -- is-in of a value and of what a designator's values come to
-in_designator : (e : Element) (v : Value) (d : Designator) (p : Part (List Value))
-    → whole (is_result (functions.IsIn e)) (result_of (functions.IsIn e)) (without_look (Known (One v)) ∷ mapped (bag_of d) p ∷ []) ≡ mapped (member v d) p
-in_designator e v d p = ap₂ (λ value reads. record { value = value; reads = reads }) (in_bag e v d p.value)
-    (two_seen (is_result (functions.IsIn e)) (Known (One v)) (mapped (bag_of d) p) (goes-on (functions.IsIn e) v (λ b. refl)))
+in_designator : (e : Element) (v : Value) (questions : List Question) (d : Designator) (p : Part (List Value))
+    → whole (is_result (functions.IsIn e)) (result_of (functions.IsIn e)) (known v questions ∷ mapped (bag_of d) p ∷ []) ≡ and_then (known v questions) (λ w. mapped (member v d) p)
+in_designator e v questions d p = ap₂ (λ value asked. record { value = value; asked = asked }) (in_bag e v d p.value)
+    (two_asked (is_result (functions.IsIn e)) (known v questions) (mapped (bag_of d) p) (goes-on (functions.IsIn e) v (λ b. refl)))
 
 -- what equal comes to
-pub same : (e : Element) (v w : Value) → Known (One (value.Boolean (same_value v w))) ≡ result_of (functions.Equal e) (Known (One v) ∷ Known (One w) ∷ [])
+same : (e : Element) (v w : Value) → result_of (functions.Equal e) (Known (One v) ∷ Known (One w) ∷ []) ≡ Known (One (value.Boolean (same_value v w)))
 unfolding applied first_order
 same e v w = rw (goes-on (functions.Equal e) v (λ b. refl), goes-on (functions.Equal e) w (λ b. refl)) refl
+
+-- equal of two values
+of_two : (e : Element) (v w : Value) (first second : List Question)
+    → whole (is_result (functions.Equal e)) (result_of (functions.Equal e)) (known v first ∷ known w second ∷ []) ≡ record { value = Known (One (value.Boolean (same_value v w))); asked = first ++ second }
+of_two e v w first second = ap₂ (λ value asked. record { value = value; asked = asked }) (same e v w)
+    (two_asked (is_result (functions.Equal e)) (known v first) (known w second) (goes-on (functions.Equal e) v (λ b. refl)))
 
 module _ (looks : Looks) (request : Request) (definitions : List VariableDefinition) (n : ℕ) where
   rolled : (f : Function) (given : List Expression)
@@ -95,55 +107,44 @@ module _ (looks : Looks) (request : Request) (definitions : List VariableDefinit
   designator-part d = fold-roll-Expression (Part Evaluated) (meaning_step looks request (variable_part looks request definitions n)) (Expression-F.Designator d)
 
   -- a designator for which the request has values of its own
-  own-part : (d : Designator) → is_empty (own_values d request) ≡ false → designated looks request d ≡ without_look (bag_of d (own_values d request))
-  own-part d some = ap (λ b. mapped (bag_of d) (if b then source_part looks request d else without_look (own_values d request))) some
+  own-part : (d : Designator) → is_empty (own_values d request) ≡ false → designated looks request d ≡ record { value = bag_of d (own_values d request); asked = Of (asked_of d) ∷ [] }
+  own-part d some = ap (λ b. mapped (bag_of d) (after_look (Of (asked_of d)) (without_look (if b then source_values looks request d else own_values d request)))) some
 
-  one : (e : Element) (d : Designator) (v : Value) → whole (is_result (functions.OneAndOnly e)) (result_of (functions.OneAndOnly e)) (without_look (bag_of d (v ∷ [])) ∷ []) ≡ without_look (Known (One v))
+  one : (e : Element) (d : Designator) (v : Value) (question : Question)
+      → whole (is_result (functions.OneAndOnly e)) (result_of (functions.OneAndOnly e)) (record { value = bag_of d (v ∷ []); asked = question ∷ [] } ∷ []) ≡ known v (question ∷ [])
   unfolding applied first_order
-  one e d v = refl
+  one e d v question = refl
 
   -- one-and-only of a designator with one value
-  pub only : (f : Function) (e : Element) (d : Designator) (v : Value) (given : List Expression) → f ≡ functions.OneAndOnly e → given ≡ expressions.Designator d ∷ [] → own_values d request ≡ v ∷ []
-      → whole (is_result f) (result_of f) (map (meaning looks request definitions n) given) ≡ without_look (Known (One v))
-  only f e d v given f-is is own =
+  pub only : (f : Function) (e : Element) (d : Designator) (v : Value) (given : List Expression) (questions : List Question) → f ≡ functions.OneAndOnly e → given ≡ expressions.Designator d ∷ []
+      → own_values d request ≡ v ∷ [] → questions ≡ Of (asked_of d) ∷ []
+      → whole (is_result f) (result_of f) (map (meaning looks request definitions n) given) ≡ known v questions
+  only f e d v given questions f-is is own asked-is =
       ap (λ h. whole (is_result h) (result_of h) (map (meaning looks request definitions n) given)) f-is
       ∙ ap (whole (is_result (functions.OneAndOnly e)) (result_of (functions.OneAndOnly e))) (ap (map (meaning looks request definitions n)) is ∙ ap (λ p. p ∷ []) (designator-part d ∙ own-part d (ap is_empty own)))
-      ∙ ap (λ vs. whole (is_result (functions.OneAndOnly e)) (result_of (functions.OneAndOnly e)) (without_look (bag_of d vs) ∷ [])) own ∙ one e d v
-
--- two parts for which nothing is looked up
-two_known : {A B : Type 0} (stop : A → Bool) (come : List A → B) (a b : A) → whole stop come (without_look a ∷ without_look b ∷ []) ≡ without_look (come (a ∷ b ∷ []))
-two_known stop come a b = at (stop a) (stop b) where
-  at : (first second : Bool) → record { value = come (a ∷ b ∷ []); reads = reads_of (if first then without_look a ∷ [] else without_look a ∷ (if second then without_look b ∷ [] else without_look b ∷ [])) } ≡ without_look (come (a ∷ b ∷ []))
-  at true second = refl
-  at false true = refl
-  at false false = refl
-
-module _ (looks : Looks) (request : Request) (definitions : List VariableDefinition) (n : ℕ) where
-  -- a function of two arguments that are known
-  of_two : (f : Function) (given : List Expression) (x y : Expression) (a b : Evaluated) → given ≡ x ∷ y ∷ []
-      → meaning looks request definitions n x ≡ without_look a → meaning looks request definitions n y ≡ without_look b
-      → whole (is_result f) (result_of f) (map (meaning looks request definitions n) given) ≡ without_look (result_of f (a ∷ b ∷ []))
-  of_two f given x y a b is first second =
-      ap (λ xs. whole (is_result f) (result_of f) (map (meaning looks request definitions n) xs)) is
-      ∙ ap (λ p. whole (is_result f) (result_of f) (p ∷ meaning looks request definitions n y ∷ [])) first
-      ∙ ap (λ p. whole (is_result f) (result_of f) (without_look a ∷ p ∷ [])) second ∙ two_known (is_result f) (result_of f) a b
+      ∙ ap (λ vs. whole (is_result (functions.OneAndOnly e)) (result_of (functions.OneAndOnly e)) (record { value = bag_of d vs; asked = Of (asked_of d) ∷ [] } ∷ [])) own
+      ∙ one e d v (Of (asked_of d)) ∙ ap (known v) (sym asked-is)
 
   -- is-in of a value and a designator
-  pub is-in-part : (f : Function) (e : Element) (given : List Expression) (x y : Expression) (v : Value) (d : Designator) → f ≡ functions.IsIn e → given ≡ x ∷ y ∷ []
-      → meaning looks request definitions n x ≡ without_look (Known (One v)) → y ≡ expressions.Designator d
-      → whole (is_result f) (result_of f) (map (meaning looks request definitions n) given) ≡ member_part looks request v d
-  is-in-part f e given x y v d f-is is first second =
+  pub is-in-part : (f : Function) (e : Element) (given : List Expression) (x y : Expression) (v : Value) (questions : List Question) (d : Designator) → f ≡ functions.IsIn e → given ≡ x ∷ y ∷ []
+      → meaning looks request definitions n x ≡ known v questions → y ≡ expressions.Designator d
+      → whole (is_result f) (result_of f) (map (meaning looks request definitions n) given) ≡ and_then (known v questions) (λ w. mapped (member v d) (values_part looks request d))
+  is-in-part f e given x y v questions d f-is is first second =
       ap (λ xs. whole (is_result f) (result_of f) (map (meaning looks request definitions n) xs)) is
       ∙ ap (λ p. whole (is_result f) (result_of f) (p ∷ meaning looks request definitions n y ∷ [])) first
-      ∙ ap (λ p. whole (is_result f) (result_of f) (without_look (Known (One v)) ∷ p ∷ [])) (ap (meaning looks request definitions n) second ∙ designator-part looks request definitions n d)
-      ∙ ap (λ g. whole (is_result g) (result_of g) (without_look (Known (One v)) ∷ designated looks request d ∷ [])) f-is
-      ∙ in_designator e v d (values_part looks request d)
+      ∙ ap (λ p. whole (is_result f) (result_of f) (known v questions ∷ p ∷ [])) (ap (meaning looks request definitions n) second ∙ designator-part d)
+      ∙ ap (λ g. whole (is_result g) (result_of g) (known v questions ∷ designated looks request d ∷ [])) f-is
+      ∙ in_designator e v questions d (values_part looks request d)
 
-  pub equal-part : (f : Function) (e : Element) (given : List Expression) (x y : Expression) (v w : Value) → f ≡ functions.Equal e → given ≡ x ∷ y ∷ []
-      → meaning looks request definitions n x ≡ without_look (Known (One v)) → meaning looks request definitions n y ≡ without_look (Known (One w))
-      → whole (is_result f) (result_of f) (map (meaning looks request definitions n) given) ≡ without_look (result_of (functions.Equal e) (Known (One v) ∷ Known (One w) ∷ []))
-  equal-part f e given x y v w f-is is first second =
-      of_two f given x y (Known (One v)) (Known (One w)) is first second ∙ ap (λ g. without_look (result_of g (Known (One v) ∷ Known (One w) ∷ []))) f-is
+  -- equal of two values
+  pub equal-part : (f : Function) (e : Element) (given : List Expression) (x y : Expression) (v w : Value) (first second : List Question) → f ≡ functions.Equal e → given ≡ x ∷ y ∷ []
+      → meaning looks request definitions n x ≡ known v first → meaning looks request definitions n y ≡ known w second
+      → whole (is_result f) (result_of f) (map (meaning looks request definitions n) given) ≡ record { value = Known (One (value.Boolean (same_value v w))); asked = first ++ second }
+  equal-part f e given x y v w first second f-is is one two =
+      ap (λ xs. whole (is_result f) (result_of f) (map (meaning looks request definitions n) xs)) is
+      ∙ ap (λ p. whole (is_result f) (result_of f) (p ∷ meaning looks request definitions n y ∷ [])) one
+      ∙ ap (λ p. whole (is_result f) (result_of f) (known v first ∷ p ∷ [])) two
+      ∙ ap (λ g. whole (is_result g) (result_of g) (known v first ∷ known w second ∷ [])) f-is ∙ of_two e v w first second
 
 -- ---- types
 

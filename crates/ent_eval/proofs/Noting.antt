@@ -1,15 +1,20 @@
--- A key that is noted stays noted.
-use Rattle.std.proofs.Common.{◌≡◌, List, [], ◌∷◌, length, Some, None, Ordering, Less, Equal, Greater, refl, sym, ap, ◌∙◌, arith}
+-- What is noted stays noted: a key in a set of keys, and a question in the notes.
+use Rattle.std.proofs.Common.{◌≡◌, ℕ, zero, suc, Bool, true, false, List, [], ◌∷◌, ◌++◌, length, Some, None, Ordering, Less, Equal, Greater, refl, sym, ap, ◌∙◌, arith}
+use Rattle.std.specs.Prelude.{◌||◌, if◌then◌else◌}
 use Rattle.std.specs.BTreeSet.{insert_key}
 use Rattle.std.specs.Cmp.{IsTotalOrder, tied_itself}
 use Rattle.std.specs.FinMap.{IsAntisymmetric}
+use Rattle.std.specs.List.{AllByRecursion, list_any, slice_get}
 use Rattle.std.specs.Ordering.{match_ordering, ordering_reverse}
+use Rattle.std.proofs.lemmas.List.Folds.{list_any-append}
 use Rattle.ent_eval.specs.contracts.key.ReadKeyOrd.TheImpl.Laws.{total-law}
 use Rattle.ent_eval.specs.declared.key.ReadKey.{ReadKey}
+use Rattle.ent_eval.specs.declared.question.Question.{Question}
 use Rattle.ent_eval.specs.proofs_only.Looked.{IsNoted}
-use Rattle.ent_eval.specs.Noted.{read_cmp, with_key}
-use Rattle.ent_eval.specs.proofs_only.Noted.{Notes, noting, with_note}
+use Rattle.ent_eval.specs.Noted.{noted, read_cmp, with_key}
+use Rattle.ent_eval.specs.proofs_only.Noted.{Notes, is_asked, noting, same_question, with_note, with_question}
 use Rattle.ent_eval.proofs.Keys.{read_cmp-IsAntisymmetric}
+use Rattle.ent_eval.proofs.Sames.{question-Decides}
 
 module _ {K : Type 0} (cmp : K → K → Ordering) (order : IsTotalOrder cmp) (same : IsAntisymmetric cmp) where
   abbrev with : List K → K → List K
@@ -59,34 +64,77 @@ module _ {K : Type 0} (cmp : K → K → Ordering) (order : IsTotalOrder cmp) (s
         ap (λ o. match_ordering o (key ∷ x ∷ with xs more) (x ∷ with xs more) (x ∷ with (with xs more) key)) is
         ∙ ap (λ ks. x ∷ ks) (later (rest_of x (with xs key) xs there))
 
--- ---- the same of notes
+-- ---- keys
 
-note_again : (notes : Notes) (key : ReadKey) → with_note (with_note notes key) key ≡ with_note notes key
-note_again None key = refl
-note_again (Some keys) key = ap Some (with_again read_cmp total-law read_cmp-IsAntisymmetric keys key)
+key_again : (keys : List ReadKey) (key : ReadKey) → with_key (with_key keys key) key ≡ with_key keys key
+key_again = with_again read_cmp total-law read_cmp-IsAntisymmetric
 
-keys_of_some : (a b : List ReadKey) → Some a ≡ Some b → a ≡ b
-keys_of_some a b e = cc
+key_stays : (keys : List ReadKey) (key more : ReadKey) → with_key keys key ≡ keys → with_key (with_key keys more) key ≡ with_key keys more
+key_stays = with_stays read_cmp total-law read_cmp-IsAntisymmetric
 
-note_stays : (notes : Notes) (key more : ReadKey) → with_note notes key ≡ notes → with_note (with_note notes more) key ≡ with_note notes more
-note_stays None key more there = refl
-note_stays (Some keys) key more there = ap Some (with_stays read_cmp total-law read_cmp-IsAntisymmetric keys key more (keys_of_some (with_key keys key) keys there))
+key_stays_noted : (keys : List ReadKey) (key : ReadKey) (more : List ReadKey) → with_key keys key ≡ keys → with_key (noted keys more) key ≡ noted keys more
+key_stays_noted keys key [] there = there
+key_stays_noted keys key (k ∷ more) there = key_stays_noted (with_key keys k) key more (key_stays keys key k there)
 
-note_stays_noted : (notes : Notes) (key : ReadKey) (more : List ReadKey) → with_note notes key ≡ notes → with_note (noting notes more) key ≡ noting notes more
-note_stays_noted notes key [] there = there
-note_stays_noted notes key (k ∷ more) there = note_stays_noted (with_note notes k) key more (note_stays notes key k there)
+-- these keys are in a set: each of them noted again leaves it as it is
+abbrev pub AreKept : List ReadKey → List ReadKey → Type 0
+AreKept keys more = AllByRecursion (λ key. with_key keys key ≡ keys) more
 
--- keys that are noted stay noted
-pub noted_stay : (notes : Notes) (keys more : List ReadKey) → IsNoted notes keys → IsNoted (noting notes more) keys
-noted_stay notes [] more there = tt
-noted_stay notes (key ∷ keys) more there = (note_stays_noted notes key more there.0, noted_stay notes keys more there.1)
+-- what was noted is in it
+pub kept_now : (keys more : List ReadKey) → AreKept (noted keys more) more
+kept_now keys [] = tt
+kept_now keys (key ∷ more) = (key_stays_noted (with_key keys key) key more (key_again keys key), kept_now (with_key keys key) more)
 
--- what was noted is noted
-pub noted_now : (notes : Notes) (keys : List ReadKey) → IsNoted (noting notes keys) keys
-noted_now notes [] = tt
-noted_now notes (key ∷ keys) = (note_stays_noted (with_note notes key) key keys (note_again notes key), noted_now (with_note notes key) keys)
+-- noting it again leaves the set as it is
+pub kept_same : (keys more : List ReadKey) → AreKept keys more → noted keys more ≡ keys
+kept_same keys [] there = refl
+kept_same keys (key ∷ more) there = ap (λ ks. noted ks more) there.0 ∙ kept_same keys more there.1
 
--- noting them again leaves the notes as they are
-pub noted_same : (notes : Notes) (keys : List ReadKey) → IsNoted notes keys → notes ≡ noting notes keys
-noted_same notes [] there = refl
-noted_same notes (key ∷ keys) there = noted_same notes keys there.1 ∙ ap (λ n. noting n keys) (sym there.0)
+-- ---- questions
+
+pub same_itself : (question : Question) → same_question question question ≡ true
+same_itself question = (question-Decides question question).1 refl
+
+asked_at : (questions : List Question) (question : Question) (b : Bool) → is_asked questions question ≡ b → is_asked (if b then questions else questions ++ question ∷ []) question ≡ true
+asked_at questions question true is = is
+asked_at questions question false is =
+    list_any-append (same_question question) questions (question ∷ []) ∙ ap (λ b. b || (same_question question question || false)) is
+    ∙ ap (λ b. b || false) (same_itself question)
+
+asked_now : (questions : List Question) (question : Question) → is_asked (with_question questions question) question ≡ true
+asked_now questions question = asked_at questions question (is_asked questions question) refl
+
+asked_still : (questions : List Question) (question more : Question) (b : Bool) → is_asked questions question ≡ true → is_asked (if b then questions else questions ++ more ∷ []) question ≡ true
+asked_still questions question more true there = there
+asked_still questions question more false there =
+    list_any-append (same_question question) questions (more ∷ []) ∙ ap (λ b. b || list_any (same_question question) (more ∷ [])) there
+
+-- a question that stands at some place is among them
+pub asked_there : (questions : List Question) (place : ℕ) (question : Question) → slice_get questions place ≡ Some question → is_asked questions question ≡ true
+asked_there [] place question is = absurd (cc)
+asked_there (q ∷ questions) zero question is = ap (λ b. b || is_asked questions question) ((question-Decides question q).1 (sym (the_same q question is))) where
+  the_same : (x y : Question) → Some x ≡ Some y → x ≡ y
+  the_same x y e = cc
+asked_there (q ∷ questions) (suc place) question is = or_later (same_question question q) (asked_there questions place question is) where
+  or_later : {c : Bool} (b : Bool) → c ≡ true → (b || c) ≡ true
+  or_later true later = refl
+  or_later false later = later
+
+-- a question that was just noted is noted
+pub noted_now : (notes : Notes) (question : Question) → IsNoted (with_note notes question) question
+noted_now None question = tt
+noted_now (Some questions) question = asked_now questions question
+
+noted_stays : (notes : Notes) (question more : Question) → IsNoted notes question → IsNoted (with_note notes more) question
+noted_stays None question more there = tt
+noted_stays (Some questions) question more there = asked_still questions question more (is_asked questions more) there
+
+-- one that is noted stays noted
+pub noted_stay : (notes : Notes) (question : Question) (more : List Question) → IsNoted notes question → IsNoted (noting notes more) question
+noted_stay notes question [] there = there
+noted_stay notes question (q ∷ more) there = noted_stay (with_note notes q) question more (noted_stays notes question q there)
+
+-- noting it again leaves the notes as they are
+pub noted_same : (notes : Notes) (question : Question) → IsNoted notes question → notes ≡ with_note notes question
+noted_same None question there = refl
+noted_same (Some questions) question there = ap (λ b. Some (if b then questions else questions ++ question ∷ [])) (sym there)

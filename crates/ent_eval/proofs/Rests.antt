@@ -15,11 +15,9 @@ use Rattle.ent_policy.specs.declared.document.Rule.{Rule}
 use Rattle.ent_policy.specs.declared.document.Target.{Target}
 use Rattle.ent_policy.specs.declared.key.DocKey.{DocKey}
 use Rattle.ent_eval.specs.declared.answer.Answer.{Answer}
-use Rattle.ent_eval.specs.declared.key.ReadKey.TheVariants as key
+use Rattle.ent_eval.specs.declared.question.Question.{Question}
+use Rattle.ent_eval.specs.declared.question.Question.TheVariants.{Of}
 use Rattle.ent_eval.specs.declared.request.Request.{Request}
-use Rattle.ent_values.specs.declared.datatype.DataType.TheVariants as types
-use Rattle.ent_values.specs.declared.value.Value.{Value}
-use Rattle.ent_values.specs.declared.value.Value.TheVariants as value
 use Rattle.ent_eval.specs.declared.target.Targeted.{Targeted}
 use Rattle.ent_eval.specs.declared.target.Targeted.TheVariants as is
 use Rattle.ent_functions.specs.declared.function.Function.{Function}
@@ -42,20 +40,27 @@ use Rattle.ent_eval.specs.declared.given.Given.{Given}
 use Rattle.ent_eval.specs.Given.{advice_after, assigned, assignment_part, effect_of, finished, given_in_turn, given_of, given_part, given_with, givens_part, goes_with, joined, together, with_own}
 use Rattle.ent_eval.specs.proofs_only.Gathered.{judged_by}
 use Rattle.ent_eval.specs.Judged.{judgement_of, stops, with_target}
-use Rattle.ent_eval.specs.Law.{IsSameLook}
+use Rattle.ent_eval.specs.Law.{FindsSame}
 use Rattle.ent_eval.specs.Looks.{Looks}
 use Rattle.ent_eval.specs.Node.{children_after, combined, element, policy_part, rules_part}
-use Rattle.ent_eval.specs.Own.{is_empty, own_values}
-use Rattle.ent_eval.specs.Part.{Part, after_look, and_then, mapped, reads_of, seen_parts, values, whole, without_look}
+use Rattle.ent_eval.specs.Part.{Part, after_look, and_then, mapped, questions_of, seen_parts, values, whole, without_look}
 use Rattle.ent_eval.specs.Rule.{condition_part, decided, rule_after, rule_part, truth_of}
-use Rattle.ent_eval.specs.Sources.{asks_for, date_part, date_time_part, entity_of, entity_part, key_for, known_values, source_part, time_part, values_part}
+use Rattle.ent_eval.specs.Sources.{asked_of, values_part}
 use Rattle.ent_eval.specs.Target.{all_match, all_of_part, any_of_part, is_match, is_no_match, match_part, matched, one_matches, target_part}
-use Rattle.ent_eval.specs.Uris as uris
 use Rattle.ent_eval.proofs.Children.{judged_seen}
 
--- a part is the same over both where its look-ups are
-abbrev pub Rests : {A : Type 0} → Looks → Looks → (Looks → Part A) → Type 0
-Rests s t part = AllByRecursion (IsSameLook s t) (part s).reads → part t ≡ part s
+-- what is held, and a request
+pub record World : Type 0 where
+  pub looks : Looks
+  pub request : Request
+
+-- a question finds the same in both
+abbrev pub Same : World → World → Question → Type 0
+Same s t = FindsSame s.looks s.request t.looks t.request
+
+-- a part is the same in both where what is asked for it is
+abbrev pub Rests : {A : Type 0} → World → World → (World → Part A) → Type 0
+Rests s t part = AllByRecursion (Same s t) (part s).asked → part t ≡ part s
 
 pub first_looks : {X : Type 0} (P : X → Type 0) (ks ls : List X) → AllByRecursion P (ks ++ ls) → AllByRecursion P ks
 first_looks P [] ls h = tt
@@ -65,34 +70,34 @@ pub later_looks : {X : Type 0} (P : X → Type 0) (ks ls : List X) → AllByRecu
 later_looks P [] ls h = h
 later_looks P (k ∷ ks) ls h = later_looks P ks ls h.1
 
-pub and_then-rests : {A B : Type 0} (s t : Looks) (p : Looks → Part A) (f : Looks → A → Part B) → Rests s t p → ((a : A) → Rests s t (λ u. f u a)) → Rests s t (λ u. and_then (p u) (f u))
+pub and_then-rests : {A B : Type 0} (s t : World) (p : World → Part A) (f : World → A → Part B) → Rests s t p → ((a : A) → Rests s t (λ u. f u a)) → Rests s t (λ u. and_then (p u) (f u))
 and_then-rests s t p f first later h =
-    let one : p t ≡ p s = first (first_looks (IsSameLook s t) (p s).reads (f s (p s).value).reads h) in
-    let two : f t (p s).value ≡ f s (p s).value = later (p s).value (later_looks (IsSameLook s t) (p s).reads (f s (p s).value).reads h) in
-    ap (λ q. and_then q (f t)) one ∙ ap (λ q. record { value = q.value; reads = (p s).reads ++ q.reads }) two
+    let one : p t ≡ p s = first (first_looks (Same s t) (p s).asked (f s (p s).value).asked h) in
+    let two : f t (p s).value ≡ f s (p s).value = later (p s).value (later_looks (Same s t) (p s).asked (f s (p s).value).asked h) in
+    ap (λ q. and_then q (f t)) one ∙ ap (λ q. record { value = q.value; asked = (p s).asked ++ q.asked }) two
 
-pub mapped-rests : {A B : Type 0} (s t : Looks) (f : A → B) (p : Looks → Part A) → Rests s t p → Rests s t (λ u. mapped f (p u))
+pub mapped-rests : {A B : Type 0} (s t : World) (f : A → B) (p : World → Part A) → Rests s t p → Rests s t (λ u. mapped f (p u))
 mapped-rests s t f p rests h = ap (mapped f) (rests h)
 
 -- parts that each rest on their look-ups
-abbrev pub AllRest : {X A : Type 0} → Looks → Looks → (Looks → X → Part A) → List X → Type 0
+abbrev pub AllRest : {X A : Type 0} → World → World → (World → X → Part A) → List X → Type 0
 AllRest s t part [] = Unit {0}
 AllRest s t part (x ∷ xs) = Rests s t (λ u. part u x) × AllRest s t part xs
 
-pub each-rests : {X A : Type 0} (s t : Looks) (part : Looks → X → Part A) → ((x : X) → Rests s t (λ u. part u x)) → (xs : List X) → AllRest s t part xs
+pub each-rests : {X A : Type 0} (s t : World) (part : World → X → Part A) → ((x : X) → Rests s t (λ u. part u x)) → (xs : List X) → AllRest s t part xs
 each-rests s t part rests [] = tt
 each-rests s t part rests (x ∷ xs) = (rests x, each-rests s t part rests xs)
 
-seen_at : {A : Type 0} (stop : A → Bool) (b : Bool) (s t : Looks) (p q : Part A) (ps qs : List (Part A)) → stop p.value ≡ b → (AllByRecursion (IsSameLook s t) p.reads → q ≡ p)
-    → (AllByRecursion (IsSameLook s t) (reads_of (seen_parts stop ps)) → seen_parts stop qs ≡ seen_parts stop ps)
-    → AllByRecursion (IsSameLook s t) (reads_of (if b then p ∷ [] else p ∷ seen_parts stop ps)) → seen_parts stop (q ∷ qs) ≡ (if b then p ∷ [] else p ∷ seen_parts stop ps)
-seen_at stop true s t p q ps qs is same later h = rw (same (first_looks (IsSameLook s t) p.reads [] h), is) refl
+seen_at : {A : Type 0} (stop : A → Bool) (b : Bool) (s t : World) (p q : Part A) (ps qs : List (Part A)) → stop p.value ≡ b → (AllByRecursion (Same s t) p.asked → q ≡ p)
+    → (AllByRecursion (Same s t) (questions_of (seen_parts stop ps)) → seen_parts stop qs ≡ seen_parts stop ps)
+    → AllByRecursion (Same s t) (questions_of (if b then p ∷ [] else p ∷ seen_parts stop ps)) → seen_parts stop (q ∷ qs) ≡ (if b then p ∷ [] else p ∷ seen_parts stop ps)
+seen_at stop true s t p q ps qs is same later h = rw (same (first_looks (Same s t) p.asked [] h), is) refl
 seen_at stop false s t p q ps qs is same later h =
-    rw (same (first_looks (IsSameLook s t) p.reads (reads_of (seen_parts stop ps)) h), is) (ap (λ rs. p ∷ rs) (later (later_looks (IsSameLook s t) p.reads (reads_of (seen_parts stop ps)) h)))
+    rw (same (first_looks (Same s t) p.asked (questions_of (seen_parts stop ps)) h), is) (ap (λ rs. p ∷ rs) (later (later_looks (Same s t) p.asked (questions_of (seen_parts stop ps)) h)))
 
 -- they are seen alike
-pub seen-rests : {X A : Type 0} (s t : Looks) (stop : A → Bool) (part : Looks → X → Part A) (xs : List X) → AllRest s t part xs
-    → AllByRecursion (IsSameLook s t) (reads_of (seen_parts stop (map (part s) xs))) → seen_parts stop (map (part t) xs) ≡ seen_parts stop (map (part s) xs)
+pub seen-rests : {X A : Type 0} (s t : World) (stop : A → Bool) (part : World → X → Part A) (xs : List X) → AllRest s t part xs
+    → AllByRecursion (Same s t) (questions_of (seen_parts stop (map (part s) xs))) → seen_parts stop (map (part t) xs) ≡ seen_parts stop (map (part s) xs)
 seen-rests s t stop part [] each h = refl
 seen-rests s t stop part (x ∷ xs) each h = seen_at stop (stop (part s x).value) s t (part s x) (part t x) (map (part s) xs) (map (part t) xs) refl each.0 (seen-rests s t stop part xs each.1) h
 
@@ -105,44 +110,19 @@ values-seen stop (p ∷ ps) = values_at (stop p.value) stop p ps (values-seen st
   values_at false stop p ps later = ap (λ vs. p.value ∷ vs) later
 
 -- a whole of parts whose value rests on those that are seen alone
-pub whole-rests : {X A B : Type 0} (s t : Looks) (stop : A → Bool) (part : Looks → X → Part A) (of_values : List A → B) → ((vs : List A) → of_values vs ≡ of_values (up_to_first stop vs)) → (xs : List X) → AllRest s t part xs
+pub whole-rests : {X A B : Type 0} (s t : World) (stop : A → Bool) (part : World → X → Part A) (of_values : List A → B) → ((vs : List A) → of_values vs ≡ of_values (up_to_first stop vs)) → (xs : List X) → AllRest s t part xs
     → Rests s t (λ u. whole stop of_values (map (part u) xs))
 whole-rests s t stop part of_values enough xs each h =
     let same : seen_parts stop (map (part t) xs) ≡ seen_parts stop (map (part s) xs) = seen-rests s t stop part xs each h in
-    let by_seen = λ (u : Looks). enough (values (map (part u) xs)) ∙ ap of_values (sym (values-seen stop (map (part u) xs))) in
-    ap (λ v. record { value = v; reads = reads_of (seen_parts stop (map (part t) xs)) }) (by_seen t)
-    ∙ ap (λ ps. record { value = of_values (values ps); reads = reads_of ps }) same
-    ∙ ap (λ v. record { value = v; reads = reads_of (seen_parts stop (map (part s) xs)) }) (sym (by_seen s))
+    let by_seen = λ (u : World). enough (values (map (part u) xs)) ∙ ap of_values (sym (values-seen stop (map (part u) xs))) in
+    ap (λ v. record { value = v; asked = questions_of (seen_parts stop (map (part t) xs)) }) (by_seen t)
+    ∙ ap (λ ps. record { value = of_values (values ps); asked = questions_of ps }) same
+    ∙ ap (λ v. record { value = v; asked = questions_of (seen_parts stop (map (part s) xs)) }) (sym (by_seen s))
 
 -- ---- values of designators
 
-module _ (s t : Looks) (request : Request) (d : Designator) where
-  date-rests : Rests s t date_part
-  date-rests h = ap (λ date. after_look key.CurrentDate (without_look (known_values value.Date date))) (sym h.0)
-
-  time-rests : Rests s t time_part
-  time-rests h = ap (λ time. after_look key.CurrentTime (without_look (known_values value.Time time))) (sym h.0)
-
-  date_time-rests : Rests s t date_time_part
-  date_time-rests h = ap (λ date_time. after_look key.CurrentDateTime (without_look (known_values value.DateTime date_time))) (sym h.0)
-
-  entity-rests : (entity : Option (List ℕ)) → Rests s t (λ u. entity_part u d entity)
-  entity-rests None h = refl
-  entity-rests (Some e) h = ap (λ vs. after_look (key.Attr (key_for d e)) (without_look vs)) (sym h.0)
-
-  source-rests : Rests s t (λ u. source_part u request d)
-  source-rests = at (asks_for uris.current_date types.Date d) (asks_for uris.current_time types.Time d) (asks_for uris.current_date_time types.DateTime d) where
-    at : (a b c : Bool) → Rests s t (λ u. if a then date_part u else (if b then time_part u else (if c then date_time_part u else entity_part u d (entity_of request d.category))))
-    at true b c = date-rests
-    at false true c = time-rests
-    at false false true = date_time-rests
-    at false false false = entity-rests (entity_of request d.category)
-
-  values-rest : Rests s t (λ u. values_part u request d)
-  values-rest = at (own_values d request) where
-    at : (vs : List Value) → Rests s t (λ u. if is_empty vs then source_part u request d else without_look vs)
-    at [] = source-rests
-    at (v ∷ vs) = λ h. refl
+values-rest : (s t : World) (d : Designator) → Rests s t (λ u. values_part u.looks u.request d)
+values-rest s t d h = ap (λ vs. after_look (Of (asked_of d)) (without_look vs)) (sym h.0)
 
 -- ---- targets
 
@@ -158,18 +138,18 @@ one_matches-seen ts = at (list_any is_match ts) refl where
   at true is = rw (is, any_up_to_first is_match ts, is) refl
   at false is = sym (ap one_matches (combining.whole is_match ts is))
 
-match-rests : (s t : Looks) (request : Request) (m : Match) → Rests s t (λ u. match_part u request m)
-match-rests s t request m = mapped-rests s t (matched m) (λ u. values_part u request m.designator) (values-rest s t request m.designator)
+match-rests : (s t : World) (m : Match) → Rests s t (λ u. match_part u.looks u.request m)
+match-rests s t m = mapped-rests s t (matched m) (λ u. values_part u.looks u.request m.designator) (values-rest s t m.designator)
 
-all_of-rests : (s t : Looks) (request : Request) (a : AllOf) → Rests s t (λ u. all_of_part u request a)
-all_of-rests s t request a = whole-rests s t is_no_match (λ u m. match_part u request m) all_match all_match-seen a.matches (each-rests s t (λ u m. match_part u request m) (match-rests s t request) a.matches)
+all_of-rests : (s t : World) (a : AllOf) → Rests s t (λ u. all_of_part u.looks u.request a)
+all_of-rests s t a = whole-rests s t is_no_match (λ u m. match_part u.looks u.request m) all_match all_match-seen a.matches (each-rests s t (λ u m. match_part u.looks u.request m) (match-rests s t) a.matches)
 
-any_of-rests : (s t : Looks) (request : Request) (a : AnyOf) → Rests s t (λ u. any_of_part u request a)
-any_of-rests s t request a = whole-rests s t is_match (λ u m. all_of_part u request m) one_matches one_matches-seen a.all_of (each-rests s t (λ u m. all_of_part u request m) (all_of-rests s t request) a.all_of)
+any_of-rests : (s t : World) (a : AnyOf) → Rests s t (λ u. any_of_part u.looks u.request a)
+any_of-rests s t a = whole-rests s t is_match (λ u m. all_of_part u.looks u.request m) one_matches one_matches-seen a.all_of (each-rests s t (λ u m. all_of_part u.looks u.request m) (all_of-rests s t) a.all_of)
 
-pub target-rests : (s t : Looks) (request : Request) (target : Target) → Rests s t (λ u. target_part u request target)
-target-rests s t request target =
-    whole-rests s t is_no_match (λ u m. any_of_part u request m) all_match all_match-seen target.any_of (each-rests s t (λ u m. any_of_part u request m) (any_of-rests s t request) target.any_of)
+pub target-rests : (s t : World) (target : Target) → Rests s t (λ u. target_part u.looks u.request target)
+target-rests s t target =
+    whole-rests s t is_no_match (λ u m. any_of_part u.looks u.request m) all_match all_match-seen target.any_of (each-rests s t (λ u m. any_of_part u.looks u.request m) (any_of-rests s t) target.any_of)
 
 -- ---- expressions
 
@@ -194,46 +174,46 @@ found_first f vs = found_at (find (is_result f) vs) refl where
   found_at None is = sym (ap (result_of f) (none-whole (is_result f) vs is))
 
 -- a part that is another one rests on its look-ups
-pub rests-by : {A : Type 0} (s t : Looks) (p q : Looks → Part A) → ((u : Looks) → p u ≡ q u) → Rests s t q → Rests s t p
-rests-by s t p q e rests h = e t ∙ rests (subst (λ x. AllByRecursion (IsSameLook s t) x.reads) (e s) h) ∙ sym (e s)
+pub rests-by : {A : Type 0} (s t : World) (p q : World → Part A) → ((u : World) → p u ≡ q u) → Rests s t q → Rests s t p
+rests-by s t p q e rests h = e t ∙ rests (subst (λ x. AllByRecursion (Same s t) x.asked) (e s) h) ∙ sym (e s)
 
-module _ (s t : Looks) (request : Request) (refer : Looks → List ℕ → Part Evaluated) (each : (id : List ℕ) → Rests s t (λ u. refer u id)) where
+module _ (s t : World) (refer : World → List ℕ → Part Evaluated) (each : (id : List ℕ) → Rests s t (λ u. refer u id)) where
   abbrev MeaningRests : Expression → Type 0
-  MeaningRests e = Rests s t (λ u. meaning_with u request (refer u) e)
+  MeaningRests e = Rests s t (λ u. meaning_with u.looks u.request (refer u) e)
 
-  all_rest : (es : List ((e : Expression) × MeaningRests e)) → AllRest s t (λ u e. meaning_with u request (refer u) e) (map (λ e. e.0) es)
+  all_rest : (es : List ((e : Expression) × MeaningRests e)) → AllRest s t (λ u e. meaning_with u.looks u.request (refer u) e) (map (λ e. e.0) es)
   all_rest [] = tt
   all_rest (e ∷ es) = (e.1, all_rest es)
 
-  meaning_rolls : (x : Expression-F Expression) (u : Looks) → meaning_with u request (refer u) (roll-Expression x) ≡ meaning_step u request (refer u) (map-Expression Expression (Part Evaluated) (meaning_with u request (refer u)) x)
-  meaning_rolls x u = fold-roll-Expression (Part Evaluated) (meaning_step u request (refer u)) x
+  meaning_rolls : (x : Expression-F Expression) (u : World) → meaning_with u.looks u.request (refer u) (roll-Expression x) ≡ meaning_step u.looks u.request (refer u) (map-Expression Expression (Part Evaluated) (meaning_with u.looks u.request (refer u)) x)
+  meaning_rolls x u = fold-roll-Expression (Part Evaluated) (meaning_step u.looks u.request (refer u)) x
 
   layer-rests : (y : Expression-F ((e : Expression) × MeaningRests e)) → MeaningRests (roll-Expression (map-Expression ((e : Expression) × MeaningRests e) Expression (λ e. e.0) y))
   layer-rests (Expression-F.Value v) = rests-by s t _ _ (meaning_rolls (Expression-F.Value v)) (λ h. refl)
-  layer-rests (Expression-F.Designator d) = rests-by s t _ _ (meaning_rolls (Expression-F.Designator d)) (mapped-rests s t (bag_of d) (λ u. values_part u request d) (values-rest s t request d))
+  layer-rests (Expression-F.Designator d) = rests-by s t _ _ (meaning_rolls (Expression-F.Designator d)) (mapped-rests s t (bag_of d) (λ u. values_part u.looks u.request d) (values-rest s t d))
   layer-rests (Expression-F.Variable id) = rests-by s t _ _ (meaning_rolls (Expression-F.Variable id)) (each id)
   layer-rests (Expression-F.Apply f arguments) =
       rests-by s t _ _ (meaning_rolls (Expression-F.Apply f (map (λ e. e.0) arguments)))
-      (whole-rests s t (is_result f) (λ u e. meaning_with u request (refer u) e) (result_of f) (found_first f) (map (λ e. e.0) arguments) (all_rest arguments))
+      (whole-rests s t (is_result f) (λ u e. meaning_with u.looks u.request (refer u) e) (result_of f) (found_first f) (map (λ e. e.0) arguments) (all_rest arguments))
   layer-rests (Expression-F.Function f) = rests-by s t _ _ (meaning_rolls (Expression-F.Function f)) (λ h. refl)
 
   pub meaning_with-rests : (e : Expression) → MeaningRests e
   meaning_with-rests = ind-Expression MeaningRests (λ x y is. subst (λ z. MeaningRests (roll-Expression z)) is (layer-rests y))
 
-defined-rests : (s t : Looks) (part : Looks → Expression → Part Evaluated) → ((e : Expression) → Rests s t (λ u. part u e)) → (o : Option VariableDefinition) → Rests s t (λ u. defined_part (part u) o)
+defined-rests : (s t : World) (part : World → Expression → Part Evaluated) → ((e : Expression) → Rests s t (λ u. part u e)) → (o : Option VariableDefinition) → Rests s t (λ u. defined_part (part u) o)
 defined-rests s t part each None h = refl
 defined-rests s t part each (Some d) h = each d.expression h
 
-variable-rests : (s t : Looks) (request : Request) (definitions : List VariableDefinition) (n : ℕ) (id : List ℕ) → Rests s t (λ u. variable_part u request definitions n id)
-variable-rests s t request definitions zero id = λ h. refl
-variable-rests s t request definitions (suc n) id =
-    defined-rests s t (λ u e. meaning u request definitions n e) (meaning_with-rests s t request (λ u. variable_part u request definitions n) (variable-rests s t request definitions n)) (definition_of definitions id)
+variable-rests : (s t : World) (definitions : List VariableDefinition) (n : ℕ) (id : List ℕ) → Rests s t (λ u. variable_part u.looks u.request definitions n id)
+variable-rests s t definitions zero id = λ h. refl
+variable-rests s t definitions (suc n) id =
+    defined-rests s t (λ u e. meaning u.looks u.request definitions n e) (meaning_with-rests s t (λ u. variable_part u.looks u.request definitions n) (variable-rests s t definitions n)) (definition_of definitions id)
 
-condition-rests : (s t : Looks) (request : Request) (definitions : List VariableDefinition) (condition : Option Expression) → Rests s t (λ u. condition_part u request definitions condition)
-condition-rests s t request definitions None = λ h. refl
-condition-rests s t request definitions (Some e) =
-    mapped-rests s t truth_of (λ u. meaning u request definitions (length definitions) e)
-    (meaning_with-rests s t request (λ u. variable_part u request definitions (length definitions)) (variable-rests s t request definitions (length definitions)) e)
+condition-rests : (s t : World) (definitions : List VariableDefinition) (condition : Option Expression) → Rests s t (λ u. condition_part u.looks u.request definitions condition)
+condition-rests s t definitions None = λ h. refl
+condition-rests s t definitions (Some e) =
+    mapped-rests s t truth_of (λ u. meaning u.looks u.request definitions (length definitions) e)
+    (meaning_with-rests s t (λ u. variable_part u.looks u.request definitions (length definitions)) (variable-rests s t definitions (length definitions)) e)
 
 -- ---- obligations and advice
 
@@ -242,48 +222,48 @@ together-seen [] = refl
 together-seen (Err status ∷ vs) = refl
 together-seen (Ok xs ∷ vs) = ap (joined (Ok xs)) (together-seen vs)
 
-module _ (s t : Looks) (request : Request) (definitions : List VariableDefinition) where
-  expression-rests : (e : Expression) → Rests s t (λ u. meaning u request definitions (length definitions) e)
-  expression-rests = meaning_with-rests s t request (λ u. variable_part u request definitions (length definitions)) (variable-rests s t request definitions (length definitions))
+module _ (s t : World) (definitions : List VariableDefinition) where
+  expression-rests : (e : Expression) → Rests s t (λ u. meaning u.looks u.request definitions (length definitions) e)
+  expression-rests = meaning_with-rests s t (λ u. variable_part u.looks u.request definitions (length definitions)) (variable-rests s t definitions (length definitions))
 
-  assignment-rests : (a : AssignmentExpression) → Rests s t (λ u. assignment_part u request definitions a)
-  assignment-rests a = mapped-rests s t (assigned a) (λ u. meaning u request definitions (length definitions) a.expression) (expression-rests a.expression)
+  assignment-rests : (a : AssignmentExpression) → Rests s t (λ u. assignment_part u.looks u.request definitions a)
+  assignment-rests a = mapped-rests s t (assigned a) (λ u. meaning u.looks u.request definitions (length definitions) a.expression) (expression-rests a.expression)
 
-  turn-rests : {X A : Type 0} (part : Looks → X → Part (Result (List A) Status)) → ((x : X) → Rests s t (λ u. part u x)) → (xs : List X) → Rests s t (λ u. given_in_turn (part u) xs)
+  turn-rests : {X A : Type 0} (part : World → X → Part (Result (List A) Status)) → ((x : X) → Rests s t (λ u. part u x)) → (xs : List X) → Rests s t (λ u. given_in_turn (part u) xs)
   turn-rests part each xs = whole-rests s t is_err part together together-seen xs (each-rests s t part each xs)
 
-  given-rests : (effect : Effect) (g : GivenExpression) → Rests s t (λ u. given_part u request definitions effect g)
+  given-rests : (effect : Effect) (g : GivenExpression) → Rests s t (λ u. given_part u.looks u.request definitions effect g)
   given-rests effect g = at (goes_with effect g.effect) where
-    at : (b : Bool) → Rests s t (λ u. if b then mapped (given_of g.id) (given_in_turn (assignment_part u request definitions) g.assignments) else without_look (Ok []))
-    at true = mapped-rests s t (given_of g.id) (λ u. given_in_turn (assignment_part u request definitions) g.assignments) (turn-rests (λ u a. assignment_part u request definitions a) assignment-rests g.assignments)
+    at : (b : Bool) → Rests s t (λ u. if b then mapped (given_of g.id) (given_in_turn (assignment_part u.looks u.request definitions) g.assignments) else without_look (Ok []))
+    at true = mapped-rests s t (given_of g.id) (λ u. given_in_turn (assignment_part u.looks u.request definitions) g.assignments) (turn-rests (λ u a. assignment_part u.looks u.request definitions a) assignment-rests g.assignments)
     at false = λ h. refl
 
-  givens-rest : (effect : Effect) (gs : List GivenExpression) → Rests s t (λ u. givens_part u request definitions effect gs)
-  givens-rest effect gs = turn-rests (λ u g. given_part u request definitions effect g) (given-rests effect) gs
+  givens-rest : (effect : Effect) (gs : List GivenExpression) → Rests s t (λ u. givens_part u.looks u.request definitions effect gs)
+  givens-rest effect gs = turn-rests (λ u g. given_part u.looks u.request definitions effect g) (given-rests effect) gs
 
-  advice-rests : (given : GivenExpressions) (effect : Effect) (a : Answer) (obligations : Result (List Given) Status) → Rests s t (λ u. advice_after u request definitions given effect a obligations)
-  advice-rests given effect a (Ok obligations) = mapped-rests s t (with_own effect a obligations) (λ u. givens_part u request definitions effect given.advice) (givens-rest effect given.advice)
+  advice-rests : (given : GivenExpressions) (effect : Effect) (a : Answer) (obligations : Result (List Given) Status) → Rests s t (λ u. advice_after u.looks u.request definitions given effect a obligations)
+  advice-rests given effect a (Ok obligations) = mapped-rests s t (with_own effect a obligations) (λ u. givens_part u.looks u.request definitions effect given.advice) (givens-rest effect given.advice)
   advice-rests given effect a (Err status) = λ h. refl
 
-  with-rests : (given : GivenExpressions) (effect : Option Effect) (a : Answer) → Rests s t (λ u. given_with u request definitions given effect a)
+  with-rests : (given : GivenExpressions) (effect : Option Effect) (a : Answer) → Rests s t (λ u. given_with u.looks u.request definitions given effect a)
   with-rests given None a = λ h. refl
   with-rests given (Some effect) a =
-      and_then-rests s t (λ u. givens_part u request definitions effect given.obligations) (λ u. advice_after u request definitions given effect a) (givens-rest effect given.obligations) (advice-rests given effect a)
+      and_then-rests s t (λ u. givens_part u.looks u.request definitions effect given.obligations) (λ u. advice_after u.looks u.request definitions given effect a) (givens-rest effect given.obligations) (advice-rests given effect a)
 
-  pub finished-rests : (given : GivenExpressions) (a : Answer) → Rests s t (λ u. finished u request definitions given a)
+  pub finished-rests : (given : GivenExpressions) (a : Answer) → Rests s t (λ u. finished u.looks u.request definitions given a)
   finished-rests given a = with-rests given (effect_of a.decision) a
 
 -- ---- rules
 
-rule_after-rests : (s t : Looks) (own : Looks → Answer → Part Answer) → ((a : Answer) → Rests s t (λ u. own u a)) → (condition : Looks → Part Truth) → Rests s t condition → (path : List DocKey) (rule : Rule) (targeted : Targeted) → Rests s t (λ u. rule_after (own u) (condition u) path rule targeted)
+rule_after-rests : (s t : World) (own : World → Answer → Part Answer) → ((a : Answer) → Rests s t (λ u. own u a)) → (condition : World → Part Truth) → Rests s t condition → (path : List DocKey) (rule : Rule) (targeted : Targeted) → Rests s t (λ u. rule_after (own u) (condition u) path rule targeted)
 rule_after-rests s t own owns condition rests path rule is.Match = and_then-rests s t (λ u. mapped (decided path rule) (condition u)) own (mapped-rests s t (decided path rule) condition rests) owns
 rule_after-rests s t own owns condition rests path rule is.NoMatch = λ h. refl
 rule_after-rests s t own owns condition rests path rule (is.Indeterminate status) = λ h. refl
 
-pub rule-rests : (s t : Looks) (request : Request) (definitions : List VariableDefinition) (path : List DocKey) (rule : Rule) → Rests s t (λ u. rule_part u request definitions path rule)
-rule-rests s t request definitions path rule =
-    and_then-rests s t (λ u. target_part u request rule.target) (λ u. rule_after (finished u request definitions rule.given) (condition_part u request definitions rule.condition) path rule) (target-rests s t request rule.target)
-    (rule_after-rests s t (λ u. finished u request definitions rule.given) (finished-rests s t request definitions rule.given) (λ u. condition_part u request definitions rule.condition) (condition-rests s t request definitions rule.condition) path rule)
+pub rule-rests : (s t : World) (definitions : List VariableDefinition) (path : List DocKey) (rule : Rule) → Rests s t (λ u. rule_part u.looks u.request definitions path rule)
+rule-rests s t definitions path rule =
+    and_then-rests s t (λ u. target_part u.looks u.request rule.target) (λ u. rule_after (finished u.looks u.request definitions rule.given) (condition_part u.looks u.request definitions rule.condition) path rule) (target-rests s t rule.target)
+    (rule_after-rests s t (λ u. finished u.looks u.request definitions rule.given) (finished-rests s t definitions rule.given) (λ u. condition_part u.looks u.request definitions rule.condition) (condition-rests s t definitions rule.condition) path rule)
 
 -- ---- elements
 
@@ -291,22 +271,22 @@ pub children_seen : (here : List DocKey) (algorithm : RuleAlg) (answers : List A
 children_seen here algorithm answers =
     sym (judged_seen here algorithm answers) ∙ ap (judged_by here algorithm) (sym (seen_again (stops algorithm) answers)) ∙ judged_seen here algorithm (up_to_first (stops algorithm) answers)
 
-pub combined-rests : {X : Type 0} (s t : Looks) (here : List DocKey) (algorithm : RuleAlg) (part : Looks → X → Part Answer) (xs : List X) → AllRest s t part xs → Rests s t (λ u. combined here algorithm (map (part u) xs))
+pub combined-rests : {X : Type 0} (s t : World) (here : List DocKey) (algorithm : RuleAlg) (part : World → X → Part Answer) (xs : List X) → AllRest s t part xs → Rests s t (λ u. combined here algorithm (map (part u) xs))
 combined-rests s t here algorithm part xs each = whole-rests s t (stops algorithm) part (judgement_of here algorithm) (children_seen here algorithm) xs each
 
-children-rest : (s t : Looks) (own : Looks → Answer → Part Answer) → ((a : Answer) → Rests s t (λ u. own u a)) → (children : Looks → Part Answer) → Rests s t children → (targeted : Targeted)
+children-rest : (s t : World) (own : World → Answer → Part Answer) → ((a : Answer) → Rests s t (λ u. own u a)) → (children : World → Part Answer) → Rests s t children → (targeted : Targeted)
     → Rests s t (λ u. children_after (own u) (children u) targeted)
 children-rest s t own owns children rests is.Match = and_then-rests s t children own rests owns
 children-rest s t own owns children rests is.NoMatch = λ h. refl
 children-rest s t own owns children rests (is.Indeterminate status) = mapped-rests s t (with_target (is.Indeterminate status)) children rests
 
-pub element-rests : (s t : Looks) (request : Request) (target : Target) (own : Looks → Answer → Part Answer) → ((a : Answer) → Rests s t (λ u. own u a)) → (children : Looks → Part Answer) → Rests s t children
-    → Rests s t (λ u. element (target_part u request target) (children u) (own u))
-element-rests s t request target own owns children rests =
-    and_then-rests s t (λ u. target_part u request target) (λ u. children_after (own u) (children u)) (target-rests s t request target) (children-rest s t own owns children rests)
+pub element-rests : (s t : World) (target : Target) (own : World → Answer → Part Answer) → ((a : Answer) → Rests s t (λ u. own u a)) → (children : World → Part Answer) → Rests s t children
+    → Rests s t (λ u. element (target_part u.looks u.request target) (children u) (own u))
+element-rests s t target own owns children rests =
+    and_then-rests s t (λ u. target_part u.looks u.request target) (λ u. children_after (own u) (children u)) (target-rests s t target) (children-rest s t own owns children rests)
 
-pub policy-rests : (s t : Looks) (request : Request) (path : List DocKey) (policy : Policy) → Rests s t (λ u. policy_part u request path policy)
-policy-rests s t request path policy =
+pub policy-rests : (s t : World) (path : List DocKey) (policy : Policy) → Rests s t (λ u. policy_part u.looks u.request path policy)
+policy-rests s t path policy =
     let here = path ++ record { kind = kind.Policy; id = policy.id; version = policy.version } ∷ [] in
-    element-rests s t request policy.target (λ u. finished u request policy.variables policy.given) (finished-rests s t request policy.variables policy.given) (λ u. rules_part u request here policy)
-    (combined-rests s t here policy.algorithm (λ u r. rule_part u request policy.variables here r) policy.rules (each-rests s t (λ u r. rule_part u request policy.variables here r) (rule-rests s t request policy.variables here) policy.rules))
+    element-rests s t policy.target (λ u. finished u.looks u.request policy.variables policy.given) (finished-rests s t policy.variables policy.given) (λ u. rules_part u.looks u.request here policy)
+    (combined-rests s t here policy.algorithm (λ u r. rule_part u.looks u.request policy.variables here r) policy.rules (each-rests s t (λ u r. rule_part u.looks u.request policy.variables here r) (rule-rests s t policy.variables here) policy.rules))

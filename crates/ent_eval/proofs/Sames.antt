@@ -12,6 +12,7 @@ use Rattle.ent_combine.specs.declared.outcome.Outcome.TheVariants as outcome
 use Rattle.ent_combine.specs.contracts.outcome.IndKindPartialEq.TheImpl as inds
 use Rattle.ent_combine.specs.contracts.outcome.OutcomePartialEq.TheImpl as outcomes
 use Rattle.ent_policy.specs.declared.key.DocKey.{DocKey}
+use Rattle.ent_policy.specs.declared.key.Reference.{Reference}
 use Rattle.ent_policy.specs.Same as documents
 use Rattle.ent_policy.proofs.Same.{same_key-Decides, same_reference-Decides}
 use Rattle.ent_values.proofs.Telling.{Tells, decided, decides, enum, last, list, maybe, more, struct}
@@ -36,7 +37,14 @@ use Rattle.ent_eval.specs.contracts.answer.WhyEntryPartialEq.TheImpl as entries
 use Rattle.ent_eval.specs.declared.key.ReadKey.{ReadKey}
 use Rattle.ent_eval.specs.contracts.key.ReadKey as key
 use Rattle.ent_eval.specs.contracts.key.ReadKeyEq.TheImpl.Laws as keys
+use Rattle.ent_eval.specs.contracts.question.Asked as asked
+use Rattle.ent_eval.specs.contracts.question.AskedPartialEq.TheImpl as askeds
+use Rattle.ent_eval.specs.contracts.question.Question as question
+use Rattle.ent_eval.specs.contracts.question.QuestionEq.TheImpl.Laws as questions
+use Rattle.ent_eval.specs.declared.question.Asked.{Asked}
+use Rattle.ent_eval.specs.declared.question.Question.{Question}
 use Rattle.ent_eval.specs.Same.{same_answer, same_key}
+use Rattle.ent_eval.specs.proofs_only.Noted.{same_question}
 
 -- two tests decide two facts
 both-Decides : {P Q : Type 0} (a b : Bool) → Decides a P → Decides b Q → Decides (a && b) (P × Q)
@@ -131,3 +139,19 @@ key-tells = enum key.enum _ (last (decided same_reference-Decides), (last attrib
 
 pub key-Decides : (a b : ReadKey) → Decides (same_key a b) (a ≡ b)
 key-Decides = decides keys.laws-law key-tells
+
+-- ---- questions
+
+asked-tells : (a : Asked) → Tells (askeds.ghosts).eq a
+asked-tells =
+    struct asked.struct asked.the_propositions
+    (more (decided bytes_eq-Decides) (more (decided bytes_eq-Decides) (more (decided same_type-Decides) (last (maybe (decided bytes_eq-Decides))))))
+
+question-tells : (q : Question) → Tells same_question q
+question-tells = enum question.enum _ (last (decided same_reference-Decides), (last asked-tells, tt))
+
+pub question-Decides : (a b : Question) → Decides (same_question a b) (a ≡ b)
+question-Decides = decides questions.laws-law question-tells
+
+pub equal_references : (a b : Reference) → documents.same_reference a b ≡ true → a ≡ b
+equal_references a b h = (same_reference-Decides a b).0 h

@@ -7,7 +7,7 @@ use Rattle.ent_eval.specs.proofs_only.Noted.{Notes, noting}
 use Rattle.ent_eval.specs.Part.{Part}
 use Rattle.ent_eval.specs.Target.{first_indeterminate, is_indeterminate, is_match, is_no_match}
 use Rattle.ent_eval.specs.proofs_only.Target.{unless_indeterminate}
-use Rattle.ent_eval.proofs.Walk.{IsGoing, goes_on, values_to, values_to-next}
+use Rattle.ent_eval.proofs.Going.{IsGoing, goes_on, values_to, values_to-next}
 
 -- none of the first i parts stops, and `so_far` is the first of them that is Indeterminate
 pub record IsSoFar {X : Type 0} (stop : Targeted → Bool) (otherwise : Targeted) (part : X → Part Targeted) (xs : List X) (i : ℕ) (so_far : Targeted) (start now : Notes) : Type 0 where
@@ -43,7 +43,7 @@ first-more stop otherwise other plain (s ∷ ts) t not = more_at (is_indetermina
 
 module _ {X : Type 0} (stop : Targeted → Bool) (otherwise : Targeted) (part : X → Part Targeted) (xs : List X) where
   pub next_so_far : IsOther stop otherwise → is_indeterminate otherwise ≡ false → (i : ℕ) (x : X) (so_far t next : Targeted) (start now later : Notes) → i < length xs → x ≡ get_or xs i x
-      → IsSoFar stop otherwise part xs i so_far start now → t ≡ (part x).value → later ≡ noting now (part x).reads → stop t ≡ false → next ≡ unless_indeterminate so_far t
+      → IsSoFar stop otherwise part xs i so_far start now → t ≡ (part x).value → later ≡ noting now (part x).asked → stop t ≡ false → next ≡ unless_indeterminate so_far t
       → IsSoFar stop otherwise part xs (i + 1) next start later
   next_so_far other plain i x so_far t next start now later h at was t-is later-is not next-is =
       let not_here : stop (part x).value ≡ false = ap stop (sym t-is) ∙ not in
@@ -55,9 +55,9 @@ module _ {X : Type 0} (stop : Targeted → Bool) (otherwise : Targeted) (part : 
 -- the same where a part is what the list inside it comes to
 pub next_inner : {X Y : Type 0} (stop : Targeted → Bool) (otherwise : Targeted) (inner : List Y → Part Targeted) (list : X → List Y) (xs : List X) → IsOther stop otherwise → is_indeterminate otherwise ≡ false
     → (i : ℕ) (x : X) (ys : List Y) (so_far t next : Targeted) (start now later : Notes) → i < length xs → x ≡ get_or xs i x → IsSoFar stop otherwise (λ x. inner (list x)) xs i so_far start now
-    → ys ≡ list x → t ≡ (inner ys).value → later ≡ noting now (inner ys).reads → stop t ≡ false → next ≡ unless_indeterminate so_far t → IsSoFar stop otherwise (λ x. inner (list x)) xs (i + 1) next start later
+    → ys ≡ list x → t ≡ (inner ys).value → later ≡ noting now (inner ys).asked → stop t ≡ false → next ≡ unless_indeterminate so_far t → IsSoFar stop otherwise (λ x. inner (list x)) xs (i + 1) next start later
 next_inner stop otherwise inner list xs other plain i x ys so_far t next start now later h at was ys-is t-is later-is not next-is =
-    next_so_far stop otherwise (λ x. inner (list x)) xs other plain i x so_far t next start now later h at was (t-is ∙ ap (λ zs. (inner zs).value) ys-is) (later-is ∙ ap (λ zs. noting now (inner zs).reads) ys-is) not next-is
+    next_so_far stop otherwise (λ x. inner (list x)) xs other plain i x so_far t next start now later h at was (t-is ∙ ap (λ zs. (inner zs).value) ys-is) (later-is ∙ ap (λ zs. noting now (inner zs).asked) ys-is) not next-is
 
 pub other_than_no_match : IsOther is_no_match is.Match
 other_than_no_match is.Match not plain = refl

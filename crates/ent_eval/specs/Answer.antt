@@ -1,15 +1,18 @@
--- The answer to a request, and the look-ups that it rests on.
+-- The answer to a request, what is asked for it, and the look-ups that it rests on.
 use Rattle.std.specs.Prelude.{ℕ, List, [], Option, Some, None}
+use Rattle.std.specs.List.{flat_map}
 use Rattle.ent_policy.specs.declared.key.Reference.{Reference}
 use Rattle.ent_eval.specs.declared.answer.Answer.{Answer}
 use Rattle.ent_eval.specs.declared.key.ReadKey.{ReadKey}
-use Rattle.ent_eval.specs.declared.key.ReadKey.TheVariants.{Root}
+use Rattle.ent_eval.specs.declared.question.Question.{Question}
+use Rattle.ent_eval.specs.declared.question.Question.TheVariants.{Root}
 use Rattle.ent_eval.specs.declared.request.Request.{Request}
 use Rattle.ent_eval.specs.Judged.{nothing}
 use Rattle.ent_eval.specs.Looks.{Looks}
 use Rattle.ent_eval.specs.Node.{followed, refer}
 use Rattle.ent_eval.specs.Noted.{noted}
 use Rattle.ent_eval.specs.Part.{Part, without_look, after_look}
+use Rattle.ent_eval.specs.Sources.{keys_of}
 
 -- on each path from the root at most six references are followed; the seventh looks nothing up
 abbrev pub most_hops : ℕ
@@ -20,7 +23,7 @@ abbrev pub root_part : Looks → Request → Option Reference → Part Answer
 root_part looks request None = without_look nothing
 root_part looks request (Some reference) = (followed looks request (refer looks request most_hops) reference).answer []
 
--- the answer, with its look-ups, of which the first is the root
+-- the answer, with its questions, of which the first is the root
 abbrev pub answer_part : Looks → Request → Part Answer
 answer_part looks request = after_look Root (root_part looks request looks.root)
 
@@ -28,9 +31,13 @@ answer_part looks request = after_look Root (root_part looks request looks.root)
 abbrev pub answer : Looks → Request → Answer
 answer looks request = (answer_part looks request).value
 
+-- the questions that are asked for it, each as often as it is
+abbrev pub asked : Looks → Request → List Question
+asked looks request = (answer_part looks request).asked
+
 -- the keys that are looked up for it, each as often as it is
 abbrev pub looked_up : Looks → Request → List ReadKey
-looked_up looks request = (answer_part looks request).reads
+looked_up looks request = flat_map (keys_of request) (asked looks request)
 
 -- the same keys, each once
 abbrev pub recorded : Looks → Request → List ReadKey

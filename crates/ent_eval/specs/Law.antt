@@ -1,11 +1,25 @@
--- An answer rests on the look-ups that are recorded for it, which are those that are made, each once.
+-- An answer rests on what is asked for it, so on the look-ups that are recorded for it: those that are made, each once.
 use Rattle.std.specs.Prelude.{◌≡◌, ◌≢◌, ◌↔◌, List, ◌∷◌, ◌++◌}
 use Rattle.std.specs.List.{All, Contains}
 use Rattle.ent_eval.specs.declared.key.ReadKey.{ReadKey}
 use Rattle.ent_eval.specs.declared.key.ReadKey.TheVariants.{Root, Ref, Attr, CurrentDate, CurrentTime, CurrentDateTime}
 use Rattle.ent_eval.specs.declared.request.Request.{Request}
-use Rattle.ent_eval.specs.Answer.{answer, looked_up, recorded}
+use Rattle.ent_eval.specs.declared.question.Question.{Question}
+use Rattle.ent_eval.specs.declared.question.Question.TheVariants as question
+use Rattle.ent_eval.specs.Answer.{answer, asked, looked_up, recorded}
 use Rattle.ent_eval.specs.Looks.{Looks}
+use Rattle.ent_eval.specs.Sources.{values_of}
+
+-- a question finds the same for one request, over what is held, as for another over what is held then
+abbrev pub FindsSame : Looks → Request → Looks → Request → Question → Type 0
+FindsSame s q t r question.Root = s.root ≡ t.root
+FindsSame s q t r (question.Ref reference) = s.document reference ≡ t.document reference
+FindsSame s q t r (question.Of a) = values_of s q a ≡ values_of t r a
+
+-- where each question that is asked finds the same, whoever asks, the answers are equal, and so is what is asked
+abbrev pub EqualFindingsGiveEqualAnswers : Type 0
+EqualFindingsGiveEqualAnswers = (s t : Looks) (q r : Request) → All (FindsSame s q t r) (asked s q)
+    → (answer t r ≡ answer s q) × (asked t r ≡ asked s q)
 
 -- a look-up gives the same in both
 abbrev pub IsSameLook : Looks → Looks → ReadKey → Type 0

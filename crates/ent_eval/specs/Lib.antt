@@ -16,6 +16,9 @@ pub mod Noted
 pub mod Only
 pub mod Own
 pub mod Part
+pub mod QuestionOf
+pub mod Questions
+pub mod Readers
 pub mod Rule
 pub mod Same
 pub mod SameLook

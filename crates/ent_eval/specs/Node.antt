@@ -16,8 +16,8 @@ use Rattle.ent_policy.specs.declared.key.DocKey.{DocKey}
 use Rattle.ent_policy.specs.declared.key.Reference.{Reference}
 use Rattle.ent_eval.specs.declared.answer.Answer.{Answer}
 use Rattle.ent_eval.specs.declared.answer.Status.TheVariants.{ProcessingError}
-use Rattle.ent_eval.specs.declared.key.ReadKey.{ReadKey}
-use Rattle.ent_eval.specs.declared.key.ReadKey.TheVariants.{Ref}
+use Rattle.ent_eval.specs.declared.question.Question.{Question}
+use Rattle.ent_eval.specs.declared.question.Question.TheVariants.{Ref}
 use Rattle.ent_eval.specs.declared.request.Request.{Request}
 use Rattle.ent_eval.specs.declared.target.Targeted.{Targeted}
 use Rattle.ent_eval.specs.declared.target.Targeted.TheVariants.{Match, NoMatch, Indeterminate}
@@ -100,9 +100,12 @@ abbrev pub found_node : (Child → Node) → Option Tree → Node
 found_node node None = unresolved_node
 found_node node (Some t) = node (as_child t)
 
--- a node before which one key is looked up
-abbrev pub node_after_look : ReadKey → Node → Node
-node_after_look key n = record { target = after_look key n.target; answer = λ path. after_look key (n.answer path) }
+-- a node before which one question is asked
+abbrev pub node_after_look : Question → Node → Node
+node_after_look question n = record {
+  target = after_look question n.target;
+  answer = λ path. after_look question (n.answer path);
+}
 
 -- a reference that is followed, where `refer` gives what one in its document comes to: it adds nothing to the path, its document does
 abbrev pub followed : Looks → Request → (Reference → Node) → Reference → Node

@@ -14,7 +14,7 @@ use Rattle.ent_eval.specs.declared.only.Only.TheVariants as only
 use Rattle.ent_eval.specs.declared.target.Targeted.{Targeted}
 use Rattle.ent_eval.specs.declared.target.Targeted.TheVariants.{Match, NoMatch, Indeterminate}
 use Rattle.ent_eval.specs.Judged.{bad, nothing}
-use Rattle.ent_eval.specs.Part.{Part, without_look, and_then, reads_of, values}
+use Rattle.ent_eval.specs.Part.{Part, without_look, and_then, questions_of, values}
 
 -- what is chosen by: the status doesn't matter
 abbrev pub result_of_target : Targeted → TargetResult
@@ -50,7 +50,7 @@ seen_choice targets = up_to_passing spoils targets
 abbrev pub choice_part : List (Part Targeted) → Part Only
 choice_part targets = record {
   value = chosen (choose (results (values targets))) (values (seen_choice targets));
-  reads = reads_of (seen_choice targets);
+  asked = questions_of (seen_choice targets);
 }
 
 -- the chosen child alone is evaluated

@@ -9,9 +9,11 @@ pub mod Looked
 pub mod Node
 pub mod Noted
 pub mod Only
+pub mod Numbering
 pub mod Opened
 pub mod Path
 pub mod Sought
 pub mod Target
+pub mod Texts
 pub mod Typed
 pub mod Uncopied

@@ -3,38 +3,36 @@
 ghost use Rattle.std.specs.Prelude.{◌≡◌, ◌++◌, IfOk, OnOk, Ok, length, map, true};
 ghost use Rattle.std.specs.List.{list_all};
 ghost use Rattle.ent_policy.specs.Typing.{assignment_is_typed};
-ghost use Rattle.ent_eval.specs.proofs_only.Comes.{Comes, in_scene};
+ghost use Rattle.ent_eval.specs.proofs_only.Comes.{Asks, Comes, in_walk};
 ghost use Rattle.ent_eval.specs.Given.{assigned, assignment_of, assignment_part, given_in_turn, joined};
 ghost use Rattle.ent_eval.specs.proofs_only.Given.{added, joined_with};
-ghost use Rattle.ent_eval.specs.proofs_only.Noted.{noting};
 ghost use Rattle.ent_eval.specs.proofs_only.Typed.{is_held};
 
 use crate::answer::{Status, copied_text};
 use crate::evaluated::Evaluated;
 use crate::given::Assignment;
 use crate::look_ups::LookUps;
-use crate::notes::Notes;
-use crate::scene::Scene;
+use crate::walk::Walk;
 use ent_functions::Arg;
 use ent_policy::{AssignmentExpression, VariableDefinition};
 use ent_values::{Items, Value};
 use std::alloc::{AllocError, Global};
 
-impl<L: LookUps> Scene<'_, L> {
+impl<L: LookUps> Walk<'_, L> {
     // Assignments, up to the first that is Indeterminate, whose status is given.
     pub(crate) fn assignments(
-        &self,
-        reads: &mut Notes,
+        &mut self,
         definitions: &[VariableDefinition],
         expressions: &[AssignmentExpression],
     ) -> Result<Result<Items<Assignment>, Status>, AllocError>
         requires { list_all (assignment_is_typed definitions.now) expressions.now ≡ true }
-        ensures comes { IfOk result (Comes (given_in_turn
-            (in_scene L.looks self.now assignment_part definitions.now) expressions.now) reads.old reads.new) }
+        ensures comes { IfOk result (Comes
+            (given_in_turn (in_walk L.looks self.old assignment_part definitions.now) expressions.now)
+            self.old self.new) }
     {
         let mut assignments = Items::with_capacity(self.alloc, expressions.len())?;
         for expression in expressions {
-            let stopped = self.assign(reads, definitions, expression, &mut assignments)?;
+            let stopped = self.assign(definitions, expression, &mut assignments)?;
             if let Some(status) = stopped {
                 return Ok(Err(status));
             }
@@ -45,24 +43,19 @@ impl<L: LookUps> Scene<'_, L> {
     // One more. The status is given of one that is Indeterminate.
     #[tactic(auto, unfolding(ent_policy::specs::Typing::assignment_is_typed))]
     fn assign(
-        &self,
-        reads: &mut Notes,
+        &mut self,
         definitions: &[VariableDefinition],
         expression: &AssignmentExpression,
         assignments: &mut Items<Assignment>,
     ) -> Result<Option<Status>, AllocError>
         requires { assignment_is_typed definitions.now expression.now ≡ true }
         ensures value { IfOk result (λ s. added assignments.new s ≡ joined_with assignments.old
-            (in_scene L.looks self.now assignment_part definitions.now expression.now)) }
-        ensures reads { OnOk result (reads.new ≡ noting reads.old
-            (in_scene L.looks self.now assignment_part definitions.now expression.now).reads) }
+            (in_walk L.looks self.old assignment_part definitions.now expression.now)) }
+        ensures notes { OnOk result (Asks
+            (in_walk L.looks self.old assignment_part definitions.now expression.now).asked
+            self.old self.new) }
     {
-        let evaluated = self.expression(
-            reads,
-            definitions,
-            definitions.len(),
-            &expression.expression,
-        )?;
+        let evaluated = self.expression(definitions, definitions.len(), &expression.expression)?;
         add_assigned(self.alloc, expression, evaluated, assignments)
     }
 }

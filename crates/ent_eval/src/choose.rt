@@ -2,7 +2,7 @@
 
 ghost use Rattle.std.specs.Prelude.{◌≡◌, ◌≤◌, IfOk, length, map, true};
 ghost use Rattle.std.specs.List.{list_all};
-ghost use Rattle.ent_eval.specs.proofs_only.Comes.{Comes, in_scene};
+ghost use Rattle.ent_eval.specs.proofs_only.Comes.{Comes, in_walk};
 ghost use Rattle.ent_eval.specs.proofs_only.Hops.{child_target};
 ghost use Rattle.ent_eval.specs.Only.{choice_part, result_of_target};
 ghost use Rattle.ent_eval.specs.proofs_only.Only.{status_of_target};
@@ -10,31 +10,26 @@ ghost use Rattle.ent_eval.specs.proofs_only.Typed.{is_fit};
 
 use crate::answer::Status;
 use crate::look_ups::LookUps;
-use crate::notes::Notes;
 use crate::only::Only;
-use crate::scene::Scene;
 use crate::target::Targeted;
+use crate::walk::Walk;
 use ent_combine::{Choice, Chooser, Progress, TargetResult};
 use ent_policy::Child;
 use std::alloc::AllocError;
 
-impl<'a, L: LookUps> Scene<'a, L> {
+impl<'a, L: LookUps> Walk<'a, L> {
     // The child whose target alone matches: the targets are looked at up to the first that is Indeterminate or the
     // second that matches.
-    pub(crate) fn choose(
-        &self,
-        reads: &mut Notes,
-        hops: usize,
-        children: &'a [Child],
-    ) -> Result<Only, AllocError>
+    pub(crate) fn choose(&mut self, hops: usize, children: &'a [Child]) -> Result<Only, AllocError>
         requires fit { list_all is_fit children.now ≡ true }
         requires room { length children.now ≤ 256 }
-        ensures comes { IfOk result (Comes (choice_part (map (in_scene L.looks self.now child_target hops) children.now))
-            reads.old reads.new) }
+        ensures comes { IfOk result (Comes
+            (choice_part (map (in_walk L.looks self.old child_target hops) children.now))
+            self.old self.new) }
     {
         let mut chooser = Chooser::new();
         for child in children {
-            let targeted = self.target_of(reads, hops, child)?;
+            let targeted = self.target_of(hops, child)?;
             if let Progress::Stop = chooser.take(result_of(targeted)) {
                 return Ok(Only::Bad(status_of(targeted)));
             }
@@ -48,19 +43,15 @@ impl<'a, L: LookUps> Scene<'a, L> {
 
     // The target of a child.
     #[tactic(auto, using(crate::proofs::Typing::both_true), unfolding(ent_policy::specs::Typing::policy_is_typed))]
-    fn target_of(
-        &self,
-        reads: &mut Notes,
-        hops: usize,
-        child: &'a Child,
-    ) -> Result<Targeted, AllocError>
+    fn target_of(&mut self, hops: usize, child: &'a Child) -> Result<Targeted, AllocError>
         requires { is_fit child.now ≡ true }
-        ensures comes { IfOk result (Comes (in_scene L.looks self.now child_target hops child.now) reads.old reads.new) }
+        ensures comes { IfOk result (Comes
+            (in_walk L.looks self.old child_target hops child.now) self.old self.new) }
     {
         match child {
-            Child::Policy(policy) => self.target(reads, &policy.target),
-            Child::Set(set) => self.target(reads, &set.target),
-            Child::Reference(reference) => self.reference_target(reads, hops, reference),
+            Child::Policy(policy) => self.target(&policy.target),
+            Child::Set(set) => self.target(&set.target),
+            Child::Reference(reference) => self.reference_target(hops, reference),
         }
     }
 }

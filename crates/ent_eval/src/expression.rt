@@ -1,6 +1,6 @@
 //! What expressions come to.
 
-ghost use Rattle.std.specs.Prelude.{◌≡◌, IfOk, IsSome, MatchResult, Some, map, true, false};
+ghost use Rattle.std.specs.Prelude.{◌≡◌, IfOk, IsSome, MatchResult, OnOk, Some, map, true, false};
 ghost use Rattle.std.specs.Option.{option_copied};
 ghost use Rattle.ent_functions.specs.Applied.{applied};
 ghost use Rattle.ent_functions.specs.Arguments.{type_of_arg};
@@ -8,47 +8,46 @@ ghost use Rattle.ent_functions.specs.Types.{boolean, result_type_of};
 ghost use Rattle.ent_functions.specs.declared.types.ArgType.TheVariants.{Many};
 ghost use Rattle.ent_policy.specs.Typing.{variable_type};
 ghost use Rattle.ent_policy.specs.Variables.{definition_of};
-ghost use Rattle.ent_eval.specs.proofs_only.Comes.{Comes, in_scene};
+ghost use Rattle.ent_eval.specs.proofs_only.Comes.{Asks, Comes, in_walk};
 ghost use Rattle.ent_eval.specs.Expression.{evaluated_of, designated, is_result, meaning, settles};
 ghost use Rattle.ent_eval.specs.proofs_only.Expression.{apply_part};
 ghost use Rattle.ent_eval.specs.Expression.{variable_part};
 ghost use Rattle.ent_eval.specs.declared.evaluated.Evaluated.TheVariants.{Known};
 ghost use Rattle.ent_eval.specs.proofs_only.Typed.{HasType, apply_type, type_of};
-ghost use Rattle.ent_eval.specs.proofs_only.Uncopied.{member_part};
+ghost use Rattle.ent_eval.specs.proofs_only.Noted.{asked_by};
+ghost use Rattle.ent_eval.specs.proofs_only.Uncopied.{equal_part, member_part};
 
 use crate::answer::Status;
 use crate::evaluated::Evaluated;
 use crate::look_ups::LookUps;
-use crate::notes::Notes;
 use crate::own_bag::{is_empty, is_own};
-use crate::scene::Scene;
-use crate::uncopied::{is_found, member, membership, without_copies};
+use crate::uncopied::{Sole, compared, equal, is_found, member, membership};
+use crate::walk::Walk;
 use ent_functions::{Arg, Fault, Function, apply};
 use ent_policy::{Designator, Expression, VariableDefinition};
 use ent_values::{Items, Text, Value};
 use std::alloc::{AllocError, Global};
 
-impl<L: LookUps> Scene<'_, L> {
+impl<L: LookUps> Walk<'_, L> {
     // An expression among the definitions of its policy, through at most so many references. It has its type.
     #[cycle(expression)]
     pub(crate) fn expression(
-        &self,
-        reads: &mut Notes,
+        &mut self,
         definitions: &[VariableDefinition],
         references: usize,
         expression: &Expression,
     ) -> Result<Evaluated, AllocError>
         requires typed { IsSome (type_of definitions.now references expression.now) }
-        ensures comes { IfOk result (Comes (in_scene L.looks self.now meaning definitions.now references expression.now)
-            reads.old reads.new) }
+        ensures comes { IfOk result (Comes
+            (in_walk L.looks self.old meaning definitions.now references expression.now)
+            self.old self.new) }
         ensures typed { IfOk result (λ v. HasType (type_of definitions.now references expression.now) v) }
     {
         match expression {
             Expression::Value(value) => Ok(Evaluated::Known(Arg::One(value.copy(self.alloc)?))),
-            Expression::Designator(designator) => self.designator(reads, designator),
-            Expression::Variable(id) => self.variable(reads, definitions, references, id),
+            Expression::Designator(designator) => self.designator(designator),
+            Expression::Variable(id) => self.variable(definitions, references, id),
             Expression::Apply(function, arguments) => self.application(
-                reads,
                 definitions,
                 references,
                 *function,
@@ -61,21 +60,20 @@ impl<L: LookUps> Scene<'_, L> {
     // A variable: the expression of its definition, with one reference less.
     #[cycle(expression)]
     fn variable(
-        &self,
-        reads: &mut Notes,
+        &mut self,
         definitions: &[VariableDefinition],
         references: usize,
         id: &Text,
     ) -> Result<Evaluated, AllocError>
         requires typed { IsSome (variable_type definitions.now references id.now) }
-        ensures comes { IfOk result (Comes (in_scene L.looks self.now variable_part definitions.now references id.now)
-            reads.old reads.new) }
+        ensures comes { IfOk result (Comes
+            (in_walk L.looks self.old variable_part definitions.now references id.now)
+            self.old self.new) }
         ensures typed { IfOk result (λ v. HasType (variable_type definitions.now references id.now) v) }
     {
         match definition_of(definitions, id) {
             None => unreachable!(),
             Some(definition) => self.expression(
-                reads,
                 definitions,
                 references - 1,
                 &definition.expression,
@@ -86,27 +84,28 @@ impl<L: LookUps> Scene<'_, L> {
     // A function of its arguments, which are evaluated up to the first that is the result.
     #[cycle(expression)]
     fn application(
-        &self,
-        reads: &mut Notes,
+        &mut self,
         definitions: &[VariableDefinition],
         references: usize,
         function: Function,
         arguments: &[Expression],
     ) -> Result<Evaluated, AllocError>
         requires typed { IsSome (apply_type definitions.now references function arguments.now) }
-        ensures comes { IfOk result (Comes (in_scene L.looks self.now apply_part definitions.now references function arguments.now)
-            reads.old reads.new) }
+        ensures comes { IfOk result (Comes
+            (in_walk L.looks self.old apply_part definitions.now references function arguments.now)
+            self.old self.new) }
         ensures typed { IfOk result (λ v. HasType (apply_type definitions.now references function arguments.now) v) }
     {
-        if let Some((value, designator)) = membership(self.request, function, arguments) {
-            return self.is_in(reads, value, designator);
+        let request = self.request.request();
+        if let Some((sole, designator)) = membership(request, function, arguments) {
+            return self.is_in(&sole, designator);
         }
-        if let Some(value) = without_copies(self.request, function, arguments) {
-            return Ok(value);
+        if let Some((first, second)) = equal(request, function, arguments) {
+            return self.are_equal(&first, &second);
         }
         let mut evaluated = Items::new(self.alloc);
         for argument in arguments {
-            let value = self.expression(reads, definitions, references, argument)?;
+            let value = self.expression(definitions, references, argument)?;
             match argument_of(function, value) {
                 Err(value) => return Ok(value),
                 Ok(argument) => evaluated.push(argument)?,
@@ -116,32 +115,49 @@ impl<L: LookUps> Scene<'_, L> {
     }
 
     // Is-in of a value and a designator, of whose values the request's own aren't copied.
-    fn is_in(
-        &self,
-        reads: &mut Notes,
-        value: &Value,
-        designator: &Designator,
-    ) -> Result<Evaluated, AllocError>
-        ensures comes { IfOk result (Comes (in_scene L.looks self.now member_part value.now designator.now) reads.old reads.new) }
+    #[tactic(auto, using(crate::proofs::Going::noting_then))]
+    fn is_in(&mut self, sole: &Sole<'_>, designator: &Designator) -> Result<Evaluated, AllocError>
+        ensures comes { IfOk result (Comes
+            (in_walk L.looks self.old member_part sole.now designator.now) self.old self.new) }
         ensures typed { IfOk result (λ v. HasType (Some boolean) v) }
     {
-        if let Some(found) = is_own(self.request, designator, value) {
+        self.note_sole(sole)?;
+        self.notes.note_values(self.alloc, designator)?;
+        if let Some(found) = is_own(self.request.request(), designator, sole.value) {
             return Ok(is_found(found));
         }
-        let bag = self.source(reads, designator)?;
-        Ok(member(value, designator, bag.values()))
+        let bag = self.source(designator)?;
+        Ok(member(sole.value, designator, bag.values()))
+    }
+
+    // Equal of two values.
+    #[tactic(auto, using(crate::proofs::Going::noting_both))]
+    fn are_equal(&mut self, first: &Sole<'_>, second: &Sole<'_>) -> Result<Evaluated, AllocError>
+        ensures comes { IfOk result (Comes (equal_part first.now second.now) self.old self.new) }
+        ensures typed { IfOk result (λ v. HasType (Some boolean) v) }
+    {
+        self.note_sole(first)?;
+        self.note_sole(second)?;
+        Ok(compared(first.value, second.value))
+    }
+
+    // Notes what is asked for a value.
+    pub(crate) fn note_sole(&mut self, sole: &Sole<'_>) -> Result<(), AllocError>
+        ensures { OnOk result (Asks (asked_by (option_copied sole.now.asked)) self.old self.new) }
+    {
+        match sole.asked {
+            None => Ok(()),
+            Some(designator) => self.notes.note_values(self.alloc, designator),
+        }
     }
 
     // A designator.
-    fn designator(
-        &self,
-        reads: &mut Notes,
-        designator: &Designator,
-    ) -> Result<Evaluated, AllocError>
-        ensures comes { IfOk result (Comes (in_scene L.looks self.now designated designator.now) reads.old reads.new) }
+    fn designator(&mut self, designator: &Designator) -> Result<Evaluated, AllocError>
+        ensures comes { IfOk result (Comes
+            (in_walk L.looks self.old designated designator.now) self.old self.new) }
         ensures typed { IfOk result (λ v. HasType (Some (Many designator.now.datatype)) v) }
     {
-        let bag = self.values(reads, designator)?;
+        let bag = self.values(designator)?;
         if designator.must_be_present && is_empty(&bag) {
             return Ok(Evaluated::Indeterminate(Status::MissingAttribute));
         }

@@ -93,25 +93,25 @@ impl Gathering {
     pub(crate) fn finish(
         self,
         alloc: Global,
-        reads: &mut Notes,
+        notes: &mut Notes,
         here: &Path<'_>,
         algorithm: RuleAlg,
     ) -> Result<Option<Answer>, AllocError>
         ensures value { IfOk result (λ a. (answers : List Answer) → HasGathered algorithm self answers → or_nothing a
             ≡ judged_by (keys_of here.now) algorithm answers) }
-        ensures reads { reads.new ≡ reads.old }
+        ensures notes { notes.new ≡ notes.old }
     {
         let decision = self.combiner.finish();
         match decision {
             Outcome::Permit => {
                 let permitted = self.permitted;
-                let answer = permitted.decided(alloc, reads, here, algorithm, decision)?;
-                Ok(Some(answer))
+                let told = permitted.with_default(alloc, notes, here, algorithm)?;
+                Ok(Some(told.decided(decision)))
             }
             Outcome::Deny => {
                 let denied = self.denied;
-                let answer = denied.decided(alloc, reads, here, algorithm, decision)?;
-                Ok(Some(answer))
+                let told = denied.with_default(alloc, notes, here, algorithm)?;
+                Ok(Some(told.decided(decision)))
             }
             Outcome::NotApplicable => Ok(None),
             Outcome::Ind(kind) => Ok(Some(Answer::indeterminate(

@@ -4,10 +4,10 @@ ghost use Rattle.std.specs.Prelude.{◌≡◌, IsTrue, MatchOption, false};
 ghost use Rattle.ent_eval.specs.Own.{own_values};
 ghost use Rattle.ent_eval.specs.proofs_only.Sought.{AreSeveral, IsWhole};
 
-use crate::own::{Sought, own_values, same_text};
+use crate::own::{Sought, own_values, same_issuer, same_text};
 use crate::request::Request;
 use ent_policy::Designator;
-use ent_values::{Text, Value};
+use ent_values::Value;
 use std::marker::Model;
 
 // A request, with its own values for the designator that was asked for last: targets that follow each other mostly ask
@@ -79,15 +79,4 @@ pub(crate) fn seeks_same(first: &Designator, second: &Designator) -> bool
         && same_text(first.category.as_str(), second.category.as_str())
         && first.datatype == second.datatype
         && same_issuer(&first.issuer, &second.issuer)
-}
-
-// Whether two issuers are the same, or neither is there.
-fn same_issuer(first: &Option<Text>, second: &Option<Text>) -> bool
-    ensures { IsTrue result → first.now ≡ second.now }
-{
-    match (first, second) {
-        (None, None) => true,
-        (Some(first), Some(second)) => same_text(first.as_str(), second.as_str()),
-        _ => false,
-    }
 }

@@ -1,6 +1,13 @@
-//! Laws of the look-ups that answers rest on.
+//! Laws of what answers rest on.
 
-ghost use Rattle.ent_eval.specs.Law.{EachKeyIsRecordedOnce, EqualLookUpsGiveEqualAnswers, WhatIsLookedUpIsRecorded};
+ghost use Rattle.ent_eval.specs.Law.{EachKeyIsRecordedOnce, EqualFindingsGiveEqualAnswers};
+ghost use Rattle.ent_eval.specs.Law.{EqualLookUpsGiveEqualAnswers, WhatIsLookedUpIsRecorded};
+
+/// Law: where each question that is asked for an answer finds the same for another request, over what is held then, the
+/// answer is the same, and so is what is asked.
+pub fn equal_findings_give_equal_answers()
+    ensures { EqualFindingsGiveEqualAnswers }
+{}
 
 /// Law: where each look-up that is recorded for an answer gives the same, the answer is the same, and so are the
 /// look-ups.

@@ -3,6 +3,7 @@
 #![tactic(auto)]
 
 mod answer;
+mod asking;
 mod assignments;
 mod change;
 mod choose;
@@ -27,18 +28,21 @@ mod own_given;
 mod path;
 mod paths;
 mod pdp;
+mod question;
+mod questions;
+mod readers;
 mod reads;
 mod reference;
 mod request;
 mod rule;
 mod same;
-mod scene;
 mod set;
 mod sources;
 mod target;
 mod told;
 mod uncopied;
 mod uris;
+mod walk;
 
 pub use answer::{Answer, Status, WhyEntry};
 pub use change::{
@@ -48,10 +52,17 @@ pub use environment::Environment;
 pub use given::{Assignment, Given};
 pub use key::ReadKey;
 pub use law::{
-    each_key_is_recorded_once, equal_look_ups_give_equal_answers, what_is_looked_up_is_recorded,
+    each_key_is_recorded_once, equal_findings_give_equal_answers,
+    equal_look_ups_give_equal_answers, what_is_looked_up_is_recorded,
 };
 pub use look_ups::LookUps;
-pub use pdp::{Evaluation, Pdp};
+pub use pdp::{Evaluation, ListedEvaluation, Pdp};
+pub use question::{Asked, Question};
+pub use questions::Questions;
+pub use readers::{
+    Place, Readers, a_key_is_looked_up_for_one_question, keys_name_the_listed,
+    listed_requests_look_keys_up_by_their_names,
+};
 pub use reads::Reads;
 pub use request::{Attribute, Category, Request};
 pub use same::{keys_order_by_kind, same_answer_is_equal, same_key_is_equal, same_look_is_equal};

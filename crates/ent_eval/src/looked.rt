@@ -2,7 +2,7 @@
 
 ghost use Rattle.std.specs.Prelude.{◌≡◌, IfOk, IsSome, OnOk, Some};
 ghost use Rattle.ent_functions.specs.Types.{boolean};
-ghost use Rattle.ent_eval.specs.proofs_only.Comes.{Comes, in_scene};
+ghost use Rattle.ent_eval.specs.proofs_only.Comes.{Comes, in_walk};
 ghost use Rattle.ent_eval.specs.Expression.{meaning};
 ghost use Rattle.ent_eval.specs.proofs_only.Looked.{AreLooked};
 ghost use Rattle.ent_eval.specs.proofs_only.Typed.{HasType, type_of};
@@ -11,11 +11,10 @@ ghost use Rattle.ent_eval.specs.proofs_only.Uncopied.{member_part};
 use crate::evaluated::Evaluated;
 use crate::latest::seeks_same;
 use crate::look_ups::LookUps;
-use crate::notes::Notes;
-use crate::scene::Scene;
-use crate::uncopied::{member, membership};
+use crate::uncopied::{Sole, member, membership};
+use crate::walk::Walk;
 use ent_policy::{Designator, Expression, VariableDefinition};
-use ent_values::{Bag, Value};
+use ent_values::Bag;
 use std::alloc::AllocError;
 
 // The values of a designator: conditions that follow each other mostly ask for the same.
@@ -25,57 +24,57 @@ pub(crate) struct Looked<'a> {
     pub(crate) bag: Bag,
 }
 
-impl<'a, L: LookUps> Scene<'a, L> {
+impl<'a, L: LookUps> Walk<'a, L> {
     // A condition's expression among the definitions of its policy. Is-in of a value and a designator is told by the
     // values that are at hand, if these are the designator's.
     pub(crate) fn tested(
-        &self,
-        reads: &mut Notes,
+        &mut self,
         looked: &mut Option<Looked<'a>>,
         definitions: &[VariableDefinition],
         references: usize,
         expression: &'a Expression,
     ) -> Result<Evaluated, AllocError>
         requires typed { IsSome (type_of definitions.now references expression.now) }
-        requires looked { in_scene L.looks self.now AreLooked reads.old looked.old }
-        ensures comes { IfOk result (Comes (in_scene L.looks self.now meaning definitions.now references expression.now)
-            reads.old reads.new) }
+        requires looked { in_walk L.looks self.old AreLooked self.old.notes looked.old }
+        ensures comes { IfOk result (Comes
+            (in_walk L.looks self.old meaning definitions.now references expression.now)
+            self.old self.new) }
         ensures typed { IfOk result (λ v. HasType (type_of definitions.now references expression.now) v) }
-        ensures looked { OnOk result (in_scene L.looks self.now AreLooked reads.new looked.new) }
+        ensures looked { OnOk result (in_walk L.looks self.old AreLooked self.new.notes looked.new) }
     {
         if let Expression::Apply(function, arguments) = expression {
-            if let Some((value, designator)) = membership(
-                self.request,
-                *function,
-                arguments.as_slice(),
-            ) {
-                return self.is_among_looked(reads, looked, value, designator);
+            let request = self.request.request();
+            let arguments = arguments.as_slice();
+            if let Some((sole, designator)) = membership(request, *function, arguments) {
+                return self.is_among_looked(looked, &sole, designator);
             }
         }
-        self.expression(reads, definitions, references, expression)
+        self.expression(definitions, references, expression)
     }
 
-    // Is-in of a value and a designator, whose values are at hand from then on. What was looked up for those that are
-    // at hand is noted already, so they serve as they are.
+    // Is-in of a value and a designator, whose values are at hand from then on. What was asked for those that are at
+    // hand is noted already, so they serve as they are.
+    #[tactic(auto, using(crate::proofs::Going::noting_then))]
     fn is_among_looked(
-        &self,
-        reads: &mut Notes,
+        &mut self,
         looked: &mut Option<Looked<'a>>,
-        value: &Value,
+        sole: &Sole<'_>,
         designator: &'a Designator,
     ) -> Result<Evaluated, AllocError>
-        requires { in_scene L.looks self.now AreLooked reads.old looked.old }
-        ensures comes { IfOk result (Comes (in_scene L.looks self.now member_part value.now designator.now) reads.old reads.new) }
+        requires { in_walk L.looks self.old AreLooked self.old.notes looked.old }
+        ensures comes { IfOk result (Comes
+            (in_walk L.looks self.old member_part sole.now designator.now) self.old self.new) }
         ensures typed { IfOk result (λ v. HasType (Some boolean) v) }
-        ensures looked { OnOk result (in_scene L.looks self.now AreLooked reads.new looked.new) }
+        ensures looked { OnOk result (in_walk L.looks self.old AreLooked self.new.notes looked.new) }
     {
+        self.note_sole(sole)?;
         if let Some(latest) = &*looked {
             if seeks_same(latest.designator, designator) {
-                return Ok(member(value, designator, latest.bag.values()));
+                return Ok(member(sole.value, designator, latest.bag.values()));
             }
         }
-        let bag = self.values(reads, designator)?;
-        let found = member(value, designator, bag.values());
+        let bag = self.values(designator)?;
+        let found = member(sole.value, designator, bag.values());
         *looked = Some(Looked { designator, bag });
         Ok(found)
     }

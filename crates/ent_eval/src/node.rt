@@ -3,7 +3,7 @@
 ghost use Rattle.std.specs.Prelude.{◌≡◌, IfOk, true};
 ghost use Rattle.std.specs.List.{list_all};
 ghost use Rattle.ent_policy.specs.Typing.{given_is_typed, rule_is_typed};
-ghost use Rattle.ent_eval.specs.proofs_only.Comes.{Comes, in_scene};
+ghost use Rattle.ent_eval.specs.proofs_only.Comes.{Comes, in_walk};
 ghost use Rattle.ent_eval.specs.Judged.{under_target};
 ghost use Rattle.ent_eval.specs.proofs_only.Judged.{or_nothing};
 ghost use Rattle.ent_eval.specs.Node.{policy_rules, rules_combined};
@@ -12,47 +12,43 @@ ghost use Rattle.ent_eval.specs.proofs_only.Path.{keys_of};
 
 use crate::answer::{Answer, Status};
 use crate::gather::gather;
-use crate::latest::Latest;
 use crate::look_ups::LookUps;
-use crate::notes::Notes;
 use crate::path::Path;
-use crate::scene::Scene;
+use crate::rule::Within;
 use crate::target::Targeted;
+use crate::walk::Walk;
 use ent_combine::{Outcome, Progress, RuleAlg, under_indeterminate_target};
-use ent_policy::{Kind, Policy, Rule, VariableDefinition};
+use ent_policy::{Kind, Policy, Rule};
 use ent_values::Items;
 use std::alloc::{AllocError, Global};
 
-impl<'a, L: LookUps> Scene<'a, L> {
+impl<'a, L: LookUps> Walk<'a, L> {
     // The rules are evaluated unless the target doesn't match, and behind them what the policy gives itself, if it
     // matches.
-    #[tactic(auto, using(crate::proofs::Walk::noting_both))]
+    #[tactic(auto, using(crate::proofs::Going::noting_both))]
     pub(crate) fn policy_after(
-        &self,
-        reads: &mut Notes,
-        own: &mut Latest<'a>,
+        &mut self,
         path: &Path<'_>,
         policy: &'a Policy,
         targeted: Targeted,
     ) -> Result<Option<Answer>, AllocError>
         requires rules { list_all (rule_is_typed policy.now.variables) policy.now.rules ≡ true }
         requires given { given_is_typed policy.now.variables policy.now.given ≡ true }
-        requires own { own.old ≡ self.now.request.now }
-        ensures comes { IfOk result (λ a. Comes (in_scene L.looks self.now policy_after (keys_of path.now) policy.now targeted)
-            reads.old reads.new (or_nothing a)) }
-        ensures own { own.new ≡ own.old }
+        ensures comes { IfOk result (λ a. Comes
+            (in_walk L.looks self.old policy_after (keys_of path.now) policy.now targeted)
+            self.old self.new (or_nothing a)) }
     {
         match targeted {
             Targeted::NoMatch => Ok(None),
             Targeted::Match => {
-                let answer = self.rules_under(reads, own, path, policy)?;
+                let answer = self.rules_under(path, policy)?;
                 if answer.is_none() {
                     return Ok(None);
                 }
-                self.finished(reads, policy.variables.as_slice(), &policy.given, answer)
+                self.finished(policy.variables.as_slice(), &policy.given, answer)
             }
             Targeted::Indeterminate(status) => {
-                let answer = self.rules_under(reads, own, path, policy)?;
+                let answer = self.rules_under(path, policy)?;
                 Ok(under(self.alloc, status, answer))
             }
         }
@@ -61,17 +57,14 @@ impl<'a, L: LookUps> Scene<'a, L> {
     // The rules of a policy.
     #[tactic(auto, using(crate::proofs::PathKeys::keys_of_below))]
     fn rules_under(
-        &self,
-        reads: &mut Notes,
-        own: &mut Latest<'a>,
+        &mut self,
         path: &Path<'_>,
         policy: &'a Policy,
     ) -> Result<Option<Answer>, AllocError>
         requires typed { list_all (rule_is_typed policy.now.variables) policy.now.rules ≡ true }
-        requires own { own.old ≡ self.now.request.now }
-        ensures comes { IfOk result (λ a. Comes (in_scene L.looks self.now policy_rules (keys_of path.now) policy.now)
-            reads.old reads.new (or_nothing a)) }
-        ensures own { own.new ≡ own.old }
+        ensures comes { IfOk result (λ a. Comes
+            (in_walk L.looks self.old policy_rules (keys_of path.now) policy.now)
+            self.old self.new (or_nothing a)) }
     {
         let here = Path::Below {
             above: &*path,
@@ -79,50 +72,35 @@ impl<'a, L: LookUps> Scene<'a, L> {
             id: &policy.id,
             version: &policy.version,
         };
-        self.rules(
-            reads,
-            own,
-            policy.variables.as_slice(),
-            &here,
-            policy.algorithm,
-            policy.rules.as_slice(),
-        )
+        let within = Within {
+            definitions: policy.variables.as_slice(),
+            path: &here,
+        };
+        self.rules(within, policy.algorithm, policy.rules.as_slice())
     }
 
     // Rules, up to the first that fixes the decision.
     fn rules(
-        &self,
-        reads: &mut Notes,
-        own: &mut Latest<'a>,
-        definitions: &[VariableDefinition],
-        path: &Path<'_>,
+        &mut self,
+        within: Within<'_>,
         algorithm: RuleAlg,
         rules: &'a [Rule],
     ) -> Result<Option<Answer>, AllocError>
-        requires typed { list_all (rule_is_typed definitions.now) rules.now ≡ true }
-        requires own { own.old ≡ self.now.request.now }
+        requires typed { list_all (rule_is_typed within.definitions.now) rules.now ≡ true }
         ensures comes { IfOk result (λ a. Comes
-            (in_scene L.looks self.now rules_combined definitions.now (keys_of path.now) algorithm rules.now)
-            reads.old reads.new (or_nothing a)) }
-        ensures own { own.new ≡ own.old }
+            (in_walk L.looks self.old rules_combined within.entry.definitions.now
+            (keys_of within.entry.path.now) algorithm rules.now)
+            self.old self.new (or_nothing a)) }
     {
         let mut gathering = gather(self.alloc, algorithm);
         let mut looked = None;
         for rule in rules {
-            let progress = self.next_rule(
-                &mut gathering,
-                reads,
-                own,
-                &mut looked,
-                definitions,
-                path,
-                rule,
-            )?;
+            let progress = self.next_rule(&mut gathering, &mut looked, within, rule)?;
             if let Progress::Stop = progress {
-                return gathering.finish(self.alloc, reads, path, algorithm);
+                return gathering.finish(self.alloc, &mut self.notes, within.path, algorithm);
             }
         }
-        gathering.finish(self.alloc, reads, path, algorithm)
+        gathering.finish(self.alloc, &mut self.notes, within.path, algorithm)
     }
 }
 

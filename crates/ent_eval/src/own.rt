@@ -1,6 +1,6 @@
 //! The values that a request itself has for a designator, and where they lie.
 
-ghost use Rattle.std.specs.Prelude.{◌≡◌, ◌++◌, MatchOption, false, option_copied};
+ghost use Rattle.std.specs.Prelude.{◌≡◌, ◌++◌, IsTrue, MatchOption, false, option_copied};
 ghost use Rattle.std.specs.Str.{bytes_eq};
 ghost use Rattle.ent_values.specs.Bags.{AllOfType};
 ghost use Rattle.ent_eval.specs.Own.{attributes_in, has_issuer, is_designated, own_values, values_in};
@@ -104,7 +104,7 @@ pub(crate) fn values_in<'a>(attribute: &'a Attribute, sought: &Sought<'_>) -> &'
     }
 }
 
-fn issuer_of(issuer: &Option<Text>) -> Option<&str>
+pub(crate) fn issuer_of(issuer: &Option<Text>) -> Option<&str>
     ensures { option_copied result ≡ issuer.now }
 {
     match issuer {
@@ -129,4 +129,15 @@ pub(crate) fn same_text(first: &str, second: &str) -> bool
     ensures { result ≡ bytes_eq first.now second.now }
 {
     first.len() == second.len() && first == second
+}
+
+// Whether two issuers are the same, or neither is there.
+pub(crate) fn same_issuer(first: &Option<Text>, second: &Option<Text>) -> bool
+    ensures { IsTrue result → first.now ≡ second.now }
+{
+    match (first, second) {
+        (None, None) => true,
+        (Some(first), Some(second)) => same_text(first.as_str(), second.as_str()),
+        _ => false,
+    }
 }

@@ -97,6 +97,17 @@ pub(crate) fn is_own(request: &Request, designator: &Designator, value: &Value) 
     }
 }
 
+// Whether a request has no values of its own.
+pub(crate) fn lacks(request: &Request, sought: &Sought<'_>) -> bool
+    ensures { result ≡ is_empty (own_values (designator_of sought.now) request.now) }
+{
+    match own_values(request, sought) {
+        Some([]) => true,
+        Some(_) => false,
+        None => false,
+    }
+}
+
 // Whether a value is one of those that lie in several attributes.
 fn is_in_request(value: &Value, request: &Request, sought: &Sought<'_>) -> bool
     ensures { result ≡ is_among value.now (own_values (designator_of sought.now) request.now) }

@@ -3,37 +3,42 @@
 ghost use Rattle.std.specs.Prelude.{◌≡◌, IfOk, OnOk, Ok, true};
 ghost use Rattle.std.specs.List.{list_all};
 ghost use Rattle.ent_policy.specs.Typing.{given_expression_is_typed, given_is_typed};
-ghost use Rattle.ent_eval.specs.proofs_only.Comes.{Comes, in_scene};
+ghost use Rattle.ent_eval.specs.proofs_only.Comes.{Asks, Comes, in_walk};
 ghost use Rattle.ent_eval.specs.Given.{advice_after, effect_of, finished, given_part, given_with, givens_part};
 ghost use Rattle.ent_eval.specs.proofs_only.Given.{added};
 ghost use Rattle.ent_eval.specs.Given.{goes_with, indeterminate_of, joined, with_own};
 ghost use Rattle.ent_eval.specs.proofs_only.Judged.{or_nothing};
-ghost use Rattle.ent_eval.specs.proofs_only.Noted.{noting};
 ghost use Rattle.std.specs.Prelude.{Some};
 
 use crate::answer::{Answer, Status};
 use crate::given::Given;
 use crate::look_ups::LookUps;
-use crate::notes::Notes;
-use crate::scene::Scene;
+use crate::walk::Walk;
 use ent_combine::{IndKind, Outcome};
 use ent_policy::{Effect, GivenExpression, GivenExpressions, VariableDefinition};
 use ent_values::Items;
 use std::alloc::AllocError;
 
-impl<L: LookUps> Scene<'_, L> {
+// The definitions among which obligations and advice are evaluated, and the effect with which they go.
+#[derive(Clone, Copy)]
+pub(crate) struct Due<'b> {
+    definitions: &'b [VariableDefinition],
+    effect: Effect,
+}
+
+impl<L: LookUps> Walk<'_, L> {
     // An element with its own obligations and advice, which are evaluated where it gives a decision.
     #[tactic(auto, using(crate::proofs::Typing::both_true), unfolding(ent_policy::specs::Typing::given_is_typed))]
     pub(crate) fn finished(
-        &self,
-        reads: &mut Notes,
+        &mut self,
         definitions: &[VariableDefinition],
         given: &GivenExpressions,
         answer: Option<Answer>,
     ) -> Result<Option<Answer>, AllocError>
         requires { given_is_typed definitions.now given.now ≡ true }
-        ensures comes { IfOk result (λ a. Comes (in_scene L.looks self.now finished definitions.now given.now (or_nothing answer))
-            reads.old reads.new (or_nothing a)) }
+        ensures comes { IfOk result (λ a. Comes
+            (in_walk L.looks self.old finished definitions.now given.now (or_nothing answer))
+            self.old self.new (or_nothing a)) }
     {
         let Some(answer) = answer else {
             return Ok(None);
@@ -41,49 +46,59 @@ impl<L: LookUps> Scene<'_, L> {
         let Some(effect) = effect_of(answer.decision) else {
             return Ok(Some(answer));
         };
-        let answer = self.with_own(reads, definitions, given, effect, answer)?;
+        let answer = self.with_own(
+            Due {
+                definitions,
+                effect,
+            },
+            given,
+            answer,
+        )?;
         Ok(Some(answer))
     }
 
     // The obligations first.
-    #[tactic(auto, using(crate::proofs::Walk::noting_both))]
+    #[tactic(auto, using(crate::proofs::Going::noting_both))]
     fn with_own(
-        &self,
-        reads: &mut Notes,
-        definitions: &[VariableDefinition],
+        &mut self,
+        due: Due<'_>,
         given: &GivenExpressions,
-        effect: Effect,
         answer: Answer,
     ) -> Result<Answer, AllocError>
-        requires obligations { list_all (given_expression_is_typed definitions.now) given.now.obligations ≡ true }
-        requires advice { list_all (given_expression_is_typed definitions.now) given.now.advice ≡ true }
-        ensures comes { IfOk result (Comes (in_scene L.looks self.now given_with definitions.now given.now (Some effect) answer)
-            reads.old reads.new) }
+        requires obligations { list_all (given_expression_is_typed due.definitions.now) given.now.obligations ≡ true }
+        requires advice { list_all (given_expression_is_typed due.definitions.now) given.now.advice ≡ true }
+        ensures comes { IfOk result (Comes
+            (in_walk L.looks self.old given_with due.entry.definitions.now given.now
+            (Some due.entry.effect) answer)
+            self.old self.new) }
     {
-        let obligations = self.givens(reads, definitions, effect, given.obligations.as_slice())?;
-        self.with_advice(reads, definitions, given, effect, answer, obligations)
+        let obligations = self.givens(due, given.obligations.as_slice())?;
+        self.with_advice(due, given, answer, obligations)
     }
 
     // The advice behind them, if none of them is Indeterminate.
     fn with_advice(
-        &self,
-        reads: &mut Notes,
-        definitions: &[VariableDefinition],
+        &mut self,
+        due: Due<'_>,
         given: &GivenExpressions,
-        effect: Effect,
         answer: Answer,
         obligations: Result<Items<Given>, Status>,
     ) -> Result<Answer, AllocError>
-        requires { list_all (given_expression_is_typed definitions.now) given.now.advice ≡ true }
+        requires { list_all (given_expression_is_typed due.definitions.now) given.now.advice ≡ true }
         ensures comes { IfOk result (Comes
-            (in_scene L.looks self.now advice_after definitions.now given.now effect answer obligations)
-            reads.old reads.new) }
+            (in_walk L.looks self.old advice_after due.entry.definitions.now given.now due.entry.effect
+            answer obligations)
+            self.old self.new) }
     {
         match obligations {
-            Err(status) => Ok(Answer::indeterminate(self.alloc, indeterminate_of(effect), status)),
+            Err(status) => Ok(Answer::indeterminate(
+                self.alloc,
+                indeterminate_of(due.effect),
+                status,
+            )),
             Ok(obligations) => {
-                let advice = self.givens(reads, definitions, effect, given.advice.as_slice())?;
-                self.with_both(effect, answer, obligations, advice)
+                let advice = self.givens(due, given.advice.as_slice())?;
+                self.with_both(due.effect, answer, obligations, advice)
             }
         }
     }
@@ -110,19 +125,18 @@ impl<L: LookUps> Scene<'_, L> {
 
     // Obligations or advice, up to the first that is Indeterminate, whose status is given.
     fn givens(
-        &self,
-        reads: &mut Notes,
-        definitions: &[VariableDefinition],
-        effect: Effect,
+        &mut self,
+        due: Due<'_>,
         expressions: &[GivenExpression],
     ) -> Result<Result<Items<Given>, Status>, AllocError>
-        requires { list_all (given_expression_is_typed definitions.now) expressions.now ≡ true }
-        ensures comes { IfOk result (Comes (in_scene L.looks self.now givens_part definitions.now effect expressions.now)
-            reads.old reads.new) }
+        requires { list_all (given_expression_is_typed due.definitions.now) expressions.now ≡ true }
+        ensures comes { IfOk result (Comes
+            (in_walk L.looks self.old givens_part due.entry.definitions.now due.entry.effect expressions.now)
+            self.old self.new) }
     {
         let mut givens = Items::with_capacity(self.alloc, expressions.len())?;
         for expression in expressions {
-            let stopped = self.give(reads, definitions, effect, expression, &mut givens)?;
+            let stopped = self.give(due, expression, &mut givens)?;
             if let Some(status) = stopped {
                 return Ok(Err(status));
             }
@@ -133,23 +147,22 @@ impl<L: LookUps> Scene<'_, L> {
     // One more, if it goes with the decision. The status is given of one that is Indeterminate.
     #[tactic(auto, unfolding(ent_policy::specs::Typing::given_expression_is_typed))]
     fn give(
-        &self,
-        reads: &mut Notes,
-        definitions: &[VariableDefinition],
-        effect: Effect,
+        &mut self,
+        due: Due<'_>,
         expression: &GivenExpression,
         givens: &mut Items<Given>,
     ) -> Result<Option<Status>, AllocError>
-        requires { given_expression_is_typed definitions.now expression.now ≡ true }
+        requires { given_expression_is_typed due.definitions.now expression.now ≡ true }
         ensures value { IfOk result (λ s. added givens.new s ≡ joined (Ok givens.old)
-            (in_scene L.looks self.now given_part definitions.now effect expression.now).value) }
-        ensures reads { OnOk result (reads.new ≡ noting reads.old
-            (in_scene L.looks self.now given_part definitions.now effect expression.now).reads) }
+            (in_walk L.looks self.old given_part due.entry.definitions.now due.entry.effect expression.now).value) }
+        ensures notes { OnOk result (Asks
+            (in_walk L.looks self.old given_part due.entry.definitions.now due.entry.effect expression.now).asked
+            self.old self.new) }
     {
-        if !goes_with(effect, expression.effect) {
+        if !goes_with(due.effect, expression.effect) {
             return Ok(None);
         }
-        match self.assignments(reads, definitions, expression.assignments.as_slice())? {
+        match self.assignments(due.definitions, expression.assignments.as_slice())? {
             Err(status) => Ok(Some(status)),
             Ok(assignments) => {
                 givens.push(Given {

@@ -1,24 +1,26 @@
 //! The decision point.
 
-ghost use Rattle.std.specs.Prelude.{◌≡◌, ◌+◌, ◌-◌, ◌^◌, min, None, IfOk, OnOk};
+ghost use Rattle.std.specs.Prelude.{◌≡◌, ◌+◌, ◌-◌, ◌^◌, min, [], None, IfOk, OnOk};
 ghost use Rattle.std.specs.Borrow.{sem};
-ghost use Rattle.ent_eval.specs.Answer.{answer, looked_up, recorded};
+ghost use Rattle.ent_eval.specs.Answer.{answer, asked, recorded};
 ghost use Rattle.ent_eval.specs.Lending.{LendsAttributes, LendsPolicies};
+ghost use Rattle.ent_eval.specs.Listed.{listed};
 ghost use Rattle.ent_eval.specs.LooksOf.{looks_of};
+ghost use Rattle.ent_eval.specs.Questions.{AreNumbers, BeginsWith, asked_once, at_numbers, keys_at};
 ghost use Rattle.ent_eval.specs.proofs_only.Noted.{noting};
 ghost use Rattle.ent_eval.specs.declared.environment.Environment.TheVariants.{Empty};
 
 use crate::answer::Answer;
 use crate::environment::Environment;
 use crate::look_ups::LookUps;
-use crate::notes::Notes;
-use crate::paths::Paths;
+use crate::notes::{Notebook, Notes};
+use crate::questions::Questions;
 use crate::reads::Reads;
 use crate::request::Request;
-use crate::scene::Scene;
+use crate::walk::Walk;
 use ent_finder::{AttrKey, AttributeFinder, Attributes, Policies, PolicyFinder};
 use ent_policy::{Document, Reference};
-use ent_values::{Bag, Date, DateTime, Time};
+use ent_values::{Bag, Date, DateTime, Items, Text, Time};
 use std::alloc::{AllocError, Global};
 use std::mem;
 
@@ -32,7 +34,7 @@ pub struct Pdp<A = AttributeFinder, P = PolicyFinder> {
     root: Option<Reference>,
     environment: Environment,
     evaluations: u128,
-    paths: Paths,
+    notebook: Notebook,
 }
 
 /// The answer to a request, and the look-ups that it rests on.
@@ -40,6 +42,13 @@ pub struct Pdp<A = AttributeFinder, P = PolicyFinder> {
 pub struct Evaluation {
     pub answer: Answer,
     pub reads: Reads,
+}
+
+/// The answer to a listed request, and the numbers of the questions that were asked for it.
+#[derive(Drop)]
+pub struct ListedEvaluation {
+    pub answer: Answer,
+    pub asked: Items<u32>,
 }
 
 impl<A: Attributes, P: Policies> LookUps for Pdp<A, P> {
@@ -88,7 +97,7 @@ impl<A: Attributes, P: Policies> Pdp<A, P> {
             root: None,
             environment: Environment::Empty,
             evaluations: 0,
-            paths: Paths::new(alloc),
+            notebook: Notebook::new(alloc),
         }
     }
 
@@ -104,12 +113,71 @@ impl<A: Attributes, P: Policies> Pdp<A, P> {
         ensures counted { self.new.evaluations ≡ min (self.old.evaluations + 1) (2 ^ 128 - 1) }
         ensures rest { self.new ≡ record self.old { evaluations = self.new.evaluations } }
     {
-        let mut notes = Notes::asked(self.alloc);
+        let mut notes = self.notebook.open(self.alloc, true);
         let answer = self.answered(&mut notes, request)?;
-        match notes.into_reads() {
-            None => unreachable!(),
-            Some(reads) => Ok(Evaluation { answer, reads }),
+        let reads = notes.reads(self.alloc, request)?;
+        self.notebook.close(notes);
+        Ok(Evaluation { answer, reads })
+    }
+
+    /// The answer to the request of three names (section 7), and the questions that were asked for it, each once, by
+    /// their numbers among those of the caller. One that has none there gets one; the others keep theirs, whatever
+    /// comes. The look-ups that the answer rests on are those of these questions. For the rest it is as `evaluate`.
+    pub fn evaluate_listed(
+        &mut self,
+        questions: &mut Questions,
+        person: &Text,
+        action: &Text,
+        resource: &Text,
+    ) -> Result<ListedEvaluation, AllocError>
+        ensures answer { IfOk result (λ e. e.answer
+            ≡ answer (looks_of A.sources P.slots self.old) (listed person.now action.now resource.now)) }
+        ensures asked { IfOk result (λ e. at_numbers questions.new e.asked
+            ≡ asked_once [] (asked (looks_of A.sources P.slots self.old) (listed person.now action.now resource.now))) }
+        ensures within { IfOk result (λ e. AreNumbers questions.new e.asked) }
+        ensures reads { IfOk result (λ e.
+            keys_at (listed person.now action.now resource.now) (at_numbers questions.new e.asked)
+            ≡ recorded (looks_of A.sources P.slots self.old) (listed person.now action.now resource.now)) }
+        ensures numbers { BeginsWith questions.new questions.old }
+        ensures counted { self.new.evaluations ≡ min (self.old.evaluations + 1) (2 ^ 128 - 1) }
+        ensures rest { self.new ≡ record self.old { evaluations = self.new.evaluations } }
+    {
+        let request = Request::listed(
+            self.alloc,
+            person.as_str(),
+            action.as_str(),
+            resource.as_str(),
+        );
+        match request {
+            Ok(request) => self.evaluate_numbered(questions, &request),
+            Err(error) => {
+                self.evaluations = raised(self.evaluations);
+                Err(error)
+            }
         }
+    }
+
+    // The same of any request.
+    fn evaluate_numbered(
+        &mut self,
+        questions: &mut Questions,
+        request: &Request,
+    ) -> Result<ListedEvaluation, AllocError>
+        ensures answer { IfOk result (λ e. e.answer ≡ answer (looks_of A.sources P.slots self.old) request.now) }
+        ensures asked { IfOk result (λ e. at_numbers questions.new e.asked
+            ≡ asked_once [] (asked (looks_of A.sources P.slots self.old) request.now)) }
+        ensures within { IfOk result (λ e. AreNumbers questions.new e.asked) }
+        ensures reads { IfOk result (λ e. keys_at request.now (at_numbers questions.new e.asked)
+            ≡ recorded (looks_of A.sources P.slots self.old) request.now) }
+        ensures numbers { BeginsWith questions.new questions.old }
+        ensures counted { self.new.evaluations ≡ min (self.old.evaluations + 1) (2 ^ 128 - 1) }
+        ensures rest { self.new ≡ record self.old { evaluations = self.new.evaluations } }
+    {
+        let mut notes = self.notebook.open(self.alloc, true);
+        let answer = self.answered(&mut notes, request)?;
+        let asked = notes.numbers_among(self.alloc, questions)?;
+        self.notebook.close(notes);
+        Ok(ListedEvaluation { answer, asked })
     }
 
     /// The answer alone, for which no look-up is recorded. For the rest it is as `evaluate`.
@@ -118,29 +186,29 @@ impl<A: Attributes, P: Policies> Pdp<A, P> {
         ensures counted { self.new.evaluations ≡ min (self.old.evaluations + 1) (2 ^ 128 - 1) }
         ensures rest { self.new ≡ record self.old { evaluations = self.new.evaluations } }
     {
-        self.answered(&mut Notes::unasked(self.alloc), request)
+        let mut notes = self.notebook.open(self.alloc, false);
+        let answer = self.answered(&mut notes, request)?;
+        self.notebook.close(notes);
+        Ok(answer)
     }
 
-    // The answer, which is counted, and its look-ups, which are noted where they are asked for.
+    // The answer, which is counted, and its questions, which are noted where they are asked for.
     fn answered(&mut self, notes: &mut Notes, request: &Request) -> Result<Answer, AllocError>
         ensures answer { IfOk result (λ a. a ≡ answer (looks_of A.sources P.slots self.old) request.now) }
-        ensures notes { OnOk result (notes.new ≡ noting notes.old (looked_up (looks_of A.sources P.slots self.old) request.now)) }
+        ensures notes { OnOk result (notes.new
+            ≡ noting notes.old (asked (looks_of A.sources P.slots self.old) request.now)) }
         ensures counted { self.new.evaluations ≡ min (self.old.evaluations + 1) (2 ^ 128 - 1) }
         ensures rest { self.new ≡ record self.old { evaluations = self.new.evaluations } }
     {
-        self.evaluations = self.evaluations.saturating_add(1);
-        notes.swap_paths(&mut self.paths);
-        let scene = Scene {
-            alloc: self.alloc,
-            held: self,
-            request,
-        };
-        let answer = scene.answer(notes);
-        notes.swap_paths(&mut self.paths);
-        answer
+        self.evaluations = raised(self.evaluations);
+        let noted = mem::replace(notes, Notes::unasked(self.alloc));
+        let mut walk = Walk::over(self.alloc, self, request, noted);
+        let came = walk.answer();
+        *notes = walk.notes;
+        came
     }
 
-    /// How many times `evaluate` or `answer` was called. The count stays at its greatest value.
+    /// How many times `evaluate`, `evaluate_listed` or `answer` was called. The count stays at its greatest value.
     pub fn evaluations(&self) -> u128
         ensures { result ≡ self.now.evaluations }
     {
@@ -206,4 +274,11 @@ impl<A: Attributes, P: Policies> Pdp<A, P> {
     {
         mem::replace(&mut self.environment, environment)
     }
+}
+
+// A count of evaluations, one higher, or at its greatest.
+fn raised(count: u128) -> u128
+    ensures { result ≡ min (count + 1) (2 ^ 128 - 1) }
+{
+    count.saturating_add(1)
 }

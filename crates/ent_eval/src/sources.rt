@@ -1,128 +1,134 @@
 //! Where the values of a designator come from.
 
-ghost use Rattle.std.specs.Prelude.{◌≡◌, IfOk, IfSome, OnOk, option_to_list};
+ghost use Rattle.std.specs.Prelude.{◌≡◌, IfOk, IfSome, option_to_list};
 ghost use Rattle.std.specs.Option.{option_copied};
 ghost use Rattle.ent_values.specs.Types.{datatype_of};
-ghost use Rattle.ent_eval.specs.proofs_only.Comes.{Comes, bag_part, in_scene};
-ghost use Rattle.ent_eval.specs.proofs_only.Noted.{with_note};
-ghost use Rattle.ent_eval.specs.Sources.{asks_for, entity_of, id_attribute, key_for, only_text};
-ghost use Rattle.ent_eval.specs.Sources.{source_part, text_of, values_part};
-ghost use Rattle.ent_eval.specs.declared.key.ReadKey.TheVariants.{Attr};
+ghost use Rattle.ent_values.specs.declared.datatype.DataType.TheVariants as types;
+ghost use Rattle.ent_values.specs.declared.value.Value.TheVariants as values;
+ghost use Rattle.ent_eval.specs.Sources.{asks_for, entity_of, id_attribute, key_for, known_values, only_text};
+ghost use Rattle.ent_eval.specs.Sources.{source_values, text_of, values_part};
+ghost use Rattle.ent_eval.specs.proofs_only.Comes.{Comes, bag_part, in_walk};
+ghost use Rattle.ent_eval.specs.proofs_only.Sought.{designator_of};
 
 use crate::answer::copied_text;
-use crate::key::ReadKey;
 use crate::look_ups::LookUps;
-use crate::notes::Notes;
 use crate::own::Sought;
 use crate::own_bag::{is_empty, only_own, own_bag};
 use crate::request::Request;
-use crate::scene::Scene;
 use crate::uris::{
     ACCESS_SUBJECT, ACTION, ACTION_ID, CURRENT_DATE, CURRENT_DATE_TIME, CURRENT_TIME, ENVIRONMENT,
     RESOURCE, RESOURCE_ID, SUBJECT_ID,
 };
+use crate::walk::Walk;
 use ent_finder::AttrKey;
 use ent_policy::Designator;
 use ent_values::{Bag, DataType, Text, Value};
 use std::alloc::{AllocError, Global};
 
-impl<L: LookUps> Scene<'_, L> {
-    // The values of a designator: the request's own, which are no look-up, or else those of its source.
-    pub(crate) fn values(
-        &self,
-        reads: &mut Notes,
-        designator: &Designator,
-    ) -> Result<Bag, AllocError>
-        ensures comes { IfOk result (Comes (bag_part designator.now.datatype (in_scene L.looks self.now values_part designator.now))
-            reads.old reads.new) }
+impl<L: LookUps> Walk<'_, L> {
+    // The values of a designator: the request's own, or else those of its source. The question is noted.
+    pub(crate) fn values(&mut self, designator: &Designator) -> Result<Bag, AllocError>
+        ensures comes { IfOk result (Comes
+            (bag_part designator.now.datatype (in_walk L.looks self.old values_part designator.now))
+            self.old self.new) }
     {
-        let own = own_bag(self.alloc, self.request, designator)?;
+        self.notes.note_values(self.alloc, designator)?;
+        let own = own_bag(self.alloc, self.request.request(), designator)?;
         if !is_empty(&own) {
             return Ok(own);
         }
-        self.source(reads, designator)
+        self.source(designator)
     }
 
     // The values of a designator for which the request has none.
-    pub(crate) fn source(
-        &self,
-        reads: &mut Notes,
-        designator: &Designator,
-    ) -> Result<Bag, AllocError>
-        ensures comes { IfOk result (Comes (bag_part designator.now.datatype (in_scene L.looks self.now source_part designator.now))
-            reads.old reads.new) }
+    pub(crate) fn source(&self, designator: &Designator) -> Result<Bag, AllocError>
+        ensures { IfOk result (λ b. b ≡ record {
+          datatype = designator.now.datatype;
+          values = in_walk L.looks self.now source_values designator.now;
+        }) }
     {
-        if asks_for(designator, CURRENT_DATE, DataType::Date) {
-            let date = self.held.date().map(Value::Date);
-            return self.known(reads, ReadKey::CurrentDate, DataType::Date, date);
+        let sought = Sought::of(designator);
+        if asks_for(&sought, CURRENT_DATE, DataType::Date) {
+            return self.dates();
         }
-        if asks_for(designator, CURRENT_TIME, DataType::Time) {
-            let time = self.held.time().map(Value::Time);
-            return self.known(reads, ReadKey::CurrentTime, DataType::Time, time);
+        if asks_for(&sought, CURRENT_TIME, DataType::Time) {
+            return self.times();
         }
-        if asks_for(designator, CURRENT_DATE_TIME, DataType::DateTime) {
-            let date_time = self.held.date_time().map(Value::DateTime);
-            return self.known(
-                reads,
-                ReadKey::CurrentDateTime,
-                DataType::DateTime,
-                date_time,
-            );
+        if asks_for(&sought, CURRENT_DATE_TIME, DataType::DateTime) {
+            return self.date_times();
         }
-        match entity_of(self.request, &designator.category) {
+        match entity_of(self.request.request(), designator.category.as_str()) {
             None => Ok(Bag::new(self.alloc, designator.datatype)),
-            Some(entity) => self.values_of(reads, designator, entity),
+            Some(entity) => self.values_of(designator, entity),
         }
     }
 
-    // The value of what is asked of the environment, or none. The look-up is noted, also where nothing is known.
-    fn known(
-        &self,
-        reads: &mut Notes,
-        key: ReadKey,
-        datatype: DataType,
-        value: Option<Value>,
-    ) -> Result<Bag, AllocError>
-        requires { IfSome value (λ v. datatype_of v ≡ datatype) }
-        ensures value { IfOk result (λ b. b ≡ record { datatype = datatype; values = option_to_list value }) }
-        ensures reads { OnOk result (reads.new ≡ with_note reads.old key) }
+    // The date, if it is known.
+    fn dates(&self) -> Result<Bag, AllocError>
+        ensures { IfOk result (λ b. b ≡ record {
+          datatype = types.Date;
+          values = known_values values.Date (L.looks self.now.held.now).date;
+        }) }
     {
-        reads.note(key)?;
-        match value {
-            None => Ok(Bag::new(self.alloc, datatype)),
-            Some(value) => Bag::of_one(self.alloc, value),
-        }
+        let date = self.held.date().map(Value::Date);
+        known(self.alloc, DataType::Date, date)
     }
 
-    // The values of an entity. The look-up is noted, also where it gives none.
-    fn values_of(
-        &self,
-        reads: &mut Notes,
-        designator: &Designator,
-        entity: &Text,
-    ) -> Result<Bag, AllocError>
-        ensures value { IfOk result (λ b. b ≡ record {
+    // The time of day, if it is known.
+    fn times(&self) -> Result<Bag, AllocError>
+        ensures { IfOk result (λ b. b ≡ record {
+          datatype = types.Time;
+          values = known_values values.Time (L.looks self.now.held.now).time;
+        }) }
+    {
+        let time = self.held.time().map(Value::Time);
+        known(self.alloc, DataType::Time, time)
+    }
+
+    // The date and time, if both are known.
+    fn date_times(&self) -> Result<Bag, AllocError>
+        ensures { IfOk result (λ b. b ≡ record {
+          datatype = types.DateTime;
+          values = known_values values.DateTime (L.looks self.now.held.now).date_time;
+        }) }
+    {
+        let date_time = self.held.date_time().map(Value::DateTime);
+        known(self.alloc, DataType::DateTime, date_time)
+    }
+
+    // The values of an entity.
+    fn values_of(&self, designator: &Designator, entity: &Text) -> Result<Bag, AllocError>
+        ensures { IfOk result (λ b. b ≡ record {
           datatype = designator.now.datatype;
           values = (L.looks self.now.held.now).values (key_for designator.now entity.now);
         }) }
-        ensures reads { OnOk result (reads.new ≡ with_note reads.old (Attr (key_for designator.now entity.now))) }
     {
         let key = key_for(self.alloc, designator, entity)?;
         let mut bag = Bag::new(self.alloc, designator.datatype);
         self.held.values(&key, &mut bag)?;
-        reads.note(ReadKey::Attr(key))?;
         Ok(bag)
     }
 }
 
-// Whether a designator asks for an attribute of the environment, of a type, without an issuer.
-fn asks_for(designator: &Designator, attribute: &str, datatype: DataType) -> bool
-    ensures { result ≡ asks_for attribute.now datatype designator.now }
+// The value of what is asked of the environment, or none.
+fn known(alloc: Global, datatype: DataType, value: Option<Value>) -> Result<Bag, AllocError>
+    requires { IfSome value (λ v. datatype_of v ≡ datatype) }
+    ensures { IfOk result (λ b. b ≡ record { datatype = datatype; values = option_to_list value }) }
 {
-    designator.category.as_str() == ENVIRONMENT
-        && designator.attribute.as_str() == attribute
-        && designator.datatype == datatype
-        && designator.issuer.is_none()
+    match value {
+        None => Ok(Bag::new(alloc, datatype)),
+        Some(value) => Bag::of_one(alloc, value),
+    }
+}
+
+// Whether an attribute of the environment is looked for, of a type, without an issuer.
+pub(crate) fn asks_for(sought: &Sought<'_>, attribute: &str, datatype: DataType) -> bool
+    ensures { result ≡ asks_for attribute.now datatype (designator_of sought.now) }
+{
+    sought.category == ENVIRONMENT
+        && sought.attribute == attribute
+        && sought.datatype == datatype
+        && sought.issuer.is_none()
 }
 
 /// The id attribute of a category whose values modules hold: of access-subject, resource or action (appendix B.4 to
@@ -142,19 +148,19 @@ pub fn id_attribute(category: &str) -> Option<&str>
 }
 
 // The entity of a category: the only string that the request has of its id attribute.
-fn entity_of<'a>(request: &'a Request, category: &'a Text) -> Option<&'a Text>
+pub(crate) fn entity_of<'a>(request: &'a Request, category: &'a str) -> Option<&'a Text>
     ensures { option_copied result ≡ entity_of request.now category.now }
 {
-    let id = id_attribute(category.as_str())?;
+    let id = id_attribute(category)?;
     only_text(request, category, id)
 }
 
 // The only string that the request has of an attribute, of whichever issuer.
-fn only_text<'a>(request: &'a Request, category: &'a Text, attribute: &'a str) -> Option<&'a Text>
+fn only_text<'a>(request: &'a Request, category: &'a str, attribute: &'a str) -> Option<&'a Text>
     ensures { option_copied result ≡ only_text request.now category.now attribute.now }
 {
     let sought = Sought {
-        category: category.as_str(),
+        category,
         attribute,
         datatype: DataType::Text,
         issuer: None,

@@ -3,7 +3,7 @@
 ghost use Rattle.std.specs.Prelude.{◌≡◌, IfOk, if◌then◌else◌, map, true};
 ghost use Rattle.std.specs.List.{list_all};
 ghost use Rattle.ent_policy.specs.Typing.{all_of_is_typed, any_of_is_typed, match_is_typed, target_is_typed};
-ghost use Rattle.ent_eval.specs.proofs_only.Comes.{Comes, in_scene};
+ghost use Rattle.ent_eval.specs.proofs_only.Comes.{Comes, in_walk};
 ghost use Rattle.ent_eval.specs.proofs_only.Typed.{Tests};
 ghost use Rattle.ent_eval.specs.Own.{own_values};
 ghost use Rattle.ent_eval.specs.Part.{whole};
@@ -15,9 +15,8 @@ use crate::answer::Status;
 use crate::holds::{holds_in, holds_of};
 use crate::latest::Latest;
 use crate::look_ups::LookUps;
-use crate::notes::Notes;
 use crate::own_bag::is_empty;
-use crate::scene::Scene;
+use crate::walk::Walk;
 use ent_policy::{AllOf, AnyOf, Match, Target};
 use ent_values::Bag;
 use std::alloc::{AllocError, Global};
@@ -30,53 +29,27 @@ pub enum Targeted {
     Indeterminate(Status),
 }
 
-impl<'a, L: LookUps> Scene<'a, L> {
+impl<'a, L: LookUps> Walk<'a, L> {
     // Whether a target matches.
     #[tactic(auto, unfolding(ent_policy::specs::Typing::target_is_typed))]
-    pub(crate) fn target(
-        &self,
-        reads: &mut Notes,
-        target: &'a Target,
-    ) -> Result<Targeted, AllocError>
+    pub(crate) fn target(&mut self, target: &'a Target) -> Result<Targeted, AllocError>
         requires { target_is_typed target.now ≡ true }
-        ensures comes { IfOk result (Comes (in_scene L.looks self.now target_part target.now) reads.old reads.new) }
+        ensures comes { IfOk result (Comes
+            (in_walk L.looks self.old target_part target.now) self.old self.new) }
     {
-        let mut own = Latest::of(self.request);
-        self.target_with(reads, &mut own, target)
-    }
-
-    // The same, with the request's own values that are at hand.
-    #[tactic(auto, unfolding(ent_policy::specs::Typing::target_is_typed))]
-    pub(crate) fn target_with(
-        &self,
-        reads: &mut Notes,
-        own: &mut Latest<'a>,
-        target: &'a Target,
-    ) -> Result<Targeted, AllocError>
-        requires typed { target_is_typed target.now ≡ true }
-        requires own { own.old ≡ self.now.request.now }
-        ensures comes { IfOk result (Comes (in_scene L.looks self.now target_part target.now) reads.old reads.new) }
-        ensures own { own.new ≡ own.old }
-    {
-        self.all_any_of(reads, own, target.any_of.as_slice())
+        self.all_any_of(target.any_of.as_slice())
     }
 
     // Whether all any-of elements match, up to the first that doesn't.
-    fn all_any_of(
-        &self,
-        reads: &mut Notes,
-        own: &mut Latest<'a>,
-        all: &'a [AnyOf],
-    ) -> Result<Targeted, AllocError>
+    fn all_any_of(&mut self, all: &'a [AnyOf]) -> Result<Targeted, AllocError>
         requires typed { list_all any_of_is_typed all.now ≡ true }
-        requires own { own.old ≡ self.now.request.now }
-        ensures comes { IfOk result (Comes (whole is_no_match all_match (map (in_scene L.looks self.now any_of_part) all.now))
-            reads.old reads.new) }
-        ensures own { own.new ≡ own.old }
+        ensures comes { IfOk result (Comes
+            (whole is_no_match all_match (map (in_walk L.looks self.old any_of_part) all.now))
+            self.old self.new) }
     {
         let mut so_far = Targeted::Match;
         for any_of in all {
-            let targeted = self.one_all_of(reads, own, any_of.all_of.as_slice())?;
+            let targeted = self.one_all_of(any_of.all_of.as_slice())?;
             if let Targeted::NoMatch = targeted {
                 return Ok(targeted);
             }
@@ -86,21 +59,14 @@ impl<'a, L: LookUps> Scene<'a, L> {
     }
 
     // Whether one all-of element matches, up to the first that does.
-    fn one_all_of(
-        &self,
-        reads: &mut Notes,
-        own: &mut Latest<'a>,
-        alternatives: &'a [AllOf],
-    ) -> Result<Targeted, AllocError>
+    fn one_all_of(&mut self, alternatives: &'a [AllOf]) -> Result<Targeted, AllocError>
         requires typed { list_all all_of_is_typed alternatives.now ≡ true }
-        requires own { own.old ≡ self.now.request.now }
         ensures comes { IfOk result (Comes (whole is_match one_matches (map
-            (in_scene L.looks self.now all_of_part) alternatives.now)) reads.old reads.new) }
-        ensures own { own.new ≡ own.old }
+            (in_walk L.looks self.old all_of_part) alternatives.now)) self.old self.new) }
     {
         let mut so_far = Targeted::NoMatch;
         for all_of in alternatives {
-            let targeted = self.all_matches(reads, own, all_of.matches.as_slice())?;
+            let targeted = self.all_matches(all_of.matches.as_slice())?;
             if let Targeted::Match = targeted {
                 return Ok(targeted);
             }
@@ -110,21 +76,15 @@ impl<'a, L: LookUps> Scene<'a, L> {
     }
 
     // Whether all matches are True, up to the first that is False.
-    fn all_matches(
-        &self,
-        reads: &mut Notes,
-        own: &mut Latest<'a>,
-        matches: &'a [Match],
-    ) -> Result<Targeted, AllocError>
+    fn all_matches(&mut self, matches: &'a [Match]) -> Result<Targeted, AllocError>
         requires typed { list_all match_is_typed matches.now ≡ true }
-        requires own { own.old ≡ self.now.request.now }
-        ensures comes { IfOk result (Comes (whole is_no_match all_match (map (in_scene L.looks self.now match_part) matches.now))
-            reads.old reads.new) }
-        ensures own { own.new ≡ own.old }
+        ensures comes { IfOk result (Comes
+            (whole is_no_match all_match (map (in_walk L.looks self.old match_part) matches.now))
+            self.old self.new) }
     {
         let mut so_far = Targeted::Match;
         for test in matches {
-            let targeted = self.one_match(reads, own, test)?;
+            let targeted = self.one_match(test)?;
             if let Targeted::NoMatch = targeted {
                 return Ok(targeted);
             }
@@ -133,23 +93,18 @@ impl<'a, L: LookUps> Scene<'a, L> {
         Ok(so_far)
     }
 
-    // Whether a match is True. The request's own values are no look-up, and none of them is copied.
+    // Whether a match is True. The question is noted. None of the request's own values is copied.
     #[tactic(auto, unfolding(ent_policy::specs::Typing::match_is_typed))]
-    fn one_match(
-        &self,
-        reads: &mut Notes,
-        own: &mut Latest<'a>,
-        test: &'a Match,
-    ) -> Result<Targeted, AllocError>
+    fn one_match(&mut self, test: &'a Match) -> Result<Targeted, AllocError>
         requires typed { match_is_typed test.now ≡ true }
-        requires own { own.old ≡ self.now.request.now }
-        ensures comes { IfOk result (Comes (in_scene L.looks self.now match_part test.now) reads.old reads.new) }
-        ensures own { own.new ≡ own.old }
+        ensures comes { IfOk result (Comes
+            (in_walk L.looks self.old match_part test.now) self.old self.new) }
     {
-        if let Some(targeted) = own_match(self.alloc, own, test)? {
+        self.notes.note_values(self.alloc, &test.designator)?;
+        if let Some(targeted) = own_match(self.alloc, &mut self.request, test)? {
             return Ok(targeted);
         }
-        let bag = self.source(reads, &test.designator)?;
+        let bag = self.source(&test.designator)?;
         matched(self.alloc, test, &bag)
     }
 }

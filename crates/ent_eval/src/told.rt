@@ -1,9 +1,10 @@
 //! What children tell of a decision.
 
 ghost use Rattle.std.specs.Prelude.{◌≡◌, [], false, IfOk, OnOk};
-ghost use Rattle.ent_eval.specs.proofs_only.Gathered.{told_more};
-ghost use Rattle.ent_eval.specs.Judged.{decided_by, has_default};
+ghost use Rattle.ent_eval.specs.proofs_only.Gathered.{told_at, told_more};
+ghost use Rattle.ent_eval.specs.Judged.{has_default};
 ghost use Rattle.ent_eval.specs.proofs_only.Path.{keys_of};
+ghost use Rattle.ent_eval.specs.declared.answer.Status.TheVariants.{Okay};
 
 use crate::answer::{Answer, Status, WhyEntry};
 use crate::given::Given;
@@ -46,17 +47,16 @@ impl Told {
         self.advice.append(more.advice)
     }
 
-    // The element at the end of the path, with that decision.
-    pub(crate) fn decided(
+    // The same with the entry of the element at the end of the path behind it, where that decides by default.
+    pub(crate) fn with_default(
         self,
         alloc: Global,
-        reads: &mut Notes,
+        notes: &mut Notes,
         here: &Path<'_>,
         algorithm: RuleAlg,
-        decision: Outcome,
-    ) -> Result<Answer, AllocError>
-        ensures value { IfOk result (λ a. a ≡ decided_by (keys_of here.now) algorithm decision self) }
-        ensures reads { reads.new ≡ reads.old }
+    ) -> Result<Told, AllocError>
+        ensures told { IfOk result (λ t. t ≡ told_at (keys_of here.now) algorithm self) }
+        ensures notes { notes.new ≡ notes.old }
     {
         let Told {
             any,
@@ -66,18 +66,36 @@ impl Told {
         } = self;
         if has_default(algorithm) && !any {
             let entry = WhyEntry {
-                path: reads.path(alloc, here)?,
+                path: notes.path(alloc, here)?,
                 rule: None,
             };
             why.append(Items::of_one(alloc, entry)?)?;
         }
-        Ok(Answer {
-            decision,
-            status: Status::Okay,
+        Ok(Told {
+            any,
             why,
             obligations,
             advice,
         })
+    }
+
+    // An element with that decision, of which this is told.
+    pub(crate) fn decided(self, decision: Outcome) -> Answer
+        ensures { result ≡ record {
+          decision = decision;
+          status = Okay;
+          why = self.why;
+          obligations = self.obligations;
+          advice = self.advice;
+        } }
+    {
+        Answer {
+            decision,
+            status: Status::Okay,
+            why: self.why,
+            obligations: self.obligations,
+            advice: self.advice,
+        }
     }
 }
 

@@ -1,13 +1,11 @@
 //! What functions come to that need no copy of their arguments.
 
 ghost use Rattle.std.specs.Prelude.{◌≡◌, [], ◌∷◌, IfSome, Some};
+ghost use Rattle.ent_values.specs.Same.{same_value};
 ghost use Rattle.ent_functions.specs.Types.{boolean};
-ghost use Rattle.ent_functions.specs.declared.function.Element.{Element};
-ghost use Rattle.ent_functions.specs.declared.function.Function.TheVariants as functions;
-ghost use Rattle.ent_eval.specs.Expression.{result_of};
-ghost use Rattle.ent_eval.specs.Own.{own_values};
 ghost use Rattle.ent_eval.specs.proofs_only.Typed.{HasType};
-ghost use Rattle.ent_eval.specs.proofs_only.Uncopied.{ComesTo, HasItsType, IsBoolean, IsMembership, IsOne, member};
+ghost use Rattle.ent_eval.specs.proofs_only.Uncopied.{ComesTo, IsBoolean, IsEqual, IsMembership, IsOnly, IsSole};
+ghost use Rattle.ent_eval.specs.proofs_only.Uncopied.{member};
 ghost use Rattle.ent_eval.specs.declared.evaluated.Evaluated.TheVariants.{Known};
 
 use crate::answer::Status;
@@ -19,19 +17,27 @@ use ent_functions::{Arg, Function};
 use ent_policy::{Designator, Expression};
 use ent_values::Value;
 
-// What a function comes to, where that is told by its arguments as they stand.
+// A value that an expression comes to as it stands: a literal, or the only one of the request's own for a designator,
+// which is asked for it.
+#[derive(Clone, Copy)]
+pub(crate) struct Sole<'a> {
+    pub(crate) value: &'a Value,
+    pub(crate) asked: Option<&'a Designator>,
+}
+
+// The two values of which a function tells whether they are equal.
 #[tactic(auto, using(crate::proofs::Literals::has_type_of_equal))]
-pub(crate) fn without_copies(
-    request: &Request,
+pub(crate) fn equal<'a>(
+    request: &'a Request,
     function: Function,
-    arguments: &[Expression],
-) -> Option<Evaluated>
-    ensures value { IfSome result (ComesTo request.now function arguments.now) }
-    ensures typed { IfSome result (HasItsType function arguments.now) }
+    arguments: &'a [Expression],
+) -> Option<(Sole<'a>, Sole<'a>)>
+    ensures value { IfSome result (λ both. IsEqual request.now function arguments.now both.0 both.1) }
+    ensures typed { IfSome result (λ both. IsBoolean function arguments.now) }
 {
     let (first, second) = two(arguments)?;
     match function {
-        Function::Equal(_) => Some(compared(seen(request, first)?, seen(request, second)?)),
+        Function::Equal(_) => Some((seen(request, first)?, seen(request, second)?)),
         _ => None,
     }
 }
@@ -42,8 +48,8 @@ pub(crate) fn membership<'a>(
     request: &'a Request,
     function: Function,
     arguments: &'a [Expression],
-) -> Option<(&'a Value, &'a Designator)>
-    ensures value { IfSome result (λ m. IsMembership request.now function arguments.now m.0.now m.1.now) }
+) -> Option<(Sole<'a>, &'a Designator)>
+    ensures value { IfSome result (λ m. IsMembership request.now function arguments.now m.0 m.1.now) }
     ensures typed { IfSome result (λ m. IsBoolean function arguments.now) }
 {
     let (first, second) = two(arguments)?;
@@ -56,11 +62,11 @@ pub(crate) fn membership<'a>(
 }
 
 // What an expression comes to that is a literal, or the only value of a designator.
-fn seen<'a>(request: &'a Request, expression: &'a Expression) -> Option<&'a Value>
-    ensures { IfSome result (λ v. IsOne request.now expression.now v.now) }
+fn seen<'a>(request: &'a Request, expression: &'a Expression) -> Option<Sole<'a>>
+    ensures { IfSome result (λ s. IsSole request.now expression.now s) }
 {
     match expression {
-        Expression::Value(value) => Some(value),
+        Expression::Value(value) => Some(Sole { value, asked: None }),
         Expression::Apply(function, arguments) => {
             only_of(request, *function, arguments.as_slice())
         }
@@ -73,8 +79,8 @@ fn only_of<'a>(
     request: &'a Request,
     function: Function,
     arguments: &'a [Expression],
-) -> Option<&'a Value>
-    ensures { IfSome result (λ v. ComesTo request.now function arguments.now (Known (Arg.One v.now))) }
+) -> Option<Sole<'a>>
+    ensures { IfSome result (λ s. ComesTo request.now function arguments.now s) }
 {
     match function {
         Function::OneAndOnly(_) => only_value(request, one_designator(arguments)?),
@@ -83,10 +89,14 @@ fn only_of<'a>(
 }
 
 // The only value of the request's own for a designator, if there is exactly one.
-fn only_value<'a>(request: &'a Request, designator: &'a Designator) -> Option<&'a Value>
-    ensures { IfSome result (λ v. own_values designator.now request.now ≡ v.now ∷ []) }
+fn only_value<'a>(request: &'a Request, designator: &'a Designator) -> Option<Sole<'a>>
+    ensures { IfSome result (λ s. IsOnly request.now designator.now s) }
 {
-    only_own(request, &Sought::of(designator))
+    let value = only_own(request, &Sought::of(designator))?;
+    Some(Sole {
+        value,
+        asked: Some(designator),
+    })
 }
 
 // The designator that is the only argument.
@@ -110,11 +120,9 @@ fn two(arguments: &[Expression]) -> Option<(&Expression, &Expression)>
 }
 
 // Whether two values are equal.
-#[tactic(auto, using(crate::proofs::Literals::same))]
-fn compared(first: &Value, second: &Value) -> Evaluated
+pub(crate) fn compared(first: &Value, second: &Value) -> Evaluated
+    ensures value { result ≡ Known (Arg.One (Value.Boolean (same_value first.now second.now))) }
     ensures typed { HasType (Some boolean) result }
-    ensures value { (element : Element) → result
-        ≡ result_of (functions.Equal element) (Known (Arg.One first.now) ∷ Known (Arg.One second.now) ∷ []) }
 {
     Evaluated::Known(Arg::One(Value::Boolean(first == second)))
 }

@@ -1,22 +1,34 @@
--- What an evaluation leaves: the value of a part, and its look-ups in the notes.
+-- What an evaluation leaves: the value of a part, and its questions in the notes.
 use Rattle.std.specs.Prelude.{◌≡◌, List}
 use Rattle.ent_values.specs.Bags.{Contents}
 use Rattle.ent_values.specs.declared.datatype.DataType.{DataType}
 use Rattle.ent_values.specs.declared.value.Value.{Value}
+use Rattle.ent_eval.specs.declared.question.Question.{Question}
 use Rattle.ent_eval.specs.declared.request.Request.{Request}
-use Rattle.ent_eval.specs.declared.scene.Scene.{Scene}
+use Rattle.ent_eval.specs.declared.walk.Walk.{Walk}
 use Rattle.ent_eval.specs.Looks.{Looks}
-use Rattle.ent_eval.specs.proofs_only.Noted.{Notes, noting}
+use Rattle.ent_eval.specs.proofs_only.Noted.{noting}
 use Rattle.ent_eval.specs.Part.{Part, mapped}
 
--- what is said of look-ups and a request, of those of a scene
-abbrev pub in_scene {ℓ} : {L : Type 0} {A : Type ℓ} → (L → Looks) → Scene L → (Looks → Request → A) → A
-in_scene looks scene meaning = meaning (looks scene.held.now) scene.request.now
+-- what is said of look-ups and a request, of those of a walk
+abbrev pub in_walk {ℓ} : {L : Type 0} {A : Type ℓ} → (L → Looks) → Walk L → (Looks → Request → A) → A
+in_walk looks walk meaning = meaning (looks walk.held.now) walk.request
 
--- a value came of a part, whose look-ups were noted
-pub record Comes {A : Type 0} (part : Part A) (before after : Notes) (came : A) : Type 0 where
+-- a walk stays one over what is held, for the same request
+pub record Keeps {L : Type 0} (before after : Walk L) : Type 0 where
+  pub held : after.held ≡ before.held
+  pub request : after.request ≡ before.request
+
+-- a walk noted these questions, and stays what it is otherwise
+pub record Asks {L : Type 0} (questions : List Question) (before after : Walk L) : Type 0 where
+  pub notes : after.notes ≡ noting before.notes questions
+  pub keeps : Keeps before after
+
+-- a value came of a part, whose questions were noted
+pub record Comes {A L : Type 0} (part : Part A) (before after : Walk L) (came : A) : Type 0 where
   pub value : came ≡ part.value
-  pub reads : after ≡ noting before part.reads
+  pub notes : after.notes ≡ noting before.notes part.asked
+  pub keeps : Keeps before after
 
 -- the values of a part, as a bag of that type
 abbrev pub bag_part : DataType → Part (List Value) → Part Contents

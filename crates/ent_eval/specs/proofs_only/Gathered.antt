@@ -10,7 +10,7 @@ use Rattle.ent_eval.specs.declared.answer.Answer.{Answer}
 use Rattle.ent_eval.specs.declared.answer.Status.{Status}
 use Rattle.ent_eval.specs.declared.gather.Gathering.{Gathering}
 use Rattle.ent_eval.specs.declared.told.Told.{Told}
-use Rattle.ent_eval.specs.Judged.{decisions, first_status, judged, told_by}
+use Rattle.ent_eval.specs.Judged.{decisions, default_why, first_status, judged, told_by}
 
 -- the status of the first Indeterminate, with one more child
 abbrev pub status_with : Option Status → Outcome → Status → Option Status
@@ -25,6 +25,10 @@ judged_by here algorithm seen = judged here algorithm (combine algorithm (decisi
 -- what children told, with one child more that has their decision
 abbrev pub told_more : Told → Told → Told
 told_more told more = record { any = true; why = told.why ++ more.why; obligations = told.obligations ++ more.obligations; advice = told.advice ++ more.advice }
+
+-- what children told, followed by the entry of the element at the end of a path, where that decides by default
+abbrev pub told_at : List DocKey → RuleAlg → Told → Told
+told_at here algorithm told = record told { why = told.why ++ default_why here algorithm told.any }
 
 -- these children were gathered
 pub record HasGathered (algorithm : RuleAlg) (g : Gathering) (answers : List Answer) : Type 0 where

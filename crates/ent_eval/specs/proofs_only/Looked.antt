@@ -1,19 +1,21 @@
 -- What is at hand of the values that a condition asked for last.
-use Rattle.std.specs.Prelude.{◌≡◌, List, Option, Some, None}
-use Rattle.std.specs.List.{AllByRecursion}
+use Rattle.std.specs.Prelude.{◌≡◌, Option, Some, None, true}
 use Rattle.ent_eval.specs.Looks.{Looks}
-use Rattle.ent_eval.specs.proofs_only.Noted.{Notes, with_note}
-use Rattle.ent_eval.specs.Sources.{values_part}
-use Rattle.ent_eval.specs.declared.key.ReadKey.{ReadKey}
+use Rattle.ent_eval.specs.Sources.{asked_of, values_of}
 use Rattle.ent_eval.specs.declared.looked.Looked.{Looked}
+use Rattle.ent_eval.specs.declared.question.Question.{Question}
+use Rattle.ent_eval.specs.declared.question.Question.TheVariants.{Of}
 use Rattle.ent_eval.specs.declared.request.Request.{Request}
+use Rattle.ent_eval.specs.proofs_only.Noted.{Notes, is_asked}
 
--- these keys are noted: each of them noted again leaves the notes as they are
-abbrev pub IsNoted : Notes → List ReadKey → Type 0
-IsNoted notes keys = AllByRecursion (λ key. with_note notes key ≡ notes) keys
+-- a question is noted, if questions are
+abbrev pub IsNoted : Notes → Question → Type 0
+IsNoted None question = Unit {0}
+IsNoted (Some questions) question = is_asked questions question ≡ true
 
--- the values that are at hand, if any are, are those of their designator, and what is looked up for them is noted
+-- the values that are at hand, if any are, are those of their designator, and that it asked for them is noted
 abbrev pub AreLooked : Looks → Request → Notes → Option Looked → Type 0
 AreLooked looks request notes None = Unit {0}
 AreLooked looks request notes (Some l) =
-    (l.bag.values ≡ (values_part looks request l.designator.now).value) × IsNoted notes (values_part looks request l.designator.now).reads
+    (l.bag.values ≡ values_of looks request (asked_of l.designator.now))
+    × IsNoted notes (Of (asked_of l.designator.now))

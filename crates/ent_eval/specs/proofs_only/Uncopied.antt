@@ -1,5 +1,6 @@
 -- What functions come to that need no copy of their arguments, whatever is held and whatever the definitions are.
-use Rattle.std.specs.Prelude.{◌≡◌, ℕ, List, [], ◌∷◌, false, if◌then◌else◌, IsSome, Some}
+use Rattle.std.specs.Prelude.{◌≡◌, ℕ, List, [], ◌∷◌, ◌++◌, false, if◌then◌else◌, IsSome, Some, option_copied}
+use Rattle.ent_values.specs.Same.{same_value}
 use Rattle.ent_values.specs.declared.value.Value.{Value}
 use Rattle.ent_values.specs.declared.value.Value.TheVariants.{Boolean}
 use Rattle.ent_functions.specs.declared.arg.Arg.TheVariants.{One}
@@ -13,22 +14,45 @@ use Rattle.ent_eval.specs.declared.answer.Status.TheVariants.{MissingAttribute}
 use Rattle.ent_eval.specs.declared.evaluated.Evaluated.{Evaluated}
 use Rattle.ent_eval.specs.declared.evaluated.Evaluated.TheVariants.{Indeterminate, Known}
 use Rattle.ent_eval.specs.declared.request.Request.{Request}
+use Rattle.ent_eval.specs.declared.uncopied.Sole.{Sole}
 use Rattle.ent_eval.specs.Expression.{meaning}
-use Rattle.ent_eval.specs.proofs_only.Expression.{apply_part}
 use Rattle.ent_eval.specs.Looks.{Looks}
-use Rattle.ent_eval.specs.Part.{Part, mapped, without_look}
+use Rattle.ent_eval.specs.Own.{own_values}
+use Rattle.ent_eval.specs.Part.{Part, and_then, mapped}
 use Rattle.ent_eval.specs.Sources.{values_part}
+use Rattle.ent_eval.specs.proofs_only.Expression.{apply_part}
+use Rattle.ent_eval.specs.proofs_only.Noted.{asked_by}
 use Rattle.ent_eval.specs.proofs_only.Typed.{HasType, apply_type}
 
--- an expression comes to one value
-abbrev pub IsOne : Request → Expression → Value → Type 0
-IsOne request e v = (looks : Looks) (definitions : List VariableDefinition) (references : ℕ)
-    → meaning looks request definitions references e ≡ without_look (Known (One v))
+-- a value, and what is asked for it
+abbrev pub sole_part : Sole → Part Evaluated
+sole_part s = record { value = Known (One s.value.now); asked = asked_by (option_copied s.asked) }
 
--- a function of arguments comes to this, and nothing is looked up for it
-abbrev pub ComesTo : Request → Function → List Expression → Evaluated → Type 0
-ComesTo request function arguments v = (looks : Looks) (definitions : List VariableDefinition) (references : ℕ)
-    → apply_part looks request definitions references function arguments ≡ without_look v
+-- an expression comes to one value
+abbrev pub IsSole : Request → Expression → Sole → Type 0
+IsSole request e s = (looks : Looks) (definitions : List VariableDefinition) (references : ℕ)
+    → meaning looks request definitions references e ≡ sole_part s
+
+-- a function of arguments does
+abbrev pub ComesTo : Request → Function → List Expression → Sole → Type 0
+ComesTo request function arguments s = (looks : Looks) (definitions : List VariableDefinition) (references : ℕ)
+    → apply_part looks request definitions references function arguments ≡ sole_part s
+
+-- the request has that value alone for a designator, which is asked for it
+abbrev pub IsOnly : Request → Designator → Sole → Type 0
+IsOnly request d s = (own_values d request ≡ s.value.now ∷ []) × (option_copied s.asked ≡ Some d)
+
+-- whether two values are equal
+abbrev pub equal_part : Sole → Sole → Part Evaluated
+equal_part s t = record {
+  value = Known (One (Boolean (same_value s.value.now t.value.now)));
+  asked = asked_by (option_copied s.asked) ++ asked_by (option_copied t.asked);
+}
+
+-- a function of arguments tells that
+abbrev pub IsEqual : Request → Function → List Expression → Sole → Sole → Type 0
+IsEqual request function arguments s t = (looks : Looks) (definitions : List VariableDefinition) (references : ℕ)
+    → apply_part looks request definitions references function arguments ≡ equal_part s t
 
 -- is-in of a value and the values of a designator: without one it is Indeterminate if one must be present (section 7.3.5, appendix A.3.10)
 abbrev pub member : Value → Designator → List Value → Evaluated
@@ -36,13 +60,14 @@ member v d [] = if d.must_be_present then Indeterminate MissingAttribute else Kn
 member v d (w ∷ ws) = Known (One (Boolean (is_among v (w ∷ ws))))
 
 -- is-in of a value and a designator
-abbrev pub member_part : Looks → Request → Value → Designator → Part Evaluated
-member_part looks request v d = mapped (member v d) (values_part looks request d)
+abbrev pub member_part : Looks → Request → Sole → Designator → Part Evaluated
+member_part looks request s d =
+    and_then (sole_part s) (λ v. mapped (member s.value.now d) (values_part looks request d))
 
 -- a function of arguments is is-in of a value and a designator
-abbrev pub IsMembership : Request → Function → List Expression → Value → Designator → Type 0
-IsMembership request function arguments v d = (looks : Looks) (definitions : List VariableDefinition) (references : ℕ)
-    → apply_part looks request definitions references function arguments ≡ member_part looks request v d
+abbrev pub IsMembership : Request → Function → List Expression → Sole → Designator → Type 0
+IsMembership request function arguments s d = (looks : Looks) (definitions : List VariableDefinition) (references : ℕ)
+    → apply_part looks request definitions references function arguments ≡ member_part looks request s d
 
 -- what it comes to has the type of the function, where it takes the arguments
 abbrev pub HasItsType : Function → List Expression → Evaluated → Type 0

@@ -1,10 +1,16 @@
-use Rattle.std.proofs.lemmas.Result.{IfOk-weaker}
-use Rattle.ent_eval.proofs.Parts.{notes_came}
+use Rattle.std.proofs.Common.{◌≡◌, rules}
+use Rattle.ent_eval.specs.Answer.{answer_part}
+use Rattle.ent_eval.specs.LooksOf.{looks_of}
+use Rattle.ent_eval.proofs.Parts.{notes_came, value_came}
 use Rattle.ent_eval.proofs.pdp.Pdp.answered.Goals as goal
 
 pub returns-clause-answer : goal.returns-clause-answer
-returns-clause-answer g c = IfOk-weaker c.answer-answer.result _ _ (λ a came. came.value) c.answer-answer.ensures.comes
+returns-clause-answer g c =
+    value_came (looks_of (g.A.Attributes.sources) (g.P.Policies.slots)) answer_part _ c.args.request.now c.args.notes.now c.over-walk.result c.over-walk.ensures.held c.over-walk.ensures.request c.answer-came.result c.answer-came.new.self
+    c.answer-came.ensures.comes
 
 pub returns-clause-notes : goal.returns-clause-notes
 returns-clause-notes g c =
-    notes_came c.answer-answer.result _ c.args.notes.now c.swap_paths.new.self c.answer-answer.new.reads c.swap_paths-2.new.self c.swap_paths.ensures c.swap_paths-2.ensures c.answer-answer.ensures.comes
+    let noted : c.over-walk.result.notes ≡ c.args.notes.now = search rules in
+    notes_came (looks_of (g.A.Attributes.sources) (g.P.Policies.slots)) answer_part _ c.args.request.now c.args.notes.now c.over-walk.result c.over-walk.ensures.held c.over-walk.ensures.request c.answer-came.result c.answer-came.new.self
+    noted c.answer-came.ensures.comes

@@ -1,0 +1,71 @@
+//! An evaluation: what it runs over, and how it begins.
+
+ghost use Rattle.std.specs.Prelude.{◌≡◌, [], IfOk};
+ghost use Rattle.ent_eval.specs.Answer.{answer_part};
+ghost use Rattle.ent_eval.specs.proofs_only.Comes.{Comes, in_walk};
+ghost use Rattle.ent_eval.specs.proofs_only.Hops.{followed_part};
+
+use crate::answer::Answer;
+use crate::latest::Latest;
+use crate::look_ups::LookUps;
+use crate::notes::Notes;
+use crate::path::Path;
+use crate::request::Request;
+use ent_policy::Reference;
+use std::alloc::{AllocError, Global};
+
+/// On each path from the root at most this many references are followed. The root itself doesn't count.
+const MOST_HOPS: usize = 6;
+
+// An evaluation of a request over what is held, with what it noted so far.
+#[derive(Drop)]
+pub(crate) struct Walk<'a, L> {
+    pub(crate) alloc: Global,
+    pub(crate) held: &'a L,
+    pub(crate) request: Latest<'a>,
+    pub(crate) notes: Notes,
+}
+
+impl<'a, L: LookUps> Walk<'a, L> {
+    // Before its first question.
+    pub(crate) fn over(
+        alloc: Global,
+        held: &'a L,
+        request: &'a Request,
+        notes: Notes,
+    ) -> Walk<'a, L>
+        ensures held { result.held.now ≡ held.now }
+        ensures request { result.request ≡ request.now }
+        ensures notes { result.notes ≡ notes }
+    {
+        Walk {
+            alloc,
+            held,
+            request: Latest::of(request),
+            notes,
+        }
+    }
+
+    // The answer to the request.
+    pub(crate) fn answer(&mut self) -> Result<Answer, AllocError>
+        ensures comes { IfOk result (Comes
+            (in_walk L.looks self.old answer_part) self.old self.new) }
+    {
+        self.notes.note_root(self.alloc)?;
+        let held = self.held;
+        match held.root() {
+            None => Ok(Answer::not_applicable(self.alloc)),
+            Some(reference) => self.followed(MOST_HOPS, reference),
+        }
+    }
+
+    // What the root's document comes to, where so many references may be followed on the way down from there.
+    fn followed(&mut self, hops: usize, reference: &Reference) -> Result<Answer, AllocError>
+        ensures comes { IfOk result (Comes
+            (in_walk L.looks self.old followed_part hops [] reference.now) self.old self.new) }
+    {
+        let opened = self.open_followed(hops, reference)?;
+        let answer = self.judge(&Path::Root, opened)?;
+        Ok(answer.unwrap_or(Answer::not_applicable(self.alloc)))
+    }
+}
