@@ -11,7 +11,7 @@ use Rattle.std.proofs.lemmas.Map.Views.{All-from_any}
 use Rattle.ent_eval.specs.Noted.{read_cmp}
 use Rattle.ent_eval.specs.declared.key.ReadKey.{ReadKey}
 use Rattle.ent_index.specs.Cells.{has_cell, in_order}
-use Rattle.ent_index.specs.Index.{HasCell, IsSound, ReadIndex, Readers, has, number_of}
+use Rattle.ent_index.specs.Index.{HasCell, IsSound, ReadIndex, Readers, has}
 use Rattle.ent_index.proofs.Views.{cell_itself, read_cmp-total, some_none}
 
 module _ (index : ReadIndex) (sound : IsSound index) (k : ReadKey) where

@@ -1,5 +1,6 @@
 pub mod Asked
 pub mod Cells
+pub mod Groups
 pub mod Index
 pub mod Law
 pub mod Layout

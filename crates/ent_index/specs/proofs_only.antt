@@ -1,3 +1,5 @@
 pub mod Asked
+pub mod Grouped
+pub mod Groups
 pub mod Steps
 pub mod Stored

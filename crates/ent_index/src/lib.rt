@@ -4,11 +4,18 @@
 mod asked;
 mod cells;
 mod entry;
+mod group;
+mod groups;
 mod index;
 mod law;
+mod names;
+mod roll;
+mod wanted;
 
+pub use groups::Groups;
 pub use index::Index;
 pub use law::{
     a_key_that_is_read_keeps_its_number, numbers_are_of_their_keys, the_cells_of_a_key_read_it,
     the_cells_of_a_key_rise,
 };
+pub use wanted::Wanted;

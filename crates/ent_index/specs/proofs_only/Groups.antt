@@ -1,0 +1,48 @@
+-- Words of the contracts of groups that only their own crate needs.
+use Rattle.std.specs.Prelude.{◌≡◌, ◌||◌, ℕ, List, Option, None, Some, true}
+use Rattle.std.specs.BTreeSet.{BTreeSet, contains}
+use Rattle.std.specs.List.{list_any}
+use Rattle.std.specs.Ordering.{nat_cmp}
+use Rattle.ent_eval.specs.declared.key.ReadKey.{ReadKey}
+use Rattle.ent_eval.specs.declared.question.Question.{Question}
+use Rattle.ent_eval.specs.declared.readers.Place.{Place}
+use Rattle.ent_eval.specs.declared.readers.Place.TheVariants.{Person, Action, Resource}
+use Rattle.ent_eval.specs.Listed.{listed}
+use Rattle.ent_eval.specs.Noted.{has_key}
+use Rattle.ent_eval.specs.Questions.{AreNumbers, at_numbers, keys_at}
+use Rattle.ent_index.specs.declared.groups.Groups.{Groups}
+use Rattle.ent_index.specs.declared.names.Names.{Names}
+use Rattle.ent_index.specs.declared.wanted.Wanted.{Wanted}
+use Rattle.ent_index.specs.Groups.{IsNamed, holds, is_among, is_member, is_wanted, numbers_of}
+
+-- a set has the cells of another
+abbrev pub HasMore : BTreeSet ℕ → BTreeSet ℕ → Type 0
+HasMore old new = (c : ℕ) → contains nat_cmp old c ≡ true → contains nat_cmp new c ≡ true
+
+-- a set has these cells
+abbrev pub HasAll : List ℕ → BTreeSet ℕ → Type 0
+HasAll cells set = (c : ℕ) → is_member cells c ≡ true → contains nat_cmp set c ≡ true
+
+abbrev pub HasAllOf : Option (List ℕ) → BTreeSet ℕ → Type 0
+HasAllOf None set = Unit {0}
+HasAllOf (Some cells) set = HasAll cells set
+
+-- a set has the cells whose groups have the question of a number
+abbrev pub HasAsking : Groups → ℕ → BTreeSet ℕ → Type 0
+HasAsking groups n set = (g c : ℕ) → holds groups g c ≡ true → is_among (numbers_of groups g) n ≡ true → contains nat_cmp set c ≡ true
+
+-- a set has each cell that reads what is wanted
+abbrev pub CoversOne : Groups → Wanted → BTreeSet ℕ → Type 0
+CoversOne groups w set = (person action resource : List ℕ) (g c : ℕ) → IsNamed groups person action resource c → holds groups g c ≡ true
+    → is_wanted person action resource (numbers_of groups g) w ≡ true → contains nat_cmp set c ≡ true
+
+-- the names at a place
+abbrev pub names_at : Place → Groups → Names
+names_at Person groups = groups.persons
+names_at Action groups = groups.actions
+names_at Resource groups = groups.resources
+
+-- what is wanted of one key more
+abbrev pub AddsKey : List Question → ReadKey → List Wanted → List Wanted → Type 0
+AddsKey questions key old new = (person action resource numbers : List ℕ) → AreNumbers questions numbers
+    → list_any (is_wanted person action resource numbers) new ≡ (list_any (is_wanted person action resource numbers) old || has_key (keys_at (listed person action resource) (at_numbers questions numbers)) key)
