@@ -2,8 +2,8 @@ pub mod Among
 pub mod Confirmed
 pub mod Gone
 pub mod Grids
+pub mod Grouped
 pub mod Held
-pub mod KeyNumbers
 pub mod Listed
 pub mod Logging
 pub mod Narrowed
@@ -11,6 +11,7 @@ pub mod Olds
 pub mod Orders
 pub mod Phased
 pub mod Places
+pub mod ReadKeys
 pub mod Seen
 pub mod Settled
 pub mod Shapes

@@ -1,7 +1,7 @@
 -- The cells of a slab, in the order of a list of their keys.
 use Rattle.std.proofs.Common.{◌≡◌, inl, inr, ℕ, zero, suc, ◌+◌, ◌<◌, ◌≤◌, Bool, true, false, ◌&&◌, ◌||◌, nat_eq, List, [], ◌∷◌, ◌++◌, map, length, take, drop, Option, Some, None, is_some, option_map, slice_get, slice_index_or as get_or, refl, sym, ap, subst, ◌∙◌, arith, le_refl}
-use Rattle.std.specs.List.{AllByRecursion, cons_option, filter, list_any}
-use Rattle.std.proofs.lemmas.Bool.{and_from, and_parts, false≢true, or_left, or_parts, true_from_ne_false}
+use Rattle.std.specs.List.{AllByRecursion, cons_option, filter}
+use Rattle.std.proofs.lemmas.Bool.{and_from, and_parts, false≢true, or_parts, true_from_ne_false}
 use Rattle.std.proofs.lemmas.Bool.Decides.{eqb_tells}
 use Rattle.std.proofs.lemmas.List.{length-map, map-append, take-map, drop-map}
 use Rattle.std.proofs.lemmas.Option.{slice_get-map}
@@ -13,7 +13,7 @@ use Rattle.ent_index.proofs.RowsAsked.{alike}
 use Rattle.ent_cells.specs.Cell.{AreReadKeys, Kept, answers_in, is_read}
 use Rattle.ent_cells.specs.Entries.{Entry, IsLive, kept_of}
 use Rattle.ent_cells.specs.proofs_only.Entries.{Inserts}
-use Rattle.ent_cells.specs.proofs_only.Numbers.{AreKeysOf, next_rests, rests_at}
+use Rattle.ent_cells.specs.proofs_only.Asked.{AreKeysOf, reads_at}
 use Rattle.ent_cells.specs.Grid.{IsGrid, entries_of, times, values}
 use Rattle.ent_cells.specs.Shape.{left_after, left_of, taken_out, without, woven}
 use Rattle.ent_cells.proofs.Among.{bit}
@@ -79,28 +79,26 @@ none_read : (k : ReadKey) (es : List Kept) → is_read es k ≡ false → AllByR
 none_read k [] h = tt
 none_read k (e ∷ es) h = let parts = or_parts (has_key e.said.reads k) (is_read es k) h in (parts.0, none_read k es parts.1)
 
--- where nothing is ready, a key on which a cell rests is read by one of the list
-rests_read : (s : Slab Entry) (ks : List ℕ) → IsLive s ks → (k : ReadKey) (c : ℕ) → rests_at (get s c) k ≡ true → is_read (kept_of s ks) k ≡ true
-rests_read s ks live k c h = true_from_ne_false (is_read (kept_of s ks) k) (λ none. by none (get s c) refl h)
+-- a key that a cell reads is read by one of the list
+reads_read : (s : Slab Entry) (ks : List ℕ) → IsGrid s ks → (k : ReadKey) (c : ℕ) → reads_at (get s c) k ≡ true → is_read (kept_of s ks) k ≡ true
+reads_read s ks grid k c h = true_from_ne_false (is_read (kept_of s ks) k) (λ none. by none (get s c) refl h)
   where
-    by : is_read (kept_of s ks) k ≡ false → (o : Option Entry) → get s c ≡ o → rests_at o k ≡ true → ⊥
-    by none None at rests = false≢true rests
-    by none (Some e) at rests =
-        let own = each (λ x. has_key x.said.reads k ≡ false) s ks live.grid (none_read k (kept_of s ks) none) c e at in
-        false≢true (sym (λ i. own i || next_rests (live.free c e at i) k) ∙ rests)
+    by : is_read (kept_of s ks) k ≡ false → (o : Option Entry) → get s c ≡ o → reads_at o k ≡ true → ⊥
+    by none None at reads = false≢true reads
+    by none (Some e) at reads = false≢true (sym (each (λ x. has_key x.said.reads k ≡ false) s ks grid (none_read k (kept_of s ks) none) c e at) ∙ reads)
 
--- a key that one of the list reads is one on which a cell rests
-read_rests : (s : Slab Entry) (ks : List ℕ) (k : ReadKey) → is_read (kept_of s ks) k ≡ true → (c : ℕ) × (rests_at (get s c) k ≡ true)
-read_rests s [] k h = absurd (false≢true h)
-read_rests s (c ∷ ks) k h = by (get s c) refl (read_rests s ks k) (ap (λ es. is_read es k) (sym (kept_cons s c ks)) ∙ h)
+-- a key that one of the list reads is one that a cell reads
+read_reads : (s : Slab Entry) (ks : List ℕ) (k : ReadKey) → is_read (kept_of s ks) k ≡ true → (c : ℕ) × (reads_at (get s c) k ≡ true)
+read_reads s [] k h = absurd (false≢true h)
+read_reads s (c ∷ ks) k h = by (get s c) refl (read_reads s ks k) (ap (λ es. is_read es k) (sym (kept_cons s c ks)) ∙ h)
   where
-    own : (e : Entry) → get s c ≡ Some e → (is_read (kept_of s ks) k ≡ true → (d : ℕ) × (rests_at (get s d) k ≡ true))
-        → (b : Bool) → has_key e.kept.said.reads k ≡ b → (b || is_read (kept_of s ks) k) ≡ true → (d : ℕ) × (rests_at (get s d) k ≡ true)
-    own e at others true is h = (c, ap (λ o. rests_at o k) at ∙ or_left (has_key e.kept.said.reads k) (next_rests e.next k) is)
+    own : (e : Entry) → get s c ≡ Some e → (is_read (kept_of s ks) k ≡ true → (d : ℕ) × (reads_at (get s d) k ≡ true))
+        → (b : Bool) → has_key e.kept.said.reads k ≡ b → (b || is_read (kept_of s ks) k) ≡ true → (d : ℕ) × (reads_at (get s d) k ≡ true)
+    own e at others true is h = (c, ap (λ o. reads_at o k) at ∙ is)
     own e at others false is h = others h
 
-    by : (o : Option Entry) → get s c ≡ o → (is_read (kept_of s ks) k ≡ true → (d : ℕ) × (rests_at (get s d) k ≡ true))
-        → is_read (cons_option (option_map cell_in o) (kept_of s ks)) k ≡ true → (d : ℕ) × (rests_at (get s d) k ≡ true)
+    by : (o : Option Entry) → get s c ≡ o → (is_read (kept_of s ks) k ≡ true → (d : ℕ) × (reads_at (get s d) k ≡ true))
+        → is_read (cons_option (option_map cell_in o) (kept_of s ks)) k ≡ true → (d : ℕ) × (reads_at (get s d) k ≡ true)
     by None at others h = others h
     by (Some e) at others h = own e at others (has_key e.kept.said.reads k) refl h
 
@@ -108,10 +106,10 @@ pub are_listed : (asks : ReadKey → Bool) (s : Slab Entry) (ks : List ℕ) (key
     → AreReadKeys asks (kept_of s ks) keys
 are_listed asks s ks keys live are k =
     alike (has_key keys k) (asks k && is_read (kept_of s ks) k)
-    (λ there. let r = are.read k there in and_from (asks k) (is_read (kept_of s ks) k) (are.asked k there) (rests_read s ks live k r.0 r.1))
+    (λ there. let r = are.read k there in and_from (asks k) (is_read (kept_of s ks) k) (are.asked k there) (reads_read s ks live.grid k r.0 r.1))
     (λ h.
     let parts = and_parts (asks k) (is_read (kept_of s ks) k) h in
-    let r = read_rests s ks k parts.1 in
+    let r = read_reads s ks k parts.1 in
     are.all k r.0 parts.0 r.1)
 
 -- ---- places

@@ -1,375 +1,187 @@
--- What each step of a change makes of the index and of the cells.
-use Rattle.std.proofs.Common.{◌≡◌, ◌≢◌, ℕ, List, [], Bool, true, false, not, ◌&&◌, ◌||◌, Option, Some, None, map, option_map, slice_index_or as get_or, refl, sym, ap, subst, ◌∙◌}
-use Rattle.std.specs.FinMap.{empty, get as find_in, get-empty}
-use Rattle.std.specs.Option.{option_map_or}
+-- What each step of a change makes of the cells and of their groups.
+use Rattle.std.proofs.Common.{◌≡◌, ◌≢◌, ℕ, List, [], true, Option, Some, None, map, option_map, IfSome, slice_index_or as get_or, refl, sym, ap, subst, ◌∙◌}
 use Rattle.std.specs.Prelude.{Err, IfOk, Ok, OnErr, OnOk, Result}
-use Rattle.std.specs.Ordering.{is_eq, nat_cmp}
 use Rattle.std.proofs.lemmas.Option.{same_Some}
 use Rattle.slab.specs.Slab.{Slab, Updates, get}
-use Rattle.ent_eval.specs.Noted.{has_key, read_cmp}
-use Rattle.ent_eval.specs.declared.answer.Answer.{Answer}
-use Rattle.ent_eval.specs.declared.key.ReadKey.{ReadKey}
-use Rattle.ent_index.proofs.Changes.{still_numbered}
-use Rattle.ent_index.proofs.Views.{cell_itself, not_cell, same_cell, some_none}
-use Rattle.ent_index.specs.Cells.{has_cell}
-use Rattle.ent_index.specs.Index.{Adds, Forgets, ReadIndex, has, is_left_pair, is_numbered, is_numbered_pair, is_pair_of, number_of}
-use Rattle.ent_cells.proofs.KeyNumbers.{Stay, given, keys_from, numbered, numbered_in, one_left, stay}
-use Rattle.ent_cells.proofs.Seen.{ChangesAt, SeenAs, all_seen, get_seen, rests, rests_not, seen_as, seen_some, still_store, updates_seen}
+use Rattle.ent_eval.specs.declared.pdp.ListedEvaluation.{ListedEvaluation}
+use Rattle.ent_eval.specs.declared.question.Question.{Question}
+use Rattle.ent_eval.specs.Listed.{listed}
+use Rattle.ent_eval.specs.Looks.{Looks}
+use Rattle.ent_eval.specs.Questions.{AreNumbers, BeginsWith, at_numbers, keys_at}
+use Rattle.ent_index.specs.declared.groups.Groups.{Groups}
+use Rattle.ent_index.specs.Groups.{IsNamed, holds, numbers_of}
+use Rattle.ent_index.proofs.Views.{some_none}
+use Rattle.ent_cells.proofs.Grouped.{Stays, begins_itself, grouped_stays, held_stays, others_stay}
+use Rattle.ent_cells.proofs.Seen.{all_same, get_by, still_by, updates_by}
 use Rattle.ent_cells.specs.declared.cell.Cell.{Cell}
-use Rattle.ent_cells.specs.declared.cell.Numbered.{Numbered}
+use Rattle.ent_cells.specs.declared.cell.Grouped.{Grouped}
 use Rattle.ent_cells.specs.declared.who.Who.{Who}
-use Rattle.ent_cells.specs.Cell.{Said}
+use Rattle.ent_cells.specs.Cell.{Said, says}
 use Rattle.ent_cells.specs.Entries.{Entry}
-use Rattle.ent_cells.specs.proofs_only.Entries.{Becomes, Inserts, IsFree, entry_of_cell, given_up, no_entries, settled, settled_by}
-use Rattle.ent_cells.specs.proofs_only.Numbers.{AreNextNumbers, AreNumbers, AreOfOneKey, ForgetsAt, HasNumbers, IsAsBefore, IsStore, IsUnready, entry_in, is_numbered_only, keys_in, next_only, next_only_by, next_rests, numbers_at, replaced, replaced_by, rests_at, said_of, said_only, said_only_by, seen, unready}
+use Rattle.ent_cells.specs.proofs_only.Entries.{Becomes, Inserts, IsFree, entry_of_cell, given_up, no_entries, settled}
+use Rattle.ent_cells.specs.proofs_only.Grouping.{IsGrouped, IsHeld, IsStore, KeepsCell, KeepsOthers, entry_in, replaced, replaced_by, said_in, said_of, seen, unready}
+use Rattle.ent_cells.specs.proofs_only.Phases.{made_ready}
 
--- ---- at the cell, and elsewhere
-
-out_of : (q o : Bool) → ((q && false) || o) ≡ o
-out_of true o = refl
-out_of false o = refl
-
-in_or : (q o : Bool) → ((q && true) || o) ≡ (q || o)
-in_or true o = refl
-in_or false o = refl
-
-out_and : (q o : Bool) → (not (q && false) && o) ≡ o
-out_and true o = refl
-out_and false o = refl
-
-in_and : (q o : Bool) → (not (q && true) && o) ≡ (not q && o)
-in_and true o = refl
-in_and false o = refl
-
-module _ (a b : ReadIndex) (key : ℕ) (q : ReadKey → Bool) where
-  pub adds_elsewhere : Adds (λ k c. q k && is_eq (nat_cmp c key)) a b → (k : ReadKey) (c : ℕ) → c ≢ key → has b k c ≡ has a k c
-  adds_elsewhere adds k c apart = adds.has k c ∙ ap (λ p. (q k && p) || has a k c) (not_cell c key apart) ∙ out_of (q k) (has a k c)
-
-  pub adds_here : Adds (λ k c. q k && is_eq (nat_cmp c key)) a b → (k : ReadKey) → has b k key ≡ (q k || has a k key)
-  adds_here adds k = adds.has k key ∙ ap (λ p. (q k && p) || has a k key) (cell_itself key key refl) ∙ in_or (q k) (has a k key)
-
-  pub forgets_elsewhere : ForgetsAt q key a b → (k : ReadKey) (c : ℕ) → c ≢ key → has b k c ≡ has a k c
-  forgets_elsewhere forgets k c apart = forgets.has k c ∙ ap (λ p. not (q k && p) && has a k c) (not_cell c key apart) ∙ out_and (q k) (has a k c)
-
-  pub forgets_here : ForgetsAt q key a b → (k : ReadKey) → has b k key ≡ (not (q k) && has a k key)
-  forgets_here forgets k = forgets.has k key ∙ ap (λ p. not (q k && p) && has a k key) (cell_itself key key refl) ∙ in_and (q k) (has a k key)
-
-  module _ (s t : Slab Cell) (is : IsStore s a) (others : (c : ℕ) → c ≢ key → get t c ≡ get s c) where
-    pub adds_at : Adds (λ k c. q k && is_eq (nat_cmp c key)) a b → AreOfOneKey b → ChangesAt s t a b key
-    adds_at adds one = record {
-      others = others;
-      as_ = λ c cell apart e. seen_as a b one cell (is.numbers c cell e) (λ k n h at. adds.numbers k n at);
-      elsewhere = adds_elsewhere adds;
-    }
-
-    pub forgets_at : ForgetsAt q key a b → ChangesAt s t a b key
-    forgets_at forgets = record {
-      others = others;
-      as_ = λ c cell apart e.
-          seen_as a b (one_left a b forgets.numbers is.one) cell (is.numbers c cell e)
-          (λ k n h at. still_numbered a b forgets.numbers k c n (forgets_elsewhere forgets k c apart ∙ rests a s is c cell e k ∙ h) at);
-      elsewhere = forgets_elsewhere forgets;
-    }
+pub get_seen : (q : List Question) (g : Groups) (s : Slab Cell) (c : ℕ) → get (seen q g s) c ≡ option_map (entry_in q g) (get s c)
+get_seen q g s c = get_by (entry_in q g) s c
 
 pub updates_to : {A : Type 0} (old new : Slab A) (key : ℕ) (x y : Option A) → Updates old new key x → x ≡ y → Updates old new key y
 updates_to old new key x y u e = record { changed = u.changed ∙ e; others = u.others }
 
+-- ---- a change under one key
+
+module _ (q q' : List Question) (g g' : Groups) (s t : Slab Cell) (key : ℕ) (begins : BeginsWith q' q) (others : KeepsOthers key g g') (same : (c : ℕ) → c ≢ key → get t c ≡ get s c) (is : IsStore q g s) where
+  elsewhere : (c : ℕ) (cell : Cell) → c ≢ key → IsHeld q g c cell → (entry_in q' g' cell ≡ entry_in q g cell) × IsHeld q' g' c cell
+  elsewhere c cell apart held = held_stays q q' g g' begins c (λ n. others.groups n c apart) (λ p a r. others.names p a r c apart) cell held
+
+  pub change_seen : (slot : Option Cell) → get t key ≡ slot → Updates (seen q g s) (seen q' g' t) key (option_map (entry_in q' g') slot)
+  change_seen slot here = updates_by (entry_in q g) (entry_in q' g') (IsHeld q g) (IsHeld q' g') s t key same elsewhere is slot here
+
+  pub change_store : ((cell : Cell) → get t key ≡ Some cell → IsHeld q' g' key cell) → IsStore q' g' t
+  change_store here = still_by (entry_in q g) (entry_in q' g') (IsHeld q g) (IsHeld q' g') s t key same elsewhere is here
+
+  -- there is no cell under it then
+  pub gone_store : get t key ≡ None → IsStore q' g' t
+  gone_store none = change_store (λ cell e. absurd (some_none cell (sym e ∙ none)))
+
+  pub gone_seen : get t key ≡ None → Updates (seen q g s) (seen q' g' t) key None
+  gone_seen none = change_seen None none
+
+-- the others stay, and under the key there is no cell
+pub vacant_store : (q q' : List Question) (g g' : Groups) (s : Slab Cell) (key : ℕ) → BeginsWith q' q → KeepsOthers key g g' → IsStore q g s → get s key ≡ None → IsStore q' g' s
+vacant_store q q' g g' s key begins others is none = gone_store q q' g g' s s key begins others (λ _ _. refl) is none
+
+pub vacant_seen : (q q' : List Question) (g g' : Groups) (s : Slab Cell) (key : ℕ) → BeginsWith q' q → KeepsOthers key g g' → IsStore q g s → get s key ≡ None → seen q' g' s ≡ seen q g s
+vacant_seen q q' g g' s key begins others is none =
+    all_same (entry_in q g) (entry_in q' g') s
+    (λ c cell e. (elsewhere q q' g g' s s key begins others (λ _ _. refl) is c cell (λ same. some_none cell (sym e ∙ ap (get s) same ∙ none)) (is c cell e)).0)
+
 -- ---- more room
 
-pub roomier_store : (s t : Slab Cell) (index : ReadIndex) → t ≡ record s { capacity = t.capacity } → IsStore s index → IsStore t index
-roomier_store s t index e is = subst (λ z. IsStore z index) (sym e) (let more : IsStore (record s { capacity = t.capacity }) index = record { one = is.one; numbers = is.numbers; exact = is.exact } in more)
+pub roomier_store : (q : List Question) (g : Groups) (s t : Slab Cell) → t ≡ record s { capacity = t.capacity } → IsStore q g s → IsStore q g t
+roomier_store q g s t e is = subst (IsStore q g) (sym e) is
 
-pub roomier_seen : (s t : Slab Cell) (index : ReadIndex) → t ≡ record s { capacity = t.capacity } → seen index t ≡ seen index s
-roomier_seen s t index e = ap (seen index) e
+pub roomier_seen : (q : List Question) (g : Groups) (s t : Slab Cell) → t ≡ record s { capacity = t.capacity } → seen q g t ≡ seen q g s
+roomier_seen q g s t e = ap (seen q g) e
 
--- ---- a cell of which nothing is ready
+-- ---- what is said of a cell, by an evaluation
 
-unready_rests : (reads keys : Bool) (o : Option Said) (k : ReadKey) → o ≡ None → (keys || (reads || next_rests o k)) ≡ (reads || keys)
-unready_rests true true o k e = refl
-unready_rests true false o k e = refl
-unready_rests false true o k e = refl
-unready_rests false false o k e = ap (λ x. next_rests x k) e
+module _ (q : List Question) (g : Groups) (looks : Looks) (x : Who) (e : ListedEvaluation) (said : Grouped) (answer : said.answer ≡ e.answer) (numbers : numbers_of g said.group ≡ e.asked) (says_so : said_in q x e ≡ says looks x) where
+  pub said_right : said_of q g x said ≡ says looks x
+  said_right = (λ i. record { answer = answer i; reads = keys_at (listed x.person x.action x.resource) (at_numbers q (numbers i)) }) ∙ says_so
 
-module _ (s t : Slab Cell) (a b : ReadIndex) (key : ℕ) (cell : Cell) (said : Numbered) (ks : List ReadKey) (is : IsStore s a) (held : get s key ≡ Some cell) (none : cell.next ≡ None)
-    (up : Updates s t key (Some (record cell { next = Some said }))) (adds : Adds (is_pair_of ks key) a b) (one : AreOfOneKey b) (from : map (number_of b) ks ≡ map Some said.reads) where
-  own : SeenAs a b cell
-  own = seen_as a b one cell (is.numbers key cell held) (λ k n h at. adds.numbers k n at)
+pub is_grouped : (q : List Question) (g : Groups) (c : ℕ) (said : Grouped) (ns : List ℕ) → holds g said.group c ≡ true → numbers_of g said.group ≡ ns → AreNumbers q ns → IsGrouped q g c said
+is_grouped q g c said ns there numbers within = record { there = there; within = subst (AreNumbers q) (sym numbers) within }
 
-  same_own : keys_in b cell.said.reads ≡ keys_in a cell.said.reads
-  same_own = ap (λ e. e.kept.said.reads) own.same
+-- ---- something is made ready of a cell
 
-  same_next : keys_in b said.reads ≡ ks
-  same_next = keys_from b one ks said.reads from
+module _ (q q' : List Question) (g g' : Groups) (s t : Slab Cell) (key : ℕ) (said : Grouped) (begins : BeginsWith q' q) (stays : Stays g g') (is : IsStore q g s) (free : IsFree (get (seen q g s) key))
+    (up : (cell : Cell) → get s key ≡ Some cell → Updates s t key (Some (record cell { next = Some said }))) (grouped : IsGrouped q' g' key said) where
+  some_at : (o : Option Cell) → get s key ≡ o → (cell : Cell) × (o ≡ Some cell)
+  some_at None e = absurd (subst IsFree (get_seen q g s key ∙ ap (option_map (entry_in q g)) e) free)
+  some_at (Some cell) e = (cell, refl)
 
-  ready_change : ChangesAt s t a b key
-  ready_change = adds_at a b key (has_key ks) s t is up.others adds one
+  module _ (cell : Cell) (held : get s key ≡ Some cell) where
+    kept : (entry_in q' g' cell ≡ entry_in q g cell) × IsHeld q' g' key cell
+    kept = held_stays q q' g g' begins key (λ n. stays.groups n key) (λ p a r. stays.names p a r key) cell (is key cell held)
 
-  -- what is ready of a cell stands beside it
-  pub ready_store : IsStore t b
-  ready_store =
-      still_store s t a b key ready_change is one
-      (λ x e.
-      let same : record cell { next = Some said } ≡ x = same_Some (record cell { next = Some said }) x (sym up.changed ∙ e) in
-      subst (HasNumbers b) same ((own.numbers).0, given b one ks said.reads from))
-      (λ k.
-      adds_here a b key (has_key ks) adds k
-      ∙ ap (λ o. has_key ks k || o) (rests a s is key cell held k)
-      ∙ unready_rests (has_key (keys_in a cell.said.reads) k) (has_key ks k) (option_map (said_of a) cell.next) k (ap (option_map (said_of a)) none)
-      ∙ sym (ap (λ o. rests_at (option_map (entry_in b) o) k) up.changed ∙ (λ i. has_key (same_own i) k || has_key (same_next i) k)))
+    ready_store : IsStore q' g' t
+    ready_store =
+        change_store q q' g g' s t key begins (others_stay key g g' stays) (up cell held).others is
+        (λ x e. subst (IsHeld q' g' key) (same_Some (record cell { next = Some said }) x (sym (up cell held).changed ∙ e)) (record { said = kept.1.said; next = grouped; named = kept.1.named }))
 
-  pub ready_seen : (answer : Answer) → said.answer ≡ answer → (e : Entry) → get (seen a s) key ≡ Some e → Updates (seen a s) (seen b t) key (Some (record e { next = Some (record { answer = answer; reads = ks }) }))
-  ready_seen answer is_answer e at =
-      updates_to (seen a s) (seen b t) key (Some (entry_in b (record cell { next = Some said }))) (Some (record e { next = Some (record { answer = answer; reads = ks }) }))
-      (updates_seen s t a b key ready_change (Some (record cell { next = Some said })) up.changed)
-      (λ i. Some (record {
-        kept = (ap (λ x. x.kept) own.same ∙ ap (λ x. x.kept) (same_Some (entry_in a cell) e (sym (seen_some a s key cell held) ∙ at))) i;
-        next = Some (record { answer = is_answer i; reads = same_next i });
-      }))
+    ready_seen : (looks : Looks) → said_of q' g' cell.who said ≡ says looks cell.who → (e : Entry) → get (seen q g s) key ≡ Some e → Updates (seen q g s) (seen q' g' t) key (Some (made_ready looks e))
+    ready_seen looks right e at =
+        let same : entry_in q g cell ≡ e = same_Some (entry_in q g cell) e (sym (get_seen q g s key ∙ ap (option_map (entry_in q g)) held) ∙ at) in
+        updates_to (seen q g s) (seen q' g' t) key (Some (entry_in q' g' (record cell { next = Some said }))) (Some (made_ready looks e))
+        (change_seen q q' g g' s t key begins (others_stay key g g' stays) (up cell held).others is (Some (record cell { next = Some said })) (up cell held).changed)
+        (ap (λ (n : Said). Some (record { kept = (entry_in q' g' cell).kept; next = Some n })) right
+        ∙ ap (λ (x : Entry). Some (made_ready looks x)) (kept.0 ∙ same))
 
-module _ (s t : Slab Cell) (a b : ReadIndex) (key : ℕ) (said : Numbered) (ks : List ReadKey) (is : IsStore s a) (free : IsFree (get (seen a s) key))
-    (up : (cell : Cell) → get s key ≡ Some cell → Updates s t key (Some (record cell { next = Some said }))) (adds : Adds (is_pair_of ks key) a b) (one : AreOfOneKey b) (from : map (number_of b) ks ≡ map Some said.reads) where
-  free_at : (o : Option Cell) → get s key ≡ o → IsFree (option_map (entry_in a) o)
-  free_at o e = subst IsFree (get_seen a s key ∙ ap (option_map (entry_in a)) e) free
+  pub prepared_store : IsStore q' g' t
+  prepared_store = let at = some_at (get s key) refl in ready_store at.0 at.1
 
-  no_next : (o : Option Numbered) → option_map (said_of a) o ≡ None → o ≡ None
-  no_next None h = refl
-  no_next (Some x) h = cc
-
-  pub prepared_store : IsStore t b
-  prepared_store = by (get s key) refl
-    where
-      by : (o : Option Cell) → get s key ≡ o → IsStore t b
-      by None e = absurd (free_at None e)
-      by (Some cell) e = ready_store s t a b key cell said ks is e (no_next cell.next (free_at (Some cell) e)) (up cell e) adds one from
-
-  pub prepared_seen : (answer : Answer) → said.answer ≡ answer → Becomes (λ e. record e { next = Some (record { answer = answer; reads = ks }) }) key (seen a s) (seen b t)
-  prepared_seen answer is_answer e at = by (get s key) refl
-    where
-      by : (o : Option Cell) → get s key ≡ o → Updates (seen a s) (seen b t) key (Some (record e { next = Some (record { answer = answer; reads = ks }) }))
-      by None none = absurd (free_at None none)
-      by (Some cell) some = ready_seen s t a b key cell said ks is some (no_next cell.next (free_at (Some cell) some)) (up cell some) adds one from answer is_answer e at
-
--- ---- after a refusal
-
-undo_by : (keys kept same had : Bool) → (same ≡ true → had ≡ kept) → (not ((keys && not kept) && same) && ((keys && same) || had)) ≡ had
-undo_by true true true had h = sym (h refl)
-undo_by true true false had h = refl
-undo_by true false true had h = sym (h refl)
-undo_by true false false had h = refl
-undo_by false kept same had h = refl
-
--- what a cell reads of which nothing is ready, if it is there
-own_rests : (s : Slab Cell) (a : ReadIndex) → IsStore s a → (key : ℕ) (o : Option Cell) → get s key ≡ o → IsUnready o → (k : ReadKey) → has a k key ≡ has_key (keys_in a (numbers_at o)) k
-own_rests s a is key None e none k = rests_not a s is key e k
-own_rests s a is key (Some cell) e none k =
-    rests a s is key cell e k ∙ ap (λ o. has_key (keys_in a cell.said.reads) k || next_rests (option_map (said_of a) o) k) none ∙ or_false (has_key (keys_in a cell.said.reads) k)
-  where
-    or_false : (b : Bool) → (b || false) ≡ b
-    or_false true = refl
-    or_false false = refl
-
-module _ (s : Slab Cell) (a b c : ReadIndex) (key : ℕ) (ks : List ReadKey) (numbers : List ℕ) (is : IsStore s a) (none : IsUnready (get s key)) (adds : Adds (is_pair_of ks key) a b) (one : AreOfOneKey b)
-    (from : map (number_of b) ks ≡ map Some numbers) (forgets : Forgets (is_left_pair b numbers (numbers_at (get s key)) key) b c) where
-  own_numbered : (o : Option Cell) → get s key ≡ o → (k : ReadKey) → is_numbered b (numbers_at o) k ≡ has_key (keys_in a (numbers_at o)) k
-  own_numbered None e k = refl
-  own_numbered (Some cell) e k =
-      let own : SeenAs a b cell = seen_as a b one cell (is.numbers key cell e) (λ j n h at. adds.numbers j n at) in
-      numbered_in b one cell.said.reads (own.numbers).0 k ∙ ap (λ x. has_key x.kept.said.reads k) own.same
-
-  undone_has : (k : ReadKey) (x : ℕ) → has c k x ≡ has a k x
-  undone_has k x =
-      forgets.has k x
-      ∙ (λ i. not ((numbered b one ks numbers from k i && not (own_numbered (get s key) refl k i)) && is_eq (nat_cmp x key)) && adds.has k x i)
-      ∙ undo_by (has_key ks k) (has_key (keys_in a (numbers_at (get s key))) k) (is_eq (nat_cmp x key)) (has a k x)
-      (λ same. ap (has a k) (same_cell x key same) ∙ own_rests s a is key (get s key) refl none k)
-
-  undone_seen : (x : ℕ) (cell : Cell) → get s x ≡ Some cell → SeenAs a c cell
-  undone_seen x cell e =
-      seen_as a c (one_left b c forgets.numbers one) cell (is.numbers x cell e)
-      (λ k n h at. still_numbered b c forgets.numbers k x n (undone_has k x ∙ rests a s is x cell e k ∙ h) (adds.numbers k n at))
-
-  -- what was added for a cell is taken out again, but for what it reads
-  pub undone : IsAsBefore s a c
-  undone =
-      let same : seen c s ≡ seen a s = all_seen a c s undone_seen in
-      record {
-        store = record {
-          one = one_left b c forgets.numbers one;
-          numbers = λ x cell e. (undone_seen x cell e).numbers;
-          exact = λ k x. undone_has k x ∙ is.exact k x ∙ ap (λ z. rests_at (get z x) k) (sym same);
-        };
-        same = same;
-      }
-
-pub as_before : (s : Slab Cell) (a b : ReadIndex) → IsStore s a → b ≡ a → IsAsBefore s a b
-as_before s a b is e = record { store = subst (IsStore s) (sym e) is; same = ap (λ z. seen z s) e }
+  pub prepared_seen : (looks : Looks) (x : Who) → ((cell : Cell) → get s key ≡ Some cell → cell.who ≡ x) → said_of q' g' x said ≡ says looks x → Becomes (made_ready looks) key (seen q g s) (seen q' g' t)
+  prepared_seen looks x who right =
+      let at = some_at (get s key) refl in
+      ready_seen at.0 at.1 looks (subst (λ (y : Who). said_of q' g' y said ≡ says looks y) (sym (who at.0 at.1)) right)
 
 -- ---- what is ready of a cell is said of it, or given up
 
-left_by : (old new had : Bool) → had ≡ (old || new) → (not (old && not new) && had) ≡ new
-left_by true true had h = h
-left_by true false had h = refl
-left_by false new had h = h
+module _ (q : List Question) (g g' : Groups) (s t : Slab Cell) (key : ℕ) (is : IsStore q g s) (keeps : KeepsCell t key g g') where
+  -- of a cell one answer is left
+  module _ (cell : Cell) (held : get s key ≡ Some cell) (said : Grouped) (grouped : IsGrouped q g key said) (up : Updates s t key (Some (record { who = cell.who; said = said; next = None }))) where
+    kept_said : (said_of q g' cell.who said ≡ said_of q g cell.who said) × IsGrouped q g' key said
+    kept_said = grouped_stays q q g g' (begins_itself q) key cell.who said grouped (keeps.own (record { who = cell.who; said = said; next = None }) up.changed)
 
-kept_by : (old new had : Bool) → had ≡ (old || new) → (not (new && not old) && had) ≡ old
-kept_by true true had h = h
-kept_by true false had h = h
-kept_by false true had h = refl
-kept_by false false had h = h
-
-or_none : (b : Bool) → b ≡ (b || false)
-or_none true = refl
-or_none false = refl
-
-module _ (s t : Slab Cell) (a b : ReadIndex) (key : ℕ) (cell : Cell) (is : IsStore s a) (held : get s key ≡ Some cell) where
-  -- one answer and its numbers are left, and the index has the cell under their keys alone
-  module _ (who : Who) (said : Numbered) (are : AreNumbers a said.reads) (test : ReadKey → Bool) (forgets : ForgetsAt test key a b) (has_it : (k : ReadKey) → has b k key ≡ has_key (keys_in a said.reads) k)
-      (up : Updates s t key (Some (record { who = who; said = said; next = None }))) where
-    left_alone : Stay a b said.reads
-    left_alone = stay a b (one_left a b forgets.numbers is.one) said.reads are (λ k n h at. still_numbered a b forgets.numbers k key n (has_it k ∙ h) at)
-
-    left_change : ChangesAt s t a b key
-    left_change = forgets_at a b key test s t is up.others forgets
-
-    left_store : IsStore t b
+    left_store : IsStore q g' t
     left_store =
-        still_store s t a b key left_change is (one_left a b forgets.numbers is.one)
-        (λ x e. subst (HasNumbers b) (same_Some (record { who = who; said = said; next = None }) x (sym up.changed ∙ e)) (left_alone.are, tt))
-        (λ k. has_it k ∙ or_none (has_key (keys_in a said.reads) k) ∙ sym (ap (λ o. rests_at (option_map (entry_in b) o) k) up.changed ∙ (λ i. has_key (left_alone.same i) k || false)))
+        change_store q q g g' s t key (begins_itself q) keeps.others up.others is
+        (λ x e. subst (IsHeld q g' key) (same_Some (record { who = cell.who; said = said; next = None }) x (sym up.changed ∙ e))
+        (record { said = kept_said.1; next = tt; named = keeps.names cell.who.person cell.who.action cell.who.resource (is key cell held).named }))
 
-    left_seen : Updates (seen a s) (seen b t) key (Some (record { kept = record { who = who; said = said_of a said }; next = None }))
+    left_seen : Updates (seen q g s) (seen q g' t) key (Some (record { kept = record { who = cell.who; said = said_of q g cell.who said }; next = None }))
     left_seen =
-        updates_to (seen a s) (seen b t) key (Some (entry_in b (record { who = who; said = said; next = None }))) (Some (record { kept = record { who = who; said = said_of a said }; next = None }))
-        (updates_seen s t a b key left_change (Some (record { who = who; said = said; next = None })) up.changed)
-        (λ i. Some (record { kept = record { who = who; said = record { answer = said.answer; reads = left_alone.same i } }; next = None }))
+        updates_to (seen q g s) (seen q g' t) key (Some (entry_in q g' (record { who = cell.who; said = said; next = None }))) (Some (record { kept = record { who = cell.who; said = said_of q g cell.who said }; next = None }))
+        (change_seen q q g g' s t key (begins_itself q) keeps.others up.others is (Some (record { who = cell.who; said = said; next = None })) up.changed)
+        (ap (λ (n : Said). Some (record { kept = record { who = cell.who; said = n }; next = None })) kept_said.0)
 
-  own_are : AreNumbers a cell.said.reads
-  own_are = (is.numbers key cell held).0
+  -- the entry of a cell that is there
+  entry_at : (cell : Cell) → get s key ≡ Some cell → (e : Entry) → get (seen q g s) key ≡ Some e → entry_in q g cell ≡ e
+  entry_at cell held e at = same_Some (entry_in q g cell) e (sym (get_seen q g s key ∙ ap (option_map (entry_in q g)) held) ∙ at)
 
-  next_are : (said : Numbered) → cell.next ≡ Some said → AreNumbers a said.reads
-  next_are said e = subst (AreNextNumbers a) e (is.numbers key cell held).1
+  no_entry : get s key ≡ None → (e : Entry) → get (seen q g s) key ≡ Some e → ⊥
+  no_entry none e at = some_none e (sym at ∙ get_seen q g s key ∙ ap (option_map (entry_in q g)) none)
 
-  rests_by : (o : Option Numbered) → cell.next ≡ o → (k : ReadKey) → has a k key ≡ (has_key (keys_in a cell.said.reads) k || next_rests (option_map (said_of a) o) k)
-  rests_by o e k = rests a s is key cell held k ∙ ap (λ x. has_key (keys_in a cell.said.reads) k || next_rests (option_map (said_of a) x) k) e
+  said_by : (cell : Cell) → get s key ≡ Some cell → (o : Option Grouped) → cell.next ≡ o → Updates s t key (Some (replaced_by cell o))
+      → IsStore q g' t × Updates (seen q g s) (seen q g' t) key (Some (settled (record { kept = (entry_in q g cell).kept; next = option_map (said_of q g cell.who) o })))
+  said_by cell held None e up = (left_store cell held cell.said (is key cell held).said up, left_seen cell held cell.said (is key cell held).said up)
+  said_by cell held (Some said) e up =
+      let grouped : IsGrouped q g key said = subst (λ (o : Option Grouped). IfSome o (IsGrouped q g key)) e (is key cell held).next in
+      (left_store cell held said grouped up, left_seen cell held said grouped up)
 
-  pub replaced_steps : (o : Option Numbered) → cell.next ≡ o → ForgetsAt (said_only_by a cell.said.reads o) key a b → Updates s t key (Some (replaced_by cell o))
-      → IsStore t b × Updates (seen a s) (seen b t) key (Some (settled_by (entry_in a cell).kept (option_map (said_of a) o)))
-  replaced_steps None e forgets up =
-      let has_it : (k : ReadKey) → has b k key ≡ has_key (keys_in a cell.said.reads) k = λ k. forgets_here a b key (λ _. false) forgets k ∙ rests_by None e k ∙ sym (or_none (has_key (keys_in a cell.said.reads) k)) in
-      (left_store cell.who cell.said own_are (λ _. false) forgets has_it up, left_seen cell.who cell.said own_are (λ _. false) forgets has_it up)
-  replaced_steps (Some said) e forgets up =
-      let test : ReadKey → Bool = is_numbered_only a cell.said.reads said.reads in
-      let are : AreNumbers a said.reads = next_are said e in
-      let has_it : (k : ReadKey) → has b k key ≡ has_key (keys_in a said.reads) k =
-      λ k. forgets_here a b key test forgets k
-      ∙ (λ i. not (numbered_in a is.one cell.said.reads own_are k i && not (numbered_in a is.one said.reads are k i)) && has a k key)
-      ∙ left_by (has_key (keys_in a cell.said.reads) k) (has_key (keys_in a said.reads) k) (has a k key) (rests_by (Some said) e k) in
-      (left_store cell.who said are test forgets has_it up, left_seen cell.who said are test forgets has_it up)
+  pub replaced_store : (o : Option Cell) → get s key ≡ o → Updates s t key (option_map replaced o) → IsStore q g' t
+  replaced_store None e up = gone_store q q g g' s t key (begins_itself q) keeps.others up.others is up.changed
+  replaced_store (Some cell) e up = (said_by cell e cell.next refl up).0
 
-  pub given_up_steps : (o : Option Numbered) → cell.next ≡ o → ForgetsAt (next_only_by a cell.said.reads o) key a b → Updates s t key (Some (unready cell))
-      → IsStore t b × Updates (seen a s) (seen b t) key (Some (given_up (entry_in a cell)))
-  given_up_steps None e forgets up =
-      let has_it : (k : ReadKey) → has b k key ≡ has_key (keys_in a cell.said.reads) k = λ k. forgets_here a b key (λ _. false) forgets k ∙ rests_by None e k ∙ sym (or_none (has_key (keys_in a cell.said.reads) k)) in
-      (left_store cell.who cell.said own_are (λ _. false) forgets has_it up, left_seen cell.who cell.said own_are (λ _. false) forgets has_it up)
-  given_up_steps (Some said) e forgets up =
-      let test : ReadKey → Bool = is_numbered_only a said.reads cell.said.reads in
-      let are : AreNumbers a said.reads = next_are said e in
-      let has_it : (k : ReadKey) → has b k key ≡ has_key (keys_in a cell.said.reads) k =
-      λ k. forgets_here a b key test forgets k
-      ∙ (λ i. not (numbered_in a is.one said.reads are k i && not (numbered_in a is.one cell.said.reads own_are k i)) && has a k key)
-      ∙ kept_by (has_key (keys_in a cell.said.reads) k) (has_key (keys_in a said.reads) k) (has a k key) (rests_by (Some said) e k) in
-      (left_store cell.who cell.said own_are test forgets has_it up, left_seen cell.who cell.said own_are test forgets has_it up)
+  pub replaced_seen : (o : Option Cell) → get s key ≡ o → Updates s t key (option_map replaced o) → Becomes settled key (seen q g s) (seen q g' t)
+  replaced_seen None e up x at = absurd (no_entry e x at)
+  replaced_seen (Some cell) e up x at =
+      updates_to (seen q g s) (seen q g' t) key (Some (settled (entry_in q g cell))) (Some (settled x)) (said_by cell e cell.next refl up).1 (ap (λ (y : Entry). Some (settled y)) (entry_at cell e x at))
 
--- ---- the steps, seen at the key
+  pub given_up_store : (o : Option Cell) → get s key ≡ o → Updates s t key (option_map unready o) → IsStore q g' t
+  given_up_store None e up = gone_store q q g g' s t key (begins_itself q) keeps.others up.others is up.changed
+  given_up_store (Some cell) e up = left_store cell e cell.said (is key cell e).said up
 
-module _ (s t : Slab Cell) (a b : ReadIndex) (key : ℕ) (is : IsStore s a) where
-  -- there is no cell, before or afterwards
-  none_store : get s key ≡ None → ForgetsAt (λ _. false) key a b → Updates s t key None → IsStore t b
-  none_store free forgets up =
-      still_store s t a b key (forgets_at a b key (λ _. false) s t is up.others forgets) is (one_left a b forgets.numbers is.one)
-      (λ x e. absurd (some_none x (sym e ∙ up.changed)))
-      (λ k. forgets_here a b key (λ _. false) forgets k ∙ rests_not a s is key free k ∙ sym (ap (λ o. rests_at (option_map (entry_in b) o) k) up.changed))
+  pub given_up_seen : (o : Option Cell) → get s key ≡ o → Updates s t key (option_map unready o) → Becomes given_up key (seen q g s) (seen q g' t)
+  given_up_seen None e up x at = absurd (no_entry e x at)
+  given_up_seen (Some cell) e up x at =
+      updates_to (seen q g s) (seen q g' t) key (Some (given_up (entry_in q g cell))) (Some (given_up x)) (left_seen cell e cell.said (is key cell e).said up) (ap (λ (y : Entry). Some (given_up y)) (entry_at cell e x at))
 
-  pub replaced_store : (o : Option Cell) → get s key ≡ o → ForgetsAt (said_only a o) key a b → Updates s t key (option_map replaced o) → IsStore t b
-  replaced_store None e forgets up = none_store e forgets up
-  replaced_store (Some cell) e forgets up = (replaced_steps s t a b key cell is e cell.next refl forgets up).0
+-- ---- a cell is put in
 
-  pub replaced_seen : (o : Option Cell) → get s key ≡ o → ForgetsAt (said_only a o) key a b → Updates s t key (option_map replaced o) → Becomes settled key (seen a s) (seen b t)
-  replaced_seen None e forgets up x at = absurd (some_none x (sym at ∙ get_seen a s key ∙ ap (option_map (entry_in a)) e))
-  replaced_seen (Some cell) e forgets up x at =
-      updates_to (seen a s) (seen b t) key (Some (settled (entry_in a cell))) (Some (settled x)) (replaced_steps s t a b key cell is e cell.next refl forgets up).1
-      (ap (λ y. Some (settled y)) (same_Some (entry_in a cell) x (sym (seen_some a s key cell e) ∙ at)))
-
-  pub given_up_store : (o : Option Cell) → get s key ≡ o → ForgetsAt (next_only a o) key a b → Updates s t key (option_map unready o) → IsStore t b
-  given_up_store None e forgets up = none_store e forgets up
-  given_up_store (Some cell) e forgets up = (given_up_steps s t a b key cell is e cell.next refl forgets up).0
-
-  pub given_up_seen : (o : Option Cell) → get s key ≡ o → ForgetsAt (next_only a o) key a b → Updates s t key (option_map unready o) → Becomes given_up key (seen a s) (seen b t)
-  given_up_seen None e forgets up x at = absurd (some_none x (sym at ∙ get_seen a s key ∙ ap (option_map (entry_in a)) e))
-  given_up_seen (Some cell) e forgets up x at =
-      updates_to (seen a s) (seen b t) key (Some (given_up (entry_in a cell))) (Some (given_up x)) (given_up_steps s t a b key cell is e cell.next refl forgets up).1
-      (ap (λ y. Some (given_up y)) (same_Some (entry_in a cell) x (sym (seen_some a s key cell e) ∙ at)))
-
-  pub given_up_updates : (o : Option Cell) → get s key ≡ o → ForgetsAt (next_only a o) key a b → Updates s t key (option_map unready o) → Updates (seen a s) (seen b t) key (option_map given_up (option_map (entry_in a) o))
-  given_up_updates None e forgets up = updates_seen s t a b key (forgets_at a b key (λ _. false) s t is up.others forgets) None up.changed
-  given_up_updates (Some cell) e forgets up = (given_up_steps s t a b key cell is e cell.next refl forgets up).1
-
--- one change after another under one key
-pub updates_then : {A : Type 0} (x y z : Slab A) (key : ℕ) (o p : Option A) → Updates x y key o → Updates y z key p → Updates x z key p
-updates_then x y z key o p first after = record { changed = after.changed; others = λ c apart. after.others c apart ∙ first.others c apart }
-
-pub unready_is : (o : Option Cell) → IsUnready (option_map unready o)
-unready_is None = tt
-unready_is (Some cell) = refl
-
--- ---- a cell is put in, or taken out
-
-module _ (s t : Slab Cell) (a b : ReadIndex) (key : ℕ) (who : Who) (said : Numbered) (ks : List ReadKey) (is : IsStore s a) (free : get s key ≡ None)
-    (up : Updates s t key (Some (record { who = who; said = said; next = None }))) (adds : Adds (is_pair_of ks key) a b) (one : AreOfOneKey b) (from : map (number_of b) ks ≡ map Some said.reads) where
-  put_change : ChangesAt s t a b key
-  put_change = adds_at a b key (has_key ks) s t is up.others adds one
-
-  put_same : keys_in b said.reads ≡ ks
-  put_same = keys_from b one ks said.reads from
-
-  pub put_store : IsStore t b
+module _ (q q' : List Question) (g g' : Groups) (s t : Slab Cell) (key : ℕ) (x : Who) (said : Grouped) (begins : BeginsWith q' q) (others : KeepsOthers key g g') (is : IsStore q g s) (free : get s key ≡ None)
+    (up : Updates s t key (Some (record { who = x; said = said; next = None }))) (grouped : IsGrouped q' g' key said) (named : IsNamed g' x.person x.action x.resource key) where
+  pub put_store : IsStore q' g' t
   put_store =
-      still_store s t a b key put_change is one (λ x e. subst (HasNumbers b) (same_Some (record { who = who; said = said; next = None }) x (sym up.changed ∙ e)) (given b one ks said.reads from, tt))
-      (λ k.
-      adds_here a b key (has_key ks) adds k ∙ ap (λ o. has_key ks k || o) (rests_not a s is key free k)
-      ∙ sym (ap (λ o. rests_at (option_map (entry_in b) o) k) up.changed ∙ (λ i. has_key (put_same i) k || false)))
+      change_store q q' g g' s t key begins others up.others is
+      (λ cell e. subst (IsHeld q' g' key) (same_Some (record { who = x; said = said; next = None }) cell (sym up.changed ∙ e)) (record { said = grouped; next = tt; named = named }))
 
-  pub put_seen : (answer : Answer) → said.answer ≡ answer → Inserts (entry_of_cell who (record { answer = answer; reads = ks })) (seen a s) (seen b t) key
-  put_seen answer is_answer = (
-    get_seen a s key ∙ ap (option_map (entry_in a)) free,
-    updates_to (seen a s) (seen b t) key (Some (entry_in b (record { who = who; said = said; next = None }))) (Some (entry_of_cell who (record { answer = answer; reads = ks })))
-        (updates_seen s t a b key put_change (Some (record { who = who; said = said; next = None })) up.changed)
-        (λ i. Some (record { kept = record { who = who; said = record { answer = is_answer i; reads = put_same i } }; next = None })),
+  pub put_seen : (looks : Looks) → said_of q' g' x said ≡ says looks x → Inserts (entry_of_cell x (says looks x)) (seen q g s) (seen q' g' t) key
+  put_seen looks right = (
+    get_seen q g s key ∙ ap (option_map (entry_in q g)) free,
+    updates_to (seen q g s) (seen q' g' t) key (Some (entry_in q' g' (record { who = x; said = said; next = None }))) (Some (entry_of_cell x (says looks x)))
+        (change_seen q q' g g' s t key begins others up.others is (Some (record { who = x; said = said; next = None })) up.changed)
+        (ap (λ (n : Said). Some (record { kept = record { who = x; said = n }; next = None })) right),
   )
 
-gone_by : (keys had : Bool) → had ≡ keys → (not keys && had) ≡ false
-gone_by true had h = refl
-gone_by false had h = h
+-- ---- no cells
 
-module _ (s t : Slab Cell) (a b : ReadIndex) (key : ℕ) (is : IsStore s a) (o : Option Cell) (held : get s key ≡ o) (none : IsUnready o) (forgets : Forgets (is_numbered_pair a (numbers_at o) key) a b) (up : Updates s t key None) where
-  gone_change : ChangesAt s t a b key
-  gone_change = forgets_at a b key (is_numbered a (numbers_at o)) s t is up.others forgets
+pub new_store : (q : List Question) (g : Groups) (s : Slab Cell) → s.slots ≡ [] → IsStore q g s
+new_store q g s none c cell e = absurd (some_none cell (sym e ∙ ap (λ (slots : List (Option Cell)). get_or slots c None) none))
 
-  pub gone_store : IsStore t b
-  gone_store =
-      still_store s t a b key gone_change is (one_left a b forgets.numbers is.one) (λ x e. absurd (some_none x (sym e ∙ up.changed)))
-      (λ k.
-      forgets_here a b key (is_numbered a (numbers_at o)) forgets k
-      ∙ ap (λ p. not p && has a k key) (numbered_at o held k)
-      ∙ gone_by (has_key (keys_in a (numbers_at o)) k) (has a k key) (own_rests s a is key o held none k)
-      ∙ sym (ap (λ o. rests_at (option_map (entry_in b) o) k) up.changed))
-    where
-      numbered_at : (o : Option Cell) → get s key ≡ o → (k : ReadKey) → is_numbered a (numbers_at o) k ≡ has_key (keys_in a (numbers_at o)) k
-      numbered_at None e k = refl
-      numbered_at (Some cell) e k = numbered_in a is.one cell.said.reads (is.numbers key cell e).0 k
-
-  pub gone_seen : Updates (seen a s) (seen b t) key None
-  gone_seen = updates_seen s t a b key gone_change None up.changed
+pub new_seen : (q : List Question) (g : Groups) (s : Slab Cell) → s.slots ≡ [] → seen q g s ≡ no_entries
+new_seen q g s none = ap (λ (slots : List (Option Cell)). record { slots = map (option_map (entry_in q g)) slots; vacant_key = 0; capacity = 0 }) none
 
 -- ---- results
 
@@ -380,21 +192,3 @@ on_err (Err e) p = p
 pub if_both : {T E : Type 0} (r : Result T E) (P Q : T → Type 0) (O : Type 0) → ((x : T) → P x → O → Q x) → IfOk r P → OnOk r O → IfOk r Q
 if_both (Ok x) P Q O both p o = both x p o
 if_both (Err e) P Q O both p o = tt
-
--- ---- no cells
-
-pub new_store : (s : Slab Cell) (index : ReadIndex) → s.slots ≡ [] → index ≡ empty → IsStore s index
-new_store s index none bare = record {
-  one = λ j k n e f. absurd (some_none n (sym e ∙ number_none j));
-  numbers = λ c cell e. absurd (some_none cell (sym e ∙ ap (λ slots. get_or slots c None) none));
-  exact = λ k c. ap (λ o. option_map_or (λ r. has_cell r.cells c) o false) (no_readers k) ∙ sym (ap (λ slots. rests_at (get_or (map (option_map (entry_in index)) slots) c None) k) none);
-}
-  where
-    no_readers : (k : ReadKey) → find_in index k ≡ None
-    no_readers k = ap (λ i. find_in i k) bare ∙ get-empty read_cmp k
-
-    number_none : (k : ReadKey) → number_of index k ≡ None
-    number_none k = ap (option_map (λ r. r.number)) (no_readers k)
-
-pub new_seen : (s : Slab Cell) (index : ReadIndex) → s.slots ≡ [] → seen index s ≡ no_entries
-new_seen s index none = ap (λ slots. record { slots = map (option_map (entry_in index)) slots; vacant_key = 0; capacity = 0 }) none

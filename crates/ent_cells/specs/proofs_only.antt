@@ -1,5 +1,6 @@
+pub mod Asked
 pub mod Codes
 pub mod Entries
+pub mod Grouping
 pub mod Logging
-pub mod Numbers
 pub mod Phases

@@ -2,19 +2,19 @@
 
 use crate::who::Who;
 use ent_eval::Answer;
-use ent_values::{Items, Shared};
+use ent_values::Shared;
 
-/// An answer, and the numbers of the keys that it rests on. Equal ones are shared between cells.
+/// An answer, and the group of the cells for whose answers the same is asked. Equal answers are shared between cells.
 #[derive(Drop)]
-pub(crate) struct Numbered {
+pub(crate) struct Grouped {
     pub(crate) answer: Shared<Answer>,
-    pub(crate) reads: Shared<Items<u32>>,
+    pub(crate) group: u32,
 }
 
 /// A cell: its request, what that is answered, and what it is to be answered next, if an edit has that ready.
 #[derive(Drop)]
 pub(crate) struct Cell {
     pub(crate) who: Shared<Who>,
-    pub(crate) said: Numbered,
-    pub(crate) next: Option<Numbered>,
+    pub(crate) said: Grouped,
+    pub(crate) next: Option<Grouped>,
 }

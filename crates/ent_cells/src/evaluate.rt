@@ -2,31 +2,29 @@
 
 ghost use Rattle.std.specs.Prelude.{◌≡◌, IfOk, OnOk};
 ghost use Rattle.ent_eval.specs.LooksOf.{looks_of};
+ghost use Rattle.ent_eval.specs.Questions.{AreNumbers, BeginsWith};
 ghost use Rattle.ent_cells.specs.Cell.{says};
 ghost use Rattle.ent_cells.specs.Count.{Counts, CountsAtMost};
-ghost use Rattle.ent_cells.specs.proofs_only.Entries.{said_in};
+ghost use Rattle.ent_cells.specs.proofs_only.Grouping.{said_in};
 
 use crate::who::Who;
-use ent_eval::{Evaluation, Pdp, Request};
+use ent_eval::{ListedEvaluation, Pdp, Questions};
 use ent_finder::{Attributes, Policies};
-use std::alloc::{AllocError, Global};
+use std::alloc::AllocError;
 
-/// Evaluates the request of a cell, once.
+/// Evaluates the request of a cell, once, and gives each question that is asked for it a number, if it has none.
 pub(crate) fn evaluate<A: Attributes, P: Policies>(
-    alloc: Global,
     pdp: &mut Pdp<A, P>,
+    questions: &mut Questions,
     who: &Who,
-) -> Result<Evaluation, AllocError>
-    ensures said { IfOk result (λ e. said_in e ≡ says (looks_of A.sources P.slots pdp.old) who.now) }
+) -> Result<ListedEvaluation, AllocError>
+    ensures said { IfOk result
+        (λ e. said_in questions.new who.now e ≡ says (looks_of A.sources P.slots pdp.old) who.now) }
+    ensures within { IfOk result (λ e. AreNumbers questions.new e.asked) }
+    ensures begins { BeginsWith questions.new questions.old }
     ensures counted { OnOk result (Counts pdp.old.evaluations pdp.new.evaluations 1) }
     ensures bound { CountsAtMost pdp.old.evaluations pdp.new.evaluations 1 }
     ensures rest { pdp.new ≡ record pdp.old { evaluations = pdp.new.evaluations } }
 {
-    let request = Request::listed(
-        alloc,
-        who.person.as_str(),
-        who.action.as_str(),
-        who.resource.as_str(),
-    )?;
-    pdp.evaluate(&request)
+    pdp.evaluate_listed(questions, &who.person, &who.action, &who.resource)
 }

@@ -1,7 +1,8 @@
-//! The cells of a table in list order, each with its request, its answer and what the answer rests on, and an index of
-//! what they read: so that an edit evaluates exactly the cells that read what it changes, and tells their old answers.
+//! The cells of a table in list order, each with its request, its answer and what the answer rests on, in groups by
+//! what is asked: so that an edit evaluates exactly the cells that read what it changes, and tells their old answers.
 #![tactic(auto)]
 
+mod asked;
 mod blocks;
 mod cell;
 mod confirm;

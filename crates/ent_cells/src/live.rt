@@ -12,7 +12,6 @@ ghost use Rattle.ent_cells.specs.Old.{AreOld, IsLogged};
 ghost use Rattle.ent_cells.specs.Shape.{without, woven};
 
 use crate::blocks::{Blocks, keep_present, remove_blocks, remove_from, weave};
-use crate::evaluate::evaluate;
 use crate::phases::{commit_all, give_up_all, prepare};
 use crate::store::Store;
 use crate::who::Who;
@@ -251,9 +250,8 @@ impl Live {
         ensures rest { pdp.new ≡ record pdp.old { evaluations = pdp.new.evaluations } }
     {
         self.keys.reserve(1)?;
-        let evaluation = evaluate(self.alloc, pdp, who.get())?;
         let near = near(&self.keys, apart);
-        let key = self.store.insert(who, evaluation, &near)?;
+        let key = self.store.insert(pdp, who, &near)?;
         self.keys.push(key)?;
         Ok(())
     }

@@ -8,12 +8,11 @@ ghost use Rattle.ent_eval.specs.LooksOf.{looks_of};
 ghost use Rattle.ent_log.specs.Tables.{IsSameLog, room_of};
 ghost use Rattle.ent_cells.specs.Count.{Counts, CountsAtMost};
 ghost use Rattle.ent_cells.specs.Entries.{AreFree};
-ghost use Rattle.ent_cells.specs.proofs_only.Entries.{Becomes, IsFree, given_up, settled};
+ghost use Rattle.ent_cells.specs.proofs_only.Entries.{given_up, settled};
 ghost use Rattle.ent_cells.specs.Grid.{times};
 ghost use Rattle.ent_cells.specs.proofs_only.Logging.{olds_in};
-ghost use Rattle.ent_cells.specs.proofs_only.Phases.{IsPrepared, KeepsCells, changed_at, made_ready};
+ghost use Rattle.ent_cells.specs.proofs_only.Phases.{IsPrepared, KeepsCells, changed_at};
 
-use crate::evaluate::evaluate;
 use crate::store::Store;
 use crate::who::Who;
 use ent_eval::{Answer, Pdp};
@@ -23,34 +22,8 @@ use ent_values::Items;
 use std::alloc::{AllocError, Global};
 use std::slice;
 
-/// Evaluates the cell under a key, and makes ready what that says. After a refusal the cells are as before.
-fn prepare_one<A: Attributes, P: Policies>(
-    alloc: Global,
-    store: &mut Store,
-    pdp: &mut Pdp<A, P>,
-    key: usize,
-    beside: &[usize],
-) -> Result<(), AllocError>
-    requires { IsFree (get store.old key) }
-    ensures ok { OnOk result (Becomes (made_ready (looks_of A.sources P.slots pdp.old)) key store.old store.new) }
-    ensures err { OnErr result (store.new ≡ store.old) }
-    ensures counted { OnOk result (Counts pdp.old.evaluations pdp.new.evaluations 1) }
-    ensures bound { CountsAtMost pdp.old.evaluations pdp.new.evaluations 1 }
-    ensures rest { pdp.new ≡ record pdp.old { evaluations = pdp.new.evaluations } }
-{
-    match store.under(key) {
-        Some(cell) => {
-            let evaluation = evaluate(alloc, pdp, cell.who.get())?;
-            store.prepare(key, evaluation, beside)?;
-            Ok(())
-        }
-        None => unreachable!(),
-    }
-}
-
 /// Evaluates the cells under some keys, each once, and makes ready what that says. After a refusal some may be ready.
 fn prepare_all<A: Attributes, P: Policies>(
-    alloc: Global,
     store: &mut Store,
     pdp: &mut Pdp<A, P>,
     keys: &[usize],
@@ -66,7 +39,7 @@ fn prepare_all<A: Attributes, P: Policies>(
 {
     let mut beside: &[usize] = &[];
     for key in keys {
-        prepare_one(alloc, store, pdp, *key, beside)?;
+        store.prepare(pdp, *key, beside)?;
         beside = slice::from_ref(key);
     }
     Ok(())
@@ -113,7 +86,7 @@ pub(crate) fn prepare<A: Attributes, P: Policies>(
     ensures bound { CountsAtMost pdp.old.evaluations pdp.new.evaluations (length keys.now) }
     ensures rest { pdp.new ≡ record pdp.old { evaluations = pdp.new.evaluations } }
 {
-    prepare_all(alloc, store, pdp, keys)?;
+    prepare_all(store, pdp, keys)?;
     let olds = old_answers(alloc, store, keys)?;
     log.reserve(olds.len() + others)?;
     Ok(olds)

@@ -1,70 +1,98 @@
-//! Steps of a change of one cell, and of the index of what cells read.
+//! Steps of a change of one cell, and of the groups of cells.
 
-ghost use Rattle.std.specs.Prelude.{◌≡◌, IfOk, IsSome, None, OnErr, OnOk, Some, map, option_map};
+ghost use Rattle.std.specs.Prelude.{◌≡◌, IfOk, IsSome, OnOk, Some, option_map, true};
 ghost use Rattle.slab.specs.Slab.{Updates, get};
-ghost use Rattle.ent_index.specs.Index.{Adds, is_pair_of, number_of};
-ghost use Rattle.ent_cells.specs.proofs_only.Numbers.{AreOfOneKey, ForgetsAt, IsAsBefore, IsStore};
-ghost use Rattle.ent_cells.specs.proofs_only.Numbers.{IsUnready, next_only, replaced, said_only};
-ghost use Rattle.ent_cells.specs.proofs_only.Numbers.{unready};
+ghost use Rattle.ent_index.specs.Groups.{HasSameNames, IsNamed, KeepsGroups, holds, numbers_of};
+ghost use Rattle.ent_cells.specs.proofs_only.Grouping.{KeepsCell, KeepsIn, KeepsOthers, replaced, unready};
 
-use crate::cell::{Cell, Numbered};
-use crate::sharing::{numbers_under, shared_reads};
-use ent_eval::ReadKey;
-use ent_index::Index;
-use ent_values::{Items, Shared};
+use crate::cell::{Cell, Grouped};
+use crate::who::Who;
+use ent_index::Groups;
+use ent_values::Items;
 use slab::Slab;
-use std::alloc::{AllocError, Global};
+use std::alloc::AllocError;
 use std::mem;
 
-/// Puts a cell into an index under some keys, of which some numbers are likely at hand, and gives their numbers. After
-/// a refusal the index is as before.
-fn add_keys(
-    index: &mut Index,
-    cell: usize,
-    keys: &[ReadKey],
-    near: &[u32],
-) -> Result<Items<u32>, AllocError>
-    ensures numbers { IfOk result (λ numbers. map (number_of index.new) keys.now ≡ map Some numbers) }
-    ensures one { OnOk result (AreOfOneKey index.new) }
-    ensures ok { OnOk result (Adds (is_pair_of keys.now cell) index.old index.new) }
-    ensures err { OnErr result (index.new ≡ index.old) }
+/// Puts a cell into the group of some questions, if that isn't the one in which it is, and tells its number. The cells
+/// that are in groups stay there, also after a refusal.
+pub(crate) fn regroup(
+    groups: &mut Groups,
+    key: usize,
+    group: u32,
+    numbers: Items<u32>,
+    beside: u32,
+) -> Result<u32, AllocError>
+    requires { holds groups.old group key ≡ true }
+    ensures there { IfOk result (λ g. holds groups.new g key ≡ true) }
+    ensures numbers { IfOk result (λ g. numbers_of groups.new g ≡ numbers) }
+    ensures groups { KeepsGroups groups.old groups.new }
+    ensures names { HasSameNames groups.old groups.new }
 {
-    let numbers = index.add_numbered(cell, keys, near)?;
-    // What holds of an index is said where it is asked for a number.
-    let _ = index.number_of(&ReadKey::Root);
-    Ok(numbers)
+    if groups.numbers(group) == numbers.as_slice() {
+        return Ok(group);
+    }
+    groups.join(key, numbers, beside)
 }
 
-/// Puts the cell under a key, of which nothing is ready, or a new one into the index under some keys, and gives their
-/// numbers, which may be shared with the cells under others. After a refusal all is as before.
-pub(crate) fn add_reads(
-    alloc: Global,
-    cells: &Slab<Cell>,
-    index: &mut Index,
+/// Puts a new cell under its names, and into the group of some questions, and tells its number. The others stay where
+/// they are, also after a refusal.
+pub(crate) fn enter(
+    groups: &mut Groups,
     key: usize,
-    keys: &[ReadKey],
-    near: &[u32],
-    beside: &[usize],
-) -> Result<Shared<Items<u32>>, AllocError>
-    requires store { IsStore cells.now index.old }
-    requires unready { IsUnready (get cells.now key) }
-    ensures numbers { IfOk result (λ numbers. map (number_of index.new) keys.now ≡ map Some numbers) }
-    ensures one { OnOk result (AreOfOneKey index.new) }
-    ensures ok { OnOk result (Adds (is_pair_of keys.now key) index.old index.new) }
-    ensures err { OnErr result (IsAsBefore cells.now index.old index.new) }
+    who: &Who,
+    numbers: Items<u32>,
+    beside: u32,
+) -> Result<u32, AllocError>
+    ensures there { IfOk result (λ g. holds groups.new g key ≡ true) }
+    ensures numbers { IfOk result (λ g. numbers_of groups.new g ≡ numbers) }
+    ensures named { OnOk result (IsNamed groups.new who.now.person who.now.action who.now.resource key) }
+    ensures others { KeepsOthers key groups.old groups.new }
 {
-    let numbers = add_keys(index, key, keys, near)?;
-    match shared_reads(alloc, cells, key, beside, numbers.as_slice()) {
-        Ok(reads) => Ok(reads),
+    groups.enter(key, &who.person, &who.action, &who.resource)?;
+    match groups.join(key, numbers, beside) {
+        Ok(group) => Ok(group),
         Err(error) => {
-            index.forget_left(key, numbers.as_slice(), numbers_under(cells, key));
+            groups.exit(key, &who.person, &who.action, &who.resource);
             Err(error)
         }
     }
 }
 
+/// Takes a cell out of a group, unless that is the one in which it is to stay. The others stay where they are. It takes
+/// no memory.
+fn leave_other(groups: &mut Groups, key: usize, group: u32, kept: u32)
+    ensures { KeepsIn kept key groups.old groups.new }
+{
+    if group == kept {
+        return;
+    }
+    groups.leave(key, group);
+}
+
+/// Takes a cell out of the group of what is ready of it, if something is. The others stay where they are. It takes no
+/// memory.
+fn leave_next(groups: &mut Groups, key: usize, cell: &Cell)
+    ensures { KeepsOthers key groups.old groups.new }
+{
+    let Some(next) = &cell.next else {
+        return;
+    };
+    leave_other(groups, key, next.group, cell.said.group);
+}
+
+/// Takes a cell that is there no longer out of its groups, and out under its names. The others stay where they are. It
+/// takes no memory.
+pub(crate) fn leave(groups: &mut Groups, key: usize, cell: &Cell)
+    ensures { KeepsOthers key groups.old groups.new }
+{
+    leave_next(groups, key, cell);
+    groups.leave(key, cell.said.group);
+    let who = cell.who.get();
+    groups.exit(key, &who.person, &who.action, &who.resource);
+}
+
 /// Puts what is to be said next of a cell beside it.
-pub(crate) fn make_ready(cells: &mut Slab<Cell>, key: usize, said: Numbered)
+pub(crate) fn make_ready(cells: &mut Slab<Cell>, key: usize, said: Grouped)
     requires { IsSome (get cells.old key) }
     ensures { (cell : Cell) → get cells.old key ≡ Some cell
         → Updates cells.old cells.new key (Some (record cell { next = Some said })) }
@@ -75,11 +103,11 @@ pub(crate) fn make_ready(cells: &mut Slab<Cell>, key: usize, said: Numbered)
     }
 }
 
-/// Says of the cell under a key what is ready of it, if it is there, and forgets what it no longer reads. It takes no
-/// memory.
-pub(crate) fn say_next(cells: &mut Slab<Cell>, index: &mut Index, key: usize)
+/// Says of the cell under a key what is ready of it, if it is there, and takes it out of the group in which it is no
+/// longer. It takes no memory.
+pub(crate) fn say_next(cells: &mut Slab<Cell>, groups: &mut Groups, key: usize)
     ensures cells { Updates cells.old cells.new key (option_map replaced (get cells.old key)) }
-    ensures index { ForgetsAt (said_only index.old (get cells.old key)) key index.old index.new }
+    ensures groups { KeepsCell cells.new key groups.old groups.new }
 {
     let Some(cell) = cells.get_mut(key) else {
         return;
@@ -88,27 +116,20 @@ pub(crate) fn say_next(cells: &mut Slab<Cell>, index: &mut Index, key: usize)
         return;
     };
     let old = mem::replace(&mut cell.said, next);
-    index.forget_left(
-        key,
-        old.reads.get().as_slice(),
-        cell.said.reads.get().as_slice(),
-    );
+    leave_other(groups, key, old.group, cell.said.group);
 }
 
-/// Gives up what is ready of the cell under a key, if it is there, and forgets what that alone reads. It takes no
-/// memory.
-pub(crate) fn drop_next(cells: &mut Slab<Cell>, index: &mut Index, key: usize)
+/// Gives up what is ready of the cell under a key, if it is there, and takes it out of the group that this alone is
+/// in. It takes no memory.
+pub(crate) fn drop_next(cells: &mut Slab<Cell>, groups: &mut Groups, key: usize)
     ensures cells { Updates cells.old cells.new key (option_map unready (get cells.old key)) }
-    ensures index { ForgetsAt (next_only index.old (get cells.old key)) key index.old index.new }
+    ensures groups { KeepsCell cells.new key groups.old groups.new }
 {
     let Some(cell) = cells.get_mut(key) else {
         return;
     };
-    if let Some(next) = cell.next.take() {
-        index.forget_left(
-            key,
-            next.reads.get().as_slice(),
-            cell.said.reads.get().as_slice(),
-        );
-    }
+    let Some(next) = cell.next.take() else {
+        return;
+    };
+    leave_other(groups, key, next.group, cell.said.group);
 }

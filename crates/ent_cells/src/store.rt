@@ -1,39 +1,48 @@
-//! Cells under keys that last, and an index of what they read.
+//! Cells under keys that last, and the groups in which they are.
 
-ghost use Rattle.std.specs.Prelude.{◌≡◌, ℕ, cond, IfOk, IsSome, None, OnErr, OnOk};
+ghost use Rattle.std.specs.Prelude.{◌≡◌, ◌++◌, ◌∷◌, [], ℕ, List, cond, IfOk, IsSome, None, OnErr, OnOk};
 ghost use Rattle.std.specs.Prelude.{option_and_then, option_copied, option_map};
 ghost use Rattle.slab.specs.Slab.{Updates, get};
+ghost use Rattle.ent_eval.specs.declared.key.ReadKey.{ReadKey as Key};
+ghost use Rattle.ent_eval.specs.LooksOf.{looks_of};
 ghost use Rattle.ent_index.specs.Asked.{asks_policy, asks_row};
-ghost use Rattle.ent_cells.specs.proofs_only.Entries.{Becomes, Inserts, IsFree};
-ghost use Rattle.ent_cells.specs.proofs_only.Entries.{entry_of_cell, given_up, no_entries, said_in};
-ghost use Rattle.ent_cells.specs.proofs_only.Entries.{settled, touched_at};
+ghost use Rattle.ent_cells.specs.Cell.{says};
+ghost use Rattle.ent_cells.specs.Count.{Counts, CountsAtMost};
 ghost use Rattle.ent_cells.specs.Grid.{times};
+ghost use Rattle.ent_cells.specs.proofs_only.Asked.{AreKeysOf, AreReadOf, IsReadBy};
+ghost use Rattle.ent_cells.specs.proofs_only.Entries.{Becomes, Inserts, IsFree, entry_of_cell, given_up};
+ghost use Rattle.ent_cells.specs.proofs_only.Entries.{no_entries, settled, touched_at};
+ghost use Rattle.ent_cells.specs.proofs_only.Grouping.{shown, shown_entry};
 ghost use Rattle.ent_cells.specs.proofs_only.Logging.{old_at, old_of};
-ghost use Rattle.ent_cells.specs.proofs_only.Numbers.{AreKeysOf, shown, shown_entry};
+ghost use Rattle.ent_cells.specs.proofs_only.Phases.{made_ready};
 
-use crate::cell::{Cell, Numbered};
-use crate::confirm::{candidates, keep_touched, numbers_of};
+use crate::asked::{references, row_keys};
+use crate::cell::{Cell, Grouped};
+use crate::confirm::{is_one_touched, keep_touched};
+use crate::evaluate::evaluate;
 use crate::old::{gone_answer, old_answer_under};
-use crate::sharing::{numbers_under, shared_answer};
-use crate::steps::{add_reads, drop_next, make_ready, say_next};
+use crate::sharing::{group_of_first, shared_answer};
+use crate::steps::{drop_next, enter, leave, make_ready, regroup, say_next};
 use crate::who::Who;
-use ent_eval::{Answer, Evaluation, ReadKey};
-use ent_finder::RowKey;
-use ent_index::Index;
+use ent_eval::{Answer, Pdp, Questions, ReadKey};
+use ent_finder::{Attributes, Policies, RowKey};
+use ent_index::{Groups, Wanted};
 use ent_log::OldAnswer;
 use ent_policy::Kind;
 use ent_values::{Items, Shared};
 use slab::Slab;
 use std::alloc::{AllocError, Global};
 use std::marker::Model;
+use std::slice;
 
-/// Cells under keys, and the index of what they read: a cell stands in it under exactly the keys that its answer rests
-/// on, and those that the answer rests on which is ready of it.
+/// Cells under keys, the questions that are asked for their answers, by number, and the groups of the cells for whose
+/// answers the same is asked: a cell is in its group, and in that of what is ready of it.
 #[derive(Drop)]
 pub(crate) struct Store {
     alloc: Global,
     slab: Slab<Cell>,
-    index: Index,
+    questions: Questions,
+    groups: Groups,
 }
 
 impl Model for Store {
@@ -48,16 +57,11 @@ impl Model for Store {
 
     ghost coded = { slab_code (entry_code whose.the_row.coded answer.the_row.coded key.the_row.coded) };
 
-    ghost use Rattle.ent_cells.specs.proofs_only.Numbers.{IsStore, seen};
+    ghost use Rattle.ent_cells.specs.proofs_only.Grouping.{IsStore, seen};
 
-    ghost view = { λ s. seen s.index s.slab };
+    ghost view = { λ s. seen s.questions s.groups s.slab };
 
-    ghost invariant = { λ s. IsStore s.slab s.index };
-}
-
-/// The first of some keys, or any other.
-fn first_of(keys: &[usize]) -> usize {
-    keys.first().copied().unwrap_or(0)
+    ghost invariant = { λ s. IsStore s.questions s.groups s.slab };
 }
 
 impl Store {
@@ -68,7 +72,8 @@ impl Store {
         Store {
             alloc,
             slab: Slab::new(alloc),
-            index: Index::new(alloc),
+            questions: Questions::new(alloc),
+            groups: Groups::new(alloc),
         }
     }
 
@@ -79,31 +84,35 @@ impl Store {
         self.slab.get(key)
     }
 
-    /// Makes ready what an evaluation says of the cell under a key, which may share it with the cells under others.
-    /// After a refusal all is as before.
-    pub(crate) fn prepare(
+    /// Evaluates the cell under a key, and makes ready what that says, which may share it with the cells under others.
+    /// After a refusal the cells are as before.
+    pub(crate) fn prepare<A: Attributes, P: Policies>(
         &mut self,
+        pdp: &mut Pdp<A, P>,
         key: usize,
-        evaluation: Evaluation,
         beside: &[usize],
     ) -> Result<(), AllocError>
         requires { IsFree (get self.old key) }
-        ensures ok { OnOk result (Becomes (λ e. record e { next = Some (said_in evaluation) }) key self.old self.new) }
+        ensures ok { OnOk result (Becomes (made_ready (looks_of A.sources P.slots pdp.old)) key self.old self.new) }
         ensures err { OnErr result (self.new ≡ self.old) }
+        ensures counted { OnOk result (Counts pdp.old.evaluations pdp.new.evaluations 1) }
+        ensures bound { CountsAtMost pdp.old.evaluations pdp.new.evaluations 1 }
+        ensures rest { pdp.new ≡ record pdp.old { evaluations = pdp.new.evaluations } }
     {
-        let keys = evaluation.reads.into_items(self.alloc)?;
+        let Some(cell) = self.slab.get(key) else {
+            unreachable!();
+        };
+        let evaluation = evaluate(pdp, &mut self.questions, cell.who.get())?;
         let answer = shared_answer(self.alloc, &self.slab, key, beside, evaluation.answer)?;
-        let near = numbers_under(&self.slab, key);
-        let reads = add_reads(
-            self.alloc,
-            &self.slab,
-            &mut self.index,
+        let near = group_of_first(&self.slab, beside);
+        let group = regroup(
+            &mut self.groups,
             key,
-            keys.as_slice(),
+            cell.said.group,
+            evaluation.asked,
             near,
-            beside,
         )?;
-        make_ready(&mut self.slab, key, Numbered { answer, reads });
+        make_ready(&mut self.slab, key, Grouped { answer, group });
         Ok(())
     }
 
@@ -122,7 +131,7 @@ impl Store {
         requires { IsSome (get self.old key) }
         ensures { Becomes settled key self.old self.new }
     {
-        say_next(&mut self.slab, &mut self.index, key);
+        say_next(&mut self.slab, &mut self.groups, key);
     }
 
     /// Gives up what is ready of the cell under a key. It takes no memory.
@@ -130,35 +139,31 @@ impl Store {
         requires { IsSome (get self.old key) }
         ensures { Becomes given_up key self.old self.new }
     {
-        drop_next(&mut self.slab, &mut self.index, key);
+        drop_next(&mut self.slab, &mut self.groups, key);
     }
 
-    /// Puts the cell of a request in, of which an evaluation says this, and gives its key. It may share what is said
-    /// with the cells under some keys. After a refusal all is as before.
-    pub(crate) fn insert(
+    /// Evaluates a request that has no cell, puts its cell in, and gives its key. It may share what is said with the
+    /// cells under some keys. After a refusal the cells are as before.
+    pub(crate) fn insert<A: Attributes, P: Policies>(
         &mut self,
+        pdp: &mut Pdp<A, P>,
         who: Shared<Who>,
-        evaluation: Evaluation,
         beside: &[usize],
     ) -> Result<usize, AllocError>
-        ensures ok { IfOk result (Inserts (entry_of_cell who (said_in evaluation)) self.old self.new) }
+        ensures ok { IfOk result
+            (Inserts (entry_of_cell who (says (looks_of A.sources P.slots pdp.old) who)) self.old self.new) }
         ensures err { OnErr result (self.new ≡ self.old) }
+        ensures counted { OnOk result (Counts pdp.old.evaluations pdp.new.evaluations 1) }
+        ensures bound { CountsAtMost pdp.old.evaluations pdp.new.evaluations 1 }
+        ensures rest { pdp.new ≡ record pdp.old { evaluations = pdp.new.evaluations } }
     {
-        let keys = evaluation.reads.into_items(self.alloc)?;
         self.slab.reserve(1)?;
         let key = self.slab.vacant_key();
+        let evaluation = evaluate(pdp, &mut self.questions, who.get())?;
         let answer = shared_answer(self.alloc, &self.slab, key, beside, evaluation.answer)?;
-        let near = numbers_under(&self.slab, first_of(beside));
-        let reads = add_reads(
-            self.alloc,
-            &self.slab,
-            &mut self.index,
-            key,
-            keys.as_slice(),
-            near,
-            beside,
-        )?;
-        let said = Numbered { answer, reads };
+        let near = group_of_first(&self.slab, beside);
+        let group = enter(&mut self.groups, key, who.get(), evaluation.asked, near)?;
+        let said = Grouped { answer, group };
         let next = None;
         Ok(self.slab.insert_reserved(Cell { who, said, next }))
     }
@@ -168,36 +173,72 @@ impl Store {
         ensures cells { Updates self.old self.new key None }
         ensures gone { result ≡ option_map (λ e. old_of e.kept) (get self.old key) }
     {
-        drop_next(&mut self.slab, &mut self.index, key);
         let Some(cell) = self.slab.try_remove(key) else {
             return None;
         };
-        self.index
-            .forget_numbered(key, cell.said.reads.get().as_slice());
+        leave(&mut self.groups, key, &cell);
         Some(gone_answer(cell))
     }
 
-    /// The keys of the cells that read one of the changed keys, each once: the index says where to look, and a cell's
-    /// own reads decide.
+    /// The keys of the cells that read one of the changed keys, each once: the groups say where to look, and a cell's
+    /// own group and names decide.
     pub(crate) fn touched(&self, changed: &[ReadKey]) -> Result<Vec<usize>, AllocError>
         ensures { IfOk result (λ v. (c : ℕ) → times c v.items ≡ cond (touched_at changed.now (get self.now c)) 1 0) }
     {
-        let numbers = numbers_of(self.alloc, &self.index, changed)?;
-        let cells = candidates(self.alloc, &self.index, &numbers)?;
-        keep_touched(self.alloc, &self.slab, &cells, &numbers)
+        let wanted = Wanted::of(self.alloc, &self.questions, changed)?;
+        let cells = self.groups.candidates(&wanted)?;
+        keep_touched(self.alloc, &self.slab, &self.groups, &cells, &wanted)
     }
 
-    /// The keys that a cell reads, or that are ready for one, and whose values the row may change.
+    /// Whether a cell reads a key.
+    fn is_read(&self, key: &ReadKey) -> Result<bool, AllocError>
+        ensures { IfOk result (IsReadBy self.now key.now) }
+    {
+        let keys = slice::from_ref(key);
+        let wanted = Wanted::of(self.alloc, &self.questions, keys)?;
+        if is_one_touched(&self.slab, &self.groups, &wanted) {
+            return Ok(true);
+        }
+        let touched = self.touched(keys)?;
+        Ok(!touched.as_slice().is_empty())
+    }
+
+    /// Puts a key last, if a cell reads it.
+    fn keep_one(&self, kept: &mut Items<ReadKey>, key: &ReadKey) -> Result<(), AllocError>
+        ensures { OnOk result (
+            (keys : List Key) → AreReadOf keys self.now kept.old → AreReadOf (keys ++ key.now ∷ []) self.now kept.new) }
+    {
+        let is_read = self.is_read(key)?;
+        if is_read {
+            return kept.push(key.copy(self.alloc)?);
+        }
+        Ok(())
+    }
+
+    /// Those of some keys that a cell reads.
+    fn keep_read(&self, keys: &[ReadKey]) -> Result<Items<ReadKey>, AllocError>
+        ensures { IfOk result (AreReadOf keys.now self.now) }
+    {
+        let mut kept = Items::new(self.alloc);
+        for key in keys {
+            self.keep_one(&mut kept, key)?;
+        }
+        Ok(kept)
+    }
+
+    /// The keys that a cell reads and whose values the row may change.
     pub(crate) fn keys_of_row(&self, row: &RowKey) -> Result<Items<ReadKey>, AllocError>
         ensures { IfOk result (AreKeysOf (asks_row row.now) self.now) }
     {
-        self.index.keys_of_row(row)
+        let keys = row_keys(self.alloc, row)?;
+        self.keep_read(keys.as_slice())
     }
 
-    /// The keys that a cell reads, or that are ready for one, and that are references of a kind and an id.
+    /// The keys that a cell reads and that are references of a kind and an id.
     pub(crate) fn keys_of_policy(&self, kind: Kind, id: &str) -> Result<Items<ReadKey>, AllocError>
         ensures { IfOk result (AreKeysOf (asks_policy kind id.now) self.now) }
     {
-        self.index.keys_of_policy(kind, id)
+        let keys = references(self.alloc, self.questions.as_slice(), kind, id)?;
+        self.keep_read(keys.as_slice())
     }
 }

@@ -2,8 +2,6 @@
 use Rattle.std.specs.Prelude.{◌≡◌, ℕ, List, [], Bool, false, not, Option, Some, None}
 use Rattle.slab.specs.Slab.{Slab, Updates, get}
 use Rattle.ent_eval.specs.declared.key.ReadKey.{ReadKey}
-use Rattle.ent_eval.specs.declared.pdp.Evaluation.{Evaluation}
-use Rattle.ent_eval.specs.Noted.{has_key}
 use Rattle.ent_eval.specs.Same.{same_answer}
 use Rattle.ent_cells.specs.declared.who.Who.{Who}
 use Rattle.ent_cells.specs.Cell.{Kept, Said, reads_any}
@@ -12,10 +10,6 @@ use Rattle.ent_cells.specs.Entries.{Entry}
 -- no cell under any key
 abbrev pub no_entries : Slab Entry
 no_entries = record { slots = []; vacant_key = 0; capacity = 0 }
-
--- what an evaluation says
-abbrev pub said_in : Evaluation → Said
-said_in evaluation = record { answer = evaluation.answer; reads = evaluation.reads }
 
 -- a cell of which nothing is ready
 abbrev pub entry_of_cell : Who → Said → Entry

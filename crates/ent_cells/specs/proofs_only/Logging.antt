@@ -9,7 +9,7 @@ use Rattle.ent_cells.specs.declared.cell.Cell.{Cell}
 use Rattle.ent_cells.specs.declared.who.Who.{Who}
 use Rattle.ent_cells.specs.Entries.{Entry}
 use Rattle.ent_cells.specs.proofs_only.Entries.{changes}
-use Rattle.ent_cells.specs.proofs_only.Numbers.{replaces}
+use Rattle.ent_cells.specs.proofs_only.Grouping.{replaces}
 use Rattle.ent_cells.specs.Order.{request_order}
 use Rattle.ent_cells.specs.Cell.{Kept}
 

@@ -8,17 +8,17 @@ use Rattle.ent_cells.proofs.Phased.{free_here, keeps_cells, one_step}
 use Rattle.ent_cells.proofs.Tally.{counts_more}
 use Rattle.ent_cells.proofs.phases.prepare_all.Goals as goal
 
-pub prepare_one-requires : goal.prepare_one-requires
-prepare_one-requires g c =
+pub prepare-requires : goal.prepare-requires
+prepare-requires g c =
     let looks : Looks = looks_of g.A.Attributes.sources g.P.Policies.slots c.args.pdp.now in
     let i : ℕ = c.loop-key.key-index in
     free_here (made_ready looks) c.args.store.now c.loop-key.store c.args.keys.now i c.loop-key-test.true (c.requires.once (slice_index_or c.args.keys.now i 0)) c.loop-key.invariant.ready c.requires.free (c.requires.there i 0 c.loop-key-test.true)
 
-pub returns-in_err-prepare_one-clause-err : goal.returns-in_err-prepare_one-clause-err
-returns-in_err-prepare_one-clause-err g c =
+pub returns-in_err-prepare-clause-err : goal.returns-in_err-prepare-clause-err
+returns-in_err-prepare-clause-err g c =
     let looks : Looks = looks_of g.A.Attributes.sources g.P.Policies.slots c.args.pdp.now in
-    let kept : KeepsCells c.args.keys.now c.args.store.now c.prepare_one.new.store =
-    subst (KeepsCells c.args.keys.now c.args.store.now) (sym c.in_err-prepare_one.ensures.err) (keeps_cells looks c.args.store.now c.loop-key.store c.args.keys.now c.loop-key.key-index c.requires.free c.loop-key.invariant.ready) in
+    let kept : KeepsCells c.args.keys.now c.args.store.now c.prepare.new.self =
+    subst (KeepsCells c.args.keys.now c.args.store.now) (sym c.in_err-prepare.ensures.err) (keeps_cells looks c.args.store.now c.loop-key.store c.args.keys.now c.loop-key.key-index c.requires.free c.loop-key.invariant.ready) in
     refused c.from_residual.result kept
 
 pub loop-key-preserved : goal.loop-key-preserved
@@ -27,10 +27,10 @@ loop-key-preserved g c =
     let i : ℕ = c.loop-key.key-index in
     let same : looks_of g.A.Attributes.sources g.P.Policies.slots c.loop-key.pdp ≡ looks = ap (looks_of g.A.Attributes.sources g.P.Policies.slots) {y = record c.args.pdp.now { evaluations = c.loop-key.pdp.evaluations }} c.loop-key.invariant.rest in
     let k : ℕ = slice_index_or c.args.keys.now i 0 in
-    let ready : Becomes (made_ready looks) k c.loop-key.store c.prepare_one.new.store =
-    subst (λ (l : Looks). Becomes (made_ready l) k c.loop-key.store c.prepare_one.new.store) same c.in_ok-prepare_one.ensures.ok in
+    let ready : Becomes (made_ready looks) k c.loop-key.store c.prepare.new.self =
+    subst (λ (l : Looks). Becomes (made_ready l) k c.loop-key.store c.prepare.new.self) same c.in_ok-prepare.ensures.ok in
     record {
-      ready = one_step (made_ready looks) c.args.store.now c.loop-key.store c.args.keys.now i c.loop-key-test.true (c.requires.once k) c.loop-key.invariant.ready c.prepare_one.new.store (c.requires.there i 0 c.loop-key-test.true) ready;
-      counted = counts_more c.args.pdp.now.evaluations c.loop-key.pdp.evaluations c.prepare_one.new.pdp.evaluations i c.loop-key.invariant.counted c.in_ok-prepare_one.ensures.counted;
+      ready = one_step (made_ready looks) c.args.store.now c.loop-key.store c.args.keys.now i c.loop-key-test.true (c.requires.once k) c.loop-key.invariant.ready c.prepare.new.self (c.requires.there i 0 c.loop-key-test.true) ready;
+      counted = counts_more c.args.pdp.now.evaluations c.loop-key.pdp.evaluations c.prepare.new.pdp.evaluations i c.loop-key.invariant.counted c.in_ok-prepare.ensures.counted;
       rest = search rules;
     }

@@ -3,7 +3,7 @@ use Rattle.std.proofs.lemmas.Result.{IfOk-weaker}
 use Rattle.ent_index.specs.Asked.{asks_row}
 use Rattle.ent_cells.specs.Cell.{AreReadKeys, Kept}
 use Rattle.ent_cells.specs.Entries.{kept_of}
-use Rattle.ent_cells.specs.proofs_only.Numbers.{AreKeysOf}
+use Rattle.ent_cells.specs.proofs_only.Asked.{AreKeysOf}
 use Rattle.ent_cells.proofs.Listed.{are_listed}
 use Rattle.ent_cells.proofs.live.Live.keys_of_row.Goals as goal
 

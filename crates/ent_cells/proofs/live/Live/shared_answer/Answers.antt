@@ -5,7 +5,7 @@ use Rattle.ent_eval.specs.declared.answer.Answer.{Answer}
 use Rattle.ent_cells.specs.declared.who.Who.{Who}
 use Rattle.ent_cells.specs.Cell.{answers_in}
 use Rattle.ent_cells.specs.Entries.{Entry}
-use Rattle.ent_cells.specs.proofs_only.Numbers.{shown_entry}
+use Rattle.ent_cells.specs.proofs_only.Grouping.{shown_entry}
 use Rattle.ent_cells.proofs.Listed.{answer_at, answer_past}
 use Rattle.ent_cells.proofs.live.Live.shared_answer.Goals as goal
 

@@ -5,9 +5,9 @@ use Rattle.ent_cells.proofs.store.Store.commit.Goals as goal
 
 pub invariant_of-self : goal.invariant_of-self
 invariant_of-self c =
-    replaced_store c.self.inside.slab c.say_next.new.cells c.self.inside.index c.say_next.new.index c.args.key c.self.invariant (get c.self.inside.slab c.args.key) refl c.say_next.ensures.index c.say_next.ensures.cells
+    replaced_store c.self.inside.questions c.self.inside.groups c.say_next.new.groups c.self.inside.slab c.say_next.new.cells c.args.key c.self.invariant c.say_next.ensures.groups (get c.self.inside.slab c.args.key) refl c.say_next.ensures.cells
 
 pub returns : goal.returns
 returns c =
     rw (← c.self.view_is)
-    (replaced_seen c.self.inside.slab c.say_next.new.cells c.self.inside.index c.say_next.new.index c.args.key c.self.invariant (get c.self.inside.slab c.args.key) refl c.say_next.ensures.index c.say_next.ensures.cells)
+    (replaced_seen c.self.inside.questions c.self.inside.groups c.say_next.new.groups c.self.inside.slab c.say_next.new.cells c.args.key c.self.invariant c.say_next.ensures.groups (get c.self.inside.slab c.args.key) refl c.say_next.ensures.cells)

@@ -5,9 +5,9 @@ use Rattle.ent_cells.proofs.store.Store.give_up.Goals as goal
 
 pub invariant_of-self : goal.invariant_of-self
 invariant_of-self c =
-    given_up_store c.self.inside.slab c.drop_next.new.cells c.self.inside.index c.drop_next.new.index c.args.key c.self.invariant (get c.self.inside.slab c.args.key) refl c.drop_next.ensures.index c.drop_next.ensures.cells
+    given_up_store c.self.inside.questions c.self.inside.groups c.drop_next.new.groups c.self.inside.slab c.drop_next.new.cells c.args.key c.self.invariant c.drop_next.ensures.groups (get c.self.inside.slab c.args.key) refl c.drop_next.ensures.cells
 
 pub returns : goal.returns
 returns c =
     rw (← c.self.view_is)
-    (given_up_seen c.self.inside.slab c.drop_next.new.cells c.self.inside.index c.drop_next.new.index c.args.key c.self.invariant (get c.self.inside.slab c.args.key) refl c.drop_next.ensures.index c.drop_next.ensures.cells)
+    (given_up_seen c.self.inside.questions c.self.inside.groups c.drop_next.new.groups c.self.inside.slab c.drop_next.new.cells c.args.key c.self.invariant c.drop_next.ensures.groups (get c.self.inside.slab c.args.key) refl c.drop_next.ensures.cells)

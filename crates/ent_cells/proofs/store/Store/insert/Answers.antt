@@ -1,38 +1,96 @@
 use Rattle.std.proofs.Common.{◌≡◌, sym, subst, ◌∙◌}
-use Rattle.ent_index.specs.Index.{Adds, is_pair_of}
-use Rattle.ent_cells.proofs.StoreSteps.{put_seen, put_store, roomier_seen, roomier_store}
+use Rattle.ent_eval.specs.LooksOf.{looks_of}
+use Rattle.ent_eval.specs.Looks.{Looks}
+use Rattle.ent_cells.proofs.Grouped.{stays_itself, still_seen, still_store}
+use Rattle.ent_cells.proofs.StoreSteps.{is_grouped, on_err, put_seen, put_store, roomier_seen, roomier_store, said_right, vacant_seen, vacant_store}
+use Rattle.ent_cells.specs.Cell.{says}
+use Rattle.ent_cells.specs.declared.cell.Grouped.{Grouped}
+use Rattle.ent_cells.specs.declared.who.Who.{Who}
 use Rattle.ent_cells.specs.proofs_only.Entries.{Inserts, entry_of_cell}
-use Rattle.ent_cells.specs.proofs_only.Numbers.{seen}
+use Rattle.ent_cells.specs.proofs_only.Grouping.{said_in, seen}
 use Rattle.ent_cells.proofs.store.Store.insert.Goals as goal
 
 pub invariant_of-self : goal.invariant_of-self
-invariant_of-self c = roomier_store c.self.inside.slab c.reserve.new.self c.self.inside.index c.reserve.ensures.rest_kept c.self.invariant
+invariant_of-self g c = roomier_store c.self.inside.questions c.self.inside.groups c.self.inside.slab c.reserve.new.self c.reserve.ensures.rest_kept c.self.invariant
+
+pub invariant_of-self-in_err-evaluation : goal.invariant_of-self-in_err-evaluation
+invariant_of-self-in_err-evaluation g c =
+    let gs = c.self.inside.groups in
+    let q = c.self.inside.questions in
+    still_store q c.evaluate.new.questions gs gs c.evaluate.ensures.begins (stays_itself gs) c.reserve.new.self (roomier_store q gs c.self.inside.slab c.reserve.new.self c.reserve.ensures.rest_kept c.self.invariant)
+
+pub returns-in_err-evaluation-clause-err : goal.returns-in_err-evaluation-clause-err
+returns-in_err-evaluation-clause-err g c =
+    let gs = c.self.inside.groups in
+    let q = c.self.inside.questions in
+    on_err c.from_residual-in_err-evaluation.result
+    (still_seen q c.evaluate.new.questions gs gs c.evaluate.ensures.begins (stays_itself gs) c.reserve.new.self (roomier_store q gs c.self.inside.slab c.reserve.new.self c.reserve.ensures.rest_kept c.self.invariant)
+    ∙ roomier_seen q gs c.self.inside.slab c.reserve.new.self c.reserve.ensures.rest_kept
+    ∙ c.self.view_is)
 
 pub invariant_of-self-in_err-answer : goal.invariant_of-self-in_err-answer
-invariant_of-self-in_err-answer c = roomier_store c.self.inside.slab c.reserve.new.self c.self.inside.index c.reserve.ensures.rest_kept c.self.invariant
+invariant_of-self-in_err-answer g c =
+    let gs = c.self.inside.groups in
+    let q = c.self.inside.questions in
+    still_store q c.evaluate.new.questions gs gs c.evaluate.ensures.begins (stays_itself gs) c.reserve.new.self (roomier_store q gs c.self.inside.slab c.reserve.new.self c.reserve.ensures.rest_kept c.self.invariant)
 
-pub add_reads-requires-clause-store : goal.add_reads-requires-clause-store
-add_reads-requires-clause-store c = roomier_store c.self.inside.slab c.reserve.new.self c.self.inside.index c.reserve.ensures.rest_kept c.self.invariant
+pub returns-in_err-answer-clause-err : goal.returns-in_err-answer-clause-err
+returns-in_err-answer-clause-err g c =
+    let gs = c.self.inside.groups in
+    let q = c.self.inside.questions in
+    on_err c.from_residual-in_err-answer.result
+    (still_seen q c.evaluate.new.questions gs gs c.evaluate.ensures.begins (stays_itself gs) c.reserve.new.self (roomier_store q gs c.self.inside.slab c.reserve.new.self c.reserve.ensures.rest_kept c.self.invariant)
+    ∙ roomier_seen q gs c.self.inside.slab c.reserve.new.self c.reserve.ensures.rest_kept
+    ∙ c.self.view_is)
+
+pub invariant_of-self-in_err-group : goal.invariant_of-self-in_err-group
+invariant_of-self-in_err-group g c =
+    let gs = c.self.inside.groups in
+    let q = c.self.inside.questions in
+    vacant_store q c.evaluate.new.questions gs c.enter.new.groups c.reserve.new.self c.vacant_key-key.result c.evaluate.ensures.begins c.enter.ensures.others
+    (roomier_store q gs c.self.inside.slab c.reserve.new.self c.reserve.ensures.rest_kept c.self.invariant) c.vacant_key-key.ensures.vacant
+
+pub returns-in_err-group-clause-err : goal.returns-in_err-group-clause-err
+returns-in_err-group-clause-err g c =
+    let gs = c.self.inside.groups in
+    let q = c.self.inside.questions in
+    on_err c.from_residual-in_err-group.result
+    (vacant_seen q c.evaluate.new.questions gs c.enter.new.groups c.reserve.new.self c.vacant_key-key.result c.evaluate.ensures.begins c.enter.ensures.others
+    (roomier_store q gs c.self.inside.slab c.reserve.new.self c.reserve.ensures.rest_kept c.self.invariant) c.vacant_key-key.ensures.vacant
+    ∙ roomier_seen q gs c.self.inside.slab c.reserve.new.self c.reserve.ensures.rest_kept
+    ∙ c.self.view_is)
 
 pub invariant_of-self-2 : goal.invariant_of-self-2
-invariant_of-self-2 c =
-    let s = c.reserve.new.self in
-    let same : c.vacant_key-key.result ≡ c.insert_reserved.result = c.vacant_key-key.ensures.value ∙ sym c.insert_reserved.ensures.key in
-    put_store s c.insert_reserved.new.self c.self.inside.index c.add_reads.new.index c.insert_reserved.result c.args.who (record { answer = c.in_ok-answer.answer; reads = c.in_ok-reads.reads }) c.as_slice.result.now
-    (roomier_store c.self.inside.slab s c.self.inside.index c.reserve.ensures.rest_kept c.self.invariant) c.insert_reserved.ensures.was_vacant c.insert_reserved.ensures.updates
-    (subst (λ key. Adds (is_pair_of c.as_slice.result.now key) c.self.inside.index c.add_reads.new.index) same c.in_ok-reads.ensures.ok) c.in_ok-reads.ensures.one c.in_ok-reads.ensures.numbers
+invariant_of-self-2 g c =
+    let gs = c.self.inside.groups in
+    let q = c.self.inside.questions in
+    let key = c.vacant_key-key.result in
+    let said : Grouped = record { answer = c.in_ok-answer.answer; group = c.in_ok-group.group } in
+    let same : c.insert_reserved.result ≡ key = c.insert_reserved.ensures.key ∙ sym c.vacant_key-key.ensures.value in
+    put_store q c.evaluate.new.questions gs c.enter.new.groups c.reserve.new.self c.insert_reserved.new.self key c.args.who said c.evaluate.ensures.begins c.enter.ensures.others
+    (roomier_store q gs c.self.inside.slab c.reserve.new.self c.reserve.ensures.rest_kept c.self.invariant) c.vacant_key-key.ensures.vacant
+    (rw same at c.insert_reserved.ensures.updates)
+    (is_grouped c.evaluate.new.questions c.enter.new.groups key said c.in_ok-evaluation.evaluation.asked c.in_ok-group.ensures.there c.in_ok-group.ensures.numbers c.in_ok-evaluation.ensures.within)
+    (rw c.get-2.ensures at c.in_ok-group.ensures.named)
 
 pub returns-clause-ok : goal.returns-clause-ok
-returns-clause-ok c =
-    let s = c.reserve.new.self in
-    let same : c.vacant_key-key.result ≡ c.insert_reserved.result = c.vacant_key-key.ensures.value ∙ sym c.insert_reserved.ensures.key in
-    let a = c.self.inside.index in
-    let b = c.add_reads.new.index in
-    let t = c.insert_reserved.new.self in
-    let ks = c.as_slice.result.now in
-    let answer = c.args.evaluation.answer in
-    subst (λ reads. Inserts (entry_of_cell c.args.who (record { answer = answer; reads = reads })) c.args.self.now (seen b t) c.insert_reserved.result) (c.as_slice.ensures ∙ c.in_ok-keys.ensures)
-    (subst (λ old. Inserts (entry_of_cell c.args.who (record { answer = answer; reads = ks })) old (seen b t) c.insert_reserved.result)
-    (roomier_seen c.self.inside.slab s a c.reserve.ensures.rest_kept ∙ c.self.view_is)
-    (put_seen s t a b c.insert_reserved.result c.args.who (record { answer = c.in_ok-answer.answer; reads = c.in_ok-reads.reads }) ks (roomier_store c.self.inside.slab s a c.reserve.ensures.rest_kept c.self.invariant)
-    c.insert_reserved.ensures.was_vacant c.insert_reserved.ensures.updates (subst (λ key. Adds (is_pair_of ks key) a b) same c.in_ok-reads.ensures.ok) c.in_ok-reads.ensures.one c.in_ok-reads.ensures.numbers answer c.in_ok-answer.ensures))
+returns-clause-ok g c =
+    let looks : Looks = looks_of g.A.Attributes.sources g.P.Policies.slots c.args.pdp.now in
+    let gs = c.self.inside.groups in
+    let q = c.self.inside.questions in
+    let new = c.evaluate.new.questions in
+    let e = c.in_ok-evaluation.evaluation in
+    let x : Who = c.args.who in
+    let key = c.vacant_key-key.result in
+    let said : Grouped = record { answer = c.in_ok-answer.answer; group = c.in_ok-group.group } in
+    let same : c.insert_reserved.result ≡ key = c.insert_reserved.ensures.key ∙ sym c.vacant_key-key.ensures.value in
+    let so : said_in new x e ≡ says looks x = subst (λ (y : Who). said_in new y e ≡ says looks y) c.get.ensures c.in_ok-evaluation.ensures.said in
+    rw same
+    (subst (λ old. Inserts (entry_of_cell x (says looks x)) old (seen new c.enter.new.groups c.insert_reserved.new.self) key)
+    (roomier_seen q gs c.self.inside.slab c.reserve.new.self c.reserve.ensures.rest_kept ∙ c.self.view_is)
+    (put_seen q new gs c.enter.new.groups c.reserve.new.self c.insert_reserved.new.self key x said c.evaluate.ensures.begins c.enter.ensures.others
+    (roomier_store q gs c.self.inside.slab c.reserve.new.self c.reserve.ensures.rest_kept c.self.invariant) c.vacant_key-key.ensures.vacant
+    (rw same at c.insert_reserved.ensures.updates)
+    (is_grouped new c.enter.new.groups key said e.asked c.in_ok-group.ensures.there c.in_ok-group.ensures.numbers c.in_ok-evaluation.ensures.within)
+    (rw c.get-2.ensures at c.in_ok-group.ensures.named)
+    looks (said_right new c.enter.new.groups looks x e said c.in_ok-answer.ensures c.in_ok-group.ensures.numbers so)))

@@ -2,7 +2,7 @@ use Rattle.ent_cells.proofs.StoreSteps.{new_seen, new_store}
 use Rattle.ent_cells.proofs.store.Store.new.Goals as goal
 
 pub invariant_of-result : goal.invariant_of-result
-invariant_of-result c = new_store c.new.result c.new-2.result c.new.ensures.empty c.new-2.ensures
+invariant_of-result c = new_store c.new-2.result c.new-3.result c.new.result c.new.ensures.empty
 
 pub returns : goal.returns
-returns c = new_seen c.new.result c.new-2.result c.new.ensures.empty
+returns c = new_seen c.new-2.result c.new-3.result c.new.result c.new.ensures.empty

@@ -1,13 +1,70 @@
-use Rattle.ent_cells.proofs.StoreSteps.{prepared_seen, prepared_store}
+use Rattle.std.proofs.Common.{◌≡◌, sym, subst, ap, ◌∙◌}
+use Rattle.std.proofs.lemmas.Option.{same_Some}
+use Rattle.ent_eval.specs.LooksOf.{looks_of}
+use Rattle.ent_eval.specs.Looks.{Looks}
+use Rattle.ent_cells.proofs.Grouped.{joined_stays, stays_itself, still_seen, still_store}
+use Rattle.ent_cells.proofs.StoreSteps.{is_grouped, on_err, prepared_seen, prepared_store, said_right}
+use Rattle.ent_cells.specs.Cell.{says}
+use Rattle.ent_cells.specs.declared.cell.Grouped.{Grouped}
+use Rattle.ent_cells.specs.declared.who.Who.{Who}
+use Rattle.ent_cells.specs.proofs_only.Grouping.{said_in}
 use Rattle.ent_cells.proofs.store.Store.prepare.Goals as goal
 
+pub invariant_of-self : goal.invariant_of-self
+invariant_of-self g c =
+    let gs = c.self.inside.groups in
+    still_store c.self.inside.questions c.evaluate.new.questions gs gs c.evaluate.ensures.begins (stays_itself gs) c.self.inside.slab c.self.invariant
+
+pub returns-in_err-evaluation-clause-err : goal.returns-in_err-evaluation-clause-err
+returns-in_err-evaluation-clause-err g c =
+    let gs = c.self.inside.groups in
+    on_err c.from_residual.result (still_seen c.self.inside.questions c.evaluate.new.questions gs gs c.evaluate.ensures.begins (stays_itself gs) c.self.inside.slab c.self.invariant ∙ c.self.view_is)
+
+pub invariant_of-self-in_err-answer : goal.invariant_of-self-in_err-answer
+invariant_of-self-in_err-answer g c =
+    let gs = c.self.inside.groups in
+    still_store c.self.inside.questions c.evaluate.new.questions gs gs c.evaluate.ensures.begins (stays_itself gs) c.self.inside.slab c.self.invariant
+
+pub returns-in_err-answer-clause-err : goal.returns-in_err-answer-clause-err
+returns-in_err-answer-clause-err g c =
+    let gs = c.self.inside.groups in
+    on_err c.from_residual-in_err-answer.result (still_seen c.self.inside.questions c.evaluate.new.questions gs gs c.evaluate.ensures.begins (stays_itself gs) c.self.inside.slab c.self.invariant ∙ c.self.view_is)
+
+pub invariant_of-self-in_err-group : goal.invariant_of-self-in_err-group
+invariant_of-self-in_err-group g c =
+    let gs = c.self.inside.groups in
+    let joined = c.regroup.new.groups in
+    still_store c.self.inside.questions c.evaluate.new.questions gs joined c.evaluate.ensures.begins (joined_stays gs joined c.regroup.ensures.groups c.regroup.ensures.names) c.self.inside.slab c.self.invariant
+
+pub returns-in_err-group-clause-err : goal.returns-in_err-group-clause-err
+returns-in_err-group-clause-err g c =
+    let gs = c.self.inside.groups in
+    let joined = c.regroup.new.groups in
+    on_err c.from_residual-in_err-group.result
+    (still_seen c.self.inside.questions c.evaluate.new.questions gs joined c.evaluate.ensures.begins (joined_stays gs joined c.regroup.ensures.groups c.regroup.ensures.names) c.self.inside.slab c.self.invariant ∙ c.self.view_is)
+
 pub invariant_of-self-2 : goal.invariant_of-self-2
-invariant_of-self-2 c =
-    prepared_store c.self.inside.slab c.make_ready.new.cells c.self.inside.index c.add_reads.new.index c.args.key (record { answer = c.in_ok-answer.answer; reads = c.in_ok-reads.reads }) c.as_slice.result.now c.self.invariant
-    (rw (← c.self.view_is) at c.requires) c.make_ready.ensures c.in_ok-reads.ensures.ok c.in_ok-reads.ensures.one c.in_ok-reads.ensures.numbers
+invariant_of-self-2 g c =
+    let gs = c.self.inside.groups in
+    let joined = c.regroup.new.groups in
+    let said : Grouped = record { answer = c.in_ok-answer.answer; group = c.in_ok-group.group } in
+    prepared_store c.self.inside.questions c.evaluate.new.questions gs joined c.self.inside.slab c.make_ready.new.cells c.args.key said c.evaluate.ensures.begins
+    (joined_stays gs joined c.regroup.ensures.groups c.regroup.ensures.names) c.self.invariant (rw (← c.self.view_is) at c.requires) c.make_ready.ensures
+    (is_grouped c.evaluate.new.questions joined c.args.key said c.in_ok-evaluation.evaluation.asked c.in_ok-group.ensures.there c.in_ok-group.ensures.numbers c.in_ok-evaluation.ensures.within)
 
 pub returns-clause-ok : goal.returns-clause-ok
-returns-clause-ok c =
-    rw (← c.self.view_is, ← c.in_ok-keys.ensures, ← c.as_slice.ensures)
-    (prepared_seen c.self.inside.slab c.make_ready.new.cells c.self.inside.index c.add_reads.new.index c.args.key (record { answer = c.in_ok-answer.answer; reads = c.in_ok-reads.reads }) c.as_slice.result.now c.self.invariant
-    (rw (← c.self.view_is) at c.requires) c.make_ready.ensures c.in_ok-reads.ensures.ok c.in_ok-reads.ensures.one c.in_ok-reads.ensures.numbers c.args.evaluation.answer c.in_ok-answer.ensures)
+returns-clause-ok g c =
+    let looks : Looks = looks_of g.A.Attributes.sources g.P.Policies.slots c.args.pdp.now in
+    let gs = c.self.inside.groups in
+    let joined = c.regroup.new.groups in
+    let q = c.evaluate.new.questions in
+    let e = c.in_ok-evaluation.evaluation in
+    let said : Grouped = record { answer = c.in_ok-answer.answer; group = c.in_ok-group.group } in
+    let x : Who = c.in-Some.cell.now.who in
+    let so : said_in q x e ≡ says looks x = subst (λ (y : Who). said_in q y e ≡ says looks y) c.get-2.ensures c.in_ok-evaluation.ensures.said in
+    rw (← c.self.view_is)
+    (prepared_seen c.self.inside.questions q gs joined c.self.inside.slab c.make_ready.new.cells c.args.key said c.evaluate.ensures.begins
+    (joined_stays gs joined c.regroup.ensures.groups c.regroup.ensures.names) c.self.invariant (rw (← c.self.view_is) at c.requires) c.make_ready.ensures
+    (is_grouped q joined c.args.key said e.asked c.in_ok-group.ensures.there c.in_ok-group.ensures.numbers c.in_ok-evaluation.ensures.within)
+    looks x (λ cell at. ap (λ y. y.who) (same_Some cell c.in-Some.cell.now (sym at ∙ sym c.in-Some.ensures)))
+    (said_right q joined looks x e said c.in_ok-answer.ensures c.in_ok-group.ensures.numbers so))

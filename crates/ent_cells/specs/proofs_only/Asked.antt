@@ -1,0 +1,43 @@
+-- Keys that are asked for by a row, or by a kind and an id, and that cells read.
+use Rattle.std.specs.Prelude.{◌≡◌, ℕ, List, Bool, true, false, if◌then◌else◌, Option, Some, None}
+use Rattle.slab.specs.Slab.{Slab, get}
+use Rattle.ent_policy.specs.declared.key.Kind.{Kind}
+use Rattle.ent_finder.specs.declared.row.RowKey.{RowKey}
+use Rattle.ent_eval.specs.declared.key.ReadKey.{ReadKey}
+use Rattle.ent_eval.specs.declared.key.ReadKey.TheVariants as key
+use Rattle.ent_eval.specs.declared.question.Question.{Question}
+use Rattle.ent_eval.specs.declared.question.Question.TheVariants.{Ref}
+use Rattle.ent_eval.specs.Noted.{has_key}
+use Rattle.ent_index.specs.Asked.{asks_policy}
+use Rattle.ent_cells.specs.Entries.{Entry}
+
+-- the key of the values that the issuer gives of what a row is of, or without an issuer of those that anyone gives
+abbrev pub key_of_row : RowKey → Option (List ℕ) → ReadKey
+key_of_row row issuer = key.Attr (record { category = row.category; entity = row.entity; attribute = row.attribute; datatype = row.datatype; issuer = issuer })
+
+-- the key that is looked up for a question, if that is a reference of a kind and an id
+abbrev pub reference_of : Kind → List ℕ → Question → Option ReadKey
+reference_of kind id (Ref reference) = if asks_policy kind id (key.Ref reference) then Some (key.Ref reference) else None
+reference_of kind id _ = None
+
+-- whether there is a cell, and it reads a key
+abbrev pub reads_at : Option Entry → ReadKey → Bool
+reads_at None k = false
+reads_at (Some e) k = has_key e.kept.said.reads k
+
+-- whether a cell reads a key
+pub record IsReadBy (entries : Slab Entry) (k : ReadKey) (is_read : Bool) : Type 0 where
+  pub some : is_read ≡ true → (c : ℕ) × (reads_at (get entries c) k ≡ true)
+  pub none : is_read ≡ false → (c : ℕ) → reads_at (get entries c) k ≡ false
+
+-- these are those of some keys that a cell reads, and no others
+pub record AreReadOf (keys : List ReadKey) (entries : Slab Entry) (kept : List ReadKey) : Type 0 where
+  pub all : (k : ReadKey) (c : ℕ) → has_key keys k ≡ true → reads_at (get entries c) k ≡ true → has_key kept k ≡ true
+  pub of : (k : ReadKey) → has_key kept k ≡ true → has_key keys k ≡ true
+  pub read : (k : ReadKey) → has_key kept k ≡ true → (c : ℕ) × (reads_at (get entries c) k ≡ true)
+
+-- these are the keys that pass a test and that a cell reads, and no others
+pub record AreKeysOf (asks : ReadKey → Bool) (entries : Slab Entry) (keys : List ReadKey) : Type 0 where
+  pub all : (k : ReadKey) (c : ℕ) → asks k ≡ true → reads_at (get entries c) k ≡ true → has_key keys k ≡ true
+  pub asked : (k : ReadKey) → has_key keys k ≡ true → asks k ≡ true
+  pub read : (k : ReadKey) → has_key keys k ≡ true → (c : ℕ) × (reads_at (get entries c) k ≡ true)

@@ -1,0 +1,87 @@
+//! The keys that look at a row, or at documents of a kind and an id.
+
+ghost use Rattle.std.specs.Prelude.{◌≡◌, IfOk, filter_map};
+ghost use Rattle.ent_eval.specs.declared.key.ReadKey.{ReadKey as Key};
+ghost use Rattle.ent_eval.specs.declared.key.ReadKey.TheVariants.{Ref};
+ghost use Rattle.ent_eval.specs.Noted.{has_key};
+ghost use Rattle.ent_index.specs.Asked.{asks_policy, asks_row};
+ghost use Rattle.ent_cells.specs.proofs_only.Asked.{key_of_row, reference_of};
+
+use ent_eval::{Question, ReadKey};
+use ent_finder::{AttrKey, RowKey};
+use ent_policy::{Kind, Reference};
+use ent_values::{Items, Text};
+use std::alloc::{AllocError, Global};
+
+/// The key of values that the issuer gives of what a row is of, or without an issuer of those that anyone gives.
+fn key_of_row(alloc: Global, row: &RowKey, issuer: Option<Text>) -> Result<ReadKey, AllocError>
+    ensures { IfOk result (λ k. k ≡ key_of_row row.now issuer) }
+{
+    Ok(ReadKey::Attr(AttrKey {
+        category: row.category.copy(alloc)?,
+        entity: row.entity.copy(alloc)?,
+        attribute: row.attribute.copy(alloc)?,
+        datatype: row.datatype,
+        issuer,
+    }))
+}
+
+/// The keys whose values a row may change: those without an issuer and those with the row's.
+pub(crate) fn row_keys(alloc: Global, row: &RowKey) -> Result<Items<ReadKey>, AllocError>
+    ensures { IfOk result (λ keys. (k : Key) → has_key keys k ≡ asks_row row.now k) }
+{
+    let mut keys = Items::new(alloc);
+    keys.push(key_of_row(alloc, row, None)?)?;
+    let Some(issuer) = &row.issuer else {
+        return Ok(keys);
+    };
+    let issuer = issuer.copy(alloc)?;
+    keys.push(key_of_row(alloc, row, Some(issuer))?)?;
+    Ok(keys)
+}
+
+/// Whether a reference is one of a kind and an id.
+fn is_of(reference: &Reference, kind: Kind, id: &str) -> bool
+    ensures { result ≡ asks_policy kind id.now (Ref reference.now) }
+{
+    kind == reference.kind && id == reference.id.as_str()
+}
+
+/// The key that is looked up for a question, if that is a reference of a kind and an id.
+fn reference_of(
+    alloc: Global,
+    question: &Question,
+    kind: Kind,
+    id: &str,
+) -> Result<Option<ReadKey>, AllocError>
+    ensures { IfOk result (λ k. k ≡ reference_of kind id.now question.now) }
+{
+    match question {
+        Question::Ref(reference) => {
+            if is_of(reference, kind, id) {
+                Ok(Some(ReadKey::Ref(reference.copy(alloc)?)))
+            } else {
+                Ok(None)
+            }
+        }
+        _ => Ok(None),
+    }
+}
+
+/// The keys that are looked up for some questions, and that are references of a kind and an id.
+pub(crate) fn references(
+    alloc: Global,
+    questions: &[Question],
+    kind: Kind,
+    id: &str,
+) -> Result<Items<ReadKey>, AllocError>
+    ensures { IfOk result (λ keys. keys ≡ filter_map (reference_of kind id.now) questions.now) }
+{
+    let mut keys = Items::new(alloc);
+    for question in questions {
+        if let Some(key) = reference_of(alloc, question, kind, id)? {
+            keys.push(key)?;
+        }
+    }
+    Ok(keys)
+}
