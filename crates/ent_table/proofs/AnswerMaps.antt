@@ -1,5 +1,5 @@
 -- What the table has for a request, as a finite map.
-use Rattle.std.proofs.Common.{◌≡◌, ℕ, List, [], ◌∷◌, map, nat_eq, Bool, true, false, cond, ◌||◌, Option, Some, None, refl, sym, ap, subst, ◌∙◌}
+use Rattle.std.proofs.Common.{◌≡◌, List, [], ◌∷◌, map, Bool, true, false, cond, ◌||◌, Some, None, refl, sym, ap, subst, ◌∙◌}
 use Rattle.std.specs.Prelude.{◌&&◌, if◌then◌else◌}
 use Rattle.std.specs.Cmp.Lexicographic.{nat_list_eq_equiv}
 use Rattle.std.specs.FinMap.{find, get, get-from_entries}
@@ -9,7 +9,7 @@ use Rattle.std.proofs.lemmas.Cmp.{eq_by_cmp_equiv}
 use Rattle.ent_cells.specs.Order.{request_order}
 use Rattle.ent_cells.proofs.Orders.{requests-total, same_request as same_by_order}
 use Rattle.ent_eval.specs.declared.answer.Answer.{Answer}
-use Rattle.ent_table.specs.Names.{Triple, is_listed, triples}
+use Rattle.ent_table.specs.Names.{Triple, triples}
 use Rattle.ent_table.specs.State.{State, answer_at, answer_to, table_of}
 use Rattle.ent_table.specs.AnswerMap.{answers_of}
 use Rattle.ent_table.proofs.Listed.{any_listed, same_request, same_triple}

@@ -10,7 +10,7 @@ use Rattle.ent_table.specs.Change.{Stays}
 use Rattle.ent_table.specs.Difference.{changes}
 use Rattle.ent_table.specs.Limits.{IsStandardAtMost}
 use Rattle.ent_table.specs.Review.{IsFresh}
-use Rattle.ent_table.specs.State.{State, fresh, fresh_cells}
+use Rattle.ent_table.specs.State.{State, fresh_cells}
 use Rattle.ent_table.specs.Step.{next}
 use Rattle.ent_table.proofs.Changes.{changes-same_names}
 use Rattle.ent_table.proofs.Kept.{fresh_answers}

@@ -1,5 +1,5 @@
 -- Cells, as their requests and their answers.
-use Rattle.std.proofs.Common.{◌≡◌, List, map, ap, ◌∙◌}
+use Rattle.std.proofs.Common.{◌≡◌, List, ap, ◌∙◌}
 use Rattle.std.proofs.lemmas.Simd.{map-map}
 use Rattle.ent_cells.specs.Cell.{Kept, answers_in, cell_of}
 use Rattle.ent_eval.specs.Held.{looks_in}

@@ -18,7 +18,6 @@ pub mod ReadKeys
 pub mod Replaced
 pub mod Rests
 pub mod Rows
-pub mod Seens
 pub mod SerialTables
 pub mod Steps
 pub mod Tables

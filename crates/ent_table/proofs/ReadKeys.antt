@@ -11,7 +11,7 @@ use Rattle.ent_eval.specs.contracts.key.ReadKeyOrd.TheImpl.Laws.{total-law}
 use Rattle.ent_eval.specs.declared.key.ReadKey.{ReadKey}
 use Rattle.ent_eval.proofs.Keys.{read_cmp-IsAntisymmetric}
 use Rattle.ent_cells.specs.Cell.{AreReadKeys, Kept, is_read}
-use Rattle.ent_table.specs.proofs_only.Seen.{HasReadKeys}
+use Rattle.ent_table.specs.proofs_only.Look.{HasReadKeys}
 use Rattle.ent_table.proofs.Bits.{or_cases, or_left, or_right, same_test}
 
 key_itself : (k : ReadKey) → is_eq (read_cmp k k) ≡ true

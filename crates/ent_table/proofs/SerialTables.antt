@@ -1,10 +1,10 @@
 -- The tables at serials, over an edit that is logged.
-use Rattle.std.proofs.Common.{◌≡◌, ℕ, ◌≤◌, List, [], ◌∷◌, ◌++◌, map, nat_eq, Bool, true, false, ◌||◌, Option, Some, None, unwrap_or, refl, sym, ap, subst, ◌∙◌}
+use Rattle.std.proofs.Common.{◌≡◌, ℕ, ◌≤◌, List, [], ◌∷◌, map, nat_eq, Bool, true, false, ◌||◌, Some, None, unwrap_or, refl, sym, ap, subst, ◌∙◌}
 use Rattle.std.specs.Prelude.{◌&&◌, if◌then◌else◌}
 use Rattle.std.specs.Cmp.{IsEquivalence}
 use Rattle.std.specs.Cmp.Lexicographic.{bytes_decides, pointwise}
 use Rattle.std.specs.FinMap.{get}
-use Rattle.std.specs.List.{All, AllByRecursion, list_any}
+use Rattle.std.specs.List.{AllByRecursion, list_any}
 use Rattle.std.specs.Ordering.{is_eq}
 use Rattle.std.proofs.lemmas.Cmp.{eq_by_cmp_equiv}
 use Rattle.std.proofs.lemmas.List.Elements.{All-from_recursion}
@@ -29,7 +29,7 @@ use Rattle.ent_log.specs.declared.entry.OldAnswer.{OldAnswer}
 use Rattle.ent_log.specs.declared.log.Log.{Log}
 use Rattle.ent_log.proofs.Before.{undoes-listed}
 use Rattle.ent_log.proofs.MapDifference.{difference-of_maps}
-use Rattle.ent_log.proofs.MapsBefore.{get-map_before, maps-are_left, maps-stay}
+use Rattle.ent_log.proofs.MapsBefore.{get-map_before, maps-stay}
 use Rattle.ent_log.proofs.Unique.{difference-same}
 use Rattle.ent_table.specs.declared.edit.List.{List as Which}
 use Rattle.ent_table.specs.declared.edit.List.TheVariants as which
@@ -40,7 +40,7 @@ use Rattle.ent_table.specs.Names.{Names, Triple, has_name, is_listed, list_of, t
 use Rattle.ent_table.specs.Review.{IsFresh, state_of}
 use Rattle.ent_table.specs.State.{State, answer_at, answer_to, fresh_cells}
 use Rattle.ent_table.specs.proofs_only.Table.{requests_with, unanswered}
-use Rattle.ent_table.specs.Tables.{IsFreshAtSerial, KeepsTables, LeavesTables, Logs, table_at_serial}
+use Rattle.ent_table.specs.Tables.{IsFreshAtSerial, KeepsTables, Logs, table_at_serial}
 use Rattle.ent_table.proofs.AnswerMaps.{get-answers_of, tests}
 use Rattle.ent_table.proofs.Changes.{more_names}
 use Rattle.ent_table.proofs.Counts.{AllPass, own_listed}

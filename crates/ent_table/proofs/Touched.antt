@@ -3,17 +3,31 @@ use Rattle.std.proofs.Common.{◌≡◌, ℕ, List, [], ◌∷◌, Bool, true, f
 use Rattle.std.specs.List.{list_any}
 use Rattle.ent_eval.specs.Answer.{recorded}
 use Rattle.ent_eval.specs.Held.{looks_in}
+use Rattle.ent_eval.specs.Law.{IsSameLook}
 use Rattle.ent_eval.specs.Listed.{listed}
+use Rattle.ent_eval.specs.Looks.{Looks}
 use Rattle.ent_eval.specs.SameLook.{same_look}
 use Rattle.ent_eval.specs.declared.key.ReadKey.{ReadKey}
+use Rattle.ent_eval.specs.declared.key.ReadKey.TheVariants as keys
+use Rattle.ent_eval.proofs.SameLooks.{same_look-Decides}
 use Rattle.ent_table.specs.declared.edit.List.{List as Which}
 use Rattle.ent_table.specs.Counted.{touched, touched_count}
 use Rattle.ent_table.specs.Names.{Triple, has_name, is_listed, list_of, triples}
 use Rattle.ent_table.specs.State.{State}
 use Rattle.ent_table.specs.proofs_only.Table.{requests_with}
 use Rattle.ent_table.proofs.Changes.{less_names, more_names, new_among, was_listed}
-use Rattle.ent_table.proofs.Counts.{none_left, own_listed, passing, passing-same}
-use Rattle.ent_table.proofs.Told.{itself}
+use Rattle.ent_table.proofs.Counts.{none_left, own_listed, passing-same}
+
+same_itself : (l : Looks) (k : ReadKey) → IsSameLook l l k
+same_itself l keys.Root = refl
+same_itself l (keys.Ref reference) = refl
+same_itself l (keys.Attr key) = refl
+same_itself l keys.CurrentDate = refl
+same_itself l keys.CurrentTime = refl
+same_itself l keys.CurrentDateTime = refl
+
+itself : (l : Looks) (k : ReadKey) → same_look l l k ≡ true
+itself l k = (same_look-Decides l l k).1 (same_itself l k)
 
 none_another : (s : State) (ks : List ReadKey) → list_any (λ k. not (same_look (looks_in s.held) (looks_in s.held) k)) ks ≡ false
 none_another s [] = refl

@@ -5,7 +5,7 @@ use Rattle.ent_finder.specs.Slots.{Slots}
 use Rattle.ent_table.specs.declared.change.Exchange.{Exchange}
 use Rattle.ent_table.specs.declared.change.Exchange.TheVariants.{Document, Row, Root, Environment}
 use Rattle.ent_table.specs.declared.review.Review.{Review}
-use Rattle.ent_table.specs.proofs_only.Exchange.{IsMade, IsWithin, taken, with_exchange}
+use Rattle.ent_table.specs.proofs_only.Exchange.{IsMade, IsWithin, OnlyHeld, taken, with_exchange}
 use Rattle.ent_table.specs.Review.{state_of}
 use Rattle.ent_table.specs.State.{State}
 use Rattle.ent_table.proofs.Exchanges.{undone}
@@ -18,6 +18,20 @@ exchange-undone s ss (Row number key values) are h = values_undone s ss number k
   within l = subst (λ n. number < n) (ap length are) l
 exchange-undone s ss (Root root) are h = refl
 exchange-undone s ss (Environment environment) are h = refl
+
+module _ {A P : Type 0} where
+  -- of two changes each left all but what is held
+  pub held_twice : (old between new : Review A P) → OnlyHeld old between → OnlyHeld between new → OnlyHeld old new
+  held_twice old between new one two =
+      two
+      ∙ ap (λ (v : Review A P). record v {
+        pdp = record v.pdp {
+          attributes = new.pdp.attributes;
+          policies = new.pdp.policies;
+          root = new.pdp.root;
+          environment = new.pdp.environment;
+        };
+      }) one
 
 module _ {A P : Type 0} (sources : A → List Source) (slots : P → List Slots) where
   -- where what was exchanged is exchanged with what stood there, the state is as before both

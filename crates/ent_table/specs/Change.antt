@@ -12,12 +12,16 @@ use Rattle.ent_table.specs.State.{State}
 use Rattle.ent_table.specs.Step.{IsAnswered, name_dropped}
 
 -- a step of the state is made, one review becomes another, and it is answered as that step is
-abbrev pub Edits : {A P : Type 0} → (A → List Source) → (P → List Slots) → (State → Result State EditFault) → Review A P → Review A P → Result Accepted EditFault → Type 0
-Edits sources slots step old new result = IsAnswered (step (state_of sources slots old)) (state_of sources slots old) (state_of sources slots new) result
+abbrev pub Edits : {A P : Type 0} → (A → List Source) → (P → List Slots) → (State → Result State EditFault)
+    → Review A P → Review A P → Result Accepted EditFault → Type 0
+Edits sources slots step old new result =
+    IsAnswered (step (state_of sources slots old)) (state_of sources slots old) (state_of sources slots new) result
 
 -- an edit that takes no memory is refused as its step is, and never for want of memory
-abbrev pub IsSure : {A P : Type 0} → (A → List Source) → (P → List Slots) → Edit → Review A P → Result Accepted EditFault → Type 0
-IsSure sources slots (DropName list name) old result = IfErr result (λ fault. name_dropped (state_of sources slots old) list name ≡ Err fault)
+abbrev pub IsSure : {A P : Type 0} → (A → List Source) → (P → List Slots) → Edit → Review A P
+    → Result Accepted EditFault → Type 0
+IsSure sources slots (DropName list name) old result =
+    IfErr result (λ fault. name_dropped (state_of sources slots old) list name ≡ Err fault)
 IsSure sources slots _ old result = Unit {0}
 
 -- the state stays

@@ -12,17 +12,20 @@ use Rattle.ent_table.specs.declared.edit.EditFault.TheVariants.{Memory}
 use Rattle.ent_table.specs.Names.{Triple, is_listed, triples}
 use Rattle.ent_table.specs.State.{State}
 
--- whether an edit from s to t touches a request that t lists: s doesn't list it, or a look-up on which its answer rests gives another in t
+-- whether an edit from s to t touches a request that t lists: s doesn't list it, or a look-up on which its answer rests
+-- gives another in t
 abbrev pub touched : State → State → Triple → Bool
 touched s t x =
     not (is_listed s.names x)
-    || list_any (λ k. not (same_look (looks_in s.held) (looks_in t.held) k)) (recorded (looks_in s.held) (listed x.person x.action x.resource))
+    || list_any (λ k. not (same_look (looks_in s.held) (looks_in t.held) k))
+    (recorded (looks_in s.held) (listed x.person x.action x.resource))
 
 -- how many cells it touches
 abbrev pub touched_count : State → State → ℕ
 touched_count s t = length (filter (touched s t) (triples t.names))
 
--- an accepted edit raises the count by the cells that it touches, one refused for want of memory by no more, any other not at all
+-- an accepted edit raises the count by the cells that it touches, one refused for want of memory by no more, any other
+-- not at all
 abbrev pub IsCounted : Result State EditFault → State → ℕ → ℕ → Result Accepted EditFault → Type 0
 IsCounted (Ok t) s before after (Ok accepted) = after ≡ raised before (touched_count s t)
 IsCounted (Ok t) s before after (Err Memory) = (before ≤ after) × (after ≤ raised before (touched_count s t))

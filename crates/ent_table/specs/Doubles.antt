@@ -11,7 +11,9 @@ use Rattle.ent_table.specs.Step.{step}
 
 -- no list has a name twice
 abbrev pub HasNoDoubles : Names → Type 0
-HasNoDoubles n = IsDistinct (pointwise nat_eq) n.people × IsDistinct (pointwise nat_eq) n.actions × IsDistinct (pointwise nat_eq) n.resources
+HasNoDoubles n =
+    IsDistinct (pointwise nat_eq) n.people × IsDistinct (pointwise nat_eq) n.actions
+    × IsDistinct (pointwise nat_eq) n.resources
 
 -- the lists of a first state have none twice, and no accepted edit makes one stand twice
 abbrev pub NoNameIsTwice : Type 0

@@ -10,16 +10,20 @@ use Rattle.ent_table.specs.Names.{Triple, texts, triple_of, with_resources, with
 -- a person with the first action and the resources that are left of it, and with the later actions and all resources
 abbrev pub actions_left : List ℕ → List (List ℕ) → List (List ℕ) → List (List ℕ) → List Triple
 actions_left person [] left resources = []
-actions_left person (action ∷ actions) left resources = with_resources person action left ++ with_actions person actions resources
+actions_left person (action ∷ actions) left resources =
+    with_resources person action left ++ with_actions person actions resources
 
 -- the first person with what is left of it, and the later people with all
 abbrev pub people_left : List (List ℕ) → List (List ℕ) → List (List ℕ) → List (List ℕ) → List (List ℕ) → List Triple
 people_left [] actions left all_actions resources = []
-people_left (person ∷ people) actions left all_actions resources = actions_left person actions left resources ++ all_triples people all_actions resources
+people_left (person ∷ people) actions left all_actions resources =
+    actions_left person actions left resources ++ all_triples people all_actions resources
 
 -- the requests that are left
 abbrev pub requests_left : Cells → List Triple
-requests_left c = people_left (texts c.people.now) (texts c.actions.now) (texts c.resources.now) (texts c.all_actions.now) (texts c.all_resources.now)
+requests_left c =
+    people_left (texts c.people.now) (texts c.actions.now) (texts c.resources.now)
+    (texts c.all_actions.now) (texts c.all_resources.now)
 
 -- the answers that are left
 abbrev pub answers_left : Cells → List Answer

@@ -1,5 +1,6 @@
 -- The three lists of names, and the requests that they make.
-use Rattle.std.specs.Prelude.{ℕ, String, string_bytes, ◌*◌, List, [], ◌∷◌, ◌++◌, Bool, not, ◌&&◌, filter, length, map, nat_eq}
+use Rattle.std.specs.Prelude.{ℕ, String, string_bytes, ◌*◌, List, [], ◌∷◌, ◌++◌}
+use Rattle.std.specs.Prelude.{Bool, not, ◌&&◌, filter, length, map, nat_eq}
 use Rattle.std.specs.Cmp.Lexicographic.{pointwise}
 use Rattle.std.specs.List.{flat_map, list_any}
 use Rattle.ent_cells.specs.declared.who.Who.{Who}
@@ -72,7 +73,8 @@ triples names = all_triples names.people names.actions names.resources
 
 -- whether a request is listed
 abbrev pub is_listed : Names → Triple → Bool
-is_listed names t = has_name t.person names.people && (has_name t.action names.actions && has_name t.resource names.resources)
+is_listed names t =
+    has_name t.person names.people && (has_name t.action names.actions && has_name t.resource names.resources)
 
 -- how many cells the lists make
 abbrev pub cell_count : Names → ℕ

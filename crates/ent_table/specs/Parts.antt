@@ -12,7 +12,8 @@ cells_of person cells = filter (λ c. bytes_eq c.0.person person) cells
 
 -- the person and the answer of each cell of an action and a resource
 abbrev pub answers_to : List ℕ → List ℕ → List (Triple × Answer) → List (List ℕ × Answer)
-answers_to action resource cells = map (λ c. (c.0.person, c.1)) (filter (λ c. bytes_eq c.0.action action && bytes_eq c.0.resource resource) cells)
+answers_to action resource cells =
+    map (λ c. (c.0.person, c.1)) (filter (λ c. bytes_eq c.0.action action && bytes_eq c.0.resource resource) cells)
 
 -- ---- what is left of a column
 

@@ -19,7 +19,8 @@ state_of sources slots v = record {
   limits = v.limits;
 }
 
--- the kept cells are the fresh table, the kept count is that of the documents, no edit is being logged, and there is room to log the answer of each cell
+-- the kept cells are the fresh table, the kept count is that of the documents, no edit is being logged, and there is
+-- room to log the answer of each cell
 pub record IsFresh {A P : Type 0} (sources : A → List Source) (slots : P → List Slots) (v : Review A P) : Type 0 where
   pub cells : v.table.cells ≡ fresh_cells (state_of sources slots v)
   pub documents : v.documents ≡ document_count (state_of sources slots v).held.modules

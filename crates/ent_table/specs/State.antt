@@ -29,7 +29,8 @@ answer_to s t = answer_by (looks_in s.held) t
 abbrev pub fresh : State → List Answer
 fresh s = map (answer_to s) (triples s.names)
 
--- the cells of the fresh table: of every listed request the answer to it and the look-ups that this rests on, in list order
+-- the cells of the fresh table: of every listed request the answer to it and the look-ups that this rests on, in list
+-- order
 abbrev pub fresh_cells : State → List Kept
 fresh_cells s = map (cell_of (looks_in s.held)) (triples s.names)
 

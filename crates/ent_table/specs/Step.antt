@@ -1,5 +1,6 @@
 -- What an edit makes of a state.
-use Rattle.std.specs.Prelude.{◌≡◌, ℕ, ◌+◌, ◌^◌, ◌||◌, ◌&&◌, Bool, false, not, nat_lt, nat_le, bytes_eq, length, List, slice_set, Option, Some, None, Result, Ok}
+use Rattle.std.specs.Prelude.{◌≡◌, ℕ, ◌+◌, ◌^◌, ◌||◌, ◌&&◌, Bool, false, not, nat_lt, nat_le, bytes_eq, length}
+use Rattle.std.specs.Prelude.{List, slice_set, Option, Some, None, Result, Ok}
 use Rattle.std.specs.Prelude.{Err, if◌then◌else◌}
 use Rattle.std.specs.List.{list_all}
 use Rattle.std.specs.Option.{option_map_or}
@@ -20,9 +21,11 @@ use Rattle.ent_eval.specs.Sources.{id_attribute}
 use Rattle.ent_eval.specs.declared.environment.Environment.{Environment}
 use Rattle.ent_table.specs.declared.edit.Accepted.{Accepted}
 use Rattle.ent_table.specs.declared.edit.Edit.{Edit}
-use Rattle.ent_table.specs.declared.edit.Edit.TheVariants.{AddPolicy, ReplacePolicy, WithdrawPolicy, SetAttribute, AddName, DropName, SetRoot, SetDay, SetMoment}
+use Rattle.ent_table.specs.declared.edit.Edit.TheVariants.{AddPolicy, ReplacePolicy, WithdrawPolicy, SetAttribute}
+use Rattle.ent_table.specs.declared.edit.Edit.TheVariants.{AddName, DropName, SetRoot, SetDay, SetMoment}
 use Rattle.ent_table.specs.declared.edit.EditFault.{EditFault}
-use Rattle.ent_table.specs.declared.edit.EditFault.TheVariants.{NotThere, AlreadyThere, Limit, Reserved, BadValue, UnknownModule, Memory}
+use Rattle.ent_table.specs.declared.edit.EditFault.TheVariants.{NotThere, AlreadyThere, Limit, Reserved}
+use Rattle.ent_table.specs.declared.edit.EditFault.TheVariants.{BadValue, UnknownModule, Memory}
 use Rattle.ent_table.specs.declared.edit.List.{List as Which}
 use Rattle.ent_table.specs.declared.edit.List.TheVariants as which
 use Rattle.ent_table.specs.declared.limits.Limits.{Limits}
@@ -59,8 +62,11 @@ module_lacks s number key = is_module s number && not (holds s number key)
 
 -- another document under a key in one module, or none
 abbrev pub with_policy : State → ℕ → DocKey → Option Tree → State
-with_policy s number key document =
-    record s { held = record s.held { modules = slice_set s.held.modules number (with_document (module_at s.held.modules number) key document) } }
+with_policy s number key document = record s {
+  held = record s.held {
+    modules = slice_set s.held.modules number (with_document (module_at s.held.modules number) key document);
+  };
+}
 
 -- a document is put under its key, where none is yet
 abbrev pub policy_added : State → ℕ → Tree → Result State EditFault
@@ -89,13 +95,16 @@ policy_withdrawn s number key =
 
 -- whether there is a module of attributes of that number, and it supports the category
 abbrev pub is_source : State → ℕ → List ℕ → Bool
-is_source s number category = nat_lt number (length s.held.sources) && supports category (source_at s.held.sources number)
+is_source s number category =
+    nat_lt number (length s.held.sources) && supports category (source_at s.held.sources number)
 
 -- other values under a key in one module of attributes, or no row where there are none
 abbrev pub with_values : State → ℕ → RowKey → List Value → State
 with_values s number key values = record s {
   held = record s.held {
-    sources = slice_set s.held.sources number (record (source_at s.held.sources number) { rows = with_row (source_at s.held.sources number).rows key values });
+    sources = slice_set s.held.sources number (record (source_at s.held.sources number) {
+      rows = with_row (source_at s.held.sources number).rows key values;
+    });
   };
 }
 
@@ -106,7 +115,8 @@ is_reserved category attribute = option_map_or (bytes_eq attribute) (id_attribut
 -- whether entity, attribute or issuer can't be a name, or a value isn't of the key's type
 abbrev pub is_bad_row : RowKey → List Value → Bool
 is_bad_row key values =
-    is_bad_name key.entity || (is_bad_name key.attribute || (option_map_or is_bad_name key.issuer false || not (list_all (λ v. same_type (datatype_of v) key.datatype) values)))
+    is_bad_name key.entity || (is_bad_name key.attribute || (option_map_or is_bad_name key.issuer false
+    || not (list_all (λ v. same_type (datatype_of v) key.datatype) values)))
 
 -- the row of a key gets other values, at most 256
 abbrev pub attribute_set : State → ℕ → RowKey → List Value → Result State EditFault
@@ -126,7 +136,8 @@ limit_of which.Resources limits = limits.resources
 -- whether a name more would exceed a limit
 abbrev pub exceeds : State → Which → List ℕ → Bool
 exceeds s list name =
-    nat_le (limit_of list s.limits) (length (list_of list s.names)) || nat_lt s.limits.cells (cell_count (with_name list name s.names))
+    nat_le (limit_of list s.limits) (length (list_of list s.names))
+    || nat_lt s.limits.cells (cell_count (with_name list name s.names))
 
 -- a name is put last in its list
 abbrev pub name_added : State → Which → List ℕ → Result State EditFault
@@ -181,7 +192,8 @@ IsRefusal r Reserved = r ≡ Err Reserved
 IsRefusal r BadValue = r ≡ Err BadValue
 IsRefusal r UnknownModule = r ≡ Err UnknownModule
 
--- what an edit with the step r is answered, from state s to state t: the new serial and the number of changes, or a refusal that leaves the state
+-- what an edit with the step r is answered, from state s to state t: the new serial and the number of changes, or a
+-- refusal that leaves the state
 abbrev pub IsAnswered : Result State EditFault → State → State → Result Accepted EditFault → Type 0
 IsAnswered r s t (Ok accepted) = (r ≡ Ok t) × (accepted.serial ≡ t.serial) × (accepted.changes ≡ changes s t)
 IsAnswered r s t (Err fault) = IsRefusal r fault × (t ≡ s)

@@ -27,26 +27,37 @@ abbrev pub table_at_serial : {A P : Type 0} → (A → List Source) → (P → L
 table_at_serial sources slots v n = map_at request_order v.log (answers_of (state_of sources slots v)) n
 
 -- the table at each serial so far stays what it was, and as many are known as before
-pub record KeepsTables {A P : Type 0} (sources : A → List Source) (slots : P → List Slots) (old new : Review A P) : Type 0 where
+pub record KeepsTables {A P : Type 0} (sources : A → List Source) (slots : P → List Slots) (old new : Review A P)
+    : Type 0 where
   pub from : new.log.from ≡ old.log.from
-  pub each : (n : ℕ) → n ≤ (state_of sources slots old).serial → table_at_serial sources slots new n ≡ table_at_serial sources slots old n
+  pub each : (n : ℕ) → n ≤ (state_of sources slots old).serial
+      → table_at_serial sources slots new n ≡ table_at_serial sources slots old n
 
 -- the table at each serial so far that is still known stays what it was
 abbrev pub LeavesTables : {A P : Type 0} → (A → List Source) → (P → List Slots) → Review A P → Review A P → Type 0
 LeavesTables sources slots old new =
-    (n : ℕ) → new.log.from ≤ n → n ≤ (state_of sources slots old).serial → table_at_serial sources slots new n ≡ table_at_serial sources slots old n
+    (n : ℕ) → new.log.from ≤ n → n ≤ (state_of sources slots old).serial
+    → table_at_serial sources slots new n ≡ table_at_serial sources slots old n
 
 -- the table at the present serial is the fresh one
 abbrev pub IsFreshAtSerial : {A P : Type 0} → (A → List Source) → (P → List Slots) → Review A P → Type 0
-IsFreshAtSerial sources slots v = table_at_serial sources slots v (state_of sources slots v).serial ≡ answers_of (state_of sources slots v)
+IsFreshAtSerial sources slots v =
+    table_at_serial sources slots v (state_of sources slots v).serial ≡ answers_of (state_of sources slots v)
 
 -- ---- what changed
 
 -- a change of an answer, with the three names of its request
 abbrev pub change_of : Logged Who Answer → Change
-change_of c = record { person = c.key.person; action = c.key.action; resource = c.key.resource; before = c.before; after = c.after }
+change_of c = record {
+  person = c.key.person;
+  action = c.key.action;
+  resource = c.key.resource;
+  before = c.before;
+  after = c.after;
+}
 
--- the difference of a table and that of a state: each request to which they give different answers, once, in byte order, with both
+-- the difference of a table and that of a state: each request to which they give different answers, once, in byte
+-- order, with both
 abbrev pub changes_from : AnswerMap → State → List Change
 changes_from m s = map change_of (map_difference same_answer m (answers_of s))
 

@@ -1,7 +1,7 @@
 pub mod Change
 pub mod Exchange
 pub mod Left
+pub mod Look
 pub mod Names
 pub mod Place
-pub mod Seen
 pub mod Table

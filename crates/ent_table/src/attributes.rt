@@ -133,7 +133,8 @@ impl<A: Attributes, P: Policies> Review<A, P> {
         ensures kept { OnErr result (Stays A.sources P.slots self.old self.new) }
         ensures modules { length (state_of A.sources P.slots self.new).held.sources
             ≡ length (state_of A.sources P.slots self.old).held.sources }
-        ensures rest { self.new ≡ record self.old { pdp = record self.old.pdp { attributes = self.new.pdp.attributes } } }
+        ensures rest { self.new
+            ≡ record self.old { pdp = record self.old.pdp { attributes = self.new.pdp.attributes } } }
     {
         self.pdp.attributes_mut().swap_row(number, key, values)?;
         Ok(())

@@ -59,14 +59,14 @@ impl<A: Attributes, P: Policies> Review<A, P> {
 
     /// Takes an exchange back that was made: the state is the one before it. It takes no memory.
     #[tactic(auto, using(crate::proofs::Undone::made_back))]
-    pub(crate) fn take_back(&mut self, mut exchange: Exchange)
-        requires within { IsWithin (state_of A.sources P.slots self.old) exchange }
-        requires there { IsThere A.sources P.slots self.old exchange }
-        ensures before { (before : Review A P) → IsMade A.sources P.slots before self.old exchange
+    pub(crate) fn take_back(&mut self, exchange: &mut Exchange)
+        requires within { IsWithin (state_of A.sources P.slots self.old) exchange.old }
+        requires there { IsThere A.sources P.slots self.old exchange.old }
+        ensures before { (before : Review A P) → IsMade A.sources P.slots before self.old exchange.old
             → Stays A.sources P.slots before self.new }
         ensures rest { OnlyHeld self.old self.new }
     {
-        match self.exchange(&mut exchange) {
+        match self.exchange(exchange) {
             Ok(()) => {}
             Err(_) => unreachable!(),
         }

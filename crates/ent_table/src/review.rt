@@ -74,8 +74,8 @@ impl<A: Attributes, P: Policies> Review<A, P> {
         ensures fresh { IsFresh A.sources P.slots self.new }
         ensures step { Edits A.sources P.slots (λ s. step s edit) self.old self.new result }
         ensures sure { IsSure A.sources P.slots edit self.old result }
-        ensures counted { IsCounted (step (state_of A.sources P.slots self.old) edit) (state_of A.sources P.slots self.old)
-            self.old.pdp.evaluations self.new.pdp.evaluations result }
+        ensures counted { IsCounted (step (state_of A.sources P.slots self.old) edit)
+            (state_of A.sources P.slots self.old) self.old.pdp.evaluations self.new.pdp.evaluations result }
         ensures idle { IsIdle edit self.old.pdp.evaluations self.new.pdp.evaluations }
         ensures tables { KeepsTables A.sources P.slots self.old self.new }
         ensures now { IsFreshAtSerial A.sources P.slots self.new }
@@ -130,14 +130,7 @@ impl<A: Attributes, P: Policies> Review<A, P> {
         ensures counted { Counted A.sources P.slots (λ s. exchanged s exchange) self.old self.new result }
         ensures tables { KeepsTables A.sources P.slots self.old self.new }
     {
-        let Ok(seen) = self.seen(&exchange) else {
-            return Err(EditFault::Memory);
-        };
-        let Ok(()) = self.exchange(&mut exchange) else {
-            return Err(EditFault::Memory);
-        };
-        let Ok(changed) = self.changed(seen, &exchange) else {
-            self.take_back(exchange);
+        let Ok(changed) = self.exchange_and_tell(&mut exchange) else {
             return Err(EditFault::Memory);
         };
         let cells = &mut self.table.cells;
@@ -147,7 +140,7 @@ impl<A: Attributes, P: Policies> Review<A, P> {
                 Ok(self.log_edit(olds))
             }
             Err(_) => {
-                self.take_back(exchange);
+                self.take_back(&mut exchange);
                 Err(EditFault::Memory)
             }
         }

@@ -86,7 +86,8 @@ impl<A: Attributes, P: Policies> Review<A, P> {
         requires kept { self.now.log.from ≤ serial }
         requires reached { serial ≤ (state_of A.sources P.slots self.now).serial }
         ensures difference { IfOk result
-            (AreTheDifference (table_at_serial A.sources P.slots self.now serial) (state_of A.sources P.slots self.now)) }
+            (AreTheDifference (table_at_serial A.sources P.slots self.now serial)
+            (state_of A.sources P.slots self.now)) }
         ensures told { IfOk result (λ changes. changes
             ≡ changes_from (table_at_serial A.sources P.slots self.now serial) (state_of A.sources P.slots self.now)) }
     {

@@ -78,9 +78,9 @@ impl Table {
         }
     }
 
-    /// Puts a name last in its list, and the cells of its requests where they belong, each evaluated once, and tells the
-    /// old answers of these requests, which are none. There is room in the log for them then, and for the answer of each
-    /// cell; nothing is logged. After a refusal the table is as before.
+    /// Puts a name last in its list, and the cells of its requests where they belong, each evaluated once, and tells
+    /// the old answers of these requests, which are none. There is room in the log for them then, and for the answer of
+    /// each cell; nothing is logged. After a refusal the table is as before.
     pub(crate) fn add<A: Attributes, P: Policies>(
         &mut self,
         alloc: Global,
@@ -99,7 +99,8 @@ impl Table {
         ensures err { OnErr result (self.new ≡ self.old) }
         ensures counted { OnOk result
             (Counts pdp.old.evaluations pdp.new.evaluations (length (requests_with list name self.old.names))) }
-        ensures bound { CountsAtMost pdp.old.evaluations pdp.new.evaluations (length (requests_with list name self.old.names)) }
+        ensures bound { CountsAtMost pdp.old.evaluations pdp.new.evaluations
+            (length (requests_with list name self.old.names)) }
         ensures rest { pdp.new ≡ record pdp.old { evaluations = pdp.new.evaluations } }
     {
         let blocks = self.names.blocks(list);
@@ -129,7 +130,8 @@ impl Table {
     ) -> Option<usize>
         requires { length self.old.cells ≤ room_of log.old }
         ensures dropped { Drops list name.now self.old self.new result }
-        ensures logged { MatchOption result (log.new ≡ log.old) (λ _. IsLogged self.old.cells self.new.cells log.old log.new) }
+        ensures logged { MatchOption result (log.new ≡ log.old)
+            (λ _. IsLogged self.old.cells self.new.cells log.old log.new) }
         ensures from { log.new.from ≡ log.old.from }
         ensures serial { log.new.serial ≡ log.old.serial }
         ensures room { length self.new.cells ≤ room_of log.new }

@@ -1,5 +1,5 @@
 -- One thing of what is held that is exchanged with what stands there.
-use Rattle.std.specs.Prelude.{◌≡◌, ℕ, ◌<◌, List, length, IsSome, Result, Ok, Option}
+use Rattle.std.specs.Prelude.{◌≡◌, ℕ, ◌<◌, List, length, IsSome, Result, Ok, Option, None}
 use Rattle.std.specs.FinMap.{get}
 use Rattle.std.specs.Option.{ForSome}
 use Rattle.ent_values.specs.Bags.{AllOfType}
@@ -41,6 +41,11 @@ taken s (Row number key values) = Row number key (row_at s number key)
 taken s (Root root) = Root s.held.root
 taken s (Environment environment) = Environment s.held.environment
 
+-- the document that is exchanged, if it is one
+abbrev pub document_in : Exchange → Option Tree
+document_in (Document number key document) = document
+document_in _ = None
+
 -- the step that it makes, one serial later
 abbrev pub exchanged : State → Exchange → Result State EditFault
 exchanged s x = Ok (next (with_exchange s x))
@@ -70,11 +75,17 @@ count_with s x = document_count (with_exchange s x).held.modules
 -- only what is held changed
 abbrev pub OnlyHeld : {A P : Type 0} → Review A P → Review A P → Type 0
 OnlyHeld old new = new ≡ record old {
-  pdp = record old.pdp { attributes = new.pdp.attributes; policies = new.pdp.policies; root = new.pdp.root; environment = new.pdp.environment };
+  pdp = record old.pdp {
+    attributes = new.pdp.attributes;
+    policies = new.pdp.policies;
+    root = new.pdp.root;
+    environment = new.pdp.environment;
+  };
 }
 
 -- a review became another by an exchange, of which this stood there
 abbrev pub IsMade : {A P : Type 0} → (A → List Source) → (P → List Slots) → Review A P → Review A P → Exchange → Type 0
 IsMade sources slots before now back =
-    (x : Exchange) × IsWithin (state_of sources slots before) x × (state_of sources slots now ≡ with_exchange (state_of sources slots before) x)
+    (x : Exchange) × IsWithin (state_of sources slots before) x
+    × (state_of sources slots now ≡ with_exchange (state_of sources slots before) x)
     × (back ≡ taken (state_of sources slots before) x)

@@ -26,9 +26,15 @@ IsTaken name old new (Some place) = StandsAt name old place × (new ≡ others n
 
 -- where the cells of one name of a list stand
 abbrev pub blocks_of : Which → Names → Blocks
-blocks_of which.People names = record { count = 1; width = cell_count names; each = length names.actions * length names.resources }
-blocks_of which.Actions names = record { count = length names.people; width = length names.actions * length names.resources; each = length names.resources }
-blocks_of which.Resources names = record { count = length names.people * length names.actions; width = length names.resources; each = 1 }
+blocks_of which.People names =
+    record { count = 1; width = cell_count names; each = length names.actions * length names.resources }
+blocks_of which.Actions names = record {
+  count = length names.people;
+  width = length names.actions * length names.resources;
+  each = length names.resources;
+}
+blocks_of which.Resources names =
+    record { count = length names.people * length names.actions; width = length names.resources; each = 1 }
 
 -- the names of three lists that are lent
 abbrev pub names_in : Requests → Names

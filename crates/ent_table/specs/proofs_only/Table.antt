@@ -8,7 +8,8 @@ use Rattle.ent_log.specs.declared.entry.OldAnswer.{OldAnswer}
 use Rattle.ent_table.specs.declared.edit.List.{List as Which}
 use Rattle.ent_table.specs.declared.edit.List.TheVariants as which
 use Rattle.ent_table.specs.declared.table.Table.{Table}
-use Rattle.ent_table.specs.Names.{Names, Triple, has_name, list_of, no_names, triples, with_list, with_name, without_name}
+use Rattle.ent_table.specs.Names.{Names, Triple, has_name, list_of, no_names, triples}
+use Rattle.ent_table.specs.Names.{with_list, with_name, without_name}
 
 -- requests that had no answer
 abbrev pub unanswered : List Triple → List (OldAnswer Who Answer)

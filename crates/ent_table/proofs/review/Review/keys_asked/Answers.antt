@@ -1,7 +1,7 @@
 use Rattle.std.proofs.Common.{IfOk, subst, sym}
 use Rattle.ent_index.specs.Asked.{asks_policy, asks_row}
 use Rattle.ent_cells.specs.Cell.{AreReadKeys}
-use Rattle.ent_table.specs.proofs_only.Seen.{HasReadKeys, asks}
+use Rattle.ent_table.specs.proofs_only.Look.{HasReadKeys, asks}
 use Rattle.ent_table.proofs.ReadKeys.{has_asked}
 use Rattle.ent_table.proofs.review.Review.keys_asked.Goals as goal
 

@@ -1,7 +1,7 @@
 use Rattle.std.proofs.Common.{◌≡◌}
 use Rattle.std.specs.List.{AllByRecursion}
 use Rattle.ent_table.specs.Review.{state_of}
-use Rattle.ent_table.specs.proofs_only.Seen.{IsSeen, keys_in}
+use Rattle.ent_table.specs.proofs_only.Look.{IsSeen, keys_in}
 use Rattle.ent_table.proofs.review.Review.seen.Given as goal
 
 abbrev pub invariant-loop-key : goal.invariant-loop-key
