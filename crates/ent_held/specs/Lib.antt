@@ -1,3 +1,4 @@
 pub mod Attributes
 pub mod Documents
+pub mod Facts
 pub mod proofs_only

@@ -27,7 +27,7 @@ fn is_of_entity(category: &str, entity: &str, key: &RowKey) -> bool
 }
 
 /// Writes an issuer, null for none.
-fn write_issuer(out: &mut JsonText, issuer: &Option<Text>) -> Result<(), AllocError>
+pub(crate) fn write_issuer(out: &mut JsonText, issuer: &Option<Text>) -> Result<(), AllocError>
     ensures { OnOk result (out.new ≡ out.old
         ++ token.key (codes "issuer") ∷ tokens_of (option_map_or json.string issuer.now json.null)) }
 {
@@ -39,7 +39,11 @@ fn write_issuer(out: &mut JsonText, issuer: &Option<Text>) -> Result<(), AllocEr
 }
 
 /// Writes values, to the end of their list.
-fn write_each_value(alloc: Global, out: &mut JsonText, values: &[Value]) -> Result<(), AllocError>
+pub(crate) fn write_each_value(
+    alloc: Global,
+    out: &mut JsonText,
+    values: &[Value],
+) -> Result<(), AllocError>
     ensures { OnOk result (out.new ≡ out.old ++ items_tokens_of (map value_written values.now)) }
 {
     for value in values {

@@ -1,18 +1,16 @@
 -- The replies of the service are those of the headline.
-use Rattle.std.proofs.Common.{◌<◌, ◌≡◌, ℕ, Bool, true, false, List, [], ◌∷◌, length, Option, Some, None, ap, ◌∙◌, refl}
+use Rattle.std.proofs.Common.{◌<◌, ◌≡◌, ℕ, Bool, false, List, [], ◌∷◌, length, Option, Some, None, ap, ◌∙◌, refl}
 use Rattle.std.specs.Prelude.{filter, if◌then◌else◌}
 use Rattle.std.specs.Option.{option_map_or}
 use Rattle.std.proofs.lemmas.Bool.{lt-ltb}
 use Rattle.ent_table.specs.State.{State, table_of}
-use Rattle.ent_table.specs.declared.edit.Edit.{Edit}
 use Rattle.ent_dump.specs.Dumped.{dump_text}
 use Rattle.ent_report.proofs.Counted.{are_the_difference}
 use Rattle.ent_report.specs.World.{World}
 use Rattle.ent_line.specs.Asked.{Change}
 use Rattle.ent_line.specs.Commands.{attributes_told, by_rule_told, can_told, cell_told, cells_told, changes_told, counts_told, documents_told, dump_told}
-use Rattle.ent_line.specs.Commands.{format_told, heard, made, request_answered, requested, respond, run, settled, state_told, table_marked, table_told, told, who_told, work_told}
+use Rattle.ent_line.specs.Commands.{cell_explained, format_told, heard, made, request_answered, request_explained, requested, respond, run, settled, state_told, table_marked, table_told, told, who_told, work_told}
 use Rattle.ent_line.specs.Dumping.{can_tell, format_text, is_version}
-use Rattle.ent_line.specs.Edits.{edit_of}
 use Rattle.ent_line.specs.Headline.{IsEdited, IsHeadline, IsHeard, IsTold}
 use Rattle.ent_line.specs.Lines.{line_limit}
 use Rattle.ent_line.specs.Replies.{Answer, refused, text}
@@ -21,7 +19,6 @@ use Rattle.ent_line.specs.Cells.{cells_text}
 use Rattle.ent_line.specs.Step.{Answers, data_of}
 use Rattle.ent_line.specs.Wanted.{is_asked}
 use Rattle.ent_line.specs.Work.{Counted, Counts}
-use Rattle.ent_line.specs.declared.making.NoEdit.{NoEdit}
 use Rattle.ent_line.specs.declared.refusal.Refusal.TheVariants.{BadValue, NotThere as NotListed, TooLong}
 use Rattle.ent_line.proofs.CommandLemmas.{refusal_is, refusal_keeps, short_heard}
 use Rattle.ent_line.proofs.HistoryLemmas.{led}
@@ -63,7 +60,7 @@ no_dump s None e = refl
 no_dump s (Some version) e = ap (λ (b : Bool). if b then text (dump_text version s) else refused BadValue) e
 
 is_told : (n : ℕ) (w : World) (session : ℕ) → IsTold n w session
-unfolding run told table_told cell_told counts_told can_told who_told by_rule_told table_marked changes_told request_answered work_told format_told dump_told state_told cells_told attributes_told documents_told
+unfolding run told table_told cell_told counts_told can_told who_told by_rule_told table_marked changes_told request_answered work_told format_told dump_told state_told cells_told attributes_told documents_told cell_explained request_explained
 is_told n w session = record {
   question = λ q. refl;
   table = refl;
@@ -85,6 +82,8 @@ is_told n w session = record {
   attributes = λ category entity. refl;
   no_category = λ entity. refl;
   documents = λ id. refl;
+  explain_cell = λ y. refl;
+  explain = λ d. refl;
   mark = refl;
 }
 

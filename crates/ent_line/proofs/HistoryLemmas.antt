@@ -25,7 +25,7 @@ use Rattle.ent_report.specs.declared.fault.ReportFault.{ReportFault}
 use Rattle.ent_line.specs.Asked as asked
 use Rattle.ent_line.specs.Asked.{Change, Command, Question, command_in}
 use Rattle.ent_line.specs.Commands.{attributes_told, by_rule_told, can_told, cell_or_refusal, cell_told, cells_told, changes_told, counts_told, documents_told, dump_told, format_told, heard}
-use Rattle.ent_line.specs.Commands.{made, notices_or_refusal, report_or_refusal, request_answered, requested, respond, response_or_refusal, run}
+use Rattle.ent_line.specs.Commands.{cell_explained, explanation_or_refusal, made, notices_or_refusal, report_or_refusal, request_answered, request_explained, request_or_refusal, requested, respond, response_or_refusal, run}
 use Rattle.ent_line.specs.Commands.{settled, state_told, table_marked, table_told, told, who_told, work_told}
 use Rattle.ent_line.specs.Dumping.{can_tell, format_text, is_version}
 use Rattle.ent_line.specs.Edits.{edit_of, unread}
@@ -97,6 +97,14 @@ response_quiet : (s : State) (o : Option Request) → IsQuiet (response_or_refus
 response_quiet s None = tt
 response_quiet s (Some request) = tt
 
+explanation_quiet : (s : State) (x : Triple) (o : Option Evaluated) → IsQuiet (explanation_or_refusal s x o)
+explanation_quiet s x None = tt
+explanation_quiet s x (Some answer) = tt
+
+explained_quiet : (s : State) (o : Option Request) → IsQuiet (request_or_refusal s o)
+explained_quiet s None = tt
+explained_quiet s (Some request) = tt
+
 report_quiet : {A : Type 0} (written : A → List ℕ) (r : Result A ReportFault) → IsQuiet (report_or_refusal written r)
 report_quiet written (Ok x) = tt
 report_quiet written (Err fault) = tt
@@ -125,7 +133,7 @@ dump_quiet (Some version) s = version_quiet (can_tell version s.held.environment
 
 -- what is told changes nothing
 pub told_quiet : (n : ℕ) (w : World) (x : ℕ) (q : Question) → IsQuiet (told n w x q)
-unfolding told table_told cell_told counts_told can_told who_told by_rule_told changes_told request_answered work_told state_told cells_told attributes_told documents_told
+unfolding told table_told cell_told counts_told can_told who_told by_rule_told changes_told request_answered work_told state_told cells_told attributes_told documents_told cell_explained request_explained
 told_quiet n w x asked.table = tt
 told_quiet n w x (asked.cell y) = cell_quiet y (answer_at w.state y)
 told_quiet n w x (asked.ask d) = response_quiet w.state (asks d)
@@ -142,6 +150,8 @@ told_quiet n w x (asked.cells wanted) = cells_quiet (are_listed w.state.names wa
 told_quiet n w x (asked.attributes None entity) = tt
 told_quiet n w x (asked.attributes (Some category) entity) = tt
 told_quiet n w x (asked.documents id) = tt
+told_quiet n w x (asked.explain_cell y) = explanation_quiet w.state y (answer_at w.state y)
+told_quiet n w x (asked.explain d) = explained_quiet w.state (asks d)
 
 -- ---- edits
 

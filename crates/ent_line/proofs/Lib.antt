@@ -1,5 +1,6 @@
 pub mod ChangeLemmas
 mod CommandLemmas
+mod ExplainedLemmas
 mod HeadlineLemmas
 mod HistoryLemmas
 pub mod KeptLemmas

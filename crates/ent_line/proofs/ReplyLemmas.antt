@@ -19,6 +19,7 @@ use Rattle.ent_table.specs.declared.edit.EditFault.{EditFault}
 use Rattle.ent_dump.specs.Dumped.{dump_data, dump_text}
 use Rattle.ent_held.specs.Attributes.{attributes_text}
 use Rattle.ent_held.specs.Documents.{documents_text}
+use Rattle.ent_held.specs.Facts.{facts}
 use Rattle.ent_held.specs.proofs_only.Walk.{attributes_data, documents_data}
 use Rattle.ent_report.specs.Notices.{notices}
 use Rattle.ent_report.specs.Reports as report
@@ -28,10 +29,11 @@ use Rattle.ent_line.specs.Asked as asked
 use Rattle.ent_line.specs.Asked.{Command, Question, command_in}
 use Rattle.ent_line.specs.Cells.{cell_data, cells_text, list_data, one_cell_text, reply_data, response_text, table_text}
 use Rattle.ent_line.specs.Commands.{attributes_told, by_rule_told, can_told, cell_or_refusal, cell_told, cells_told, changes_told, counts_told, documents_told, dump_told, format_told, heard}
-use Rattle.ent_line.specs.Commands.{made, notices_or_refusal, report_or_refusal, request_answered, requested, respond, response_or_refusal, run}
+use Rattle.ent_line.specs.Commands.{cell_explained, explanation_or_refusal, made, notices_or_refusal, report_or_refusal, request_answered, request_explained, request_or_refusal, requested, respond, response_or_refusal, run}
 use Rattle.ent_line.specs.Commands.{settled, state_told, table_marked, table_told, told, who_told, work_told}
 use Rattle.ent_line.specs.Dumping.{can_tell, format_text, is_version}
 use Rattle.ent_line.specs.Edits.{edit_of}
+use Rattle.ent_line.specs.Explained.{answer_data, explained_data, explained_text, facts_of}
 use Rattle.ent_line.specs.Lines.{IsOneLine, line_limit}
 use Rattle.ent_line.specs.Refusals.{code_of, sub_of}
 use Rattle.ent_line.specs.Replies as replies
@@ -69,6 +71,16 @@ response_printed : (s : State) (o : Option Request) → IsPrinted (response_or_r
 unfolding response_text
 response_printed s None = tt
 response_printed s (Some request) = text_printed (response (answer_in s request) request)
+
+explanation_printed : (s : State) (x : Triple) (o : Option Evaluated) → IsPrinted (explanation_or_refusal s x o)
+unfolding explained_text
+explanation_printed s x None = tt
+explanation_printed s x (Some answer) = text_printed (explained_data (cell_data (x, answer)) (facts_of s.held x))
+
+explained_printed : (s : State) (o : Option Request) → IsPrinted (request_or_refusal s o)
+unfolding explained_text
+explained_printed s None = tt
+explained_printed s (Some request) = text_printed (explained_data (answer_data (answer_in s request)) (facts s.held request))
 
 report_printed : {A : Type 0} (written : A → List ℕ) → ((x : A) → ArePrinted (written x)) → (r : Result A ReportFault) → IsPrinted (report_or_refusal written r)
 report_printed written h (Ok x) = h x
@@ -127,7 +139,7 @@ cells_printed true cells = text_printed (only_member (codes "cells") (list_data 
 cells_printed false cells = tt
 
 told_printed : (n : ℕ) (w : World) (x : ℕ) (q : Question) → IsPrinted (told n w x q)
-unfolding told table_told cell_told counts_told can_told who_told by_rule_told changes_told request_answered work_told counts_text state_told state_text cells_told attributes_told attributes_text documents_told documents_text
+unfolding told table_told cell_told counts_told can_told who_told by_rule_told changes_told request_answered work_told counts_text state_told state_text cells_told attributes_told attributes_text documents_told documents_text cell_explained request_explained
 told_printed n w x asked.table = table_printed (table_of w.state)
 told_printed n w x (asked.cell y) = cell_printed y (answer_at w.state y)
 told_printed n w x (asked.ask d) = response_printed w.state (asks d)
@@ -144,6 +156,8 @@ told_printed n w x (asked.cells wanted) = cells_printed (are_listed w.state.name
 told_printed n w x (asked.attributes None entity) = tt
 told_printed n w x (asked.attributes (Some category) entity) = text_printed (attributes_data w.state.held.sources category entity)
 told_printed n w x (asked.documents id) = text_printed (documents_data w.state.held id)
+told_printed n w x (asked.explain_cell y) = explanation_printed w.state y (answer_at w.state y)
+told_printed n w x (asked.explain d) = explained_printed w.state (asks d)
 
 -- ---- commands and lines
 

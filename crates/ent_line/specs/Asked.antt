@@ -1,5 +1,6 @@
 -- What a line asks for: the commands, and the table of their names.
-use Rattle.std.specs.Prelude.{◌≡◌, ◌⊎◌, ℕ, List, [], ◌∷◌, find, nat_lt, Option, Some, None, option_map, Result, Ok, Err, bytes_eq, codes}
+use Rattle.std.specs.Prelude.{◌≡◌, ◌⊎◌, ℕ, List, [], ◌∷◌, find, if◌then◌else◌, nat_lt, Option, Some, None, option_map, Result, Ok, Err, bytes_eq, codes}
+use Rattle.std.specs.Option.{option_map_or}
 use Rattle.serde_json.specs.Data.{Data}
 use Rattle.serde_json.specs.Find.{get}
 use Rattle.ent_policy.specs.declared.key.Kind.{Kind}
@@ -68,6 +69,10 @@ pub data Question : Type 0 where
   attributes : Option (List ℕ) → List ℕ → Question
   -- the documents that are held, or those of an id
   documents : Option (List ℕ) → Question
+  -- one cell, and what its answer rests on
+  explain_cell : Triple → Question
+  -- the answer to a request, and what it rests on
+  explain : Data → Question
 
 pub data Command : Type 0 where
   change : Change → Command
@@ -97,12 +102,17 @@ withdrawing d = do
 unfoldable pub setting : Data → Option Change
 setting d = module_in d >>= λ number. option_map (set_attribute number) (row_in d)
 
--- the cell of a person, an action and a resource
-unfoldable pub cell_asked : Data → Option Question
-cell_asked d = do
+-- a person, an action and a resource
+unfoldable pub triple_in : Data → Option Triple
+triple_in d = do
   person ← text_at (codes "person") d
   action ← text_at (codes "action") d
-  option_map (λ resource. cell (triple_of person action resource)) (text_at (codes "resource") d)
+  option_map (triple_of person action) (text_at (codes "resource") d)
+
+-- what the answer to a request rests on, beside which no other key stands, or that of a cell
+unfoldable pub explain_asked : Data → Option Question
+explain_asked d = option_map_or (λ request. if has_only (codes "do" ∷ codes "session" ∷ codes "request" ∷ []) d then Some (explain request) else None)
+    (get (codes "request") d) (option_map explain_cell (triple_in d))
 
 -- who can do an action to a resource
 unfoldable pub who_asked : Data → Option Question
@@ -147,7 +157,7 @@ form_of names.RootSet = changes (codes "root.set") (codes "reference" ∷ []) (�
 form_of names.DaySet = changes (codes "day.set") (codes "day" ∷ []) (λ d. option_map set_day (null_or_text_at (codes "day") d))
 form_of names.MomentSet = changes (codes "moment.set") (codes "moment" ∷ []) (λ d. option_map set_moment (null_or_text_at (codes "moment") d))
 form_of names.Table = asks (codes "table") [] (λ d. Some table)
-form_of names.Cell = asks (codes "cell") (codes "action" ∷ codes "person" ∷ codes "resource" ∷ []) cell_asked
+form_of names.Cell = asks (codes "cell") (codes "action" ∷ codes "person" ∷ codes "resource" ∷ []) (λ d. option_map cell (triple_in d))
 form_of names.Ask = asks (codes "ask") (codes "request" ∷ []) (λ d. option_map ask (get (codes "request") d))
 form_of names.Counts = asks (codes "counts") [] (λ d. Some counts)
 form_of names.Can = asks (codes "can") (codes "person" ∷ []) (λ d. option_map can (text_at (codes "person") d))
@@ -161,6 +171,7 @@ form_of names.State = asks (codes "state") [] (λ d. Some state)
 form_of names.Cells = asks (codes "cells") (codes "action" ∷ codes "decisions" ∷ codes "person" ∷ codes "resource" ∷ []) (λ d. option_map cells (wanted_in d))
 form_of names.Attributes = asks (codes "attributes") (codes "category" ∷ codes "entity" ∷ []) attributes_asked
 form_of names.Documents = asks (codes "documents") (codes "id" ∷ []) (λ d. option_map documents (optional_text (codes "id") d))
+form_of names.Explain = asks (codes "explain") (codes "action" ∷ codes "person" ∷ codes "request" ∷ codes "resource" ∷ []) explain_asked
 form_of names.Dump = asks (codes "dump") (codes "version" ∷ []) (λ d. option_map dump (number_at (codes "version") 2 d))
 
 -- every name
@@ -170,7 +181,7 @@ every_name =
     names.PolicyAdd ∷ names.PolicyReplace ∷ names.PolicyWithdraw ∷ names.AttributeSet ∷ names.RootSet ∷ names.DaySet ∷
     names.MomentSet ∷ names.Table ∷ names.Cell ∷ names.Ask ∷ names.Counts ∷ names.Can ∷ names.Who ∷ names.ByRule ∷
     names.Mark ∷ names.Notices ∷ names.Work ∷ names.Format ∷ names.Dump ∷ names.State ∷
-    names.Cells ∷ names.Attributes ∷ names.Documents ∷ []
+    names.Cells ∷ names.Attributes ∷ names.Documents ∷ names.Explain ∷ []
 
 -- the name that a word is
 unfoldable pub name_of : List ℕ → Option Name

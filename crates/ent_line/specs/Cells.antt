@@ -15,7 +15,6 @@ use Rattle.ent_eval.specs.declared.answer.Status.{Status}
 use Rattle.ent_eval.specs.declared.answer.Status.TheVariants as status
 use Rattle.ent_eval.specs.declared.answer.WhyEntry.{WhyEntry}
 use Rattle.ent_eval.specs.declared.request.Request.{Request}
-use Rattle.ent_json.specs.Members.{only_member}
 use Rattle.ent_profile.specs.Response.{given_written, response}
 use Rattle.ent_table.specs.Names.{Triple}
 
@@ -55,8 +54,7 @@ rule_data (Some id) = json.string id
 abbrev pub entry_data : WhyEntry → Data
 entry_data entry = json.object (
     json.member (codes "path") (list_data key_data entry.path)
-    (json.member (codes "rule") (rule_data entry.rule)
-    json.no_members))
+    (json.member (codes "rule") (rule_data entry.rule) json.no_members))
 
 -- a request of the table with its answer
 abbrev pub cell_data : Triple × Answer → Data
@@ -68,8 +66,7 @@ cell_data c = json.object (
     (json.member (codes "person") (json.string c.0.person)
     (json.member (codes "resource") (json.string c.0.resource)
     (json.member (codes "status") (json.string (status_text c.1.status))
-    (json.member (codes "why") (list_data entry_data c.1.why)
-    json.no_members))))))))
+    (json.member (codes "why") (list_data entry_data c.1.why) json.no_members))))))))
 
 -- a reply whose only key is a command's name
 abbrev pub reply_data : List ℕ → Data → Data

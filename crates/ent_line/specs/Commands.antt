@@ -19,15 +19,17 @@ use Rattle.ent_table.specs.declared.edit.EditFault.{EditFault}
 use Rattle.ent_dump.specs.Dumped.{dump_text}
 use Rattle.ent_held.specs.Attributes.{attributes_text}
 use Rattle.ent_held.specs.Documents.{documents_text}
+use Rattle.ent_held.specs.Facts.{facts}
 use Rattle.ent_report.specs.Notices.{notices}
 use Rattle.ent_report.specs.Reports as report
 use Rattle.ent_report.specs.World.{World, marked, marked_table}
 use Rattle.ent_report.specs.declared.fault.ReportFault.{ReportFault}
 use Rattle.ent_line.specs.Asked as asked
 use Rattle.ent_line.specs.Asked.{Command, Question, command_in}
-use Rattle.ent_line.specs.Cells.{cells_text, one_cell_text, response_text, table_text}
+use Rattle.ent_line.specs.Cells.{cell_data, cells_text, one_cell_text, response_text, table_text}
 use Rattle.ent_line.specs.Dumping.{can_tell, format_text, is_version}
 use Rattle.ent_line.specs.Edits.{edit_of, unread}
+use Rattle.ent_line.specs.Explained.{answer_data, explained_text, facts_of}
 use Rattle.ent_line.specs.Lines.{line_limit}
 use Rattle.ent_line.specs.Refusals.{refusal_of}
 use Rattle.ent_line.specs.Replies as replies
@@ -139,6 +141,24 @@ attributes_told s (Some category) entity = text (attributes_text s.held.sources 
 unfoldable pub documents_told : State → Option (List ℕ) → Answer
 documents_told s id = text (documents_text s.held id)
 
+-- an explanation of a cell that there is, or the refusal of a request that isn't listed
+abbrev pub explanation_or_refusal : State → Triple → Option Evaluated → Answer
+explanation_or_refusal s x o =
+    text_or NotThere (λ answer. explained_text (cell_data (x, answer)) (facts_of s.held x)) o
+
+-- what the cell of a request is, and what it rests on
+unfoldable pub cell_explained : State → Triple → Answer
+cell_explained s x = explanation_or_refusal s x (answer_at s x)
+
+-- the same of the answer to a request that was read, or the refusal of what asks for none
+abbrev pub request_or_refusal : State → Option Request → Answer
+request_or_refusal s o =
+    text_or NoRequest (λ request. explained_text (answer_data (answer_in s request)) (facts s.held request)) o
+
+-- what the answer to a request is, and what it rests on
+unfoldable pub request_explained : State → Data → Answer
+request_explained s d = request_or_refusal s (asks d)
+
 -- what a question of a session is answered after n evaluations. Only `work` tells n
 unfoldable pub told : ℕ → World → ℕ → Question → Answer
 told n w session asked.table = table_told w.state
@@ -156,6 +176,8 @@ told n w session asked.state = state_told w
 told n w session (asked.cells wanted) = cells_told w.state wanted
 told n w session (asked.attributes category entity) = attributes_told w.state category entity
 told n w session (asked.documents id) = documents_told w.state id
+told n w session (asked.explain_cell x) = cell_explained w.state x
+told n w session (asked.explain d) = request_explained w.state d
 
 -- ---- commands
 

@@ -31,15 +31,17 @@ use Rattle.ent_table.specs.declared.edit.EditFault.{EditFault}
 use Rattle.ent_dump.specs.Dumped.{dump_text}
 use Rattle.ent_held.specs.Attributes.{attributes_text}
 use Rattle.ent_held.specs.Documents.{documents_text}
+use Rattle.ent_held.specs.Facts.{facts}
 use Rattle.ent_report.specs.Differing.{NoticesAreTheDifference}
 use Rattle.ent_report.specs.Notices.{notices}
 use Rattle.ent_report.specs.Reports as report
 use Rattle.ent_report.specs.World.{World, marked, marked_table}
 use Rattle.ent_line.specs.Asked as asked
 use Rattle.ent_line.specs.Asked.{Change, Command, IsOfCommands, Question, command_in}
-use Rattle.ent_line.specs.Cells.{cells_text, one_cell_text, response_text, table_text}
+use Rattle.ent_line.specs.Cells.{cell_data, cells_text, one_cell_text, response_text, table_text}
 use Rattle.ent_line.specs.Dumping.{can_tell, format_text, is_version}
 use Rattle.ent_line.specs.Edits.{edit_of, unread}
+use Rattle.ent_line.specs.Explained.{answer_data, explained_text, facts_of}
 use Rattle.ent_line.specs.History.{Lead, accepted_edits, history, next, seen_by}
 use Rattle.ent_line.specs.Lines.{IsOneLine, line_limit}
 use Rattle.ent_line.specs.Refusals.{refusal_of}
@@ -146,6 +148,14 @@ pub record IsTold (n : ℕ) (w : World) (x : ℕ) : Type 0 where
   pub no_category : (entity : List ℕ) → told n w x (asked.attributes None entity) ≡ refused refusals.Reserved
   -- documents: those that are held, or those of an id
   pub documents : (id : Option (List ℕ)) → told n w x (asked.documents id) ≡ text (documents_text w.state.held id)
+  -- an explanation, of a cell or of the answer to a request: the fresh answer beside the look-ups that are recorded for
+  -- it, each with what it gives
+  pub explain_cell : (y : Triple) → told n w x (asked.explain_cell y)
+      ≡ text_or refusals.NotThere (λ answer. explained_text (cell_data (y, answer)) (facts_of w.state.held y))
+      (answer_at w.state y)
+  pub explain : (d : Data) → told n w x (asked.explain d)
+      ≡ text_or refusals.Request (λ request. explained_text (answer_data (answer_in w.state request))
+      (facts w.state.held request)) (asks d)
   -- a mark: the fresh table of that moment is kept for its session alone
   pub mark : run n w x asked.mark ≡ (replies.marked w.state.serial, marked w x)
 

@@ -4,6 +4,7 @@ pub mod Cells
 pub mod Commands
 pub mod Dumping
 pub mod Edits
+pub mod Explained
 pub mod Headline
 pub mod History
 pub mod Kept

@@ -20,23 +20,20 @@ counts_data c = json.object (
     json.member (codes "Deny") (count_data c.deny)
     (json.member (codes "Indeterminate") (count_data c.indeterminate)
     (json.member (codes "NotApplicable") (count_data c.not_applicable)
-    (json.member (codes "Permit") (count_data c.permit)
-    json.no_members))))
+    (json.member (codes "Permit") (count_data c.permit) json.no_members))))
 
 -- an action and a resource
 abbrev pub pair_data : List ℕ × List ℕ → Data
 pair_data x = json.object (
     json.member (codes "action") (json.string x.0)
-    (json.member (codes "resource") (json.string x.1)
-    json.no_members))
+    (json.member (codes "resource") (json.string x.1) json.no_members))
 
 -- a person, an action and a resource
 abbrev pub triple_data : List ℕ × List ℕ × List ℕ → Data
 triple_data x = json.object (
     json.member (codes "action") (json.string x.1)
     (json.member (codes "person") (json.string x.0)
-    (json.member (codes "resource") (json.string x.2)
-    json.no_members)))
+    (json.member (codes "resource") (json.string x.2) json.no_members)))
 
 -- a decision, null for a request that isn't listed
 abbrev pub decision_data : Option Outcome → Data
@@ -50,8 +47,7 @@ notice_data n = json.object (
     (json.member (codes "after") (decision_data n.after)
     (json.member (codes "before") (decision_data n.before)
     (json.member (codes "person") (json.string n.person)
-    (json.member (codes "resource") (json.string n.resource)
-    json.no_members)))))
+    (json.member (codes "resource") (json.string n.resource) json.no_members)))))
 
 -- ---- texts
 

@@ -30,8 +30,7 @@ marked_sessions marks = filter_map (λ x. option_map (λ m. (x.0, m.serial)) x.1
 abbrev pub mark_data : ℕ × ℕ → Data
 mark_data x = json.object (
     json.member (codes "serial") (count_data x.1)
-    (json.member (codes "session") (count_data x.0)
-    json.no_members))
+    (json.member (codes "session") (count_data x.0) json.no_members))
 
 -- how many names, cells, documents and rows there are, the root, what is known of the time, the marks, and how many
 -- edits were accepted
@@ -46,8 +45,7 @@ state_data w = json.object (
     (json.member (codes "resources") (count_data (length w.state.names.resources))
     (json.member (codes "root") (written_root w.state.held.root)
     (json.member (codes "rows") (count_data (sum_by (λ source. len source.rows) w.state.held.sources))
-    (json.member (codes "serial") (count_data w.state.serial)
-    json.no_members))))))))))
+    (json.member (codes "serial") (count_data w.state.serial) json.no_members))))))))))
 
 -- the text of the reply to `state`
 unfoldable pub state_text : World → List ℕ

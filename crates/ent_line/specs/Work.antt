@@ -4,7 +4,7 @@ use Rattle.ent_cells.specs.Count.{raised}
 use Rattle.ent_profile.specs.Asks.{asks}
 use Rattle.ent_report.specs.World.{World}
 use Rattle.ent_table.specs.Counted.{touched_count}
-use Rattle.ent_table.specs.State.{State}
+use Rattle.ent_table.specs.State.{State, answer_at}
 use Rattle.ent_table.specs.Step as table
 use Rattle.ent_table.specs.declared.edit.Edit.{Edit}
 use Rattle.ent_table.specs.declared.edit.EditFault.{EditFault}
@@ -30,10 +30,13 @@ abbrev pub edit_work : State → Result Edit NoEdit → Option ℕ
 edit_work s (Ok edit) = step_work s (table.step s edit)
 edit_work s (Err why) = None
 
--- by a command: by the edit that it makes; or one, for a request that can be read. By any other question, `work` itself too, and a mark the count stays
+-- by a command: by the edit that it makes; or one, for a request that can be read, also where it is explained, and for
+-- a listed one that is. By any other question, `work` itself too, and a mark the count stays
 abbrev pub command_work : State → Command → Option ℕ
 command_work s (asked.change c) = edit_work s (edit_of c)
 command_work s (asked.question (asked.ask d)) = option_map (λ request. 1) (asks d)
+command_work s (asked.question (asked.explain d)) = option_map (λ request. 1) (asks d)
+command_work s (asked.question (asked.explain_cell x)) = option_map (λ answer. 1) (answer_at s x)
 command_work s other = None
 
 -- by the command that is there

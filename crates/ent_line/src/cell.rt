@@ -156,7 +156,7 @@ fn write_action(
 }
 
 /// Goes on with the decision of a cell and its obligations.
-fn write_decided(
+pub(crate) fn write_decided(
     alloc: Global,
     out: &mut JsonText,
     decision: Outcome,
@@ -183,7 +183,7 @@ fn write_names(out: &mut JsonText, person: &str, resource: &str) -> Result<(), A
 }
 
 /// Ends a cell with its status and the rules that gave its decision.
-fn write_reason(
+pub(crate) fn write_reason(
     alloc: Global,
     out: &mut JsonText,
     status: Status,

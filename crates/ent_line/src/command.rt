@@ -80,6 +80,10 @@ pub(crate) enum Question<'a, J> {
     Attributes(Option<&'a str>, &'a str),
     /// The documents that are held, or those of an id.
     Documents(Option<&'a str>),
+    /// The cell of a person, an action and a resource, and what its answer rests on.
+    ExplainCell(&'a str, &'a str, &'a str),
+    /// The answer to a request, and what it rests on.
+    Explain(&'a J),
 }
 
 /// The command of that name that an object asks for, or why there is none.

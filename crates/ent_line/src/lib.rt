@@ -6,6 +6,7 @@ mod cell;
 mod changes;
 mod command;
 mod dumping;
+mod explaining;
 mod fault;
 mod holding;
 mod input;

@@ -10,7 +10,9 @@ use crate::changes::{
     withdraw_policy,
 };
 use crate::command::{Command, Question};
-use crate::questions::{ask, attributes, by_rule, can, cell, cells, documents, dump, format, who};
+use crate::questions::{
+    ask, attributes, by_rule, can, cell, cells, documents, dump, explain, format, who,
+};
 use ent_json::JsonTree;
 use ent_table::List;
 
@@ -46,6 +48,7 @@ pub(crate) enum Name {
     Cells,
     Attributes,
     Documents,
+    Explain,
 }
 
 impl Name {
@@ -80,6 +83,7 @@ impl Name {
         Name::Cells,
         Name::Attributes,
         Name::Documents,
+        Name::Explain,
     ];
 
     /// The name that a word is.
@@ -125,6 +129,7 @@ impl Name {
             Name::Cells => "cells",
             Name::Attributes => "attributes",
             Name::Documents => "documents",
+            Name::Explain => "explain",
         }
     }
 
@@ -182,6 +187,9 @@ impl Name {
             ]),
             Name::Attributes => object.has_only(&["do", "session", "category", "entity"]),
             Name::Documents => object.has_only(&["do", "session", "id"]),
+            Name::Explain => object.has_only(&[
+                "do", "session", "action", "person", "request", "resource",
+            ]),
         }
     }
 
@@ -220,6 +228,7 @@ impl Name {
             Name::Cells => cells(object),
             Name::Attributes => attributes(object),
             Name::Documents => documents(object),
+            Name::Explain => explain(object),
         }
     }
 }

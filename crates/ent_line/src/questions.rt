@@ -3,8 +3,9 @@
 ghost use Rattle.std.specs.Prelude.{◌≡◌, codes, option_and_then, option_map};
 ghost use Rattle.serde_json.specs.Find.{get};
 ghost use Rattle.ent_json.specs.Objects.{text_at};
+ghost use Rattle.ent_table.specs.Names.{triple_of};
 ghost use Rattle.ent_line.specs.Asked as asked;
-ghost use Rattle.ent_line.specs.Asked.{attributes_asked, by_rule_asked, cell_asked, who_asked};
+ghost use Rattle.ent_line.specs.Asked.{attributes_asked, by_rule_asked, explain_asked, triple_in, who_asked};
 ghost use Rattle.ent_line.specs.Keys.{number_at, number_in};
 ghost use Rattle.ent_line.specs.Wanted.{optional_text, wanted_in};
 ghost use Rattle.ent_line.specs.proofs_only.CommandView.{command_view};
@@ -14,16 +15,41 @@ use crate::keys::{category_named, null_or_text_at, number_at, number_in};
 use crate::wanted::{optional_text, wanted_in};
 use ent_json::{JsonTree, text_at};
 
-/// `cell`.
-#[tactic(auto, unfolding(crate::specs::Asked::cell_asked))]
-pub(crate) fn cell<J: JsonTree>(object: &J) -> Option<Command<'_, J>>
-    ensures { option_map (command_view J.content) result
-        ≡ option_map asked.question (cell_asked (J.content object.now)) }
+/// The person, the action and the resource that an object names.
+#[tactic(auto, unfolding(crate::specs::Asked::triple_in))]
+fn triple_in<J: JsonTree>(object: &J) -> Option<(&str, &str, &str)>
+    ensures { option_map (λ t. triple_of t.0.now t.1.now t.2.now) result ≡ triple_in (J.content object.now) }
 {
     let person = text_at(object, "person")?;
     let action = text_at(object, "action")?;
     let resource = text_at(object, "resource")?;
+    Some((person, action, resource))
+}
+
+/// `cell`.
+pub(crate) fn cell<J: JsonTree>(object: &J) -> Option<Command<'_, J>>
+    ensures { option_map (command_view J.content) result
+        ≡ option_map asked.question (option_map asked.cell (triple_in (J.content object.now))) }
+{
+    let (person, action, resource) = triple_in(object)?;
     Some(Command::Question(Question::Cell(person, action, resource)))
+}
+
+/// `explain`. Beside a request no other key stands.
+#[tactic(auto, unfolding(crate::specs::Asked::explain_asked))]
+pub(crate) fn explain<J: JsonTree>(object: &J) -> Option<Command<'_, J>>
+    ensures { option_map (command_view J.content) result
+        ≡ option_map asked.question (explain_asked (J.content object.now)) }
+{
+    let Some(request) = object.get("request") else {
+        let (person, action, resource) = triple_in(object)?;
+        let question = Question::ExplainCell(person, action, resource);
+        return Some(Command::Question(question));
+    };
+    if !object.has_only(&["do", "session", "request"]) {
+        return None;
+    }
+    Some(Command::Question(Question::Explain(request)))
 }
 
 /// `ask`.

@@ -199,7 +199,12 @@ impl<A: Attributes, P: Policies> Service<A, P> {
     }
 
     /// Whether the names that are given are listed.
-    fn are_listed(&self, person: Option<&str>, action: Option<&str>, resource: Option<&str>) -> bool
+    pub(crate) fn are_listed(
+        &self,
+        person: Option<&str>,
+        action: Option<&str>,
+        resource: Option<&str>,
+    ) -> bool
         ensures { result ≡ names_listed (world_of A.sources P.slots self.now).state.names
             (option_copied person.entry) (option_copied action.entry) (option_copied resource.entry) }
     {

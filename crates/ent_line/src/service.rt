@@ -180,6 +180,10 @@ impl<A: Attributes, P: Policies> Service<A, P> {
             Question::Cells(wanted) => self.cells(wanted),
             Question::Attributes(category, entity) => self.attributes(category, entity),
             Question::Documents(id) => self.documents(id),
+            Question::ExplainCell(person, action, resource) => {
+                self.explain_cell(person, action, resource)
+            }
+            Question::Explain(request) => self.explain(request),
         }
     }
 

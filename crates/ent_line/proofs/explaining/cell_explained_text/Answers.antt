@@ -1,0 +1,15 @@
+use Rattle.std.proofs.Common.{◌∙◌}
+use Rattle.ent_eval.specs.LooksOf.{held_by}
+use Rattle.ent_held.specs.Facts.{facts_data}
+use Rattle.ent_table.specs.Names.{triple_of}
+use Rattle.ent_line.specs.Cells.{cell_data}
+use Rattle.ent_line.proofs.ExplainedLemmas.{explained_written}
+use Rattle.ent_line.proofs.explaining.cell_explained_text.Goals as goal
+
+pub returns : goal.returns
+returns g c =
+    let who = c.args.who in
+    let told = facts_data (held_by g.A.Attributes.sources g.P.Policies.slots c.args.pdp.now) c.args.evaluation.reads in
+    c.into_string.ensures
+    ∙ explained_written (cell_data (triple_of who.0.now who.1.now who.2.now, c.args.evaluation.answer)) told _ _ _ _ c.in_ok-out.ensures c.in_ok-begin_reply.ensures
+    c.in_ok-write_cell.ensures c.in_ok-end_reply.ensures

@@ -1,0 +1,156 @@
+//! Explanations: an answer beside the look-ups that it rests on.
+
+ghost use Rattle.std.specs.Prelude.{◌≡◌, [], ◌∷◌, ◌++◌, IfOk, OnOk, codes, string_bytes};
+ghost use Rattle.json.specs.Token as token;
+ghost use Rattle.ent_eval.specs.LooksOf.{held_by};
+ghost use Rattle.ent_held.specs.Facts.{facts_data};
+ghost use Rattle.ent_json.specs.Text.{tokens_of};
+ghost use Rattle.ent_table.specs.Names.{triple_of};
+ghost use Rattle.ent_line.specs.Asked as asked;
+ghost use Rattle.ent_line.specs.Cells.{cell_data};
+ghost use Rattle.ent_line.specs.Commands.{cell_explained, request_explained};
+ghost use Rattle.ent_line.specs.Explained.{answer_data, explained_text};
+ghost use Rattle.ent_line.specs.Work.{command_work};
+ghost use Rattle.ent_line.specs.World.{IsReady};
+ghost use Rattle.ent_line.specs.proofs_only.Replying.{Keeps, Replies, Works};
+
+use crate::cell::{write_cell, write_decided, write_reason};
+use crate::refusal::Refusal;
+use crate::reply::Reply;
+use crate::service::Service;
+use ent_eval::{Answer, Evaluation, Pdp, Reads, Request};
+use ent_finder::{Attributes, Policies};
+use ent_held::write_facts;
+use ent_json::{JsonText, JsonTree};
+use ent_profile::{RequestFault, read_request, write_given_text};
+use std::alloc::{AllocError, Global};
+
+/// Writes the answer to a request as a cell has it, without names.
+fn write_answer(alloc: Global, out: &mut JsonText, answer: &Answer) -> Result<(), AllocError>
+    ensures { OnOk result (out.new ≡ out.old ++ tokens_of (answer_data answer.now)) }
+{
+    out.begin_object()?;
+    out.key("advice")?;
+    write_given_text(alloc, out, answer.advice.as_slice())?;
+    write_decided(alloc, out, answer.decision, answer.obligations.as_slice())?;
+    write_reason(alloc, out, answer.status, answer.why.as_slice())
+}
+
+/// Begins the reply, to where its answer stands.
+fn begin_reply(out: &mut JsonText) -> Result<(), AllocError>
+    ensures { OnOk result (out.new ≡ out.old ++ token.begin_object ∷ token.key (codes "explain")
+        ∷ token.begin_object ∷ token.key (codes "answer") ∷ []) }
+{
+    out.begin_object()?;
+    out.key("explain")?;
+    out.begin_object()?;
+    out.key("answer")
+}
+
+/// Ends the reply, behind its answer.
+fn end_reply<A: Attributes, P: Policies>(
+    alloc: Global,
+    out: &mut JsonText,
+    pdp: &Pdp<A, P>,
+    reads: Reads,
+) -> Result<(), AllocError>
+    ensures { OnOk result (out.new ≡ out.old ++ token.key (codes "facts")
+        ∷ (tokens_of (facts_data (held_by A.sources P.slots pdp.now) reads)
+        ++ token.end_object ∷ token.end_object ∷ [])) }
+{
+    out.key("facts")?;
+    write_facts(alloc, out, pdp, reads)?;
+    out.end_object()?;
+    out.end_object()
+}
+
+/// The text of the reply to `explain` of a cell.
+fn cell_explained_text<A: Attributes, P: Policies>(
+    alloc: Global,
+    pdp: &Pdp<A, P>,
+    who: (&str, &str, &str),
+    evaluation: Evaluation,
+) -> Result<String, AllocError>
+    ensures { IfOk result (λ s. string_bytes s
+        ≡ explained_text (cell_data (triple_of who.entry.0.now who.entry.1.now who.entry.2.now, evaluation.answer))
+        (facts_data (held_by A.sources P.slots pdp.now) evaluation.reads)) }
+{
+    let (person, action, resource) = who;
+    let Evaluation { answer, reads } = evaluation;
+    let mut out = JsonText::with_room(alloc)?;
+    begin_reply(&mut out)?;
+    write_cell(alloc, &mut out, person, action, resource, &answer)?;
+    end_reply(alloc, &mut out, pdp, reads)?;
+    Ok(out.into_string())
+}
+
+/// The text of the reply to `explain` of a request.
+fn answer_explained_text<A: Attributes, P: Policies>(
+    alloc: Global,
+    pdp: &Pdp<A, P>,
+    evaluation: Evaluation,
+) -> Result<String, AllocError>
+    ensures { IfOk result (λ s. string_bytes s ≡ explained_text (answer_data evaluation.answer)
+        (facts_data (held_by A.sources P.slots pdp.now) evaluation.reads)) }
+{
+    let Evaluation { answer, reads } = evaluation;
+    let mut out = JsonText::with_room(alloc)?;
+    begin_reply(&mut out)?;
+    write_answer(alloc, &mut out, &answer)?;
+    end_reply(alloc, &mut out, pdp, reads)?;
+    Ok(out.into_string())
+}
+
+impl<A: Attributes, P: Policies> Service<A, P> {
+    /// `explain` of a cell.
+    #[tactic(auto, using(crate::proofs::KeptLemmas::ask_keeps), unfolding(crate::specs::Commands::cell_explained))]
+    pub(crate) fn explain_cell(
+        &mut self,
+        person: &str,
+        action: &str,
+        resource: &str,
+    ) -> Result<Reply, AllocError>
+        requires { IsReady A.sources P.slots self.old }
+        ensures ready { IsReady A.sources P.slots self.new }
+        ensures reply { Replies A.sources P.slots
+            (λ w. (cell_explained w.state (triple_of person.now action.now resource.now), w))
+            self.old self.new result }
+        ensures work { Works A.sources P.slots (λ s. command_work s
+            (asked.question (asked.explain_cell (triple_of person.now action.now resource.now))))
+            self.old self.new result }
+        ensures kept { Keeps A.sources P.slots self.old self.new }
+    {
+        if !self.are_listed(Some(person), Some(action), Some(resource)) {
+            return Ok(Reply::Refused(Refusal::NotThere));
+        }
+        let request = Request::listed(self.alloc, person, action, resource)?;
+        let evaluation = self.desk.explain(&request)?;
+        let pdp = self.desk.review().pdp();
+        let who = (person, action, resource);
+        let text = cell_explained_text(self.alloc, pdp, who, evaluation)?;
+        Ok(Reply::Text(text))
+    }
+
+    /// `explain` of a request.
+    #[tactic(auto, using(crate::proofs::KeptLemmas::ask_keeps), unfolding(crate::specs::Commands::request_explained))]
+    pub(crate) fn explain<J: JsonTree>(&mut self, json: &J) -> Result<Reply, AllocError>
+        requires { IsReady A.sources P.slots self.old }
+        ensures ready { IsReady A.sources P.slots self.new }
+        ensures reply { Replies A.sources P.slots (λ w. (request_explained w.state (J.content json.now), w))
+            self.old self.new result }
+        ensures work { Works A.sources P.slots
+            (λ s. command_work s (asked.question (asked.explain (J.content json.now)))) self.old self.new result }
+        ensures kept { Keeps A.sources P.slots self.old self.new }
+    {
+        match read_request(self.alloc, json) {
+            Ok(request) => {
+                let evaluation = self.desk.explain(&request)?;
+                let pdp = self.desk.review().pdp();
+                let text = answer_explained_text(self.alloc, pdp, evaluation)?;
+                Ok(Reply::Text(text))
+            }
+            Err(RequestFault::Bad) => Ok(Reply::Refused(Refusal::Request)),
+            Err(RequestFault::Memory) => Err(AllocError),
+        }
+    }
+}
