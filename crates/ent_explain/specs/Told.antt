@@ -5,6 +5,7 @@ use Rattle.serde_json.specs.Data.{Data}
 use Rattle.ent_policy.specs.declared.document.Document.{Document}
 use Rattle.ent_policy.specs.declared.fault.DocFault.{DocFault}
 use Rattle.ent_polform.specs.Form.{document_of}
+use Rattle.ent_places.specs.Faults.{AreFaults, FaultAt, IsFirst}
 use Rattle.ent_places.specs.Places.{Spot, StandsAt}
 
 -- a byte that is no control character of ASCII
@@ -26,10 +27,11 @@ pub record IsPlaced (pointer text : List ℕ) : Type 0 where
   pub begins : text ≡ shown pointer ++ codes ": " ++ rest
   pub is_line : is_one_line rest ≡ true
 
--- a line that begins with a place at which that fault of a document stands
+-- a line that begins with the place at which that fault of a document stands, to which the whole document leads
 pub record IsTold (f : DocFault) (d : Data) (text : List ℕ) : Type 0 where
   pub spot : Spot
   pub stands : StandsAt f spot d
+  pub is_first : IsFirst f spot d
   pub placed : IsPlaced spot.pointer text
 
 -- what is told of a document as read: nothing of one that can be used, and the place of the first fault of another
@@ -41,3 +43,27 @@ IsExplainedBy (Err f) d told = (text : List ℕ) × (told ≡ Some text) × IsTo
 abbrev pub IsExplained : Option Data → Option (List ℕ) → Type 0
 IsExplained None told = (text : List ℕ) × (told ≡ Some text) × (is_one_line text ≡ true)
 IsExplained (Some d) told = IsExplainedBy (document_of d) d told
+
+-- ---- all faults
+
+-- each fault has its line, which begins with its place
+abbrev pub ArePlaced : List FaultAt → List (List ℕ) → Type 0
+ArePlaced [] [] = Unit {0}
+ArePlaced (fault ∷ faults) (line ∷ lines) = IsPlaced fault.1.pointer line × ArePlaced faults lines
+ArePlaced _ _ = ⊥
+
+-- the lines of a document with its faults: the first as it is told alone, each where it stands, and no two at one place
+pub record AreTold (f : DocFault) (d : Data) (lines : List (List ℕ)) : Type 0 where
+  pub faults : List FaultAt
+  pub are : AreFaults f d faults
+  pub placed : ArePlaced faults lines
+
+-- what is told of a document as read: nothing of one that can be used, and a line for each fault of another
+abbrev pub AreExplainedBy : Result Document DocFault → Data → List (List ℕ) → Type 0
+AreExplainedBy (Ok document) d lines = lines ≡ []
+AreExplainedBy (Err f) d lines = AreTold f d lines
+
+-- what is told of a text, by the JSON that it is: of one that is no JSON, one line
+abbrev pub AreExplained : Option Data → List (List ℕ) → Type 0
+AreExplained None lines = (text : List ℕ) × (lines ≡ text ∷ []) × (is_one_line text ≡ true)
+AreExplained (Some d) lines = AreExplainedBy (document_of d) d lines

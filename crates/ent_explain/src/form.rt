@@ -2,7 +2,7 @@
 
 use crate::asked::{Asked, Found, here};
 use crate::near::{did_you_mean, nearest};
-use crate::scan::{Members, first_value};
+use crate::scan::{Member, Members, first_value};
 use crate::words::{alternatives, is_object, kind_of, object_name, quoted};
 use ent_json::JsonTree;
 use ent_places::Part;
@@ -114,7 +114,7 @@ fn known_keys(alloc: Global, part: Part) -> Result<Vec<&'static str>, AllocError
     Ok(keys)
 }
 
-/// The first key of the object that isn't known, if there is one.
+/// The first key of the object that isn't known, if there is one, where it counts: where it stands last.
 fn unknown_key<'a, J: JsonTree>(asked: &Asked<'a, J>) -> Result<Option<Found<'a>>, AllocError> {
     let alloc = asked.alloc;
     let known = known_keys(alloc, asked.part)?;
@@ -128,11 +128,31 @@ fn unknown_key<'a, J: JsonTree>(asked: &Asked<'a, J>) -> Result<Option<Found<'a>
         };
         if !known.as_slice().contains(&key.as_str()) {
             let sentence = unknown_sentence(asked, key.as_str(), known.as_slice())?;
-            let text = member.key;
+            let text = last_at(alloc, member, members, key.as_str())?;
             return Ok(Some(Found { sentence, text }));
         }
     }
     Ok(None)
+}
+
+/// The text from a key on where it stands last, of the member that has it and those behind.
+fn last_at<'a>(
+    alloc: Global,
+    first: Member<'a>,
+    behind: Members<'a>,
+    key: &str,
+) -> Result<&'a [u8], AllocError> {
+    let mut members = behind;
+    let mut text = first.key;
+    for _ in 0..first.key.len() {
+        let Some(member) = members.pass() else {
+            return Ok(text);
+        };
+        if member.has_key(alloc, key)? {
+            text = member.key;
+        }
+    }
+    Ok(text)
 }
 
 /// Whether an object of that part may have the key.

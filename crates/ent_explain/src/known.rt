@@ -68,6 +68,26 @@ fn functions_on(element: Element) -> [Function; 10] {
     ]
 }
 
+/// Functions on texts that a match may have.
+const MATCHES: &[Function] = &[Function::StartsWith, Function::EndsWith, Function::Contains];
+
+/// The identifiers of the functions that a match may have.
+fn match_ids(alloc: Global) -> Result<Vec<Text>, AllocError> {
+    let mut ids = Vec::new(alloc);
+    for element in ELEMENTS {
+        ids.push(Function::Equal(*element).id(alloc)?)?;
+    }
+    for order in ORDERED {
+        for comparison in COMPARISONS {
+            ids.push(Function::Compare(*comparison, *order).id(alloc)?)?;
+        }
+    }
+    for function in MATCHES {
+        ids.push(function.id(alloc)?)?;
+    }
+    Ok(ids)
+}
+
 /// The identifiers of all functions.
 fn function_ids(alloc: Global) -> Result<Vec<Text>, AllocError> {
     let mut ids = Vec::new(alloc);
@@ -87,12 +107,21 @@ fn function_ids(alloc: Global) -> Result<Vec<Text>, AllocError> {
     Ok(ids)
 }
 
-/// The identifier of the function whose name is nearest, if one is near.
-pub(crate) fn nearest_function(alloc: Global, id: &str) -> Result<Option<Text>, AllocError> {
+/// The identifier of the function whose name is nearest, if one is near; of a match, among those that it may have.
+pub(crate) fn nearest_function(
+    alloc: Global,
+    id: &str,
+    in_match: bool,
+) -> Result<Option<Text>, AllocError> {
     let word = last_word(id);
     let mut best = None;
     let mut least = usize::MAX;
-    for candidate in function_ids(alloc)? {
+    let candidates = if in_match {
+        match_ids(alloc)?
+    } else {
+        function_ids(alloc)?
+    };
+    for candidate in candidates {
         if let Some(far) = near(alloc, word, last_word(candidate.as_str()))?
             && far < least
         {

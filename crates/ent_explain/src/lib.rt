@@ -1,8 +1,11 @@
 //! What is wrong with a document, and where, in words for its author.
 #![tactic(auto)]
 
+mod absent;
 mod asked;
+mod behind;
 mod definitions;
+mod every;
 mod form;
 mod known;
 mod line;
@@ -15,11 +18,15 @@ mod scan;
 mod sentence;
 mod sizes;
 mod takes;
+mod twice;
 mod types;
 mod typing;
 mod variables;
+mod warned;
 mod words;
 
+pub use every::{Explained, explain_all, explain_faults};
 pub use line::one_line;
 pub use position::{Position, line_and_column};
 pub use refused::{explain, explain_document, explain_text, placed};
+pub use warned::warnings;

@@ -1,5 +1,6 @@
 //! What is wrong with an identifier, a version, or the name of an algorithm, a function or a data type.
 
+use crate::absent::{instead_of_function, instead_of_type};
 use crate::asked::Asked;
 use crate::known::{
     nearest_function, nearest_policy_algorithm, nearest_rule_algorithm, nearest_type,
@@ -138,7 +139,12 @@ pub(crate) fn function_sentence<J: JsonTree>(asked: &Asked<'_, J>) -> Result<Str
     let alloc = asked.alloc;
     let id = text_of(asked);
     let shown = quoted(alloc, id)?;
-    let meant = match nearest_function(alloc, id)? {
+    if let Some(instead) = instead_of_function(id) {
+        return format!(in alloc;
+            "{shown} is a function of the standard that isn't here; instead: {instead}"
+        );
+    }
+    let meant = match nearest_function(alloc, id, asked.key == "MatchId")? {
         Some(id) => did_you_mean(alloc, Some(id.as_str()))?,
         None => String::new(alloc),
     };
@@ -148,6 +154,11 @@ pub(crate) fn function_sentence<J: JsonTree>(asked: &Asked<'_, J>) -> Result<Str
 /// That no data type has that name.
 pub(crate) fn data_type_sentence(alloc: Global, name: &str) -> Result<String, AllocError> {
     let shown = quoted(alloc, name)?;
+    if let Some(instead) = instead_of_type(name) {
+        return format!(in alloc;
+            "{shown} is a data type of the standard that isn't here; instead: {instead}"
+        );
+    }
     match nearest_type(alloc, name)? {
         Some(meant) => format!(in alloc; "no data type is called {shown}; did you mean `{meant}`?"),
         None => {

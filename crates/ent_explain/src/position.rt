@@ -1,9 +1,10 @@
 //! The line and the column of a place in a text.
 
-use crate::scan::{Member, Members, first_value};
+use crate::scan::Members;
 use std::alloc::{AllocError, Global};
 
-/// A place in a text as editors name it. Both numbers are from 1, and a column counts characters.
+/// A place in a text as editors name it. Both numbers are from 1, and a column counts characters. A line ends with a line
+/// feed, a carriage return, or both.
 #[derive(Clone, Copy, Debug, PartialEq, Eq)]
 pub struct Position {
     pub line: usize,
@@ -14,13 +15,15 @@ pub struct Position {
 pub(crate) fn position_behind(before: &[u8]) -> Position {
     let mut line = 1usize;
     let mut column = 1usize;
+    let mut is_behind_return = false;
     for byte in before {
-        if *byte == b'\n' {
+        if *byte == b'\r' || *byte == b'\n' && !is_behind_return {
             line = line.saturating_add(1);
             column = 1;
-        } else if begins_character(*byte) {
+        } else if *byte != b'\n' && begins_character(*byte) {
             column = column.saturating_add(1);
         }
+        is_behind_return = *byte == b'\r';
     }
     Position { line, column }
 }
@@ -91,29 +94,9 @@ fn at_key<'a>(alloc: Global, text: &'a [u8], key: &str) -> Result<Option<&'a [u8
         let Some(member) = members.pass() else {
             return Ok(found);
         };
-        if has_key(alloc, member, key)? {
+        if member.has_key(alloc, key)? {
             found = Some(member.value);
         }
     }
     Ok(found)
-}
-
-/// Whether the member has that key.
-fn has_key(alloc: Global, member: Member<'_>, key: &str) -> Result<bool, AllocError> {
-    let written = first_value(member.key);
-    if !written.contains(&b'\\') {
-        return Ok(is_between_quotes(written, key.as_bytes()));
-    }
-    Ok(match member.name(alloc)? {
-        Some(name) => name.as_str() == key,
-        None => false,
-    })
-}
-
-/// Whether it is the text between quotes.
-fn is_between_quotes(written: &[u8], text: &[u8]) -> bool {
-    match written.strip_prefix(b"\"") {
-        Some(rest) => rest.strip_suffix(b"\"") == Some(text),
-        None => false,
-    }
 }

@@ -23,7 +23,7 @@ fn last_step(pointer: &str) -> (&str, &str) {
 }
 
 /// What is wrong at a place, behind its line and its column in the text of the document.
-fn sentence_at<J: JsonTree>(
+pub(crate) fn sentence_at<J: JsonTree>(
     alloc: Global,
     text: &[u8],
     place: &Place<'_, J>,
@@ -54,7 +54,7 @@ fn sentence_at<J: JsonTree>(
 }
 
 /// A JSON pointer as it is shown: that of a whole document is empty, and shown as a slash.
-fn shown(pointer: &str) -> &str
+pub(crate) fn shown(pointer: &str) -> &str
     ensures { result.now ≡ shown pointer.now }
 {
     if pointer.is_empty() { "/" } else { pointer }

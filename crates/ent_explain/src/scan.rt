@@ -137,6 +137,26 @@ impl Member<'_> {
     pub(crate) fn name(self, alloc: Global) -> Result<Option<String>, AllocError> {
         decoded(alloc, first_value(self.key))
     }
+
+    /// Whether a member of an object has that key.
+    pub(crate) fn has_key(self, alloc: Global, key: &str) -> Result<bool, AllocError> {
+        let written = first_value(self.key);
+        if !written.contains(&b'\\') {
+            return Ok(is_between_quotes(written, key.as_bytes()));
+        }
+        Ok(match self.name(alloc)? {
+            Some(name) => name.as_str() == key,
+            None => false,
+        })
+    }
+}
+
+/// Whether it is the text between quotes.
+fn is_between_quotes(written: &[u8], text: &[u8]) -> bool {
+    match written.strip_prefix(b"\"") {
+        Some(rest) => rest.strip_suffix(b"\"") == Some(text),
+        None => false,
+    }
 }
 
 /// The members of an object or of a list that aren't passed yet.

@@ -143,17 +143,19 @@ fn element(datatype: DataType) -> Option<Element> {
     }
 }
 
-/// Why the function takes no such arguments.
+/// Why the function takes no such arguments. Where a function can stand around an argument, it is told which one makes
+/// it fit.
 pub(crate) fn misfit(
     alloc: Global,
     function: Function,
     given: &[ArgType],
+    can_stand_around: bool,
 ) -> Result<String, AllocError> {
     let id = function.id(alloc)?;
     let name = last_word(id.as_str());
     match function {
         Function::AnyOf | Function::AllOf => higher_misfit(alloc, name, given),
-        _ => plain_misfit(alloc, name, function, given),
+        _ => plain_misfit(alloc, name, function, given, can_stand_around),
     }
 }
 
@@ -163,6 +165,7 @@ fn plain_misfit(
     name: &str,
     function: Function,
     given: &[ArgType],
+    can_stand_around: bool,
 ) -> Result<String, AllocError> {
     let Some(takes) = taken(function) else {
         return format!(in alloc; "`{name}` doesn't take these arguments");
@@ -176,7 +179,11 @@ fn plain_misfit(
         if *argument != takes.at(place) {
             let word = ordinal(alloc, place)?;
             let what = typed(*argument);
-            let remedy = remedy(alloc, takes.at(place), *argument)?;
+            let remedy = if can_stand_around {
+                remedy(alloc, takes.at(place), *argument)?
+            } else {
+                String::new(alloc)
+            };
             return format!(in alloc;
                 "`{name}` takes {wanted}; its {word} argument is {what}{remedy}"
             );
@@ -251,6 +258,6 @@ fn misfit_once(
         Function::AnyOf | Function::AllOf => {
             format!(in alloc; "`{word}` takes a function itself, and can't be applied")
         }
-        _ => plain_misfit(alloc, word, applied, given),
+        _ => plain_misfit(alloc, word, applied, given, false),
     }
 }

@@ -124,7 +124,7 @@ fn match_sentence<J: JsonTree>(asked: &Asked<'_, J>) -> Result<Option<String>, A
             )?))
         }
         None => {
-            let cause = misfit(alloc, function, &given)?;
+            let cause = misfit(alloc, function, &given, false)?;
             Ok(Some(format!(in alloc;
                 "{cause} (first comes the literal, then a value of the attribute)"
             )?))
@@ -143,7 +143,7 @@ fn apply_sentence<J: JsonTree>(asked: &Asked<'_, J>) -> Result<Option<String>, A
             if function.result_type(given.as_slice()).is_some() {
                 return Ok(None);
             }
-            Ok(Some(misfit(alloc, function, given.as_slice())?))
+            Ok(Some(misfit(alloc, function, given.as_slice(), true)?))
         }
         None => Ok(None),
     }

@@ -7,7 +7,7 @@ use Rattle.std.specs.List.{All, Contains, flat_map}
 use Rattle.std.proofs.lemmas.List.Elements.{All-nil, All-cons, All-append}
 use Rattle.serde_json.specs.Data as json
 use Rattle.serde_json.specs.Data.{Data, Items, Members, depth, items_depth, members_depth}
-use Rattle.serde_json.specs.Find.{get, get_member}
+use Rattle.serde_json.specs.Find.{as_array, get, get_member}
 use Rattle.ent_places.specs.Parts.{Row, item, rows}
 use Rattle.ent_places.specs.Places.{Spot, at_key, at_keys, at_numbers, in_list, inside, listed, scope_at, scope_in, scope_of_member}
 use Rattle.ent_places.specs.Told.{members_of}
@@ -25,13 +25,22 @@ depth-get_member k json.no_members e n le h = absurd cc
 depth-get_member k (json.member l d ms) e n le h =
     found_depth (slice_cmp nat_cmp k l) (get_member k ms) None d e n (λ x q. depth-get_member k ms x n (omega arith) q) (omega arith) h
 
-depth-get : (k : List ℕ) (d e : Data) → get k d ≡ Some e → depth e < depth d
+pub depth-get : (k : List ℕ) (d e : Data) → get k d ≡ Some e → depth e < depth d
 depth-get k json.null e h = absurd cc
 depth-get k (json.boolean b) e h = absurd cc
 depth-get k (json.number n) e h = absurd cc
 depth-get k (json.string s) e h = absurd cc
 depth-get k (json.array ds) e h = absurd cc
 depth-get k (json.object ms) e h = omega (arith, depth-get_member k ms e (members_depth ms) (omega arith) h)
+
+-- the members of an array
+pub depth-as_array : (d : Data) (ds : Items) → as_array d ≡ Some ds → items_depth ds < depth d
+depth-as_array json.null ds h = absurd cc
+depth-as_array (json.boolean b) ds h = absurd cc
+depth-as_array (json.number n) ds h = absurd cc
+depth-as_array (json.string s) ds h = absurd cc
+depth-as_array (json.array es) ds h = let same : es ≡ ds = cc in subst (λ (x : Items). items_depth x < suc (items_depth es)) same (omega arith)
+depth-as_array (json.object ms) ds h = absurd cc
 
 -- data that lies less deep than n
 abbrev IsBelow : ℕ → Data → Type 0

@@ -5,11 +5,15 @@ pub mod Gathered
 pub mod Inside
 pub mod Judged
 pub mod LeafLemmas
+pub mod Leading
 pub mod LedLemmas
 pub mod Lightly
 pub mod ListLemmas
 pub mod Named
 pub mod NotedLemmas
+pub mod Noting
+pub mod OwnLemmas
 pub mod Ranks
 pub mod Resolved
 pub mod Smallest
+pub mod Telling

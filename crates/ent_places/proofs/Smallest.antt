@@ -42,7 +42,7 @@ pub first_told : (d : Data) (f : DocFault) → document_of d ≡ Err f → first
 unfolding document_of
 first_told d f h = first_of_read (raw_of d) f h
 
-same_code : (f : DocFault) → (sub_code f == sub_code f) ≡ true
+pub same_code : (f : DocFault) → (sub_code f == sub_code f) ≡ true
 same_code fault.Form = refl
 same_code fault.Identifier = refl
 same_code fault.Version = refl

@@ -1,3 +1,4 @@
+pub mod Faults
 pub mod Led
 pub mod Parts
 pub mod Places

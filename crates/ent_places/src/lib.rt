@@ -2,11 +2,13 @@
 #![tactic(auto)]
 
 mod clear;
+mod faults;
 mod faulty;
 mod leaf;
 mod led;
 mod members;
 mod outcome;
+mod own;
 mod part;
 mod parts_told;
 mod place;
@@ -16,8 +18,11 @@ mod surroundings;
 mod suspects;
 mod told_expressions;
 mod told_lists;
+mod weight;
 
+pub use faults::{Faults, MOST_FAULTS, leads_to_one, places_of};
 pub use faulty::is_faulty;
+pub use own::Faulty;
 pub use part::Part;
 pub use parts_told::{scope_told, told};
 pub use place::{Place, place_of};

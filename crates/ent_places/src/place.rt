@@ -5,6 +5,7 @@ ghost use Rattle.std.specs.Prelude.{option_map};
 ghost use Rattle.std.specs.Prelude.{string_bytes, true};
 ghost use Rattle.serde_json.specs.Find.{get};
 ghost use Rattle.ent_polform.specs.Form.{document_of};
+ghost use Rattle.ent_places.specs.Faults.{IsFirst, IsLedTo};
 ghost use Rattle.ent_places.specs.Parts.{item};
 ghost use Rattle.ent_places.specs.proofs_only.Clear.{AreMarked, IsMarked, IsMarkedAs};
 ghost use Rattle.ent_places.specs.proofs_only.Rows.{links_in};
@@ -48,7 +49,7 @@ struct Known {
 
 impl<'a, J: JsonTree> Place<'a, J> {
     /// The place of a whole document.
-    fn whole(alloc: Global, json: &'a J) -> Place<'a, J>
+    pub(crate) fn whole(alloc: Global, json: &'a J) -> Place<'a, J>
         ensures spot { spot_of J.content result ≡ whole (J.content json.now) }
         ensures clear { result.scope.clear ≡ false }
     {
@@ -82,7 +83,7 @@ impl<'a, J: JsonTree> Place<'a, J> {
     }
 
     /// For each of the definitions that this part is a list of the numbers of those that refer to its variable.
-    fn links(&self, alloc: Global) -> Result<Vec<Vec<usize>>, AllocError>
+    pub(crate) fn links(&self, alloc: Global) -> Result<Vec<Vec<usize>>, AllocError>
         ensures { IfOk result (λ v. map (λ row. row.items) v.items
             ≡ links_in self.now.part (listed (Some (J.content self.now.json.now)))) }
     {
@@ -116,7 +117,7 @@ impl<'a, J: JsonTree> Place<'a, J> {
     }
 
     /// The definitions around the member of that number of this list.
-    fn scope_of_member(
+    pub(crate) fn scope_of_member(
         &self,
         alloc: Global,
         links: &[Vec<usize>],
@@ -253,7 +254,7 @@ impl<'a, J: JsonTree> Place<'a, J> {
     }
 
     /// The same place, in a scope that isn't marked.
-    fn unmarked(&self, alloc: Global) -> Result<Place<'a, J>, AllocError>
+    pub(crate) fn unmarked(&self, alloc: Global) -> Result<Place<'a, J>, AllocError>
         ensures same { IfOk result (λ p. spot_of J.content p ≡ spot_of J.content self.now) }
         ensures unmarked { IfOk result (λ p. p.scope.clear ≡ false) }
     {
@@ -295,7 +296,7 @@ fn is_suspect(suspects: &[bool], number: usize) -> bool
 }
 
 /// The definitions around what stands at a key and is for that, by those around what stands in its object.
-fn scope_at<'a, J: JsonTree>(
+pub(crate) fn scope_at<'a, J: JsonTree>(
     alloc: Global,
     part: Part,
     scope: &Scope<'a, J>,
@@ -321,7 +322,7 @@ fn scope_at<'a, J: JsonTree>(
 }
 
 /// The JSON pointer of what stands at that name inside of what stands at `place`.
-fn pointer_to(alloc: Global, place: &str, name: &str) -> Result<String, AllocError>
+pub(crate) fn pointer_to(alloc: Global, place: &str, name: &str) -> Result<String, AllocError>
     ensures { IfOk result (λ p. string_bytes p ≡ place.now ++ codes "/" ++ name.now) }
 {
     let mut pointer = String::from_str(alloc, place)?;
@@ -338,7 +339,8 @@ fn smallest<'a, J: JsonTree>(
 ) -> Result<Place<'a, J>, AllocError>
     requires faulty { has_fault fault (spot_of J.content place) ≡ true }
     requires marked { IsMarked J.content fault place.scope }
-    ensures { IfOk result (λ p. IsSmallest fault (spot_of J.content p) (spot_of J.content place.entry)) }
+    ensures smallest { IfOk result (λ p. IsSmallest fault (spot_of J.content p) (spot_of J.content place.entry)) }
+    ensures leads { IfOk result (λ p. IsLedTo fault (spot_of J.content p) (spot_of J.content place.entry)) }
 {
     match place.inside(alloc, fault)? {
         None => Ok(place),
@@ -358,7 +360,8 @@ pub fn place_of<'a, J: JsonTree>(
     fault: DocFault,
 ) -> Result<Place<'a, J>, AllocError>
     requires { document_of (J.content json.now) ≡ Err fault }
-    ensures { IfOk result (λ p. StandsAt fault (spot_of J.content p) (J.content json.now)) }
+    ensures stands { IfOk result (λ p. StandsAt fault (spot_of J.content p) (J.content json.now)) }
+    ensures first { IfOk result (λ p. IsFirst fault (spot_of J.content p) (J.content json.now)) }
 {
     smallest(alloc, Place::whole(alloc, json), fault)
 }

@@ -4,7 +4,7 @@
 
 ghost use Rattle.std.specs.Prelude.{◌≡◌, ◌⊎◌};
 
-use ent_explain::explain;
+use ent_explain::{explain, explain_all, warnings};
 use std::alloc::Global;
 use std::io;
 use std::io::{BufRead, BufReader, BufWriter, Write};
@@ -31,6 +31,34 @@ fn send<W: Write>(writer: &mut W, bytes: &[u8]) -> Result<(), Broken> {
     }
 }
 
+/// Writes a line of what is told, behind what it begins with.
+fn send_line<W: Write>(writer: &mut W, start: &[u8], told: &str) -> Result<(), Broken> {
+    send(writer, start)?;
+    send(writer, told.as_bytes())?;
+    send(writer, b"\n")
+}
+
+/// Writes the other lines that are told of a document, of which the first is given.
+fn tell_others<W: Write>(
+    alloc: Global,
+    first: &str,
+    text: &[u8],
+    writer: &mut W,
+) -> Result<(), Broken> {
+    let Ok(all) = explain_all(alloc, text) else {
+        return Err(Broken);
+    };
+    for (number, line) in all.lines.iter().enumerate() {
+        if number > 0 || line.as_str() != first {
+            send_line(writer, b"and ", line.as_str())?;
+        }
+    }
+    if all.is_cut {
+        send(writer, b"and more\n")?;
+    }
+    Ok(())
+}
+
 /// Writes the line that names a document, and what is wrong with the document.
 fn tell<W: Write>(
     alloc: Global,
@@ -42,11 +70,21 @@ fn tell<W: Write>(
         return Err(Broken);
     };
     send(writer, heading)?;
-    match told {
-        Some(told) => send(writer, told.as_str().as_bytes())?,
-        None => send(writer, b"nothing")?,
+    let first = match &told {
+        Some(told) => told.as_str(),
+        None => "nothing",
+    };
+    send_line(writer, b"", first)?;
+    if told.is_some() {
+        tell_others(alloc, first, text, writer)?;
     }
-    send(writer, b"\n")
+    let Ok(warnings) = warnings(alloc, text) else {
+        return Err(Broken);
+    };
+    for line in &warnings {
+        send_line(writer, b"warning: ", line.as_str())?;
+    }
+    Ok(())
 }
 
 /// Says of each document of the reader what is wrong with it.
