@@ -1,10 +1,12 @@
 -- Members of lists and objects: how many there are, and how deep they nest.
-use Rattle.std.proofs.Common.{◌≡◌, ℕ, zero, suc, ◌<◌, ◌≤◌, List, [], ◌∷◌, length, get_or, Bool, true, false, ◌&&◌, ◌==◌, Option, Some, None, refl, ap, ◌∙◌, arith}
-use Rattle.serde_json.specs.Data.{Members, depth, items_depth, members_depth}
+use Rattle.std.proofs.Common.{◌≡◌, ℕ, zero, suc, ◌<◌, ◌≤◌, List, [], ◌∷◌, length, drop, decimal, get_or, Bool, true, false, ◌&&◌, ◌==◌, Option, Some, None, refl, ap, ◌∙◌, arith}
+use Rattle.serde_json.specs.Data.{Members, no_items, depth, items_depth, members_depth}
 use Rattle.serde_json.specs.View.{items_view, members_view, view}
 use Rattle.serde_json.specs.declared.value.Value.{Value}
 use Rattle.serde_json.proofs.Views.{Entry, members_len-members_view}
+use Rattle.std.proofs.lemmas.List.{drop_all, length-drop}
 use Rattle.ent_matching.specs.Matching.{alike, as_many, fits}
+use Rattle.ent_matching.specs.Places.{below, item_places}
 
 -- an object has as many members as these
 pub as_many_members : (whole : Bool) (es fs : List Entry) (o : Option Members) (n m : ℕ) → whole ≡ true → Some (members_view fs) ≡ o
@@ -35,3 +37,21 @@ unlike [] [] h = absurd (h refl)
 unlike [] (w ∷ ws) h = refl
 unlike (v ∷ vs) [] h = refl
 unlike (v ∷ vs) (w ∷ ws) h = ap (λ b. fits true (view v) (view w) && b) (unlike vs ws (λ e. h (ap suc e))) ∙ and_false (fits true (view v) (view w))
+
+-- members that are expected where none is left
+missing_by : (place : List ℕ) (n : ℕ) (vs : List Value) → 0 < length vs → item_places n place (items_view vs) no_items ≡ below place (decimal n) ∷ []
+missing_by place n [] some = absurd (omega (arith, some))
+missing_by place n (v ∷ vs) some = refl
+
+-- the place of a member that is expected past all of a list
+pub missing_past : (place : List ℕ) (vs ws : List Value) (i : ℕ) → i < length vs → length ws ≤ i
+    → item_places i place (items_view (drop i vs)) (items_view (drop i ws)) ≡ below place (decimal i) ∷ []
+missing_past place vs ws i lt past = let left = length-drop i vs in rw (drop_all i ws past) (missing_by place i (drop i vs) (omega (arith, left, lt)))
+
+-- the place of a member past all that are expected
+further_by : (place : List ℕ) (n : ℕ) (vs : List Value) → 0 < length vs → item_places n place no_items (items_view vs) ≡ below place (decimal n) ∷ []
+further_by place n [] some = absurd (omega (arith, some))
+further_by place n (v ∷ vs) some = refl
+
+pub further_past : (place : List ℕ) (vs : List Value) (i : ℕ) → i < length vs → item_places i place no_items (items_view (drop i vs)) ≡ below place (decimal i) ∷ []
+further_past place vs i lt = let left = length-drop i vs in further_by place i (drop i vs) (omega (arith, left, lt))

@@ -1,11 +1,13 @@
 //! Texts that are compared as JSON.
 
-ghost use Rattle.std.specs.Prelude.{◌≡◌, IfOk, option_map, true, false};
+ghost use Rattle.std.specs.Prelude.{◌≡◌, IfOk, map, option_map, true, false};
 ghost use Rattle.serde_json.specs.View.{view};
 ghost use Rattle.ent_json.specs.Line.{data_of};
 ghost use Rattle.ent_matching.specs.Matching.{both_fit, is_part, is_same};
+ghost use Rattle.ent_matching.specs.Places.{places_in};
 
 use crate::fits::fits;
+use crate::placing::push_places;
 use serde_json::Value;
 use std::alloc::{AllocError, Global};
 use std::str;
@@ -62,4 +64,30 @@ pub fn is_part(alloc: Global, expected: &[u8], text: &[u8]) -> Result<bool, Allo
     ensures { IfOk result (λ part. part ≡ is_part expected.now text.now) }
 {
     both_fit(alloc, false, expected, text)
+}
+
+/// The places, as JSON pointers (RFC 6901), at which a text isn't what is expected: as [`is_same`] has it where the whole
+/// is wanted, and else as [`is_part`] does. Of a list that is a part, a place is that of a member which is expected, by its
+/// number there. None where one of the texts isn't JSON.
+///
+/// # Errors
+///
+/// `AllocError` if memory runs out.
+pub fn places(
+    alloc: Global,
+    whole: bool,
+    expected: &[u8],
+    text: &[u8],
+) -> Result<Vec<Vec<u8>>, AllocError>
+    ensures { IfOk result (λ v. map (λ p. p.items) v.items ≡ places_in whole expected.now text.now) }
+{
+    let mut found = Vec::new(alloc);
+    let Some(expected) = value_of(alloc, expected)? else {
+        return Ok(found);
+    };
+    let Some(value) = value_of(alloc, text)? else {
+        return Ok(found);
+    };
+    push_places(alloc, whole, &[], &expected, &value, &mut found)?;
+    Ok(found)
 }

@@ -129,7 +129,7 @@ fn are_among(items: &[Value], others: &[Value]) -> bool
 
 /// Whether a value is a part of one of these.
 #[cycle(fits)]
-fn is_among(item: &Value, others: &[Value]) -> bool
+pub(crate) fn is_among(item: &Value, others: &[Value]) -> bool
     ensures { result ≡ any_item (fits false (view item.now)) (items_view others.now) }
 {
     for other in others {

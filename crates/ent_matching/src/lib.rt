@@ -3,6 +3,7 @@
 
 mod compared;
 mod fits;
+mod placing;
 
-pub use compared::{is_part, is_same};
+pub use compared::{is_part, is_same, places};
 pub use fits::have_same_data;

@@ -1,26 +1,13 @@
 -- Replies that are compared with those that are expected, one after the other.
-use Rattle.std.proofs.Common.{◌≡◌, ◌<◌, ◌+◌, ◌++◌, ◌&&◌, ℕ, List, ◌∷◌, length, drop, get_or, Bool, true, false, Option, Result, Ok, Err, refl, sym, ap, ◌∙◌, append_assoc}
-use Rattle.std.specs.Prelude.{⊤}
-use Rattle.std.specs.List.{after_first, before_first}
+use Rattle.std.proofs.Common.{◌≡◌, ◌<◌, ◌+◌, ◌++◌, ◌&&◌, ℕ, List, [], ◌∷◌, length, drop, take, map, get_or, Bool, true, false, Option, refl, sym, ap, ◌∙◌, subst, append_assoc, append-nil, codes}
+use Rattle.std.specs.List.{after_first, before_first, flat_map}
 use Rattle.std.specs.Io.KnownBytes.{Appends}
 use Rattle.std.proofs.KnownBytes.{Appends-trans}
-use Rattle.std.proofs.lemmas.List.{drop_more}
+use Rattle.std.proofs.lemmas.List.{drop_more, map_push, take_more}
+use Rattle.std.proofs.lemmas.List.Concat.{flat_map-append}
 use Rattle.ent_sessions.specs.declared.session.Expected.{Expected}
 use Rattle.ent_sessions.specs.declared.session.Step.{Step}
-use Rattle.ent_line.specs.Pieces.{Sends}
-use Rattle.ent_line.specs.declared.fault.ServeFault.{ServeFault}
-use Rattle.ent_program.specs.Comparing.{behind, differences, each, is_newline, told_of_one}
-
--- two parts, of which the second may be written in part
-pub both_sent : (before mid after : Option (List ℕ)) (a b : List ℕ) (r : Result ⊤ ServeFault) → Appends before mid a → Sends mid after b r
-    → Sends before after (a ++ b) r
-both_sent before mid after a b (Ok done) p q = Appends-trans before mid after a b p q
-both_sent before mid after a b (Err e) p q =
-    (q.0, a ++ q.1, q.2, ap (λ t. a ++ t) q.3 ∙ sym (append_assoc a q.1 q.2), Appends-trans before mid after a q.1 p q.4)
-
--- a front of the first of two parts
-pub first_sent : (before after : Option (List ℕ)) (a b : List ℕ) (e : ServeFault) → Sends before after a (Err e) → Sends before after (a ++ b) (Err e)
-first_sent before after a b e q = (q.0, q.1, q.2 ++ b, ap (λ t. t ++ b) q.3 ∙ append_assoc q.1 q.2 b, q.4)
+use Rattle.ent_program.specs.Comparing.{behind, differences, each, is_newline, places_told, told_at, told_of_one}
 
 -- a front of what is told of the replies was written, and what is left is told of these steps and replies
 abbrev pub IsTold : Option (List ℕ) → Option (List ℕ) → List ℕ → List Step → List ℕ → List Step → List ℕ → Type 0
@@ -67,3 +54,15 @@ module _ (all : List Step) (replies : List ℕ) (i : ℕ) (step : Step) (rest re
 
   pub behind_more : behind (drop i all) rest ≡ behind all replies → behind (drop (i + 1) all) others ≡ behind all replies
   behind_more same = ap (behind (drop (i + 1) all)) more ∙ sym (ap (λ steps. behind steps rest) here) ∙ same
+
+-- one more place is told
+pub places_more : {X : Type 0} (all : List X) (f : X → List ℕ) (name : List ℕ) (number i : ℕ) (x : X) (before now next : Option (List ℕ))
+    → i < length all → x ≡ get_or all i x → Appends before now (places_told name number (map f (take i all)))
+    → Appends now next (told_at name number (codes ": differs at ") (f x)) → Appends before next (places_told name number (map f (take (i + 1) all)))
+places_more all f name number i x before now next lt is told more =
+    let line : List ℕ → List ℕ = λ place. told_at name number (codes ": differs at ") place in
+    subst (λ bytes. Appends before next bytes)
+    (ap (λ bytes. flat_map line (map f (take i all)) ++ bytes) (sym (append-nil (line (f x))))
+    ∙ sym (flat_map-append line (map f (take i all)) (f x ∷ []))
+    ∙ ap (flat_map line) (sym (map_push f (take i all) x) ∙ ap (map f) (ap (λ y. take i all ++ y ∷ []) is ∙ sym (take_more all i x lt))))
+    (Appends-trans before now next (flat_map line (map f (take i all))) (line (f x)) told more)

@@ -1,5 +1,7 @@
 pub mod CheckAsked
 pub mod Compared
+pub mod Differences
+pub mod Headings
 pub mod Rows
 pub mod Starting
 pub mod Tests

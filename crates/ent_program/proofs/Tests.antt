@@ -16,7 +16,7 @@ use Rattle.ent_line.specs.Lines.{ended}
 use Rattle.ent_line.specs.declared.fault.ServeFault.{ServeFault}
 use Rattle.ent_line.specs.declared.fault.ServeFault.TheVariants as fault
 use Rattle.ent_program.specs.Comparing.{behind, differences, pass, told_at}
-use Rattle.ent_program.specs.Testing.{AreRepliesTo, AreTested, Ran, Tests, TestsAll, TestsEach, TestsSpelled, asked, chosen, is_chosen, mistake_text, passed, passes, sent_to, sure, tally_of, told_of, told_of_test, with_one}
+use Rattle.ent_program.specs.Testing.{AreRepliesTo, AreTested, Ran, Tests, TestsAll, TestsEach, TestsSpelled, asked, chosen, is_chosen, misplaced_line, passed, passes, sent_to, sure, tally_of, told_of, told_of_test, with_one}
 use Rattle.ent_program.specs.declared.testing.Plan.{Plan}
 use Rattle.ent_program.specs.declared.testing.Tally.{Tally}
 
@@ -51,12 +51,12 @@ refusing name plan session replies before mid after a judged refused first last 
     rw (sym judged ∙ refused, append-nil (differences plan.state_name.now plan.state.now replies)) (Appends-trans before mid after _ _ first last)
 
 -- a line that can't stand where it stands was told
-pub misplaced_told : (plan : Plan) (name bytes said : List ℕ) (before after : Option (List ℕ)) (tally : Tally) (number : ℕ) (why : Mistake)
-    → (unread.Form number why ≡ unread.Memory) ⊎ (sessions_of bytes ≡ Err (unread.Form number why)) → said ≡ mistake_text why
-    → Appends before after (told_at name number (codes ": this line can't stand here: ") said) → tally ≡ record { passed = 0; failed = 1 }
+pub misplaced_told : (plan : Plan) (name bytes : List ℕ) (before after : Option (List ℕ)) (tally : Tally) (number : ℕ) (why : Mistake)
+    → (unread.Form number why ≡ unread.Memory) ⊎ (sessions_of bytes ≡ Err (unread.Form number why))
+    → Appends before after (misplaced_line name number why) → tally ≡ record { passed = 0; failed = 1 }
     → TestsSpelled plan name (sessions_of bytes) before after tally
-misplaced_told plan name bytes said before after tally number why (inl other) same told failed = absurd cc
-misplaced_told plan name bytes said before after tally number why (inr is) same told failed = rw is (failed, rw same at told)
+misplaced_told plan name bytes before after tally number why (inl other) told failed = absurd cc
+misplaced_told plan name bytes before after tally number why (inr is) told failed = rw is (failed, told)
 
 -- sessions that are tested, of which there is one
 pub all_tested : (plan : Plan) (name : List ℕ) (sessions : List Session) (before after : Option (List ℕ)) (tally : Tally) → (sessions ≡ [] → ⊥)
@@ -89,7 +89,7 @@ pub with_counts : (tally after : Tally) (b : Bool) (n : ℕ) → after ≡ with_
 with_counts tally after true n is so = let e = ap (λ t. t.passed + t.failed) is in omega (arith, so, e)
 with_counts tally after false n is so = let e = ap (λ t. t.passed + t.failed) is in omega (arith, so, e)
 
-abbrev one_if : Bool → Session → List Session
+abbrev pub one_if : Bool → Session → List Session
 one_if true session = session ∷ []
 one_if false session = []
 
@@ -98,7 +98,7 @@ filter_one p session true is = rw is refl
 filter_one p session false is = rw is refl
 
 -- the sessions that run of those up to one more
-chosen_more : (plan : Plan) (all : List Session) (i : ℕ) (session : Session) (b : Bool) → i < length all → session ≡ get_or all i session
+pub chosen_more : (plan : Plan) (all : List Session) (i : ℕ) (session : Session) (b : Bool) → i < length all → session ≡ get_or all i session
     → is_chosen plan.only session ≡ b → chosen plan (take (i + 1) all) ≡ chosen plan (take i all) ++ one_if b session
 chosen_more plan all i session b lt is runs =
     ap (filter (is_chosen plan.only)) (take_more all i session lt ∙ ap (λ s. take i all ++ s ∷ []) (sym is))

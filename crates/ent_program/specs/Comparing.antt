@@ -1,7 +1,8 @@
 -- Replies beside those that a file of tests expects.
-use Rattle.std.specs.Prelude.{ℕ, ◌==◌, ◌&&◌, ◌||◌, Bool, true, not, List, [], ◌∷◌, ◌++◌, Option, Some, None, bytes_eq, codes, decimal, if◌then◌else◌}
-use Rattle.std.specs.List.{after_first, before_first}
+use Rattle.std.specs.Prelude.{ℕ, ◌==◌, ◌&&◌, ◌||◌, Bool, true, false, not, List, [], ◌∷◌, ◌++◌, Option, Some, None, bytes_eq, codes, decimal, if◌then◌else◌}
+use Rattle.std.specs.List.{after_first, before_first, flat_map}
 use Rattle.ent_matching.specs.Matching.{is_part, is_same}
+use Rattle.ent_matching.specs.Places.{places_in}
 use Rattle.ent_sessions.specs.Cut.{begins}
 use Rattle.ent_sessions.specs.declared.session.Comparison.{Comparison}
 use Rattle.ent_sessions.specs.declared.session.Comparison.TheVariants.{Bytes, Data, Part}
@@ -73,10 +74,26 @@ wanted None = codes "no refusal"
 abbrev pub told_at : List ℕ → ℕ → List ℕ → List ℕ → List ℕ
 told_at name number word said = name ++ (codes ":" ++ (decimal number ++ (word ++ (said ++ codes "\n"))))
 
--- what is told of a reply that isn't as a step expects: what was expected, and what was replied
+-- the places at which a reply isn't as a text says, where they are compared as JSON
+abbrev pub places_by : Comparison → List ℕ → List ℕ → List (List ℕ)
+places_by Bytes text reply = []
+places_by Data text reply = places_in true text reply
+places_by Part text reply = places_in false text reply
+
+-- the same of what is expected, if anything is
+abbrev pub places_of : Option Expected → List ℕ → List (List ℕ)
+places_of None reply = []
+places_of (Some expected) reply = places_by expected.comparison expected.text reply
+
+-- the lines on these places
+abbrev pub places_told : List ℕ → ℕ → List (List ℕ) → List ℕ
+places_told name number places = flat_map (λ place. told_at name number (codes ": differs at ") place) places
+
+-- what is told of a reply that isn't as a step expects: what was expected, what was replied, and where they differ
 abbrev pub difference : List ℕ → Step → List ℕ → List ℕ
 difference name step reply =
-    told_at name step.number (expected_word step.expected) (wanted step.expected) ++ told_at name step.number (codes ": replied ") reply
+    told_at name step.number (expected_word step.expected) (wanted step.expected)
+    ++ (told_at name step.number (codes ": replied ") reply ++ places_told name step.number (places_of step.expected reply))
 
 -- what is told of a reply: nothing where it is as the step expects
 abbrev pub told_of_one : List ℕ → Step → List ℕ → List ℕ

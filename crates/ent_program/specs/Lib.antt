@@ -1,6 +1,8 @@
 pub mod Checking
 pub mod Comparing
 pub mod Declaring
+pub mod Differing
+pub mod Listing
 pub mod Options
 pub mod Sentences
 pub mod Sources

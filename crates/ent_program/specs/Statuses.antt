@@ -6,6 +6,8 @@ use Rattle.ent_dump.specs.declared.fault.LinesFault.{LinesFault}
 use Rattle.ent_dump.specs.declared.fault.LinesFault.TheVariants as dump
 use Rattle.ent_line.specs.declared.fault.ServeFault.{ServeFault}
 use Rattle.ent_line.specs.declared.fault.ServeFault.TheVariants as fault
+use Rattle.ent_program.specs.declared.differing.Ending.{Ending}
+use Rattle.ent_program.specs.declared.differing.Ending.TheVariants as compared
 use Rattle.ent_program.specs.declared.testing.Tally.{Tally}
 use Rattle.ent_program.specs.declared.words.WordsFault.{WordsFault}
 use Rattle.ent_program.specs.declared.words.WordsFault.TheVariants as words
@@ -43,6 +45,13 @@ lines_status (Err e) = lines_fault_status e
 abbrev pub test_status : Result Tally ServeFault → ℕ
 test_status (Ok tally) = if tally.failed == 0 && nat_lt 0 tally.passed then 0 else 1
 test_status (Err e) = fault_status e
+
+-- states that don't differ give 0, those that do 1, a refused line 2, and a fault its own status
+abbrev pub compare_status : Result Ending ServeFault → ℕ
+compare_status (Ok compared.Same) = 0
+compare_status (Ok compared.Different) = 1
+compare_status (Ok compared.Refused) = 2
+compare_status (Err e) = fault_status e
 
 -- a word of the command line that isn't UTF-8 gives 1, want of memory 3
 abbrev pub words_status : WordsFault → ℕ

@@ -14,6 +14,7 @@ use crate::sources::Source;
 use crate::status::{
     REFUSED, check_status, lines_status, serve_status, status_of, usage_status, words_status,
 };
+use crate::tabling::compare_states;
 use crate::together::check_together;
 use crate::trying::run_tests;
 use crate::watching::Watched;
@@ -226,6 +227,7 @@ fn act<R: Files + Input + Print + Eprint + AllocGlobal>(
             check_together(rt, words, declared, stored)
         }
         Some(Task::Lines) => write_lines(rt),
+        Some(Task::Compare(states)) => compare_states(rt, states),
         Some(Task::Test(tests)) => run_tests(rt, tests),
         None => REFUSED,
     }

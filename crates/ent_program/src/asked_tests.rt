@@ -3,11 +3,11 @@
 ghost use Rattle.std.specs.Prelude.{◌≡◌, codes, option_map, IfNone, IfSome, List, ℕ, Some};
 ghost use Rattle.clap.specs.Matches.{found_of};
 ghost use Rattle.clap.specs.Walk.{all_of, first_of, rows_of};
-ghost use Rattle.ent_program.specs.Options.{AreAsked};
+ghost use Rattle.ent_program.specs.Options.{AreAsked, is_given};
 ghost use Rattle.ent_program.specs.Sources.{path_named, path_of};
 
 use crate::sources::Source;
-use crate::words::{FILE, RUN, STATE};
+use crate::words::{FILE, LIST, RUN, STATE};
 use clap::ArgMatches;
 
 /// Which tests are asked for.
@@ -19,6 +19,18 @@ pub struct AskedTests<'m, 'a> {
     pub state: Option<Source<'a>>,
     /// What the tests are called that run, where not all do.
     pub only: Option<&'a str>,
+    /// Whether they are listed, and none runs.
+    pub listed: bool,
+}
+
+/// Whether an option without a value is given.
+pub(crate) fn is_given(options: &ArgMatches<'_>, option: &str) -> bool
+    ensures { result ≡ is_given (first_of option.now (rows_of (found_of options.now))) }
+{
+    match options.get_str(option) {
+        Some(text) => text == "true",
+        None => false,
+    }
 }
 
 /// The source that the option for the lines with which each test begins names, if it is given.
@@ -50,6 +62,7 @@ pub(crate) fn asked_tests<'m, 'a: 'm>(options: &'m ArgMatches<'a>) -> Option<Ask
             files,
             state: state_of(options),
             only: only_of(options),
+            listed: is_given(options, LIST),
         }),
         None => None,
     }

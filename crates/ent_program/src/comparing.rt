@@ -1,16 +1,16 @@
 //! Replies beside those that a file of tests expects.
 
-ghost use Rattle.std.specs.Prelude.{◌≡◌, ◌≢◌, true, IfErr, IfOk, OnOk};
+ghost use Rattle.std.specs.Prelude.{◌≡◌, ◌≢◌, true, IfErr, IfOk, OnOk, map};
 ghost use Rattle.std.specs.Io.KnownBytes.{Appends};
 ghost use Rattle.std.specs.List.{after_first, before_first};
 ghost use Rattle.ent_line.specs.Pieces.{Sends};
 ghost use Rattle.ent_line.specs.declared.fault.ServeFault.TheVariants.{Read};
 ghost use Rattle.ent_program.specs.Comparing.{are_sure, behind, comparison_word, difference, differences};
 ghost use Rattle.ent_program.specs.Comparing.{expected_word, is_as, is_newline, is_sure, is_wanting, meets};
-ghost use Rattle.ent_program.specs.Comparing.{pass, told_at, told_of_one, wanted};
+ghost use Rattle.ent_program.specs.Comparing.{pass, places_of, places_told, told_at, told_of_one, wanted};
 
 use ent_line::{ServeFault, send_all};
-use ent_matching::{is_part, is_same};
+use ent_matching::{is_part, is_same, places};
 use ent_sessions::{Comparison, Expected, Step};
 use itoa::Buffer;
 use std::alloc::{AllocError, Global};
@@ -26,7 +26,7 @@ const WANTING: &[u8] = b"{\"refused\":15}";
 const NO_REFUSAL: &[u8] = b"no refusal";
 
 /// The first reply, and those behind it.
-fn split_reply(replies: &[u8]) -> (&[u8], &[u8])
+pub(crate) fn split_reply(replies: &[u8]) -> (&[u8], &[u8])
     ensures first { result.0.now ≡ before_first is_newline replies.now }
     ensures behind { result.1.now ≡ after_first is_newline replies.now }
 {
@@ -117,17 +117,54 @@ pub(crate) fn tell<'v, W: Write>(
     send_all(writer, &[name, colon, number, word, said, end])
 }
 
-/// Writes what a step of the file expected, and what was replied.
+/// The places at which a reply isn't as a step expects, where they are compared as JSON.
+fn places_of(alloc: Global, step: &Step, reply: &[u8]) -> Result<Vec<Vec<u8>>, AllocError>
+    ensures { IfOk result (λ v. map (λ p. p.items) v.items ≡ places_of step.now.expected reply.now) }
+{
+    let Some(expected) = &step.expected else {
+        return Ok(Vec::new(alloc));
+    };
+    let text = expected.text.as_slice();
+    match expected.comparison {
+        Comparison::Bytes => Ok(Vec::new(alloc)),
+        Comparison::Data => places(alloc, true, text, reply),
+        Comparison::Part => places(alloc, false, text, reply),
+    }
+}
+
+/// Writes a line on each of these places.
+fn tell_places<W: Write>(
+    name: &str,
+    number: u64,
+    places: &[Vec<u8>],
+    writer: &mut W,
+) -> Result<(), ServeFault>
+    ensures told { OnOk result (Appends (W.contents writer.old) (W.contents writer.new)
+        (places_told name.now number (map (λ p. p.items) places.now))) }
+    ensures fault { IfErr result (λ e. e ≢ Read) }
+{
+    for place in places {
+        tell(name, number, ": differs at ", place.as_slice(), writer)?;
+    }
+    Ok(())
+}
+
+/// Writes what a step of the file expected, what was replied, and where they differ.
 fn tell_difference<W: Write>(
+    alloc: Global,
     name: &str,
     step: &Step,
     reply: &[u8],
     writer: &mut W,
 ) -> Result<(), ServeFault>
-    ensures { Sends (W.contents writer.old) (W.contents writer.new) (difference name.now step.now reply.now) result }
+    ensures told { OnOk result (Appends (W.contents writer.old) (W.contents writer.new)
+        (difference name.now step.now reply.now)) }
+    ensures fault { IfErr result (λ e. e ≢ Read) }
 {
+    let places = places_of(alloc, step, reply)?;
     tell(name, step.number, expected_word(step), wanted(step), writer)?;
-    tell(name, step.number, ": replied ", reply, writer)
+    tell(name, step.number, ": replied ", reply, writer)?;
+    tell_places(name, step.number, places.as_slice(), writer)
 }
 
 /// Writes the reply to a step if it isn't as the step expects, and says whether it is. Where it isn't for want of
@@ -151,7 +188,7 @@ fn compare_one<W: Write>(
     if is_wanting(reply) {
         return Err(ServeFault::Memory);
     }
-    tell_difference(name, step, reply, writer)?;
+    tell_difference(alloc, name, step, reply, writer)?;
     Ok(false)
 }
 

@@ -3,15 +3,19 @@
 #![tactic(auto)]
 
 mod acting;
+mod asked_states;
 mod asked_tests;
 mod checking;
 mod comparing;
 mod declaring;
+mod differing;
+mod listing;
 mod options;
 mod running;
 mod sentences;
 mod sources;
 mod status;
+mod tabling;
 mod testing;
 mod together;
 mod trying;
@@ -19,9 +23,12 @@ mod watching;
 mod words;
 
 pub use acting::run;
+pub use asked_states::AskedStates;
 pub use asked_tests::AskedTests;
 pub use checking::{FILE_LIMIT, FileFault, check_from};
 pub use declaring::DeclaredFault;
+pub use differing::{Ending, Form, Lines, compare_from};
+pub use listing::list_tests;
 pub use options::{Modules, Task, task_of};
 pub use running::serve_from;
 pub use sentences::{
@@ -30,7 +37,8 @@ pub use sentences::{
 };
 pub use sources::Source;
 pub use status::{
-    check_status, lines_status, serve_status, status_of, test_status, usage_status, words_status,
+    check_status, compare_status, lines_status, serve_status, status_of, test_status, usage_status,
+    words_status,
 };
 pub use testing::{Plan, Tally, send_tally, test_from};
 pub use words::{WordsFault, command, given_words};

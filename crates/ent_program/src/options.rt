@@ -8,6 +8,7 @@ ghost use Rattle.ent_program.specs.Options.{AreFew, AreModules, HasFew, IsCheckO
 ghost use Rattle.ent_program.specs.Sources.{path_named, path_of};
 ghost use Rattle.ent_program.specs.Starting.{IsFew};
 
+use crate::asked_states::{AskedStates, asked_states};
 use crate::asked_tests::{AskedTests, asked_tests};
 use crate::sources::Source;
 use crate::words::{ATTRIBUTE_MODULES, ATTRIBUTES, FILE, POLICY_MODULES, STORED};
@@ -34,6 +35,8 @@ pub enum Task<'m, 'a> {
     Together(&'m [&'a str], Option<Source<'a>>, Option<Source<'a>>),
     /// To write the lines of the dump on standard input.
     Lines,
+    /// To compare the tables of states.
+    Compare(AskedStates<'a>),
     /// To run tests.
     Test(AskedTests<'m, 'a>),
 }
@@ -100,6 +103,7 @@ pub fn task_of<'m, 'a: 'm>(matches: &'m ArgMatches<'a>) -> Option<Task<'m, 'a>>
         "serve" => Some(Task::Serve(modules_of(options))),
         "check" => check_of(options),
         "lines" => Some(Task::Lines),
+        "compare" => Some(Task::Compare(asked_states(options))),
         "test" => Some(Task::Test(asked_tests(options)?)),
         _ => None,
     }

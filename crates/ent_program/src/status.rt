@@ -2,9 +2,10 @@
 
 ghost use Rattle.std.specs.Prelude.{◌≡◌};
 ghost use Rattle.clap.specs.Values.{kind_of};
-ghost use Rattle.ent_program.specs.Statuses.{check_status, fault_status, lines_fault_status, lines_status, serve_status};
+ghost use Rattle.ent_program.specs.Statuses.{check_status, compare_status, fault_status, lines_fault_status, lines_status, serve_status};
 ghost use Rattle.ent_program.specs.Statuses.{test_status, usage_status, words_status};
 
+use crate::differing::Ending;
 use crate::sentences::{fault_sentence, lines_sentence, words_sentence};
 use crate::testing::Tally;
 use crate::words::WordsFault;
@@ -85,6 +86,18 @@ pub fn test_status(rt: &impl Eprint, tested: Result<Tally, ServeFault>) -> u8
     match tested {
         Ok(tally) if tally.failed == 0 && tally.passed > 0 => OKAY,
         Ok(_) => REFUSED,
+        Err(fault) => status_of(rt, fault),
+    }
+}
+
+/// The exit status of a comparison; a fault is told on standard error.
+pub fn compare_status(rt: &impl Eprint, compared: Result<Ending, ServeFault>) -> u8
+    ensures { result ≡ compare_status compared }
+{
+    match compared {
+        Ok(Ending::Same) => OKAY,
+        Ok(Ending::Different) => REFUSED,
+        Ok(Ending::Refused) => BROKEN,
         Err(fault) => status_of(rt, fault),
     }
 }

@@ -7,7 +7,7 @@ ghost use Rattle.ent_line.specs.Pieces.{Sends};
 ghost use Rattle.ent_line.specs.declared.fault.ServeFault.TheVariants.{Memory, Read};
 ghost use Rattle.ent_program.specs.Starting.{IsFew};
 ghost use Rattle.ent_program.specs.Testing.{AreRepliesTo, Tests, TestsBytes, TestsEach, asked, few, has_expected};
-ghost use Rattle.ent_program.specs.Testing.{is_chosen, mistake_text, passed, passes, sent_to, sure, tally_line};
+ghost use Rattle.ent_program.specs.Testing.{is_chosen, misplaced_line, mistake_text, passed, passes, sent_to, sure, tally_line};
 ghost use Rattle.ent_program.specs.Testing.{told_of, told_of_test, with_one};
 ghost use Rattle.ent_program.specs.Comparing.{are_sure};
 
@@ -24,7 +24,7 @@ use std::io::{ErrorKind, Read, Write};
 const NOTHING_EXPECTED: &[u8] = b"no reply is expected";
 
 /// What is told of a file without tests.
-const NO_TEST: &[u8] = b"no test begins here";
+pub(crate) const NO_TEST: &[u8] = b"no test begins here";
 
 /// From what each test of a file begins, and which of them run.
 #[derive(Clone, Copy)]
@@ -125,7 +125,7 @@ fn read_whole<R: Read>(alloc: Global, reader: &mut R) -> Result<Vec<u8>, ServeFa
 }
 
 /// Puts the lines of steps, each with its newline, behind others.
-fn push_asked(steps: &[Step], lines: &mut Vec<u8>) -> Result<(), AllocError>
+pub(crate) fn push_asked(steps: &[Step], lines: &mut Vec<u8>) -> Result<(), AllocError>
     ensures { OnOk result (lines.new.items ≡ lines.old.items ++ asked steps.now) }
 {
     for step in steps {
@@ -145,7 +145,7 @@ fn few(count: usize) -> usize
 
 /// What a new service of that number of modules of each sort replies to lines.
 #[tactic(auto, unfolding(crate::specs::Testing::AreRepliesTo))]
-fn replies_to(alloc: Global, modules: usize, lines: &[u8]) -> Result<Vec<u8>, ServeFault>
+pub(crate) fn replies_to(alloc: Global, modules: usize, lines: &[u8]) -> Result<Vec<u8>, ServeFault>
     ensures replies { IfOk result (λ v. AreRepliesTo modules lines.now v.items) }
     ensures fault { IfErr result (λ e. e ≡ Memory) }
 {
@@ -243,7 +243,7 @@ fn judge<W: Write>(
 }
 
 /// Whether a session runs.
-fn is_chosen(only: Option<&str>, session: &Session) -> bool
+pub(crate) fn is_chosen(only: Option<&str>, session: &Session) -> bool
     ensures { result ≡ is_chosen only.entry session.now }
 {
     match only {
@@ -288,6 +288,19 @@ fn mistake_text(mistake: Mistake) -> &'static str
     }
 }
 
+/// Writes which line of a file can't stand where it stands, and why.
+pub(crate) fn tell_mistake<W: Write>(
+    name: &str,
+    number: u64,
+    mistake: Mistake,
+    writer: &mut W,
+) -> Result<(), ServeFault>
+    ensures { Sends (W.contents writer.old) (W.contents writer.new) (misplaced_line name.now number mistake) result }
+{
+    let said = mistake_text(mistake).as_bytes();
+    tell(name, number, ": this line can't stand here: ", said, writer)
+}
+
 /// Runs the sessions of a file that are chosen, each over a service of its own, and writes what isn't as it is to be.
 fn test_bytes<W: Write>(
     alloc: Global,
@@ -306,8 +319,7 @@ fn test_bytes<W: Write>(
         Ok(sessions) => test_each(alloc, plan, name, sessions.as_slice(), writer),
         Err(SessionFault::Memory) => Err(ServeFault::Memory),
         Err(SessionFault::Form(number, mistake)) => {
-            let said = mistake_text(mistake).as_bytes();
-            tell(name, number, ": this line can't stand here: ", said, writer)?;
+            tell_mistake(name, number, mistake, writer)?;
             Ok(Tally::one_failed())
         }
     }
@@ -319,8 +331,9 @@ fn test_bytes<W: Write>(
 ///
 /// A reply that isn't as expected is written as two lines, `NAME:LINE: expected REPLY` and `NAME:LINE: replied REPLY`
 /// with the number of the line that was sent, and the mark `=` or `~` where it isn't compared byte by byte; `no
-/// refusal` is expected where the file says nothing. Behind those of a session stands `NAME:LINE: failed SESSION`, with the line
-/// of its heading. A file that hasn't the form of sessions ([`read_sessions`]) counts as one test that failed, and
+/// refusal` is expected where the file says nothing. Below them stands `NAME:LINE: differs at PLACE` for each place at
+/// which a reply that is compared as JSON isn't as expected ([`places`](ent_matching::places)). Behind those of a session
+/// stands `NAME:LINE: failed SESSION`, with the line of its heading. A file that hasn't the form of sessions ([`read_sessions`]) counts as one test that failed, and
 /// `NAME:LINE: this line can't stand here: WHY` is written; so does one that has no session. The writer is flushed at
 /// the end. Faults: the reader's, after which nothing was written, the writer's, which may have taken a front of what is
 /// written, and want of memory, also of a service that replies so where that isn't expected.

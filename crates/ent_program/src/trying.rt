@@ -4,6 +4,7 @@ ghost use Rattle.std.specs.Prelude.{◌≡◌, IfOk};
 
 use crate::acting::read_source;
 use crate::asked_tests::AskedTests;
+use crate::listing::list_tests;
 use crate::sources::Source;
 use crate::status::{status_of, test_status};
 use crate::testing::{Plan, Tally, send_tally, test_from};
@@ -39,7 +40,7 @@ impl Ended {
 }
 
 /// The lines of a source, or the exit status of a fault, which is told on standard error.
-fn read_state<R: Files + Input + Eprint + AllocGlobal>(
+pub(crate) fn read_state<R: Files + Input + Eprint + AllocGlobal>(
     rt: &R,
     source: Source<'_>,
 ) -> Result<Items<Step>, u8> {
@@ -68,6 +69,60 @@ fn test_source<R: Files + Input + Eprint + AllocGlobal, W: Write>(
     ) {
         Ok(tally) => Ok(tally),
         Err(fault) => Err(status_of(rt, fault)),
+    }
+}
+
+/// Lists the tests of a source that would run. Gives how many there are, or the exit status of a fault, which is told on
+/// standard error.
+fn list_source<R: Files + Input + Eprint + AllocGlobal, W: Write>(
+    rt: &R,
+    plan: Plan<'_>,
+    source: Source<'_>,
+    writer: &mut W,
+) -> Result<Tally, u8> {
+    let bytes = read_source(rt, source, u64::MAX)?;
+    match list_tests(rt.alloc(), plan, source.name(), bytes.as_slice(), writer) {
+        Ok(tally) => Ok(tally),
+        Err(fault) => Err(status_of(rt, fault)),
+    }
+}
+
+/// Lists the tests of each source that the words name, in turn; one that can't be read doesn't keep the others from it.
+fn list_each<R: Files + Input + Eprint + AllocGlobal, W: Write>(
+    rt: &R,
+    plan: Plan<'_>,
+    words: &[&str],
+    writer: &mut W,
+) -> Ended {
+    let mut ended = Ended {
+        tally: Tally::none(),
+        fault: None,
+    };
+    for &word in words {
+        ended = ended.with(list_source(rt, plan, Source::named(word), writer));
+    }
+    ended
+}
+
+/// Writes to standard output where each test of the files begins that would run, and what it is called, and gives the
+/// exit status.
+fn list_by<R: Files + Input + Print + Eprint + AllocGlobal>(
+    rt: &R,
+    plan: Plan<'_>,
+    words: &[&str],
+) -> u8 {
+    let Ok(mut writer) = BufWriter::new(rt.alloc(), io::writer(rt)) else {
+        return status_of(rt, ServeFault::Memory);
+    };
+    let ended = list_each(rt, plan, words, &mut writer);
+    let flushed = match writer.flush() {
+        Ok(()) => Ok(ended.tally),
+        Err(_) => Err(ServeFault::Write),
+    };
+    let status = test_status(rt, flushed);
+    match ended.fault {
+        Some(fault) => fault,
+        None => status,
     }
 }
 
@@ -117,17 +172,20 @@ fn test_by<R: Files + Input + Print + Eprint + AllocGlobal>(
     }
 }
 
-/// Runs the tests that are asked for, and gives the exit status: that of the last fault, if there was one, 1 where a
+/// Runs the tests that are asked for, or lists them, and gives the exit status: that of the last fault, if there was one, 1 where a
 /// test failed or none ran, and 0 where all passed.
 pub(crate) fn run_tests<R: Files + Input + Print + Eprint + AllocGlobal>(
     rt: &R,
     tests: AskedTests<'_, '_>,
 ) -> u8 {
+    let plan = Plan {
+        only: tests.only,
+        ..Plan::all()
+    };
+    if tests.listed {
+        return list_by(rt, plan, tests.files);
+    }
     let Some(source) = tests.state else {
-        let plan = Plan {
-            only: tests.only,
-            ..Plan::all()
-        };
         return test_by(rt, plan, tests.files);
     };
     match read_state(rt, source) {

@@ -1,6 +1,6 @@
 //! The command line.
 
-use clap::{Arg, Command, value_parser};
+use clap::{Arg, ArgAction, Command, value_parser};
 use std::alloc::{AllocError, Global};
 use std::env;
 use std::io::ErrorKind;
@@ -43,6 +43,18 @@ pub const STATE: &str = "state";
 
 /// The option of `test` that names the tests that run.
 pub const RUN: &str = "run";
+
+/// The option of `test` that asks for a list of the tests.
+pub const LIST: &str = "list";
+
+/// The argument of `compare` that names the lines of a state.
+pub const FIRST_STATE: &str = "STATE";
+
+/// The argument of `compare` that names the changes.
+pub const CHANGES: &str = "CHANGES";
+
+/// The option of `compare` that asks for a table that a person reads.
+pub const TEXT: &str = "text";
 
 /// The option of `check` that names a file of declared attributes.
 pub const ATTRIBUTES: &str = "attributes";
@@ -127,14 +139,38 @@ fn test<'a>(alloc: Global) -> Result<Command<'a>, AllocError> {
         .long(RUN)
         .value_name("NAME")
         .help("Run the tests of that name alone");
+    let list = Arg::new(alloc, LIST)
+        .long(LIST)
+        .action(ArgAction::SetTrue)
+        .help("Say where each test begins and what it is called, and run none");
     Command::new(alloc, "test")
         .about("Runs the tests in files, and says which replies are not as expected")
         .arg(state)?
         .arg(run)?
+        .arg(list)?
         .arg(files)
 }
 
-/// What the program takes: the subcommands `serve`, `check`, `lines` and `test`.
+/// The subcommand `compare`.
+fn compare<'a>(alloc: Global) -> Result<Command<'a>, AllocError> {
+    let state = Arg::new(alloc, FIRST_STATE)
+        .help("The lines of a state, as those of a dump; - is standard input")
+        .required(true);
+    let changes = Arg::new(alloc, CHANGES)
+        .help("Lines that change it, or those of a dump of another state; - is standard input")
+        .required(true);
+    let text = Arg::new(alloc, TEXT)
+        .long(TEXT)
+        .action(ArgAction::SetTrue)
+        .help("Write a table for a person, and no JSON");
+    Command::new(alloc, "compare")
+        .about("Says which requests have another decision or other reasons in another state")
+        .arg(text)?
+        .arg(state)?
+        .arg(changes)
+}
+
+/// What the program takes: the subcommands `serve`, `check`, `lines`, `test` and `compare`.
 pub fn command<'a>(alloc: Global) -> Result<Command<'a>, AllocError> {
     Command::new(alloc, "review")
         .about("Answers XACML requests, and keeps a review table of their answers")
@@ -143,5 +179,6 @@ pub fn command<'a>(alloc: Global) -> Result<Command<'a>, AllocError> {
         .subcommand(serve(alloc)?)?
         .subcommand(check(alloc)?)?
         .subcommand(lines(alloc))?
-        .subcommand(test(alloc)?)
+        .subcommand(test(alloc)?)?
+        .subcommand(compare(alloc)?)
 }

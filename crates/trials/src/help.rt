@@ -6,11 +6,12 @@ Answers XACML requests, and keeps a review table of their answers
 Usage: review <COMMAND>
 
 Commands:
-  serve  Serves commands on standard input, one line each, to standard output
-  check  Says whether the policies in files may be stored, or why not
-  lines  Writes the lines of a dump on standard input to standard output
-  test   Runs the tests in files, and says which replies are not as expected
-  help   Print this message or the help of the given subcommand(s)
+  serve    Serves commands on standard input, one line each, to standard output
+  check    Says whether the policies in files may be stored, or why not
+  lines    Writes the lines of a dump on standard input to standard output
+  test     Runs the tests in files, and says which replies are not as expected
+  compare  Says which requests have another decision or other reasons in another state
+  help     Print this message or the help of the given subcommand(s)
 
 Options:
   -h, --help     Print help
@@ -62,12 +63,27 @@ Arguments:
 Options:
       --state <STATE>  Lines with which each test begins, as those of a dump; all have to be accepted
       --run <NAME>     Run the tests of that name alone
+      --list           Say where each test begins and what it is called, and run none
   -h, --help           Print help
+";
+
+const HELP_OF_COMPARE: &str = "\
+Says which requests have another decision or other reasons in another state
+
+Usage: review compare [OPTIONS] <STATE> <CHANGES>
+
+Arguments:
+  <STATE>    The lines of a state, as those of a dump; - is standard input
+  <CHANGES>  Lines that change it, or those of a dump of another state; - is standard input
+
+Options:
+      --text  Write a table for a person, and no JSON
+  -h, --help  Print help
 ";
 
 const NO_COMMAND: &str = "\
 error: 'review' requires a subcommand but one was not provided
-  [subcommands: serve, check, lines, test, help]
+  [subcommands: serve, check, lines, test, compare, help]
 
 Usage: review <COMMAND>
 
@@ -114,6 +130,7 @@ pub(crate) const SAID: &[(&[&str], &str, u8)] = &[
     (&["check", "-h"], HELP_OF_CHECK, 0),
     (&["lines", "--help"], HELP_OF_LINES, 0),
     (&["test", "--help"], HELP_OF_TEST, 0),
+    (&["compare", "--help"], HELP_OF_COMPARE, 0),
     (&[], NO_COMMAND, 1),
     (&["check"], NO_FILE, 1),
     (&["lines", "dump.json"], A_DUMP, 1),

@@ -25,6 +25,8 @@ mod responses;
 #[cfg(test)]
 mod serving;
 #[cfg(test)]
+mod states;
+#[cfg(test)]
 mod told;
 #[cfg(test)]
 mod words;

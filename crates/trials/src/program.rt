@@ -41,7 +41,7 @@ const RUNS: &[(&[&str], &str, &str, u8)] = &[
 ];
 
 /// Whether the machine has written and said that and no more, and the status is that.
-fn has_run(
+pub(crate) fn has_run(
     machine: &Machine<'_>,
     is_terminal: bool,
     written: &str,
@@ -291,8 +291,10 @@ const AS_JSON: &str = "\
 const AS_JSON_TOLD: &str = "\
 whole:2: expected = {\"serial\":2,\"changes\":0}
 whole:2: replied {\"changes\":0,\"serial\":1}
+whole:2: differs at /serial
 whole:4: expected ~ {\"table\":[{}]}
 whole:4: replied {\"table\":[]}
+whole:4: differs at /table/0
 whole:1: failed as_json
 0 passed, 1 failed
 ";
@@ -347,6 +349,13 @@ const TESTED: &[(&[&str], &str, &str, &str, u8)] = &[
         &["review", "test", "--run", "passes", "whole"],
         TESTS,
         "1 passed, 0 failed\n",
+        "",
+        0,
+    ),
+    (
+        &["review", "test", "--list", "whole"],
+        TESTS,
+        "whole:1: passes\nwhole:4: fails\n",
         "",
         0,
     ),

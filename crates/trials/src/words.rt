@@ -92,11 +92,23 @@ const TAKEN: &[(&[&str], &str)] = &[
     (&["lines"], "Lines"),
     (
         &["test", "a", "-", "b"],
-        "Test(AskedTests { files: [\"a\", \"-\", \"b\"], state: None, only: None })",
+        "Test(AskedTests { files: [\"a\", \"-\", \"b\"], state: None, only: None, listed: false })",
     ),
     (
         &["test", "--state", "s", "--run", "n", "a"],
-        "Test(AskedTests { files: [\"a\"], state: Some(File(\"s\")), only: Some(\"n\") })",
+        "Test(AskedTests { files: [\"a\"], state: Some(File(\"s\")), only: Some(\"n\"), listed: false })",
+    ),
+    (
+        &["test", "--list", "a"],
+        "Test(AskedTests { files: [\"a\"], state: None, only: None, listed: true })",
+    ),
+    (
+        &["compare", "a", "-"],
+        "Compare(AskedStates { state: File(\"a\"), changes: Input, form: Json })",
+    ),
+    (
+        &["compare", "--text", "-", "b"],
+        "Compare(AskedStates { state: Input, changes: File(\"b\"), form: Table })",
     ),
 ];
 

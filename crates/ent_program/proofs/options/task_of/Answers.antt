@@ -12,6 +12,7 @@ returns-in-check-clause-task c = record {
   check = λ options found texts is.
       let rows = rows_found (rows_of (found_of c.in_ok-name.options.now)) options (subcommand_rows_of c.args.matches.now) (codes "check") c.in_ok-name.ensures.rows found in
       subst (λ rs. IsCheckOf texts (first_of (codes "attributes") rs) (first_of (codes "stored") rs) c.check_of.result) rows (c.check_of.ensures.task texts (ap (all_of (codes "FILE")) rows ∙ is));
+  compare = search rules;
   lines = search rules;
   test = search rules;
 }
@@ -20,6 +21,7 @@ pub returns-in_ok-asked_tests-in-test-clause-task : goal.returns-in_ok-asked_tes
 returns-in_ok-asked_tests-in-test-clause-task c = record {
   serve = search rules;
   check = search rules;
+  compare = search rules;
   lines = search rules;
   test = λ options found texts is.
       let rows = rows_found (rows_of (found_of c.in_ok-name.options.now)) options (subcommand_rows_of c.args.matches.now) (codes "test") c.in_ok-name.ensures.rows found in
@@ -30,6 +32,7 @@ pub returns-in_err-asked_tests-in-test-clause-task : goal.returns-in_err-asked_t
 returns-in_err-asked_tests-in-test-clause-task c = record {
   serve = search rules;
   check = search rules;
+  compare = search rules;
   lines = search rules;
   test = λ options found texts is.
       let rows = rows_found (rows_of (found_of c.in_ok-name.options.now)) options (subcommand_rows_of c.args.matches.now) (codes "test") c.in_ok-name.ensures.rows found in

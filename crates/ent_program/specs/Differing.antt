@@ -1,0 +1,89 @@
+-- What differs between the tables behind the lines of two files.
+use Rattle.std.specs.Prelude.{◌≡◌, ◌≢◌, ◌⊎◌, ℕ, ◌++◌, Bool, true, false, List, [], ◌∷◌, Option, Some, None, Result, Ok, Err, bytes_eq, codes, option_and_then, unwrap_or, if◌then◌else◌}
+use Rattle.std.specs.Io.KnownBytes.{Appends}
+use Rattle.std.specs.List.{before_first}
+use Rattle.serde_json.specs.Data.{Data}
+use Rattle.serde_json.specs.Written.{compact_text, has_float}
+use Rattle.ent_json.specs.Line.{data_of}
+use Rattle.ent_json.specs.Objects.{text_at}
+use Rattle.ent_compare.specs.Changes.{difference_of, is_nothing}
+use Rattle.ent_compare.specs.Shown.{shown_text}
+use Rattle.ent_sessions.specs.declared.session.Step.{Step}
+use Rattle.ent_line.specs.declared.fault.ServeFault.{ServeFault}
+use Rattle.ent_line.specs.declared.fault.ServeFault.TheVariants as fault
+use Rattle.ent_program.specs.Comparing.{behind, differences, is_newline, pass}
+use Rattle.ent_program.specs.Testing.{AreRepliesTo, asked}
+use Rattle.ent_program.specs.declared.differing.Ending.{Ending}
+use Rattle.ent_program.specs.declared.differing.Lines.{Lines}
+use Rattle.ent_program.specs.declared.differing.Form.{Form}
+use Rattle.ent_program.specs.declared.differing.Form.TheVariants.{Json, Table}
+use Rattle.ent_program.specs.declared.differing.Ending.TheVariants.{Same, Different, Refused}
+
+-- the line that asks for the table
+abbrev pub table_line : List ℕ
+table_line = codes "{\"do\":\"table\"}\n"
+
+-- a reply is what a new service, of two modules of each sort, tells of its table behind these lines, each of which it accepted
+pub record IsTableBehind (steps : List Step) (reply : List ℕ) : Type 0 where
+  pub replies : List ℕ
+  pub run : AreRepliesTo 2 (asked steps ++ table_line) replies
+  pub accepted : pass steps replies ≡ true
+  pub last : reply ≡ before_first is_newline (behind steps replies)
+
+-- a line says what format those behind it have, as the first line of a dump does
+abbrev pub says_format : List ℕ → Bool
+says_format line = bytes_eq (unwrap_or (option_and_then (text_at (codes "do")) (data_of line)) []) (codes "format")
+
+-- lines are those of a state of their own: the first says their format
+abbrev pub is_state : List Step → Bool
+is_state [] = false
+is_state (step ∷ steps) = says_format step.line
+
+-- the lines behind which changes are sent: none where these are those of a state of their own, else those of the first state
+abbrev pub base_of : List Step → List Step → List Step
+base_of state changes = if is_state changes then [] else state
+
+-- of what a new service replied to these lines of one file and then of another, that which refuses one is written
+pub record Refuses (name : List ℕ) (base : List Step) (lines : Lines) (before after : Option (List ℕ)) : Type 0 where
+  pub replies : List ℕ
+  pub run : AreRepliesTo 2 (asked (base ++ lines.steps.now) ++ table_line) replies
+  pub refused : pass (base ++ lines.steps.now) replies ≡ false
+  pub written : Appends before after (differences name base replies ++ differences lines.name.now lines.steps.now (behind base replies))
+
+-- the reply of a new service that tells its table behind these lines of one file and then of another; or none, where it refused one
+abbrev pub GivesTable : List ℕ → List Step → Lines → Option (List ℕ) → Option (List ℕ) → Option (List ℕ) → Type 0
+GivesTable name base lines before after (Some reply) = IsTableBehind (base ++ lines.steps.now) reply × Appends before after []
+GivesTable name base lines before after None = Refuses name base lines before after
+
+-- a comparison ended so: something differs, or nothing does
+abbrev pub ended_by : Data → Ending
+ended_by told = if is_nothing told then Same else Different
+
+-- a text is what is told, in a form: a line of JSON, if it has no fraction, or a table
+abbrev pub IsTextOf : Form → Data → List ℕ → Type 0
+IsTextOf Json told text = has_float told ≡ false → text ≡ compact_text told ++ codes "\n"
+IsTextOf Table told text = text ≡ shown_text told
+
+-- what was written is what differs between the table behind the lines of a state and that behind the changes
+pub record TellsDifference (form : Form) (state changes : Lines) (before after : Option (List ℕ)) (ended : Ending) : Type 0 where
+  pub first : List ℕ
+  pub second : List ℕ
+  pub told : Data
+  pub text : List ℕ
+  pub table : IsTableBehind state.steps.now first
+  pub other : IsTableBehind (base_of state.steps.now changes.steps.now ++ changes.steps.now) second
+  pub difference : difference_of first second ≡ Some told
+  pub spelled : IsTextOf form told text
+  pub written : Appends before after text
+  pub result : ended ≡ ended_by told
+
+-- a line of the state was refused, or one that is sent to the second service, and which it was is what was written
+abbrev pub TellsRefused : Lines → Lines → Option (List ℕ) → Option (List ℕ) → Type 0
+TellsRefused state changes before after = Refuses [] [] state before after
+    ⊎ ((first : List ℕ) × IsTableBehind state.steps.now first × Refuses state.name.now (base_of state.steps.now changes.steps.now) changes before after)
+
+-- what a comparison writes and gives; where a line is refused, nothing is compared
+abbrev pub Compares : Form → Lines → Lines → Option (List ℕ) → Option (List ℕ) → Result Ending ServeFault → Type 0
+Compares form state changes before after (Ok Refused) = TellsRefused state changes before after
+Compares form state changes before after (Ok ended) = TellsDifference form state changes before after ended
+Compares form state changes before after (Err e) = e ≢ fault.Read

@@ -1,0 +1,53 @@
+//! Which states the command line asks to be compared.
+
+ghost use Rattle.std.specs.Prelude.{◌≡◌, [], codes, unwrap_or};
+ghost use Rattle.clap.specs.Matches.{found_of};
+ghost use Rattle.clap.specs.Walk.{first_of, rows_of};
+ghost use Rattle.ent_program.specs.Options.{AreStates, form_of};
+ghost use Rattle.ent_program.specs.Sources.{path_named, path_of};
+
+use crate::asked_tests::is_given;
+use crate::differing::Form;
+use crate::sources::Source;
+use crate::words::{CHANGES, FIRST_STATE, TEXT};
+use clap::ArgMatches;
+
+/// The states that are compared.
+#[derive(Clone, Copy, Debug, PartialEq, Eq)]
+pub struct AskedStates<'a> {
+    /// The source of the lines of a state.
+    pub state: Source<'a>,
+    /// The source of the changes, or of the lines of another state.
+    pub changes: Source<'a>,
+    /// How what differs is written.
+    pub form: Form,
+}
+
+/// How what differs is to be written: as a table where the option for it is given.
+fn form_of(options: &ArgMatches<'_>) -> Form
+    ensures { result ≡ form_of (first_of (codes "text") (rows_of (found_of options.now))) }
+{
+    if is_given(options, TEXT) {
+        Form::Table
+    } else {
+        Form::Json
+    }
+}
+
+/// The source that the argument of that name names.
+fn source_at<'a>(options: &ArgMatches<'a>, argument: &str) -> Source<'a>
+    ensures { path_of result ≡ path_named (unwrap_or (first_of argument.now (rows_of (found_of options.now))) []) }
+{
+    Source::named(options.get_str(argument).unwrap_or(""))
+}
+
+/// The states that the arguments of `compare` name.
+pub(crate) fn asked_states<'a>(options: &ArgMatches<'a>) -> AskedStates<'a>
+    ensures { AreStates (rows_of (found_of options.now)) result }
+{
+    AskedStates {
+        state: source_at(options, FIRST_STATE),
+        changes: source_at(options, CHANGES),
+        form: form_of(options),
+    }
+}

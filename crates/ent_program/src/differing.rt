@@ -1,0 +1,201 @@
+//! `review compare`: what differs between the tables behind the lines of a state and behind others.
+
+ghost use Rattle.std.specs.Prelude.{◌≡◌, ◌≢◌, ◌++◌, ℕ, List, IfErr, IfOk, OnOk, option_map};
+ghost use Rattle.std.specs.Io.KnownBytes.{Appends};
+ghost use Rattle.serde_json.specs.View.{view};
+ghost use Rattle.ent_line.specs.declared.fault.ServeFault.TheVariants.{Read};
+ghost use Rattle.ent_program.specs.Differing.{Compares, GivesTable, IsTextOf, base_of, ended_by, is_state};
+ghost use Rattle.ent_program.specs.Differing.{says_format, table_line};
+ghost use Rattle.ent_program.specs.Testing.{asked};
+
+use crate::comparing::{compare, split_reply};
+use crate::testing::{push_asked, replies_to};
+use ent_compare::{difference, is_nothing, shown};
+use ent_json::{read_json, text_at};
+use ent_line::{ServeFault, send_all};
+use ent_sessions::Step;
+use json::Scratch;
+use serde_json::Value;
+use std::alloc::{AllocError, Global};
+use std::io::Write;
+
+/// The line that asks for the table.
+const TABLE: &[u8] = b"{\"do\":\"table\"}\n";
+
+/// How many modules of each sort a service has here.
+const MODULES: usize = 2;
+
+/// Lines of a file.
+#[derive(Clone, Copy)]
+pub struct Lines<'a> {
+    /// What the file is called.
+    pub name: &'a str,
+    /// Its lines.
+    pub steps: &'a [Step],
+}
+
+/// How what differs is written.
+#[derive(Clone, Copy, Debug, PartialEq, Eq)]
+pub enum Form {
+    /// As a line of JSON.
+    Json,
+    /// As a table that a person reads.
+    Table,
+}
+
+/// How a comparison ended.
+#[derive(Clone, Copy, Debug, PartialEq, Eq)]
+pub enum Ending {
+    /// Nothing differs.
+    Same,
+    /// Something differs.
+    Different,
+    /// A line was refused, so nothing was compared.
+    Refused,
+}
+
+/// Whether a line says what format those behind it have, as the first line of a dump does.
+fn says_format(alloc: Global, line: &[u8]) -> Result<bool, AllocError>
+    ensures { IfOk result (λ says. says ≡ says_format line.now) }
+{
+    let mut scratch = Scratch::new(alloc);
+    match read_json(alloc, line, &mut scratch)? {
+        Some(json) => Ok(text_at(&json, "do").unwrap_or("") == "format"),
+        None => Ok(false),
+    }
+}
+
+/// Whether lines are those of a state of their own.
+fn is_state(alloc: Global, steps: &[Step]) -> Result<bool, AllocError>
+    ensures { IfOk result (λ state. state ≡ is_state steps.now) }
+{
+    match steps.first() {
+        Some(step) => says_format(alloc, step.line.as_slice()),
+        None => Ok(false),
+    }
+}
+
+/// The lines behind which changes are sent: none where these are those of a state of their own, else those of the state.
+fn base_of<'a>(
+    alloc: Global,
+    state: &'a [Step],
+    changes: &'a [Step],
+) -> Result<&'a [Step], AllocError>
+    ensures { IfOk result (λ base. base.now ≡ base_of state.now changes.now) }
+{
+    if is_state(alloc, changes)? {
+        Ok(&[])
+    } else {
+        Ok(state)
+    }
+}
+
+/// What is sent to have the table behind lines, and others behind those.
+#[tactic(auto, using(crate::proofs::Tests::asked_both))]
+fn asking(alloc: Global, first: &[Step], second: &[Step]) -> Result<Vec<u8>, AllocError>
+    ensures { IfOk result (λ v. v.items ≡ asked (first.now ++ second.now) ++ table_line) }
+{
+    let mut lines = Vec::new(alloc);
+    push_asked(first, &mut lines)?;
+    push_asked(second, &mut lines)?;
+    lines.extend_from_slice(TABLE)?;
+    Ok(lines)
+}
+
+/// What a new service tells of its table behind lines of a file of that name, and those of another, if it accepts all of
+/// them; else those that it refuses are told.
+fn table_behind<W: Write>(
+    alloc: Global,
+    name: &str,
+    base: &[Step],
+    lines: Lines<'_>,
+    writer: &mut W,
+) -> Result<Option<Vec<u8>>, ServeFault>
+    ensures table { IfOk result (λ o. GivesTable name.now base.now lines.entry
+        (W.contents writer.old) (W.contents writer.new) (option_map (λ v. v.items) o)) }
+    ensures fault { IfErr result (λ e. e ≢ Read) }
+{
+    let sent = asking(alloc, base, lines.steps)?;
+    let replies = replies_to(alloc, MODULES, sent.as_slice())?;
+    let (accepted, rest) = compare(alloc, name, base, replies.as_slice(), writer)?;
+    let (also, rest) = compare(alloc, lines.name, lines.steps, rest, writer)?;
+    if !(accepted & also) {
+        return Ok(None);
+    }
+    let (reply, _) = split_reply(rest);
+    Ok(Some(Vec::from_slice(alloc, reply)?))
+}
+
+/// Writes what is told of two tables, in a form.
+fn send_told<W: Write>(
+    alloc: Global,
+    form: Form,
+    told: &Value,
+    writer: &mut W,
+) -> Result<(), ServeFault>
+    ensures sent { OnOk result ((text : List ℕ) × IsTextOf form (view told.now) text
+        × Appends (W.contents writer.old) (W.contents writer.new) text) }
+    ensures fault { IfErr result (λ e. e ≢ Read) }
+{
+    match form {
+        Form::Json => {
+            let text = told.to_string(alloc)?;
+            send_all(writer, &[text.as_bytes(), b"\n"])
+        }
+        Form::Table => {
+            let text = shown(alloc, told)?;
+            send_all(writer, &[text.as_slice()])
+        }
+    }
+}
+
+/// Writes what is told of two tables, in a form, and says whether anything differs.
+fn send_difference<W: Write>(
+    alloc: Global,
+    form: Form,
+    told: &Value,
+    writer: &mut W,
+) -> Result<Ending, ServeFault>
+    ensures sent { OnOk result ((text : List ℕ) × IsTextOf form (view told.now) text
+        × Appends (W.contents writer.old) (W.contents writer.new) text) }
+    ensures ended { IfOk result (λ ended. ended ≡ ended_by (view told.now)) }
+    ensures fault { IfErr result (λ e. e ≢ Read) }
+{
+    send_told(alloc, form, told, writer)?;
+    if is_nothing(told) {
+        Ok(Ending::Same)
+    } else {
+        Ok(Ending::Different)
+    }
+}
+
+/// Writes what differs between the tables behind the lines of a state and behind changes, and says whether anything does.
+///
+/// The changes are lines that are sent behind those of the state; or, where the first of them is `format`, as in a dump,
+/// the lines of a state of their own. Each service is a new one, over two modules of each sort. What differs is one line
+/// of JSON ([`difference`](ent_compare::difference)), or a table ([`shown`](ent_compare::shown)). Where a line is refused, it is told by two lines, `NAME:LINE:
+/// expected no refusal` and `NAME:LINE: replied REPLY`, and nothing is compared.
+/// Faults: the writer's, which may have taken a front of what is written, and want of memory.
+#[tactic(auto, using(crate::proofs::Differences::compared, crate::proofs::Differences::refused_second))]
+pub fn compare_from<W: Write>(
+    alloc: Global,
+    form: Form,
+    state: Lines<'_>,
+    changes: Lines<'_>,
+    writer: &mut W,
+) -> Result<Ending, ServeFault>
+    ensures { Compares form state.entry changes.entry (W.contents writer.old) (W.contents writer.new) result }
+{
+    let base = base_of(alloc, state.steps, changes.steps)?;
+    let Some(first) = table_behind(alloc, "", &[], state, writer)? else {
+        return Ok(Ending::Refused);
+    };
+    let Some(second) = table_behind(alloc, state.name, base, changes, writer)? else {
+        return Ok(Ending::Refused);
+    };
+    match difference(alloc, first.as_slice(), second.as_slice())? {
+        Some(told) => send_difference(alloc, form, &told, writer),
+        // A service that accepts lines tells its table as long as there is memory.
+        None => Err(ServeFault::Memory),
+    }
+}
