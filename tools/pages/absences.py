@@ -105,7 +105,7 @@ def table_in_the_log():
 
 
 def evaluations():
-    yield from found(r'\.evaluate\(|Pdp::evaluate', but=['ent_eval/', 'ent_cells/src/evaluate.rt'] + TRIALS)
+    yield from found(r'\.evaluate\(|Pdp::evaluate', but=['ent_eval/', 'ent_cells/src/evaluate.rt', 'ent_table/src/explain.rt'] + TRIALS)
     yield from found(r'pdp\.answer\(|Pdp::answer', but=['ent_eval/', 'ent_table/src/ask.rt'] + TRIALS)
 
 
@@ -139,7 +139,7 @@ def memory_at_commit():
 
 
 def unseen():
-    known = ['ent_finder/src/hints.rt', 'ent_eval/src/paths.rt']
+    known = ['ent_finder/src/hints.rt', 'ent_eval/src/paths.rt', 'ent_eval/src/notes.rt']
     units = [where(path) for path in files() if re.search(r'ghost Value = \{ Unit\b', code(path))]
     yield from (f'{place} has a model that says nothing' for place in units if place not in known)
     yield from found(r'\bCell(?:<|::)', but=['ent_finder/src/hints.rt'])
@@ -156,7 +156,7 @@ def unsafe():
 def libraries():
     yield from named(['jiff', 'jiff_core'], but=['ent_values'])
     yield from named(['slab'], but=['ent_index', 'ent_cells'])
-    yield from named(['indexmap'], but=['ent_table'])
+    yield from named(['indexmap'], but=['ent_table', 'ent_eval'])
 
 
 CHECKS = {
