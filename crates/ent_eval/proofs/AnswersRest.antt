@@ -17,7 +17,6 @@ use Rattle.ent_policy.specs.declared.document.Child.TheViews.{roll-Child, roll-P
 use Rattle.ent_policy.specs.declared.document.PolicySet.{PolicySet}
 use Rattle.ent_policy.specs.declared.document.Tree.{Tree}
 use Rattle.ent_policy.specs.declared.key.DocKey.{DocKey}
-use Rattle.ent_policy.specs.declared.key.Kind.TheVariants as kind
 use Rattle.ent_policy.specs.declared.key.Reference.{Reference}
 use Rattle.ent_eval.specs.declared.answer.Answer.{Answer}
 use Rattle.ent_eval.specs.declared.only.Only.{Only}
@@ -28,15 +27,18 @@ use Rattle.ent_eval.specs.Answer.{answer_part, asked, looked_up, most_hops, reco
 use Rattle.ent_eval.specs.Given.{finished}
 use Rattle.ent_eval.specs.Judged.{nothing}
 use Rattle.ent_eval.specs.Law.{EqualFindingsGiveEqualAnswers, EqualLookUpsGiveEqualAnswers, FindsSame, IsSameLook}
-use Rattle.ent_eval.specs.Node.{Node, child_step, children_part, combined, followed, found_node, node_with, refer, set_step}
+use Rattle.ent_eval.specs.Node.{Node, child_step, children_part, combined, followed, found_node, node_with, policy_key, refer, set_key, set_step}
 use Rattle.ent_eval.specs.proofs_only.Node.{set_node_with}
+use Rattle.ent_eval.specs.Causes.{told_once}
+use Rattle.ent_eval.specs.Note.{Note, asks, causes_in, fails, questions_in}
 use Rattle.ent_eval.specs.Noted.{noted}
 use Rattle.ent_eval.specs.Sources.{keys_of}
-use Rattle.ent_eval.specs.Only.{chosen_part, choice_part, chosen, only_one, result_of_target, results, seen_choice, spoils}
-use Rattle.ent_eval.specs.Part.{Part, after_look, without_look, questions_of, values}
+use Rattle.ent_eval.specs.Only.{chosen_part, choice_part, chosen, first_target_status, only_one, result_of_target, results, seen_choice, several, spoils}
+use Rattle.ent_eval.specs.Part.{Part, after_look, without_look, notes_of, values}
+use Rattle.ent_eval.specs.Target.{target_part}
 use Rattle.ent_eval.proofs.Finds.{all-find}
 use Rattle.ent_eval.proofs.Keys.{all_noted, by_recursion}
-use Rattle.ent_eval.proofs.Rests.{AllRest, Rests, Same, World, and_then-rests, combined-rests, element-rests, finished-rests, first_looks, later_looks, policy-rests, rests-by, target-rests}
+use Rattle.ent_eval.proofs.Rests.{AllRest, Rests, Same, World, and_then-rests, combined-rests, element-rests, finished-rests, first_looks, later_looks, policy-rests, rests-by, target-rests, within-rests}
 use Rattle.ent_eval.proofs.Sets.{map-map}
 use Rattle.ent_eval.proofs.Choices.{values-append}
 
@@ -44,17 +46,17 @@ use Rattle.ent_eval.proofs.Choices.{values-append}
 
 -- parts up to the first that makes those before it pass are seen alike
 rest-rests : {X A : Type 0} (s t : World) (passes : List (Part A) → Bool) (part : World → X → Part A) (before : List (Part A)) (xs : List X) → AllRest s t part xs
-    → AllByRecursion (Same s t) (questions_of (rest_to_passing passes before (map (part s) xs))) → rest_to_passing passes before (map (part t) xs) ≡ rest_to_passing passes before (map (part s) xs)
+    → AllByRecursion (Same s t) (notes_of (rest_to_passing passes before (map (part s) xs))) → rest_to_passing passes before (map (part t) xs) ≡ rest_to_passing passes before (map (part s) xs)
 rest-rests s t passes part before [] each h = refl
 rest-rests {X} {A} s t passes part before (x ∷ xs) each h = at (passes (before ++ part s x ∷ [])) (part s x) (part t x) refl each.0 (rest-rests s t passes part (before ++ part s x ∷ []) xs each.1) h where
-  at : (b : Bool) (p q : Part A) → passes (before ++ p ∷ []) ≡ b → (AllByRecursion (Same s t) p.asked → q ≡ p)
-      → (AllByRecursion (Same s t) (questions_of (rest_to_passing passes (before ++ p ∷ []) (map (part s) xs))) → rest_to_passing passes (before ++ p ∷ []) (map (part t) xs) ≡ rest_to_passing passes (before ++ p ∷ []) (map (part s) xs))
-      → AllByRecursion (Same s t) (questions_of (if b then p ∷ [] else p ∷ rest_to_passing passes (before ++ p ∷ []) (map (part s) xs)))
+  at : (b : Bool) (p q : Part A) → passes (before ++ p ∷ []) ≡ b → (AllByRecursion (Same s t) p.notes → q ≡ p)
+      → (AllByRecursion (Same s t) (notes_of (rest_to_passing passes (before ++ p ∷ []) (map (part s) xs))) → rest_to_passing passes (before ++ p ∷ []) (map (part t) xs) ≡ rest_to_passing passes (before ++ p ∷ []) (map (part s) xs))
+      → AllByRecursion (Same s t) (notes_of (if b then p ∷ [] else p ∷ rest_to_passing passes (before ++ p ∷ []) (map (part s) xs)))
       → (if passes (before ++ q ∷ []) then q ∷ [] else q ∷ rest_to_passing passes (before ++ q ∷ []) (map (part t) xs)) ≡ (if b then p ∷ [] else p ∷ rest_to_passing passes (before ++ p ∷ []) (map (part s) xs))
-  at true p q is same later h = rw (same (first_looks (Same s t) p.asked [] h), is) refl
+  at true p q is same later h = rw (same (first_looks (Same s t) p.notes [] h), is) refl
   at false p q is same later h =
       let rest : List (Part A) = rest_to_passing passes (before ++ p ∷ []) (map (part s) xs) in
-      rw (same (first_looks (Same s t) p.asked (questions_of rest) h), is) (ap (λ rs. p ∷ rs) (later (later_looks (Same s t) p.asked (questions_of rest) h)))
+      rw (same (first_looks (Same s t) p.notes (notes_of rest) h), is) (ap (λ rs. p ∷ rs) (later (later_looks (Same s t) p.notes (notes_of rest) h)))
 
 -- what is chosen by, of several parts
 abbrev results_of : List (Part Targeted) → List TargetResult
@@ -77,16 +79,21 @@ rest-results before (p ∷ rest) =
 
 -- a choice by the targets that are seen
 abbrev by_seen : List (Part Targeted) → Part Only
-by_seen ps = record { value = chosen (choose (results_of ps)) (values ps); asked = questions_of ps }
+by_seen ps = record {
+  value = chosen (choose (results_of ps)) (values ps);
+  notes = notes_of ps ++ several (choose (results_of ps)) (first_target_status (values ps));
+}
 
 choice-seen : (ps : List (Part Targeted)) → choice_part ps ≡ by_seen (seen_choice ps)
 choice-seen ps =
-    ap (λ c. record { value = chosen c (values (seen_choice ps)); asked = questions_of (seen_choice ps) })
+    ap (λ c. record { value = chosen c (values (seen_choice ps)); notes = notes_of (seen_choice ps) ++ several c (first_target_status (values (seen_choice ps))) })
     (seen_targets_enough (results_of ps) ∙ ap choose (sym (rest-results [] ps)))
 
 choice-rests : {X : Type 0} (s t : World) (target : World → X → Part Targeted) (xs : List X) → AllRest s t target xs → Rests s t (λ u. choice_part (map (target u) xs))
 choice-rests s t target xs each h =
-    choice-seen (map (target t) xs) ∙ ap by_seen (rest-rests s t spoils target [] xs each h) ∙ sym (choice-seen (map (target s) xs))
+    let ps = map (target s) xs in
+    choice-seen (map (target t) xs)
+    ∙ ap by_seen (rest-rests s t spoils target [] xs each (first_looks (Same s t) (notes_of (seen_choice ps)) (several (choose (results (values ps))) (first_target_status (values (seen_choice ps)))) h)) ∙ sym (choice-seen (map (target s) xs))
 
 place-rests : {X : Type 0} (s t : World) (part : World → X → Part Answer) (xs : List X) → AllRest s t part xs → (place : ℕ) → Rests s t (λ u. get_or (map (part u) xs) place (without_look nothing))
 place-rests s t part [] each place = λ h. refl
@@ -137,7 +144,7 @@ module _ (s t : World) where
     set_rolls x u = fold-roll-PolicySet Node Node (child_step u.looks u.request (refers u)) (set_step u.looks u.request) x
 
     node_layer : (y : Child-F ChildRests SetRests) → BothRest (λ u. node u (roll-Child (map-Child ChildRests SetRests Child PolicySet (λ e. e.0) (λ e. e.0) y)))
-    node_layer (Child-F.Policy policy) = both-by _ _ (node_rolls (Child-F.Policy policy)) (target-rests s t policy.target, λ path. policy-rests s t path policy)
+    node_layer (Child-F.Policy policy) = both-by _ _ (node_rolls (Child-F.Policy policy)) (within-rests s t (policy_key policy) (λ u. target_part u.looks u.request policy.target) (target-rests s t policy.target), λ path. policy-rests s t path policy)
     node_layer (Child-F.Set set) = both-by _ _ (node_rolls (Child-F.Set set.0)) set.1
     node_layer (Child-F.Reference reference) = both-by _ _ (node_rolls (Child-F.Reference reference)) (each reference)
 
@@ -164,9 +171,9 @@ module _ (s t : World) where
     set_layer : (y : PolicySet-F ChildRests SetRests) → BothRest (λ u. set_node u (roll-PolicySet (map-PolicySet ChildRests SetRests Child PolicySet (λ e. e.0) (λ e. e.0) y)))
     set_layer y =
         both-by _ _ (set_rolls (map-PolicySet ChildRests SetRests Child PolicySet (λ e. e.0) (λ e. e.0) y)) (
-          target-rests s t y.target,
-          λ path. element-rests s t y.target (λ u. finished u.looks u.request [] y.given) (finished-rests s t [] y.given) (λ u. children_part y.algorithm (map (node u) (map (λ e. e.0) y.children)) (path ++ record { kind = kind.PolicySet; id = y.id; version = y.version } ∷ []))
-              (children-rest y.algorithm (path ++ record { kind = kind.PolicySet; id = y.id; version = y.version } ∷ []) y.children),
+          within-rests s t (set_key y.id y.version) (λ u. target_part u.looks u.request y.target) (target-rests s t y.target),
+          λ path. element-rests s t (set_key y.id y.version) y.target (λ u. finished u.looks u.request [] y.given) (finished-rests s t [] y.given) (λ u. children_part y.algorithm (map (node u) (map (λ e. e.0) y.children)) (path ++ set_key y.id y.version ∷ []))
+              (children-rest y.algorithm (path ++ set_key y.id y.version ∷ []) y.children),
         )
 
     node-rests : (c : Child) → BothRest (λ u. node u c)
@@ -174,14 +181,14 @@ module _ (s t : World) where
         ind-Child (λ c. BothRest (λ u. node u c)) (λ p. BothRest (λ u. set_node u p)) (λ x y is. subst (λ z. BothRest (λ u. node u (roll-Child z))) is (node_layer y))
         (λ x y is. subst (λ z. BothRest (λ u. set_node u (roll-PolicySet z))) is (set_layer y))
 
-    found-rests : (o : Option Tree) → BothRest (λ u. found_node (node u) o)
-    found-rests None = (λ h. refl, λ path h. refl)
-    found-rests (Some document) = node-rests (as_child document)
+    found-rests : (r : Reference) (o : Option Tree) → BothRest (λ u. found_node r (node u) o)
+    found-rests r None = (λ h. refl, λ path h. refl)
+    found-rests r (Some document) = node-rests (as_child document)
 
     followed-rests : (r : Reference) → BothRest (λ u. followed u.looks u.request (refers u) r)
     followed-rests r = (
-      λ h. ap (λ o. after_look (Ref r) (found_node (node t) o).target) (sym h.0) ∙ ap (after_look (Ref r)) ((found-rests (s.looks.document r)).0 h.1),
-      λ path h. ap (λ o. after_look (Ref r) ((found_node (node t) o).answer path)) (sym h.0) ∙ ap (after_look (Ref r)) ((found-rests (s.looks.document r)).1 path h.1),
+      λ h. ap (λ o. after_look (Ref r) (found_node r (node t) o).target) (sym h.0) ∙ ap (after_look (Ref r)) ((found-rests r (s.looks.document r)).0 h.1),
+      λ path h. ap (λ o. after_look (Ref r) ((found_node r (node t) o).answer path)) (sym h.0) ∙ ap (after_look (Ref r)) ((found-rests r (s.looks.document r)).1 path h.1),
     )
 
   refer-rests : (hops : ℕ) (r : Reference) → BothRest (λ u. refer u.looks u.request hops r)
@@ -197,16 +204,25 @@ root-rests s t (Some r) h = (followed-rests s t (λ u. refer u.looks u.request m
 answer-rests : (s t : World) → Rests s t (λ u. answer_part u.looks u.request)
 answer-rests s t h = ap (after_look Root) (ap (root_part t.looks t.request) (sym h.0) ∙ root-rests s t s.looks.root h.1)
 
--- where what is asked for an answer finds the same, the answer is the same, and so is what is asked
+-- where each question among notes finds the same, each note does
+all_same : (s t : World) (ns : List Note) → AllByRecursion (FindsSame s.looks s.request t.looks t.request) (questions_in ns) → AllByRecursion (Same s t) ns
+all_same s t [] h = tt
+all_same s t (asks question ∷ ns) h = (h.0, all_same s t ns h.1)
+all_same s t (fails cause ∷ ns) h = (tt, all_same s t ns h)
+
+-- where what is asked for an answer finds the same, the answer is the same, and so are what is asked and the causes
 pub findings-rest : EqualFindingsGiveEqualAnswers
 findings-rest s t q r h =
-    let same : answer_part t r ≡ answer_part s q = answer-rests (record { looks = s; request = q }) (record { looks = t; request = r }) (by_recursion (FindsSame s q t r) (asked s q) h) in
-    (ap (λ p. p.value) same, ap (λ p. p.asked) same)
+    let here : World = record { looks = s; request = q } in
+    let there : World = record { looks = t; request = r } in
+    let same : answer_part t r ≡ answer_part s q = answer-rests here there (all_same here there (answer_part s q).notes (by_recursion (FindsSame s q t r) (asked s q) h)) in
+    (ap (λ p. p.value) same, (ap (λ p. questions_in p.notes) same, ap (λ p. told_once [] (causes_in p.notes)) same))
 
 -- and where each recorded look-up gives the same, for one request, so does what is asked
 pub answers-rest : EqualLookUpsGiveEqualAnswers
 answers-rest s t request h =
     let looks = (all_noted (IsSameLook s t) [] (looked_up s request) (by_recursion (IsSameLook s t) (recorded s request) h)).1 in
-    let same : answer_part t request ≡ answer_part s request =
-    answer-rests (record { looks = s; request = request }) (record { looks = t; request = request }) (all-find s t request (asked s request) looks) in
-    (ap (λ p. p.value) same, ap (λ p. noted [] (flat_map (keys_of request) p.asked)) same)
+    let here : World = record { looks = s; request = request } in
+    let there : World = record { looks = t; request = request } in
+    let same : answer_part t request ≡ answer_part s request = answer-rests here there (all_same here there (answer_part s request).notes (all-find s t request (asked s request) looks)) in
+    (ap (λ p. p.value) same, ap (λ p. noted [] (flat_map (keys_of request) (questions_in p.notes))) same)

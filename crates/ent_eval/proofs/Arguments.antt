@@ -16,12 +16,12 @@ use Rattle.ent_functions.specs.declared.types.ArgType.{ArgType}
 use Rattle.ent_policy.specs.Typing.{all_typed}
 use Rattle.ent_eval.specs.declared.evaluated.Evaluated.{Evaluated}
 use Rattle.ent_eval.specs.declared.evaluated.Evaluated.TheVariants.{Known, Indeterminate}
-use Rattle.ent_eval.specs.Expression.{arguments_of, evaluated_of, decides, is_result, result_of}
+use Rattle.ent_eval.specs.Expression.{application, arguments_of, decides, evaluated_of, fault_in, fault_unless, faults, is_result, result_of}
 use Rattle.ent_eval.specs.proofs_only.Noted.{Notes, noting}
-use Rattle.ent_eval.specs.Part.{Part, questions_of, seen_parts, values}
+use Rattle.ent_eval.specs.Part.{Part, notes_of, seen_parts, values}
 use Rattle.ent_eval.specs.proofs_only.Typed.{HasType}
 use Rattle.ent_eval.proofs.Booleans.{find_behind, find_none}
-use Rattle.ent_eval.proofs.Going.{IsGoing, at_item, goes_on, stops_at, values_to, values_to-next}
+use Rattle.ent_eval.proofs.Going.{IsGoing, at_item, goes_on, noting_both, stops_at, values_to, values_to-next}
 
 known_arguments : (done : List Arg) → arguments_of (map Known done) ≡ done
 known_arguments [] = refl
@@ -33,6 +33,13 @@ result_unsettled f vs done none is =
 
 result_settled : (f : Function) (vs : List Evaluated) (v : Evaluated) (ws : List Evaluated) → list_any (is_result f) vs ≡ false → is_result f v ≡ true → result_of f (vs ++ v ∷ ws) ≡ v
 result_settled f vs v ws none is = ap (λ o. unwrap_or o (evaluated_of (applied f (arguments_of (vs ++ v ∷ ws))))) (find_behind (is_result f) vs v ws none is)
+
+no_faults : (f : Function) (vs : List Evaluated) (v : Evaluated) (ws : List Evaluated) → list_any (is_result f) vs ≡ false → is_result f v ≡ true → faults f (vs ++ v ∷ ws) ≡ []
+no_faults f vs v ws none is = ap (λ o. fault_unless f o (applied f (arguments_of (vs ++ v ∷ ws)))) (find_behind (is_result f) vs v ws none is)
+
+its_fault : (f : Function) (vs : List Evaluated) (done : List Arg) → list_any (is_result f) vs ≡ false → vs ≡ map Known done → faults f vs ≡ fault_in f (applied f done)
+its_fault f vs done none is =
+    ap (λ o. fault_unless f o (applied f (arguments_of vs))) (find_none (is_result f) vs none) ∙ ap (λ given. fault_in f (applied f given)) (ap arguments_of is ∙ known_arguments done)
 
 -- ---- types
 
@@ -127,7 +134,7 @@ module _ {X : Type 0} (f : Function) (part : X → Part Evaluated) (type : X →
       first_some (type x) (map type (drop (i + 1) xs)) (subst (λ ys. IsSome (all_typed (map type ys))) (at_item xs i x below at) left)
 
   pub next_argument : (x : X) (v : Evaluated) (a : Arg) (more : List Arg) (next : Notes) → i < length xs → x ≡ get_or xs i x → AreEvaluated f part type xs i done start now
-      → v ≡ (part x).value → next ≡ noting now (part x).asked → HasType (type x) v → v ≡ Known a → is_result f v ≡ false → more ≡ done ++ a ∷ []
+      → v ≡ (part x).value → next ≡ noting now (part x).notes → HasType (type x) v → v ≡ Known a → is_result f v ≡ false → more ≡ done ++ a ∷ []
       → AreEvaluated f part type xs (i + 1) more start next
   next_argument x v a more next below at so_far v-is next-is has a-is not more-is = record {
     going = goes_on (is_result f) part xs i x start now next below at so_far.going (ap (is_result f) (sym v-is) ∙ not) next-is;
@@ -143,8 +150,14 @@ module _ {X : Type 0} (f : Function) (part : X → Part Evaluated) (type : X →
       ∙ result_settled f (values_to part xs i) v (values (map part (drop (i + 1) xs))) so_far.going.passed fixed)
 
   pub settled-notes : (x : X) (v : Evaluated) (next : Notes) → i < length xs → x ≡ get_or xs i x → AreEvaluated f part type xs i done start now → v ≡ (part x).value → is_result f v ≡ true
-      → next ≡ noting now (part x).asked → next ≡ noting start (questions_of (seen_parts (is_result f) (map part xs)))
-  settled-notes x v next below at so_far v-is fixed next-is = (stops_at (is_result f) part xs i x start now next below at so_far.going (ap (is_result f) (sym v-is) ∙ fixed) next-is).notes
+      → next ≡ noting now (part x).notes → next ≡ noting start (application f (map part xs)).notes
+  settled-notes x v next below at so_far v-is fixed next-is =
+      let seen = notes_of (seen_parts (is_result f) (map part xs)) in
+      let none : faults f (values (map part xs)) ≡ [] =
+      ap (faults f) (so_far.going.all ∙ ap (λ ys. values_to part xs i ++ values (map part ys)) (at_item xs i x below at) ∙ ap (λ w. values_to part xs i ++ w ∷ values (map part (drop (i + 1) xs))) (sym v-is))
+      ∙ no_faults f (values_to part xs i) v (values (map part (drop (i + 1) xs))) so_far.going.passed fixed in
+      (stops_at (is_result f) part xs i x start now next below at so_far.going (ap (is_result f) (sym v-is) ∙ fixed) next-is).notes
+      ∙ ap (noting start) (sym (append-nil seen) ∙ ap (λ ns. seen ++ ns) (sym none))
 
   all_left : length xs ≤ i → AreEvaluated f part type xs i done start now → Some (map type_of_arg done) ≡ all_typed (map type xs)
   all_left past so_far =
@@ -158,8 +171,14 @@ module _ {X : Type 0} (f : Function) (part : X → Part Evaluated) (type : X →
       sym (ap (result_of f) (so_far.going.all ∙ ap (λ ys. values_to part xs i ++ values (map part ys)) (drop_of_length-le xs past) ∙ append-nil (values_to part xs i))
       ∙ result_unsettled f (values_to part xs i) done so_far.going.passed so_far.known)
 
-  pub all-notes : length xs ≤ i → AreEvaluated f part type xs i done start now → now ≡ noting start (questions_of (seen_parts (is_result f) (map part xs)))
-  all-notes past so_far = ap (λ ys. noting now (questions_of (seen_parts (is_result f) (map part ys)))) (sym (drop_of_length-le xs past)) ∙ so_far.going.notes
+  pub all-notes : length xs ≤ i → AreEvaluated f part type xs i done start now → (next : Notes) → next ≡ noting now (fault_in f (applied f done)) → next ≡ noting start (application f (map part xs)).notes
+  all-notes past so_far next next-is =
+      let seen = notes_of (seen_parts (is_result f) (map part xs)) in
+      let now-is : now ≡ noting start seen = ap (λ ys. noting now (notes_of (seen_parts (is_result f) (map part ys)))) (sym (drop_of_length-le xs past)) ∙ so_far.going.notes in
+      let fault : faults f (values (map part xs)) ≡ fault_in f (applied f done) =
+      ap (faults f) (so_far.going.all ∙ ap (λ ys. values_to part xs i ++ values (map part ys)) (drop_of_length-le xs past) ∙ append-nil (values_to part xs i))
+      ∙ its_fault f (values_to part xs i) done so_far.going.passed so_far.known in
+      next-is ∙ ap (λ n. noting n (fault_in f (applied f done))) now-is ∙ noting_both start seen (fault_in f (applied f done)) ∙ ap (λ ns. noting start (seen ++ ns)) (sym fault)
 
 pub settled-type : (f : Function) (v : Evaluated) (types : Option (List ArgType)) → is_result f v ≡ true → IsSome (option_and_then (result_type_of f) types) → HasType (option_and_then (result_type_of f) types) v
 settled-type f v types is some = settled_typed f v types is some

@@ -14,7 +14,7 @@ use Rattle.ent_eval.specs.declared.answer.Answer.{Answer}
 use Rattle.ent_eval.specs.declared.gather.Gathering.{Gathering}
 use Rattle.ent_eval.specs.proofs_only.Gathered.{judged_by, HasGathered}
 use Rattle.ent_eval.specs.Judged.{decisions, judged, judgement_of, stops}
-use Rattle.ent_eval.specs.Part.{Part, values, questions_of, seen_parts}
+use Rattle.ent_eval.specs.Part.{Part, values, notes_of, seen_parts}
 use Rattle.ent_eval.specs.proofs_only.Noted.{Notes, noting}
 use Rattle.ent_eval.proofs.Going.{IsGoing, Stops, goes_on, stops_at, values_to, values_to-next}
 
@@ -41,7 +41,7 @@ stop_is false e = absurd (cc)
 -- one more child that doesn't fix the result
 pub next_child : {X : Type 0} (algorithm : RuleAlg) (part : X → Part Answer) (xs : List X) (i : ℕ) (x : X) (j : Answer) (progress : Progress) (g h : Gathering) (start now next : Notes)
     → i < length xs → x ≡ get_or xs i x → IsGoing (stops algorithm) part xs i start now → HasGathered algorithm g (values_to part xs i)
-    → j ≡ (part x).value → next ≡ noting now (part x).asked
+    → j ≡ (part x).value → next ≡ noting now (part x).notes
     → ((a : RuleAlg) (js : List Answer) → HasGathered a g js → HasGathered a h (js ++ j ∷ []))
     → ((a : RuleAlg) (js : List Answer) → HasGathered a g js → progress ≡ progress_at a j.decision)
     → progress ≡ Go
@@ -53,7 +53,7 @@ next_child algorithm part xs i x j progress g h start now next lt at going has j
 
 -- the child that fixes the result
 module _ {X : Type 0} (here : List DocKey) (algorithm : RuleAlg) (part : X → Part Answer) (xs : List X) (i : ℕ) (x : X) (j : Answer) (progress : Progress) (g h : Gathering) (start now next : Notes)
-    (lt : i < length xs) (at : x ≡ get_or xs i x) (going : IsGoing (stops algorithm) part xs i start now) (has : HasGathered algorithm g (values_to part xs i)) (j-is : j ≡ (part x).value) (next-is : next ≡ noting now (part x).asked)
+    (lt : i < length xs) (at : x ≡ get_or xs i x) (going : IsGoing (stops algorithm) part xs i start now) (has : HasGathered algorithm g (values_to part xs i)) (j-is : j ≡ (part x).value) (next-is : next ≡ noting now (part x).notes)
     (gathers : (a : RuleAlg) (js : List Answer) → HasGathered a g js → HasGathered a h (js ++ j ∷ []))
     (says : (a : RuleAlg) (js : List Answer) → HasGathered a g js → progress ≡ progress_at a j.decision) (stop : progress ≡ Stop) where
   stopped : Stops (stops algorithm) part xs (values_to part xs i ++ (part x).value ∷ []) start next
@@ -65,7 +65,7 @@ module _ {X : Type 0} (here : List DocKey) (algorithm : RuleAlg) (part : X → P
       finish (values_to part xs i ++ j ∷ []) (gathers algorithm (values_to part xs i) has)
       ∙ ap (λ v. judged_by here algorithm (values_to part xs i ++ v ∷ [])) j-is ∙ ap (judged_by here algorithm) (sym stopped.seen) ∙ judged_seen here algorithm (values (map part xs))
 
-  pub last_notes : next ≡ noting start (questions_of (seen_parts (stops algorithm) (map part xs)))
+  pub last_notes : next ≡ noting start (notes_of (seen_parts (stops algorithm) (map part xs)))
   last_notes = stopped.notes
 
 -- no child fixes the result
@@ -77,5 +77,5 @@ module _ {X : Type 0} (algorithm : RuleAlg) (part : X → Part Answer) (xs : Lis
       sym (append-nil (values_to part xs i)) ∙ ap (λ ys. values_to part xs i ++ up_to_first (stops algorithm) (values (map part ys))) (sym (drop_of_length-le xs past)) ∙ sym going.seen in
       finish (values_to part xs i) has ∙ ap (judged_by here algorithm) seen_to ∙ judged_seen here algorithm (values (map part xs))
 
-  pub all_notes : now ≡ noting start (questions_of (seen_parts (stops algorithm) (map part xs)))
-  all_notes = ap (λ ys. noting now (questions_of (seen_parts (stops algorithm) (map part ys)))) (sym (drop_of_length-le xs past)) ∙ going.notes
+  pub all_notes : now ≡ noting start (notes_of (seen_parts (stops algorithm) (map part xs)))
+  all_notes = ap (λ ys. noting now (notes_of (seen_parts (stops algorithm) (map part ys)))) (sym (drop_of_length-le xs past)) ∙ going.notes

@@ -1,6 +1,6 @@
 -- Targets of which some have been looked at, to find the only one that matches.
 use Rattle.std.proofs.Common.{◌≡◌, ℕ, ◌+◌, ◌<◌, ◌≤◌, Bool, true, false, List, [], ◌∷◌, ◌++◌, length, take, drop, map, get_or, suc, refl, sym, ap, ◌∙◌, subst, append_assoc, add-one, arith}
-use Rattle.std.specs.Prelude.{unwrap_or}
+use Rattle.std.specs.Prelude.{IfOk, OnOk, Result, Ok, Err, unwrap_or}
 use Rattle.std.specs.List.{list_any}
 use Rattle.std.proofs.Math.Seq.{take-suc}
 use Rattle.std.proofs.Math.ListN.{drop_of_length-le}
@@ -15,21 +15,25 @@ use Rattle.ent_combine.specs.declared.combiner.Progress.{Progress}
 use Rattle.ent_combine.specs.declared.combiner.Progress.TheVariants.{Go, Stop}
 use Rattle.ent_combine.proofs.Choosing.{bad_stays}
 use Rattle.ent_eval.specs.declared.answer.Status.TheVariants.{ProcessingError}
+use Rattle.ent_eval.specs.declared.only.Only.{Only}
 use Rattle.ent_eval.specs.declared.only.Only.TheVariants as only
 use Rattle.ent_eval.specs.declared.target.Targeted.{Targeted}
 use Rattle.ent_eval.specs.declared.target.Targeted.TheVariants.{Match, NoMatch, Indeterminate}
+use Rattle.ent_eval.specs.declared.walk.Walk.{Walk}
+use Rattle.ent_eval.specs.proofs_only.Comes.{Adds, Comes, Keeps}
 use Rattle.ent_eval.specs.proofs_only.Noted.{Notes, noting}
-use Rattle.ent_eval.specs.Only.{chosen, first_target_status, result_of_target, results, seen_choice, spoils}
-use Rattle.ent_eval.specs.proofs_only.Only.{status_of_target}
-use Rattle.ent_eval.specs.Part.{Part, questions_of, values}
-use Rattle.ent_eval.proofs.Going.{at_item, noting-append, values_to, values_to-next}
+use Rattle.ent_eval.specs.Only.{choice_part, chosen, first_target_status, result_of_target, results, seen_choice, several, spoils}
+use Rattle.ent_eval.specs.proofs_only.Only.{second_match, status_of_target}
+use Rattle.ent_eval.specs.Part.{Part, notes_of, values}
+use Rattle.ent_eval.proofs.Going.{at_item, noting-append, noting_both, values_to, values_to-next}
+use Rattle.ent_eval.proofs.Parts.{keeps_on}
 
 -- the first i targets don't choose Bad, and those left are looked at as they would be from the start
 pub record IsChoosing {X : Type 0} (target : X → Part Targeted) (xs : List X) (i : ℕ) (chooser : Chosen) (start now : Notes) : Type 0 where
   pub taken : HasSeen chooser (results (values_to target xs i))
   pub good : is_bad (choose (results (values_to target xs i))) ≡ false
   pub seen : seen_choice (map target xs) ≡ map target (take i xs) ++ rest_to_passing spoils (map target (take i xs)) (map target (drop i xs))
-  pub notes : noting now (questions_of (rest_to_passing spoils (map target (take i xs)) (map target (drop i xs)))) ≡ noting start (questions_of (seen_choice (map target xs)))
+  pub notes : noting now (notes_of (rest_to_passing spoils (map target (take i xs)) (map target (drop i xs)))) ≡ noting start (notes_of (seen_choice (map target xs)))
 
 go_good : (c : Choice) → Go ≡ progress_of c → is_bad c ≡ false
 go_good choice.Nobody e = refl
@@ -57,6 +61,11 @@ alone : (t : Targeted) → unwrap_or (first_target_status (t ∷ [])) Processing
 alone Match = refl
 alone NoMatch = refl
 alone (Indeterminate status) = refl
+
+second : (t : Targeted) → second_match t ≡ several choice.Bad (first_target_status (t ∷ []))
+second Match = refl
+second NoMatch = refl
+second (Indeterminate status) = refl
 
 taken-next : {X Y : Type 0} (f : X → Y) (xs : List X) (i : ℕ) (x : X) → i < length xs → x ≡ get_or xs i x → map f (take (i + 1) xs) ≡ map f (take i xs) ++ f x ∷ []
 taken-next f xs i x h is = ap (map f) (rw add-one (take-suc xs i x h ∙ ap (λ y. take i xs ++ y ∷ []) (sym is))) ∙ map-append f (take i xs) (x ∷ [])
@@ -88,7 +97,7 @@ module _ {X : Type 0} (target : X → Part Targeted) (xs : List X) (i : ℕ) (ch
   pub room : i < length xs → length xs ≤ 256 → chooser.taken < 256
   room h below = let e : chooser.taken ≡ i = so_far.taken.taken ∙ length_to (omega (arith, h)) in omega (arith, e)
 
-  module _ (x : X) (t : Targeted) (after : Chosen) (progress : Progress) (next : Notes) (below : i < length xs) (at : x ≡ get_or xs i x) (t-is : t ≡ (target x).value) (next-is : next ≡ noting now (target x).asked)
+  module _ (x : X) (t : Targeted) (after : Chosen) (progress : Progress) (next : Notes) (below : i < length xs) (at : x ≡ get_or xs i x) (t-is : t ≡ (target x).value) (next-is : next ≡ noting now (target x).notes)
       (takes : (ts : List TargetResult) → HasSeen chooser ts → HasSeen after (ts ++ result_of_target t ∷ [])) (says : (ts : List TargetResult) → HasSeen chooser ts → progress ≡ progress_at_target ts (result_of_target t)) where
     results_next : results (values_to target xs (i + 1)) ≡ results (values_to target xs i) ++ result_of_target t ∷ []
     results_next = ap results (values_to-next target xs i x below at) ∙ map-append result_of_target (values_to target xs i) ((target x).value ∷ []) ∙ ap (λ v. results (values_to target xs i) ++ result_of_target v ∷ []) (sym t-is)
@@ -113,9 +122,9 @@ module _ {X : Type 0} (target : X → Part Targeted) (xs : List X) (i : ℕ) (ch
           good = ap (λ rs. is_bad (choose rs)) results_next ∙ good;
           seen = so_far.seen ∙ ap (λ ps. map target (take i xs) ++ ps) on ∙ sym (append_assoc (map target (take i xs)) (target x ∷ []) (rest_to_passing spoils (map target (take (i + 1) xs)) (map target (drop (i + 1) xs))))
               ∙ ap (λ ps. ps ++ rest_to_passing spoils (map target (take (i + 1) xs)) (map target (drop (i + 1) xs))) (sym parts_next);
-          notes = ap (λ ks. noting ks (questions_of (rest_to_passing spoils (map target (take (i + 1) xs)) (map target (drop (i + 1) xs))))) next-is
-              ∙ sym (noting-append now (target x).asked (questions_of (rest_to_passing spoils (map target (take (i + 1) xs)) (map target (drop (i + 1) xs)))))
-              ∙ ap (λ ps. noting now (questions_of ps)) (sym on) ∙ so_far.notes;
+          notes = ap (λ ks. noting ks (notes_of (rest_to_passing spoils (map target (take (i + 1) xs)) (map target (drop (i + 1) xs))))) next-is
+              ∙ sym (noting-append now (target x).notes (notes_of (rest_to_passing spoils (map target (take (i + 1) xs)) (map target (drop (i + 1) xs)))))
+              ∙ ap (λ ps. noting now (notes_of ps)) (sym on) ∙ so_far.notes;
         }
 
     off : progress ≡ Stop → rest_to_passing spoils (map target (take i xs)) (map target (drop i xs)) ≡ target x ∷ []
@@ -139,8 +148,28 @@ module _ {X : Type 0} (target : X → Part Targeted) (xs : List X) (i : ℕ) (ch
         ∙ ap (λ o. unwrap_or o ProcessingError) (first_after (values_to target xs i) t (none_indeterminate (results (values_to target xs i)) so_far.good)) ∙ alone t in
         ap only.Bad (sym status) ∙ ap (λ c. chosen c (values (seen_choice (map target xs)))) (sym (all_bad stop))
 
-    pub stop_notes : progress ≡ Stop → next ≡ noting start (questions_of (seen_choice (map target xs)))
-    stop_notes stop = next-is ∙ ap (noting now) (sym (append-nil (target x).asked)) ∙ ap (λ ps. noting now (questions_of ps)) (sym (off stop)) ∙ so_far.notes
+    -- and a second match fails
+    pub stop_fails : progress ≡ Stop → second_match t ≡ several (choose (results (values (map target xs)))) (first_target_status (values (seen_choice (map target xs))))
+    stop_fails stop =
+        let last : seen_choice (map target xs) ≡ map target (take i xs) ++ target x ∷ [] = so_far.seen ∙ ap (λ ps. map target (take i xs) ++ ps) (off stop) in
+        let same : values (seen_choice (map target xs)) ≡ values_to target xs i ++ t ∷ [] =
+        ap values last ∙ ap values (sym parts_next) ∙ values_to-next target xs i x below at ∙ ap (λ v. values_to target xs i ++ v ∷ []) (sym t-is) in
+        second t ∙ ap (several choice.Bad) (sym (ap first_target_status same ∙ first_after (values_to target xs i) t (none_indeterminate (results (values_to target xs i)) so_far.good)))
+        ∙ ap (λ c. several c (first_target_status (values (seen_choice (map target xs))))) (sym (all_bad stop))
+
+    pub stop_notes : progress ≡ Stop → next ≡ noting start (notes_of (seen_choice (map target xs)))
+    stop_notes stop = next-is ∙ ap (noting now) (sym (append-nil (target x).notes)) ∙ ap (λ ps. noting now (notes_of ps)) (sym (off stop)) ∙ so_far.notes
+
+    -- what a choice comes to that stops, behind what is noted of it
+    pub stop_comes : {L E : Type 0} (r : Result Only E) (before between last : Walk L) → before.notes ≡ start → between.notes ≡ next → Keeps before between → progress ≡ Stop
+        → IfOk r (λ o. o ≡ only.Bad (status_of_target t)) → OnOk r (Adds (second_match t) between last) → IfOk r (Comes (choice_part (map target xs)) before last)
+    stop_comes (Ok o) before between last start-is next-is keeps stop value added = record {
+      value = value ∙ stop_value stop;
+      notes = added.notes ∙ ap (λ n. noting n (second_match t)) (next-is ∙ stop_notes stop) ∙ noting_both start (notes_of (seen_choice (map target xs))) (second_match t)
+          ∙ ap (λ ns. noting start (notes_of (seen_choice (map target xs)) ++ ns)) (stop_fails stop) ∙ ap (λ n. noting n (choice_part (map target xs)).notes) (sym start-is);
+      keeps = keeps_on before between last keeps added.keeps;
+    }
+    stop_comes (Err e) before between last start-is next-is keeps stop value added = tt
 
   -- where all targets were looked at
   all_results : length xs ≤ i → results (values_to target xs i) ≡ results (values (map target xs))
@@ -155,5 +184,5 @@ module _ {X : Type 0} (target : X → Part Targeted) (xs : List X) (i : ℕ) (ch
       let good = so_far.good in
       let f : true ≡ false = ap is_bad e ∙ good in cc
 
-  pub end_notes : length xs ≤ i → now ≡ noting start (questions_of (seen_choice (map target xs)))
-  end_notes past = ap (λ ys. noting now (questions_of (rest_to_passing spoils (map target (take i xs)) (map target ys)))) (sym (drop_of_length-le xs past)) ∙ so_far.notes
+  pub end_notes : length xs ≤ i → now ≡ noting start (notes_of (seen_choice (map target xs)))
+  end_notes past = ap (λ ys. noting now (notes_of (rest_to_passing spoils (map target (take i xs)) (map target ys)))) (sym (drop_of_length-le xs past)) ∙ so_far.notes

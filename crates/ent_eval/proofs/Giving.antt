@@ -11,7 +11,7 @@ use Rattle.ent_eval.specs.declared.evaluated.Evaluated.{Evaluated}
 use Rattle.ent_eval.specs.declared.evaluated.Evaluated.TheVariants.{Known, Indeterminate}
 use Rattle.ent_eval.specs.Given.{joined, together}
 use Rattle.ent_eval.specs.proofs_only.Noted.{Notes, noting}
-use Rattle.ent_eval.specs.Part.{Part, questions_of, seen_parts, values}
+use Rattle.ent_eval.specs.Part.{Part, notes_of, seen_parts, values}
 use Rattle.ent_eval.specs.proofs_only.Typed.{HasType, is_held}
 use Rattle.ent_eval.proofs.Going.{IsGoing, at_item, goes_on, stops_at}
 
@@ -51,7 +51,7 @@ module _ {X A : Type 0} (part : X → Part (Result (List A) Status)) (xs : List 
       let left = together (values (map part (drop (i + 1) xs))) in
       ap (λ s. joined s left) is ∙ joined-assoc (Ok so_far) (part x).value left ∙ ap (λ ys. joined (Ok so_far) (together (values (map part ys)))) (sym (at_item xs i x below at)) ∙ giving.given
 
-  pub gives_on : (x : X) (more : List A) (next : Notes) → i < length xs → x ≡ get_or xs i x → Ok more ≡ joined (Ok so_far) (part x).value → next ≡ noting now (part x).asked → IsGiving part xs (i + 1) more start next
+  pub gives_on : (x : X) (more : List A) (next : Notes) → i < length xs → x ≡ get_or xs i x → Ok more ≡ joined (Ok so_far) (part x).value → next ≡ noting now (part x).notes → IsGiving part xs (i + 1) more start next
   gives_on x more next below at is next-is = record {
     going = goes_on is_err part xs i x start now next below at giving.going (isn't_err so_far more (part x).value is) next-is;
     given = one_more x (Ok more) below at is;
@@ -60,15 +60,15 @@ module _ {X A : Type 0} (part : X → Part (Result (List A) Status)) (xs : List 
   pub stopped-value : (x : X) (status : Status) → i < length xs → x ≡ get_or xs i x → Err status ≡ joined (Ok so_far) (part x).value → Err status ≡ together (values (map part xs))
   stopped-value x status below at is = one_more x (Err status) below at is
 
-  pub stopped-notes : (x : X) (status : Status) (next : Notes) → i < length xs → x ≡ get_or xs i x → Err status ≡ joined (Ok so_far) (part x).value → next ≡ noting now (part x).asked
-      → next ≡ noting start (questions_of (seen_parts is_err (map part xs)))
+  pub stopped-notes : (x : X) (status : Status) (next : Notes) → i < length xs → x ≡ get_or xs i x → Err status ≡ joined (Ok so_far) (part x).value → next ≡ noting now (part x).notes
+      → next ≡ noting start (notes_of (seen_parts is_err (map part xs)))
   stopped-notes x status next below at is next-is = (stops_at is_err part xs i x start now next below at giving.going (is_an_err so_far status (part x).value is) next-is).notes
 
   pub whole-value : length xs ≤ i → Ok so_far ≡ together (values (map part xs))
   whole-value past = ap Ok (sym (append-nil so_far)) ∙ ap (λ ys. joined (Ok so_far) (together (values (map part ys)))) (sym (drop_of_length-le xs past)) ∙ giving.given
 
-  pub whole-notes : length xs ≤ i → now ≡ noting start (questions_of (seen_parts is_err (map part xs)))
-  whole-notes past = ap (λ ys. noting now (questions_of (seen_parts is_err (map part ys)))) (sym (drop_of_length-le xs past)) ∙ giving.going.notes
+  pub whole-notes : length xs ≤ i → now ≡ noting start (notes_of (seen_parts is_err (map part xs)))
+  whole-notes past = ap (λ ys. noting now (notes_of (seen_parts is_err (map part ys)))) (sym (drop_of_length-le xs past)) ∙ giving.going.notes
 
 -- ---- types
 

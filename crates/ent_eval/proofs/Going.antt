@@ -1,30 +1,25 @@
 -- A loop over parts that stops at the first whose value says so.
-use Rattle.std.proofs.Common.{◌≡◌, ℕ, ◌+◌, ◌<◌, Bool, true, false, List, [], ◌∷◌, ◌++◌, length, take, drop, map, get_or, suc, refl, sym, ap, ◌∙◌, Some, add-one, drop-cons, append_assoc}
+use Rattle.std.proofs.Common.{◌≡◌, ℕ, ◌+◌, ◌<◌, Bool, true, false, List, [], ◌∷◌, ◌++◌, length, take, drop, map, get_or, suc, refl, sym, ap, ◌∙◌, add-one, drop-cons, append_assoc}
 use Rattle.std.specs.List.{list_any}
 use Rattle.std.proofs.lemmas.List.Folds.{list_any-append}
 use Rattle.std.proofs.Math.Seq.{take-suc}
 use Rattle.std.proofs.lemmas.List.{append-nil, map-append}
 use Rattle.ent_combine.specs.Seen.{up_to_first}
-use Rattle.ent_eval.specs.declared.question.Question.{Question}
-use Rattle.ent_eval.specs.proofs_only.Noted.{Notes, asked_once, noting, with_note, with_question}
-use Rattle.ent_eval.specs.Part.{Part, questions_of, values, seen_parts}
+use Rattle.ent_eval.specs.Note.{Note}
+use Rattle.ent_eval.specs.proofs_only.Noted.{Notes, noting, with_note}
+use Rattle.ent_eval.specs.Part.{Part, notes_of, values, seen_parts}
 
-pub noting-append : (keys : Notes) (first more : List Question) → noting keys (first ++ more) ≡ noting (noting keys first) more
+pub noting-append : (keys : Notes) (first more : List Note) → noting keys (first ++ more) ≡ noting (noting keys first) more
 noting-append keys [] more = refl
 noting-append keys (k ∷ first) more = noting-append (with_note keys k) first more
 
--- where questions are noted, the notes are these, each once
-pub noting-questions : (questions more : List Question) → noting (Some questions) more ≡ Some (asked_once questions more)
-noting-questions questions [] = refl
-noting-questions questions (q ∷ more) = noting-questions (with_question questions q) more
-
--- questions of two parts, one after the other
-pub noting_both : (keys : Notes) (first more : List Question) → noting (noting keys first) more ≡ noting keys (first ++ more)
+-- notes of two parts, one after the other
+pub noting_both : (keys : Notes) (first more : List Note) → noting (noting keys first) more ≡ noting keys (first ++ more)
 noting_both keys first more = sym (noting-append keys first more)
 
--- and of one question behind a part
-pub noting_then : (keys : Notes) (first : List Question) (question : Question) → with_note (noting keys first) question ≡ noting keys (first ++ question ∷ [])
-noting_then keys first question = noting_both keys first (question ∷ [])
+-- and one behind a part
+pub noting_then : (keys : Notes) (first : List Note) (note : Note) → with_note (noting keys first) note ≡ noting keys (first ++ note ∷ [])
+noting_then keys first note = noting_both keys first (note ∷ [])
 
 pub at_item : {A : Type 0} (xs : List A) (i : ℕ) (x : A) → i < length xs → x ≡ get_or xs i x → drop i xs ≡ x ∷ drop (i + 1) xs
 at_item xs i x h is = rw (add-one, drop-cons xs i x h) (ap (λ y. y ∷ drop (suc i) xs) (sym is))
@@ -47,7 +42,7 @@ pub record IsGoing {X A : Type 0} (stop : A → Bool) (part : X → Part A) (xs 
   pub passed : list_any stop (values_to part xs i) ≡ false
   pub seen : up_to_first stop (values (map part xs)) ≡ values_to part xs i ++ up_to_first stop (values (map part (drop i xs)))
   pub all : values (map part xs) ≡ values_to part xs i ++ values (map part (drop i xs))
-  pub notes : noting now (questions_of (seen_parts stop (map part (drop i xs)))) ≡ noting start (questions_of (seen_parts stop (map part xs)))
+  pub notes : noting now (notes_of (seen_parts stop (map part (drop i xs)))) ≡ noting start (notes_of (seen_parts stop (map part xs)))
 
 seen_on : {A : Type 0} (stop : A → Bool) (p : Part A) (ps : List (Part A)) → stop p.value ≡ false → seen_parts stop (p ∷ ps) ≡ p ∷ seen_parts stop ps
 seen_on stop p ps not = rw not refl
@@ -62,7 +57,7 @@ first_off : {A : Type 0} (stop : A → Bool) (v : A) (vs : List A) → stop v �
 first_off stop v vs is = rw is refl
 
 pub goes_on : {X A : Type 0} (stop : A → Bool) (part : X → Part A) (xs : List X) (i : ℕ) (x : X) (start now next : Notes)
-    → i < length xs → x ≡ get_or xs i x → IsGoing stop part xs i start now → stop (part x).value ≡ false → next ≡ noting now (part x).asked
+    → i < length xs → x ≡ get_or xs i x → IsGoing stop part xs i start now → stop (part x).value ≡ false → next ≡ noting now (part x).notes
     → IsGoing stop part xs (i + 1) start next
 goes_on stop part xs i x start now next h at so_far not is =
     let here : drop i xs ≡ x ∷ drop (i + 1) xs = at_item xs i x h at in
@@ -73,21 +68,21 @@ goes_on stop part xs i x start now next h at so_far not is =
       seen = so_far.seen ∙ ap (λ ys. values_to part xs i ++ up_to_first stop (values (map part ys))) here ∙ ap (λ vs. values_to part xs i ++ vs) (first_on stop (part x).value (values left) not)
           ∙ sym (append_assoc (values_to part xs i) ((part x).value ∷ []) (up_to_first stop (values left))) ∙ ap (λ vs. vs ++ up_to_first stop (values left)) (sym to);
       all = so_far.all ∙ ap (λ ys. values_to part xs i ++ values (map part ys)) here ∙ sym (append_assoc (values_to part xs i) ((part x).value ∷ []) (values left)) ∙ ap (λ vs. vs ++ values left) (sym to);
-      notes = rw is (sym (noting-append now (part x).asked (questions_of (seen_parts stop left)))) ∙ ap (λ ps. noting now (questions_of ps)) (sym (seen_on stop (part x) left not)) ∙ ap (λ ys. noting now (questions_of (seen_parts stop (map part ys)))) (sym here) ∙ so_far.notes;
+      notes = rw is (sym (noting-append now (part x).notes (notes_of (seen_parts stop left)))) ∙ ap (λ ps. noting now (notes_of ps)) (sym (seen_on stop (part x) left not)) ∙ ap (λ ys. noting now (notes_of (seen_parts stop (map part ys)))) (sym here) ∙ so_far.notes;
     }
 
 -- what a loop has that stops at a part
 pub record Stops {X A : Type 0} (stop : A → Bool) (part : X → Part A) (xs : List X) (done : List A) (start now : Notes) : Type 0 where
   pub seen : up_to_first stop (values (map part xs)) ≡ done
-  pub notes : now ≡ noting start (questions_of (seen_parts stop (map part xs)))
+  pub notes : now ≡ noting start (notes_of (seen_parts stop (map part xs)))
 
 pub stops_at : {X A : Type 0} (stop : A → Bool) (part : X → Part A) (xs : List X) (i : ℕ) (x : X) (start now next : Notes)
-    → i < length xs → x ≡ get_or xs i x → IsGoing stop part xs i start now → stop (part x).value ≡ true → next ≡ noting now (part x).asked
+    → i < length xs → x ≡ get_or xs i x → IsGoing stop part xs i start now → stop (part x).value ≡ true → next ≡ noting now (part x).notes
     → Stops stop part xs (values_to part xs i ++ (part x).value ∷ []) start next
 stops_at stop part xs i x start now next h at so_far fixed is =
     let here : drop i xs ≡ x ∷ drop (i + 1) xs = at_item xs i x h at in
     let left = map part (drop (i + 1) xs) in
     record {
       seen = so_far.seen ∙ ap (λ ys. values_to part xs i ++ up_to_first stop (values (map part ys))) here ∙ ap (λ vs. values_to part xs i ++ vs) (first_off stop (part x).value (values left) fixed);
-      notes = is ∙ ap (λ ks. noting now ks) (sym (append-nil (part x).asked)) ∙ ap (λ ps. noting now (questions_of ps)) (sym (seen_off stop (part x) left fixed)) ∙ ap (λ ys. noting now (questions_of (seen_parts stop (map part ys)))) (sym here) ∙ so_far.notes;
+      notes = is ∙ ap (λ ks. noting now ks) (sym (append-nil (part x).notes)) ∙ ap (λ ps. noting now (notes_of ps)) (sym (seen_off stop (part x) left fixed)) ∙ ap (λ ys. noting now (notes_of (seen_parts stop (map part ys)))) (sym here) ∙ so_far.notes;
     }

@@ -22,7 +22,7 @@ module _ (looks : Looks) (request : Request) (hops : ℕ) (reference : Reference
   -- and its target is that of the document that it names
   pub target_followed : (t : Tree) → looks.document reference ≡ Some t → reference_target looks request hops reference ≡ after_look (Ref reference) (child_target looks request (hops - 1) (as_child t))
   target_followed t found =
-      ap (λ (n : Node). n.target) is_followed ∙ ap (λ o. after_look (Ref reference) (found_node (node_of looks request (hops - 1)) o).target) found
+      ap (λ (n : Node). n.target) is_followed ∙ ap (λ o. after_look (Ref reference) (found_node reference (node_of looks request (hops - 1)) o).target) found
 
   -- and it comes to what following it comes to
   pub answer_followed : (path : List DocKey) → followed_part looks request (hops - 1) path reference ≡ reference_part looks request hops path reference
@@ -31,4 +31,4 @@ module _ (looks : Looks) (request : Request) (hops : ℕ) (reference : Reference
 -- what follows a reference comes to what the document comes to that it names
 pub followed_found : (looks : Looks) (request : Request) (hops : ℕ) (reference : Reference) (t : Tree) → looks.document reference ≡ Some t → (path : List DocKey)
     → followed_part looks request hops path reference ≡ after_look (Ref reference) (child_part looks request hops path (as_child t))
-followed_found looks request hops reference t found path = ap (λ o. after_look (Ref reference) ((found_node (node_of looks request hops) o).answer path)) found
+followed_found looks request hops reference t found path = ap (λ o. after_look (Ref reference) ((found_node reference (node_of looks request hops) o).answer path)) found

@@ -10,6 +10,7 @@ use Rattle.ent_eval.specs.declared.request.Request.{Request}
 use Rattle.ent_eval.specs.declared.target.Targeted.{Targeted}
 use Rattle.ent_eval.specs.declared.walk.Walk.{Walk}
 use Rattle.ent_eval.specs.Looks.{Looks}
+use Rattle.ent_eval.specs.Note.{asks}
 use Rattle.ent_eval.specs.proofs_only.Comes.{Keeps, in_walk}
 use Rattle.ent_eval.specs.declared.gather.Gathering.{Gathering}
 use Rattle.ent_eval.specs.proofs_only.Gathered.{Gathers, Tells}
@@ -19,22 +20,22 @@ use Rattle.ent_eval.specs.Part.{Part, after_look, and_then}
 use Rattle.ent_eval.proofs.Going.{noting_both}
 use Rattle.ent_eval.proofs.Parts.{kept}
 
-module _ (behind : Targeted → Part Answer) (target : Part Targeted) (t : Targeted) (before after : Notes) (t-is : t ≡ target.value) (after-is : after ≡ noting before target.asked) where
+module _ (behind : Targeted → Part Answer) (target : Part Targeted) (t : Targeted) (before after : Notes) (t-is : t ≡ target.value) (after-is : after ≡ noting before target.notes) where
   -- what follows from a target's value is left of the whole
   pub left_behind : IsLeft (and_then target behind) (behind t) before after
   left_behind = (
     ap (λ s. (behind s).value) t-is,
-    ap (λ s. noting after (behind s).asked) t-is ∙ ap (λ ks. noting ks (behind target.value).asked) after-is ∙ noting_both before target.asked (behind target.value).asked,
+    ap (λ s. noting after (behind s).notes) t-is ∙ ap (λ ks. noting ks (behind target.value).notes) after-is ∙ noting_both before target.notes (behind target.value).notes,
   )
 
 -- what is left of an equal part
 pub left_of_equal : (p q left : Part Answer) (before after : Notes) → p ≡ q → IsLeft p left before after → IsLeft q left before after
-left_of_equal p q left before after same is = (is.0 ∙ ap (λ (r : Part Answer). r.value) same, is.1 ∙ ap (λ (r : Part Answer). noting before r.asked) same)
+left_of_equal p q left before after same is = (is.0 ∙ ap (λ (r : Part Answer). r.value) same, is.1 ∙ ap (λ (r : Part Answer). noting before r.notes) same)
 
 -- what is left behind one question is left of both
-pub left_behind_look : (p q left : Part Answer) (question : Question) (before between after : Notes) → between ≡ with_note before question → q ≡ after_look question p → IsLeft p left between after → IsLeft q left before after
+pub left_behind_look : (p q left : Part Answer) (question : Question) (before between after : Notes) → between ≡ with_note before (asks question) → q ≡ after_look question p → IsLeft p left between after → IsLeft q left before after
 left_behind_look p q left question before between after asked whole is =
-    (is.0 ∙ ap (λ (r : Part Answer). r.value) (sym whole), is.1 ∙ ap (λ n. noting n p.asked) asked ∙ ap (λ (r : Part Answer). noting before r.asked) (sym whole))
+    (is.0 ∙ ap (λ (r : Part Answer). r.value) (sym whole), is.1 ∙ ap (λ n. noting n p.notes) asked ∙ ap (λ (r : Part Answer). noting before r.notes) (sym whole))
 
 -- what is left behind a walk is left behind one that keeps it
 pub leaves_kept : {L : Type 0} (looks : L → Looks) (whole : Looks → Request → List DocKey → Part Answer) (start before : Walk L) (first last : Notes) (o : Opened) → Keeps start before
@@ -43,7 +44,7 @@ leaves_kept looks whole start before first last o keeps is = λ path.
     let same_whole : in_walk looks before whole path ≡ in_walk looks start whole path = kept looks (λ l r. whole l r path) start before keeps in
     let same_left : in_walk looks before left_part path o ≡ in_walk looks start left_part path o = kept looks (λ l r. left_part l r path o) start before keeps in (
       ap (λ (r : Part Answer). r.value) (sym same_left) ∙ (is path).0 ∙ ap (λ (r : Part Answer). r.value) same_whole,
-      ap (λ (r : Part Answer). noting last r.asked) (sym same_left) ∙ (is path).1 ∙ ap (λ (r : Part Answer). noting first r.asked) same_whole,
+      ap (λ (r : Part Answer). noting last r.notes) (sym same_left) ∙ (is path).1 ∙ ap (λ (r : Part Answer). noting first r.notes) same_whole,
     )
 
 -- what is gathered of an answer is gathered of an equal one

@@ -24,14 +24,14 @@ use Rattle.ent_policy.specs.declared.expression.VariableDefinition.{VariableDefi
 use Rattle.ent_eval.specs.declared.answer.Status.TheVariants.{MissingAttribute}
 use Rattle.ent_eval.specs.declared.evaluated.Evaluated.{Evaluated}
 use Rattle.ent_eval.specs.declared.evaluated.Evaluated.TheVariants.{Indeterminate, Known}
-use Rattle.ent_eval.specs.declared.question.Question.{Question}
+use Rattle.ent_eval.specs.Note.{Note, asks}
 use Rattle.ent_eval.specs.declared.question.Question.TheVariants.{Of}
 use Rattle.ent_eval.specs.declared.request.Request.{Request}
-use Rattle.ent_eval.specs.Expression.{bag_of, decides, designated, is_result, meaning, meaning_step, result_of, variable_part}
+use Rattle.ent_eval.specs.Expression.{application, bag_of, decides, designated, faults, is_result, meaning, meaning_step, result_of, variable_part}
 use Rattle.ent_eval.specs.Looks.{Looks}
 use Rattle.ent_eval.specs.Own.{is_empty, own_values}
-use Rattle.ent_eval.specs.Part.{Part, after_look, and_then, without_look, mapped, questions_of, seen_parts, whole}
-use Rattle.ent_eval.specs.Sources.{asked_of, source_values, values_part}
+use Rattle.ent_eval.specs.Part.{Part, after_look, and_fails, and_then, mapped, notes_of, seen_parts, without_look}
+use Rattle.ent_eval.specs.Sources.{asked_of, demanded, missing, source_values}
 use Rattle.ent_eval.specs.proofs_only.Typed.{HasType, apply_type, type_of}
 use Rattle.ent_eval.specs.proofs_only.Uncopied.{member}
 
@@ -63,88 +63,113 @@ in_bag e v d [] = at d.must_be_present where
 in_bag e v d (w ∷ ws) = sym (found e d v (w ∷ ws) refl)
 
 -- what is asked for two parts of which the first isn't the result
-two_asked : {A : Type 0} (stop : A → Bool) (p q : Part A) → stop p.value ≡ false → questions_of (seen_parts stop (p ∷ q ∷ [])) ≡ p.asked ++ q.asked
-two_asked stop p q goes = ap (λ b. questions_of (if b then p ∷ [] else p ∷ (if stop q.value then q ∷ [] else q ∷ []))) goes ∙ last (stop q.value) where
-  last : (b : Bool) → questions_of (p ∷ (if b then q ∷ [] else q ∷ [])) ≡ p.asked ++ q.asked
-  last true = ap (λ qs. p.asked ++ qs) (append-nil q.asked)
-  last false = ap (λ qs. p.asked ++ qs) (append-nil q.asked)
+two_asked : {A : Type 0} (stop : A → Bool) (p q : Part A) → stop p.value ≡ false → notes_of (seen_parts stop (p ∷ q ∷ [])) ≡ p.notes ++ q.notes
+two_asked stop p q goes = ap (λ b. notes_of (if b then p ∷ [] else p ∷ (if stop q.value then q ∷ [] else q ∷ []))) goes ∙ last (stop q.value) where
+  last : (b : Bool) → notes_of (p ∷ (if b then q ∷ [] else q ∷ [])) ≡ p.notes ++ q.notes
+  last true = ap (λ qs. p.notes ++ qs) (append-nil q.notes)
+  last false = ap (λ qs. p.notes ++ qs) (append-nil q.notes)
 
--- a value for which this is asked
-abbrev known : Value → List Question → Part Evaluated
-known v questions = record { value = Known (One v); asked = questions }
+-- is-in doesn't fail by itself
+no_fault_in : (e : Element) (v : Value) (d : Designator) (vs : List Value) → faults (functions.IsIn e) (Known (One v) ∷ bag_of d vs ∷ []) ≡ []
+unfolding applied first_order
+no_fault_in e v d [] = at d.must_be_present where
+  at : (must : Bool) → faults (functions.IsIn e) (Known (One v) ∷ (if must then Indeterminate MissingAttribute else Known (Many (record { datatype = d.datatype; values = [] }))) ∷ []) ≡ []
+  at true = rw (goes-on (functions.IsIn e) v (λ b. refl)) refl
+  at false = rw (goes-on (functions.IsIn e) v (λ b. refl)) refl
+no_fault_in e v d (w ∷ ws) = rw (goes-on (functions.IsIn e) v (λ b. refl)) refl
+
+-- what is noted of two arguments and of a function that doesn't fail
+two_noted : (stop : Evaluated → Bool) (p q : Part Evaluated) (failures : List Note) → stop p.value ≡ false → failures ≡ [] → notes_of (seen_parts stop (p ∷ q ∷ [])) ++ failures ≡ p.notes ++ q.notes
+two_noted stop p q failures goes none = ap (λ ns. notes_of (seen_parts stop (p ∷ q ∷ [])) ++ ns) none ∙ append-nil (notes_of (seen_parts stop (p ∷ q ∷ []))) ∙ two_asked stop p q goes
+
+-- a value for which this is noted
+abbrev known : Value → List Note → Part Evaluated
+known v notes = record { value = Known (One v); notes = notes }
 
 -- is-in of a value and of what a designator's values come to
-in_designator : (e : Element) (v : Value) (questions : List Question) (d : Designator) (p : Part (List Value))
-    → whole (is_result (functions.IsIn e)) (result_of (functions.IsIn e)) (known v questions ∷ mapped (bag_of d) p ∷ []) ≡ and_then (known v questions) (λ w. mapped (member v d) p)
-in_designator e v questions d p = ap₂ (λ value asked. record { value = value; asked = asked }) (in_bag e v d p.value)
-    (two_asked (is_result (functions.IsIn e)) (known v questions) (mapped (bag_of d) p) (goes-on (functions.IsIn e) v (λ b. refl)))
+in_designator : (e : Element) (v : Value) (questions : List Note) (d : Designator) (p : Part (List Value))
+    → application (functions.IsIn e) (known v questions ∷ mapped (bag_of d) p ∷ []) ≡ and_then (known v questions) (λ w. mapped (member v d) p)
+in_designator e v questions d p = ap₂ (λ value asked. record { value = value; notes = asked }) (in_bag e v d p.value)
+    (two_noted (is_result (functions.IsIn e)) (known v questions) (mapped (bag_of d) p) (faults (functions.IsIn e) (Known (One v) ∷ bag_of d p.value ∷ []))
+    (goes-on (functions.IsIn e) v (λ b. refl)) (no_fault_in e v d p.value))
 
 -- what equal comes to
 same : (e : Element) (v w : Value) → result_of (functions.Equal e) (Known (One v) ∷ Known (One w) ∷ []) ≡ Known (One (value.Boolean (same_value v w)))
 unfolding applied first_order
 same e v w = rw (goes-on (functions.Equal e) v (λ b. refl), goes-on (functions.Equal e) w (λ b. refl)) refl
 
+no_fault_equal : (e : Element) (v w : Value) → faults (functions.Equal e) (Known (One v) ∷ Known (One w) ∷ []) ≡ []
+unfolding applied first_order
+no_fault_equal e v w = rw (goes-on (functions.Equal e) v (λ b. refl), goes-on (functions.Equal e) w (λ b. refl)) refl
+
 -- equal of two values
-of_two : (e : Element) (v w : Value) (first second : List Question)
-    → whole (is_result (functions.Equal e)) (result_of (functions.Equal e)) (known v first ∷ known w second ∷ []) ≡ record { value = Known (One (value.Boolean (same_value v w))); asked = first ++ second }
-of_two e v w first second = ap₂ (λ value asked. record { value = value; asked = asked }) (same e v w)
-    (two_asked (is_result (functions.Equal e)) (known v first) (known w second) (goes-on (functions.Equal e) v (λ b. refl)))
+of_two : (e : Element) (v w : Value) (first second : List Note)
+    → application (functions.Equal e) (known v first ∷ known w second ∷ []) ≡ record { value = Known (One (value.Boolean (same_value v w))); notes = first ++ second }
+of_two e v w first second = ap₂ (λ value asked. record { value = value; notes = asked }) (same e v w)
+    (two_noted (is_result (functions.Equal e)) (known v first) (known w second) (faults (functions.Equal e) (Known (One v) ∷ Known (One w) ∷ []))
+    (goes-on (functions.Equal e) v (λ b. refl)) (no_fault_equal e v w))
+
+none_missing : (d : Designator) (vs : List Value) → is_empty vs ≡ false → missing d vs ≡ []
+none_missing d [] some = absurd (cc)
+none_missing d (v ∷ vs) some = refl
 
 module _ (looks : Looks) (request : Request) (definitions : List VariableDefinition) (n : ℕ) where
   rolled : (f : Function) (given : List Expression)
-      → meaning looks request definitions n (expressions.Apply f given) ≡ whole (is_result f) (result_of f) (map (meaning looks request definitions n) given)
+      → meaning looks request definitions n (expressions.Apply f given) ≡ application f (map (meaning looks request definitions n) given)
   unfolding Rattle.ent_policy.specs.declared.expression.Expression.TheViews.roll-Expression denote.Hole.Carrier.roll
   rolled f given = fold-roll-Expression (Part Evaluated) (meaning_step looks request (variable_part looks request definitions n)) (Expression-F.Apply f given)
 
   -- a function of arguments
   pub application-part : (x : Expression) (f : Function) (given seen : List Expression) → x ≡ expressions.Apply f given → seen ≡ given
-      → meaning looks request definitions n x ≡ whole (is_result f) (result_of f) (map (meaning looks request definitions n) seen)
+      → meaning looks request definitions n x ≡ application f (map (meaning looks request definitions n) seen)
   application-part x f given seen is given-is =
-      ap (meaning looks request definitions n) is ∙ rolled f given ∙ ap (λ es. whole (is_result f) (result_of f) (map (meaning looks request definitions n) es)) (sym given-is)
+      ap (meaning looks request definitions n) is ∙ rolled f given ∙ ap (λ es. application f (map (meaning looks request definitions n) es)) (sym given-is)
 
   pub designator-part : (d : Designator) → meaning looks request definitions n (expressions.Designator d) ≡ designated looks request d
   unfolding Rattle.ent_policy.specs.declared.expression.Expression.TheViews.roll-Expression denote.Hole.Carrier.roll
   designator-part d = fold-roll-Expression (Part Evaluated) (meaning_step looks request (variable_part looks request definitions n)) (Expression-F.Designator d)
 
   -- a designator for which the request has values of its own
-  own-part : (d : Designator) → is_empty (own_values d request) ≡ false → designated looks request d ≡ record { value = bag_of d (own_values d request); asked = Of (asked_of d) ∷ [] }
-  own-part d some = ap (λ b. mapped (bag_of d) (after_look (Of (asked_of d)) (without_look (if b then source_values looks request d else own_values d request)))) some
+  own-part : (d : Designator) → is_empty (own_values d request) ≡ false → designated looks request d ≡ record { value = bag_of d (own_values d request); notes = asks (Of (asked_of d)) ∷ [] }
+  own-part d some =
+      ap (λ b. mapped (bag_of d) (and_fails (after_look (Of (asked_of d)) (without_look (if b then source_values looks request d else own_values d request))) (missing d))) some
+      ∙ ap (λ ns. record { value = bag_of d (own_values d request); notes = asks (Of (asked_of d)) ∷ ns }) (none_missing d (own_values d request) some)
 
-  one : (e : Element) (d : Designator) (v : Value) (question : Question)
-      → whole (is_result (functions.OneAndOnly e)) (result_of (functions.OneAndOnly e)) (record { value = bag_of d (v ∷ []); asked = question ∷ [] } ∷ []) ≡ known v (question ∷ [])
+  one : (e : Element) (d : Designator) (v : Value) (question : Note)
+      → application (functions.OneAndOnly e) (record { value = bag_of d (v ∷ []); notes = question ∷ [] } ∷ []) ≡ known v (question ∷ [])
   unfolding applied first_order
   one e d v question = refl
 
   -- one-and-only of a designator with one value
-  pub only : (f : Function) (e : Element) (d : Designator) (v : Value) (given : List Expression) (questions : List Question) → f ≡ functions.OneAndOnly e → given ≡ expressions.Designator d ∷ []
-      → own_values d request ≡ v ∷ [] → questions ≡ Of (asked_of d) ∷ []
-      → whole (is_result f) (result_of f) (map (meaning looks request definitions n) given) ≡ known v questions
+  pub only : (f : Function) (e : Element) (d : Designator) (v : Value) (given : List Expression) (questions : List Note) → f ≡ functions.OneAndOnly e → given ≡ expressions.Designator d ∷ []
+      → own_values d request ≡ v ∷ [] → questions ≡ asks (Of (asked_of d)) ∷ []
+      → application f (map (meaning looks request definitions n) given) ≡ known v questions
   only f e d v given questions f-is is own asked-is =
-      ap (λ h. whole (is_result h) (result_of h) (map (meaning looks request definitions n) given)) f-is
-      ∙ ap (whole (is_result (functions.OneAndOnly e)) (result_of (functions.OneAndOnly e))) (ap (map (meaning looks request definitions n)) is ∙ ap (λ p. p ∷ []) (designator-part d ∙ own-part d (ap is_empty own)))
-      ∙ ap (λ vs. whole (is_result (functions.OneAndOnly e)) (result_of (functions.OneAndOnly e)) (record { value = bag_of d vs; asked = Of (asked_of d) ∷ [] } ∷ [])) own
-      ∙ one e d v (Of (asked_of d)) ∙ ap (known v) (sym asked-is)
+      ap (λ h. application h (map (meaning looks request definitions n) given)) f-is
+      ∙ ap (application (functions.OneAndOnly e)) (ap (map (meaning looks request definitions n)) is ∙ ap (λ p. p ∷ []) (designator-part d ∙ own-part d (ap is_empty own)))
+      ∙ ap (λ vs. application (functions.OneAndOnly e) (record { value = bag_of d vs; notes = asks (Of (asked_of d)) ∷ [] } ∷ [])) own
+      ∙ one e d v (asks (Of (asked_of d))) ∙ ap (known v) (sym asked-is)
 
   -- is-in of a value and a designator
-  pub is-in-part : (f : Function) (e : Element) (given : List Expression) (x y : Expression) (v : Value) (questions : List Question) (d : Designator) → f ≡ functions.IsIn e → given ≡ x ∷ y ∷ []
+  pub is-in-part : (f : Function) (e : Element) (given : List Expression) (x y : Expression) (v : Value) (questions : List Note) (d : Designator) → f ≡ functions.IsIn e → given ≡ x ∷ y ∷ []
       → meaning looks request definitions n x ≡ known v questions → y ≡ expressions.Designator d
-      → whole (is_result f) (result_of f) (map (meaning looks request definitions n) given) ≡ and_then (known v questions) (λ w. mapped (member v d) (values_part looks request d))
+      → application f (map (meaning looks request definitions n) given) ≡ and_then (known v questions) (λ w. mapped (member v d) (demanded looks request d))
   is-in-part f e given x y v questions d f-is is first second =
-      ap (λ xs. whole (is_result f) (result_of f) (map (meaning looks request definitions n) xs)) is
-      ∙ ap (λ p. whole (is_result f) (result_of f) (p ∷ meaning looks request definitions n y ∷ [])) first
-      ∙ ap (λ p. whole (is_result f) (result_of f) (known v questions ∷ p ∷ [])) (ap (meaning looks request definitions n) second ∙ designator-part d)
-      ∙ ap (λ g. whole (is_result g) (result_of g) (known v questions ∷ designated looks request d ∷ [])) f-is
-      ∙ in_designator e v questions d (values_part looks request d)
+      ap (λ xs. application f (map (meaning looks request definitions n) xs)) is
+      ∙ ap (λ p. application f (p ∷ meaning looks request definitions n y ∷ [])) first
+      ∙ ap (λ p. application f (known v questions ∷ p ∷ [])) (ap (meaning looks request definitions n) second ∙ designator-part d)
+      ∙ ap (λ g. application g (known v questions ∷ designated looks request d ∷ [])) f-is
+      ∙ in_designator e v questions d (demanded looks request d)
 
   -- equal of two values
-  pub equal-part : (f : Function) (e : Element) (given : List Expression) (x y : Expression) (v w : Value) (first second : List Question) → f ≡ functions.Equal e → given ≡ x ∷ y ∷ []
+  pub equal-part : (f : Function) (e : Element) (given : List Expression) (x y : Expression) (v w : Value) (first second : List Note) → f ≡ functions.Equal e → given ≡ x ∷ y ∷ []
       → meaning looks request definitions n x ≡ known v first → meaning looks request definitions n y ≡ known w second
-      → whole (is_result f) (result_of f) (map (meaning looks request definitions n) given) ≡ record { value = Known (One (value.Boolean (same_value v w))); asked = first ++ second }
+      → application f (map (meaning looks request definitions n) given) ≡ record { value = Known (One (value.Boolean (same_value v w))); notes = first ++ second }
   equal-part f e given x y v w first second f-is is one two =
-      ap (λ xs. whole (is_result f) (result_of f) (map (meaning looks request definitions n) xs)) is
-      ∙ ap (λ p. whole (is_result f) (result_of f) (p ∷ meaning looks request definitions n y ∷ [])) one
-      ∙ ap (λ p. whole (is_result f) (result_of f) (known v first ∷ p ∷ [])) two
-      ∙ ap (λ g. whole (is_result g) (result_of g) (known v first ∷ known w second ∷ [])) f-is ∙ of_two e v w first second
+      ap (λ xs. application f (map (meaning looks request definitions n) xs)) is
+      ∙ ap (λ p. application f (p ∷ meaning looks request definitions n y ∷ [])) one
+      ∙ ap (λ p. application f (known v first ∷ p ∷ [])) two
+      ∙ ap (λ g. application g (known v first ∷ known w second ∷ [])) f-is ∙ of_two e v w first second
 
 -- ---- types
 

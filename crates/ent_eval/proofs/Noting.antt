@@ -1,5 +1,5 @@
 -- What is noted stays noted: a key in a set of keys, and a question in the notes.
-use Rattle.std.proofs.Common.{◌≡◌, ℕ, zero, suc, Bool, true, false, List, [], ◌∷◌, ◌++◌, length, Some, None, Ordering, Less, Equal, Greater, refl, sym, ap, ◌∙◌, arith}
+use Rattle.std.proofs.Common.{◌≡◌, ℕ, zero, suc, Bool, true, false, List, [], ◌∷◌, ◌++◌, length, Option, Some, None, Ordering, Less, Equal, Greater, refl, sym, ap, ◌∙◌, arith}
 use Rattle.std.specs.Prelude.{◌||◌, if◌then◌else◌}
 use Rattle.std.specs.BTreeSet.{insert_key}
 use Rattle.std.specs.Cmp.{IsTotalOrder, tied_itself}
@@ -11,8 +11,9 @@ use Rattle.ent_eval.specs.contracts.key.ReadKeyOrd.TheImpl.Laws.{total-law}
 use Rattle.ent_eval.specs.declared.key.ReadKey.{ReadKey}
 use Rattle.ent_eval.specs.declared.question.Question.{Question}
 use Rattle.ent_eval.specs.proofs_only.Looked.{IsNoted}
+use Rattle.ent_eval.specs.Note.{Note, asks, fails}
 use Rattle.ent_eval.specs.Noted.{noted, read_cmp, with_key}
-use Rattle.ent_eval.specs.proofs_only.Noted.{Notes, is_asked, noting, same_question, with_note, with_question}
+use Rattle.ent_eval.specs.proofs_only.Noted.{Notes, is_asked, noting, same_question, with_asked, with_note, with_question}
 use Rattle.ent_eval.proofs.Keys.{read_cmp-IsAntisymmetric}
 use Rattle.ent_eval.proofs.Sames.{question-Decides}
 
@@ -120,21 +121,31 @@ asked_there (q ∷ questions) (suc place) question is = or_later (same_question 
   or_later true later = refl
   or_later false later = later
 
--- a question that was just noted is noted
-pub noted_now : (notes : Notes) (question : Question) → IsNoted (with_note notes question) question
-noted_now None question = tt
-noted_now (Some questions) question = asked_now questions question
+asked_of_some : (asked : Option (List Question)) (question : Question) → IsNoted (with_asked asked question) question
+asked_of_some None question = tt
+asked_of_some (Some questions) question = asked_now questions question
 
-noted_stays : (notes : Notes) (question more : Question) → IsNoted notes question → IsNoted (with_note notes more) question
-noted_stays None question more there = tt
-noted_stays (Some questions) question more there = asked_still questions question more (is_asked questions more) there
+-- a question that was just noted is noted
+pub noted_now : (notes : Notes) (question : Question) → IsNoted (with_note notes (asks question)).questions question
+noted_now notes question = asked_of_some notes.questions question
+
+asked_stays : (asked : Option (List Question)) (question more : Question) → IsNoted asked question → IsNoted (with_asked asked more) question
+asked_stays None question more there = tt
+asked_stays (Some questions) question more there = asked_still questions question more (is_asked questions more) there
+
+noted_stays : (notes : Notes) (question : Question) (more : Note) → IsNoted notes.questions question → IsNoted (with_note notes more).questions question
+noted_stays notes question (asks more) there = asked_stays notes.questions question more there
+noted_stays notes question (fails cause) there = there
 
 -- one that is noted stays noted
-pub noted_stay : (notes : Notes) (question : Question) (more : List Question) → IsNoted notes question → IsNoted (noting notes more) question
+pub noted_stay : (notes : Notes) (question : Question) (more : List Note) → IsNoted notes.questions question → IsNoted (noting notes more).questions question
 noted_stay notes question [] there = there
-noted_stay notes question (q ∷ more) there = noted_stay (with_note notes q) question more (noted_stays notes question q there)
+noted_stay notes question (n ∷ more) there = noted_stay (with_note notes n) question more (noted_stays notes question n there)
+
+asked_same : (asked : Option (List Question)) (question : Question) → IsNoted asked question → asked ≡ with_asked asked question
+asked_same None question there = refl
+asked_same (Some questions) question there = ap (λ b. Some (if b then questions else questions ++ question ∷ [])) (sym there)
 
 -- noting it again leaves the notes as they are
-pub noted_same : (notes : Notes) (question : Question) → IsNoted notes question → notes ≡ with_note notes question
-noted_same None question there = refl
-noted_same (Some questions) question there = ap (λ b. Some (if b then questions else questions ++ question ∷ [])) (sym there)
+pub noted_same : (notes : Notes) (question : Question) → IsNoted notes.questions question → notes ≡ with_note notes (asks question)
+noted_same notes question there = ap (λ asked. record { questions = asked; causes = notes.causes; failed = notes.failed }) (asked_same notes.questions question there)

@@ -1,12 +1,13 @@
 -- What came of one part came of an equal one.
 use Rattle.std.proofs.Common.{◌≡◌, List, [], ◌∷◌, Result, sym, ap, subst, ◌∙◌}
 use Rattle.std.specs.Prelude.{IfOk, OnOk, Ok, Err}
-use Rattle.ent_eval.specs.proofs_only.Comes.{Asks, Comes, Keeps, in_walk}
+use Rattle.ent_eval.specs.proofs_only.Comes.{Adds, Comes, Keeps, in_walk}
 use Rattle.ent_eval.specs.declared.answer.Answer.{Answer}
 use Rattle.ent_eval.specs.declared.question.Question.{Question}
 use Rattle.ent_eval.specs.declared.request.Request.{Request}
 use Rattle.ent_eval.specs.declared.walk.Walk.{Walk}
 use Rattle.ent_eval.specs.Looks.{Looks}
+use Rattle.ent_eval.specs.Note.{Note, asks}
 use Rattle.ent_eval.specs.proofs_only.Noted.{Notes, noting}
 use Rattle.ent_eval.specs.proofs_only.Opened.{IsLeft}
 use Rattle.ent_eval.specs.Part.{Part, after_look}
@@ -26,9 +27,9 @@ module _ {L : Type 0} (looks : L → Looks) where
 
 module _ {A B E L : Type 0} (meaning : A → B) where
   -- a part came where its value did, and its questions were noted
-  pub comes : (r : Result A E) (p : Part B) (before after : Walk L) → IfOk r (λ a. meaning a ≡ p.value) → OnOk r (Asks p.asked before after) → IfOk r (λ a. Comes p before after (meaning a))
-  comes (Ok a) p before after value asks = record { value = value; notes = asks.notes; keeps = asks.keeps }
-  comes (Err e) p before after value asks = tt
+  pub comes : (r : Result A E) (p : Part B) (before after : Walk L) → IfOk r (λ a. meaning a ≡ p.value) → OnOk r (Adds p.notes before after) → IfOk r (λ a. Comes p before after (meaning a))
+  comes (Ok a) p before after value added = record { value = value; notes = added.notes; keeps = added.keeps }
+  comes (Err e) p before after value added = tt
 
   pub comes_equal : (r : Result A E) (before after : Walk L) (p q : Part B) → p ≡ q → IfOk r (λ a. Comes p before after (meaning a)) → IfOk r (λ a. Comes q before after (meaning a))
   comes_equal r before after p q same is = subst (λ s. IfOk r (λ a. Comes s before after (meaning a))) same is
@@ -45,20 +46,20 @@ comes_left meaning (Ok a) left p before between after is keeps came = record { v
 comes_left meaning (Err e) left p before between after is keeps came = tt
 
 -- what was noted for what is left of a whole was noted for the whole
-pub asks_left : {A E L : Type 0} (r : Result A E) (asked all : List Question) (before between after : Walk L) → noting between.notes asked ≡ noting before.notes all → Keeps before between
-    → OnOk r (Asks asked between after) → OnOk r (Asks all before after)
+pub asks_left : {A E L : Type 0} (r : Result A E) (asked all : List Note) (before between after : Walk L) → noting between.notes asked ≡ noting before.notes all → Keeps before between
+    → OnOk r (Adds asked between after) → OnOk r (Adds all before after)
 asks_left (Ok a) asked all before between after is keeps came = record { notes = came.notes ∙ is; keeps = keeps_on before between after keeps came.keeps }
 asks_left (Err e) asked all before between after is keeps came = tt
 
 -- what came behind one question came of both
-pub comes_behind : {A B E L : Type 0} (meaning : A → B) (r : Result A E) (p q : Part B) (question : Question) (before between after : Walk L) → Asks (question ∷ []) before between → q ≡ after_look question p
+pub comes_behind : {A B E L : Type 0} (meaning : A → B) (r : Result A E) (p q : Part B) (question : Question) (before between after : Walk L) → Adds (asks question ∷ []) before between → q ≡ after_look question p
     → IfOk r (λ a. Comes p between after (meaning a)) → IfOk r (λ a. Comes q before after (meaning a))
-comes_behind meaning (Ok a) p q question before between after asks whole came = record {
+comes_behind meaning (Ok a) p q question before between after added whole came = record {
   value = came.value ∙ ap (λ s. s.value) (sym whole);
-  notes = came.notes ∙ ap (λ n. noting n p.asked) asks.notes ∙ ap (λ s. noting before.notes s.asked) (sym whole);
-  keeps = keeps_on before between after asks.keeps came.keeps;
+  notes = came.notes ∙ ap (λ n. noting n p.notes) added.notes ∙ ap (λ s. noting before.notes s.notes) (sym whole);
+  keeps = keeps_on before between after added.keeps came.keeps;
 }
-comes_behind meaning (Err e) p q question before between after asks whole came = tt
+comes_behind meaning (Err e) p q question before between after added whole came = tt
 
 -- what a walk comes to and notes, by what it runs over
 module _ {A L : Type 0} (looks : L → Looks) (meaning : Looks → Request → Part A) (held : L) (request : Request) (notes : Notes) (walk : Walk L) (held-is : walk.held.now ≡ held) (request-is : walk.request ≡ request) where
@@ -69,8 +70,8 @@ module _ {A L : Type 0} (looks : L → Looks) (meaning : Looks → Request → P
   value_came (Ok a) after came = came.value ∙ ap (λ (p : Part A). p.value) part_is
   value_came (Err e) after came = tt
 
-  pub notes_came : {E : Type 0} (r : Result A E) (after : Walk L) → walk.notes ≡ notes → IfOk r (Comes (in_walk looks walk meaning) walk after) → OnOk r (after.notes ≡ noting notes (meaning (looks held) request).asked)
-  notes_came (Ok a) after notes-is came = came.notes ∙ ap (λ n. noting n (in_walk looks walk meaning).asked) notes-is ∙ ap (λ (p : Part A). noting notes p.asked) part_is
+  pub notes_came : {E : Type 0} (r : Result A E) (after : Walk L) → walk.notes ≡ notes → IfOk r (Comes (in_walk looks walk meaning) walk after) → OnOk r (after.notes ≡ noting notes (meaning (looks held) request).notes)
+  notes_came (Ok a) after notes-is came = came.notes ∙ ap (λ n. noting n (in_walk looks walk meaning).notes) notes-is ∙ ap (λ (p : Part A). noting notes p.notes) part_is
   notes_came (Err e) after notes-is came = tt
 
 -- what holds whatever the result is

@@ -1,5 +1,5 @@
 -- What the parts of an answer rest on.
-use Rattle.std.proofs.Common.{◌≡◌, ℕ, zero, suc, Bool, true, false, List, [], ◌∷◌, ◌++◌, length, map, refl, sym, ap, ◌∙◌, subst, Option, Some, None}
+use Rattle.std.proofs.Common.{◌≡◌, ℕ, zero, suc, Bool, true, false, List, [], ◌∷◌, ◌++◌, length, map, refl, sym, ap, ap₂, ◌∙◌, subst, Option, Some, None}
 use Rattle.std.specs.Prelude.{find, if◌then◌else◌, Result, Ok, Err, is_err}
 use Rattle.std.specs.List.{AllByRecursion, list_any}
 use Rattle.ent_combine.proofs.Combining.{any_up_to_first, seen_again}
@@ -15,7 +15,7 @@ use Rattle.ent_policy.specs.declared.document.Rule.{Rule}
 use Rattle.ent_policy.specs.declared.document.Target.{Target}
 use Rattle.ent_policy.specs.declared.key.DocKey.{DocKey}
 use Rattle.ent_eval.specs.declared.answer.Answer.{Answer}
-use Rattle.ent_eval.specs.declared.question.Question.{Question}
+use Rattle.ent_eval.specs.Note.{Note, asks, fails, note_of_rule, note_within}
 use Rattle.ent_eval.specs.declared.question.Question.TheVariants.{Of}
 use Rattle.ent_eval.specs.declared.request.Request.{Request}
 use Rattle.ent_eval.specs.declared.target.Targeted.{Targeted}
@@ -27,25 +27,24 @@ use Rattle.ent_policy.specs.declared.expression.Expression.TheOpen.{Expression-F
 use Rattle.ent_policy.specs.declared.expression.Expression.TheFolds.{fold-roll-Expression, ind-Expression, map-Expression}
 use Rattle.ent_policy.specs.declared.expression.Expression.TheViews.{roll-Expression}
 use Rattle.ent_policy.specs.declared.expression.VariableDefinition.{VariableDefinition}
-use Rattle.ent_policy.specs.declared.key.Kind.TheVariants as kind
 use Rattle.ent_eval.specs.declared.evaluated.Evaluated.{Evaluated}
 use Rattle.ent_eval.specs.declared.evaluated.Truth.{Truth}
-use Rattle.ent_eval.specs.Expression.{bag_of, defined_part, is_result, meaning, meaning_step, meaning_with, result_of, variable_part}
+use Rattle.ent_eval.specs.Expression.{application, bag_of, defined_part, faults, is_result, meaning, meaning_step, meaning_with, result_of, variable_part}
 use Rattle.ent_policy.specs.declared.document.Effect.{Effect}
 use Rattle.ent_policy.specs.declared.given.AssignmentExpression.{AssignmentExpression}
 use Rattle.ent_policy.specs.declared.given.GivenExpression.{GivenExpression}
 use Rattle.ent_policy.specs.declared.given.GivenExpressions.{GivenExpressions}
 use Rattle.ent_eval.specs.declared.answer.Status.{Status}
 use Rattle.ent_eval.specs.declared.given.Given.{Given}
-use Rattle.ent_eval.specs.Given.{advice_after, assigned, assignment_part, effect_of, finished, given_in_turn, given_of, given_part, given_with, givens_part, goes_with, joined, together, with_own}
+use Rattle.ent_eval.specs.Given.{advice_after, assigned, assignment_part, effect_of, finished, given_in_turn, given_of, given_part, given_with, givens_part, goes_with, joined, together, unfit_assignment, with_own}
 use Rattle.ent_eval.specs.proofs_only.Gathered.{judged_by}
 use Rattle.ent_eval.specs.Judged.{judgement_of, stops, with_target}
 use Rattle.ent_eval.specs.Law.{FindsSame}
 use Rattle.ent_eval.specs.Looks.{Looks}
-use Rattle.ent_eval.specs.Node.{children_after, combined, element, policy_part, rules_part}
-use Rattle.ent_eval.specs.Part.{Part, after_look, and_then, mapped, questions_of, seen_parts, values, whole, without_look}
-use Rattle.ent_eval.specs.Rule.{condition_part, decided, rule_after, rule_part, truth_of}
-use Rattle.ent_eval.specs.Sources.{asked_of, values_part}
+use Rattle.ent_eval.specs.Node.{children_after, combined, element, policy_key, policy_part, rules_part}
+use Rattle.ent_eval.specs.Part.{Part, after_look, and_fails, and_then, mapped, notes_of, of_rule, seen_parts, values, whole, within, without_look}
+use Rattle.ent_eval.specs.Rule.{condition_part, decided, in_rule, rule_after, rule_part, truth_of, unfit_condition}
+use Rattle.ent_eval.specs.Sources.{asked_of, demanded, missing, values_part}
 use Rattle.ent_eval.specs.Target.{all_match, all_of_part, any_of_part, is_match, is_no_match, match_part, matched, one_matches, target_part}
 use Rattle.ent_eval.proofs.Children.{judged_seen}
 
@@ -55,12 +54,13 @@ pub record World : Type 0 where
   pub request : Request
 
 -- a question finds the same in both
-abbrev pub Same : World → World → Question → Type 0
-Same s t = FindsSame s.looks s.request t.looks t.request
+abbrev pub Same : World → World → Note → Type 0
+Same s t (asks question) = FindsSame s.looks s.request t.looks t.request question
+Same s t (fails cause) = Unit {0}
 
 -- a part is the same in both where what is asked for it is
 abbrev pub Rests : {A : Type 0} → World → World → (World → Part A) → Type 0
-Rests s t part = AllByRecursion (Same s t) (part s).asked → part t ≡ part s
+Rests s t part = AllByRecursion (Same s t) (part s).notes → part t ≡ part s
 
 pub first_looks : {X : Type 0} (P : X → Type 0) (ks ls : List X) → AllByRecursion P (ks ++ ls) → AllByRecursion P ks
 first_looks P [] ls h = tt
@@ -72,12 +72,29 @@ later_looks P (k ∷ ks) ls h = later_looks P ks ls h.1
 
 pub and_then-rests : {A B : Type 0} (s t : World) (p : World → Part A) (f : World → A → Part B) → Rests s t p → ((a : A) → Rests s t (λ u. f u a)) → Rests s t (λ u. and_then (p u) (f u))
 and_then-rests s t p f first later h =
-    let one : p t ≡ p s = first (first_looks (Same s t) (p s).asked (f s (p s).value).asked h) in
-    let two : f t (p s).value ≡ f s (p s).value = later (p s).value (later_looks (Same s t) (p s).asked (f s (p s).value).asked h) in
-    ap (λ q. and_then q (f t)) one ∙ ap (λ q. record { value = q.value; asked = (p s).asked ++ q.asked }) two
+    let one : p t ≡ p s = first (first_looks (Same s t) (p s).notes (f s (p s).value).notes h) in
+    let two : f t (p s).value ≡ f s (p s).value = later (p s).value (later_looks (Same s t) (p s).notes (f s (p s).value).notes h) in
+    ap (λ q. and_then q (f t)) one ∙ ap (λ q. record { value = q.value; notes = (p s).notes ++ q.notes }) two
 
 pub mapped-rests : {A B : Type 0} (s t : World) (f : A → B) (p : World → Part A) → Rests s t p → Rests s t (λ u. mapped f (p u))
 mapped-rests s t f p rests h = ap (mapped f) (rests h)
+
+pub fails-rests : {A : Type 0} (s t : World) (p : World → Part A) (failures : A → List Note) → Rests s t p → Rests s t (λ u. and_fails (p u) failures)
+fails-rests s t p failures rests h = ap (λ q. and_fails q failures) (rests (first_looks (Same s t) (p s).notes (failures (p s).value) h))
+
+pub within-rests : {A : Type 0} (s t : World) (key : DocKey) (p : World → Part A) → Rests s t p → Rests s t (λ u. within key (p u))
+within-rests s t key p rests h = ap (within key) (rests (inside (p s).notes h)) where
+  inside : (ns : List Note) → AllByRecursion (Same s t) (map (note_within key) ns) → AllByRecursion (Same s t) ns
+  inside [] h = tt
+  inside (asks question ∷ ns) h = (h.0, inside ns h.1)
+  inside (fails cause ∷ ns) h = (tt, inside ns h.1)
+
+of_rule-rests : {A : Type 0} (s t : World) (id : List ℕ) (p : World → Part A) → Rests s t p → Rests s t (λ u. of_rule id (p u))
+of_rule-rests s t id p rests h = ap (of_rule id) (rests (inside (p s).notes h)) where
+  inside : (ns : List Note) → AllByRecursion (Same s t) (map (note_of_rule id) ns) → AllByRecursion (Same s t) ns
+  inside [] h = tt
+  inside (asks question ∷ ns) h = (h.0, inside ns h.1)
+  inside (fails cause ∷ ns) h = (tt, inside ns h.1)
 
 -- parts that each rest on their look-ups
 abbrev pub AllRest : {X A : Type 0} → World → World → (World → X → Part A) → List X → Type 0
@@ -88,16 +105,16 @@ pub each-rests : {X A : Type 0} (s t : World) (part : World → X → Part A) �
 each-rests s t part rests [] = tt
 each-rests s t part rests (x ∷ xs) = (rests x, each-rests s t part rests xs)
 
-seen_at : {A : Type 0} (stop : A → Bool) (b : Bool) (s t : World) (p q : Part A) (ps qs : List (Part A)) → stop p.value ≡ b → (AllByRecursion (Same s t) p.asked → q ≡ p)
-    → (AllByRecursion (Same s t) (questions_of (seen_parts stop ps)) → seen_parts stop qs ≡ seen_parts stop ps)
-    → AllByRecursion (Same s t) (questions_of (if b then p ∷ [] else p ∷ seen_parts stop ps)) → seen_parts stop (q ∷ qs) ≡ (if b then p ∷ [] else p ∷ seen_parts stop ps)
-seen_at stop true s t p q ps qs is same later h = rw (same (first_looks (Same s t) p.asked [] h), is) refl
+seen_at : {A : Type 0} (stop : A → Bool) (b : Bool) (s t : World) (p q : Part A) (ps qs : List (Part A)) → stop p.value ≡ b → (AllByRecursion (Same s t) p.notes → q ≡ p)
+    → (AllByRecursion (Same s t) (notes_of (seen_parts stop ps)) → seen_parts stop qs ≡ seen_parts stop ps)
+    → AllByRecursion (Same s t) (notes_of (if b then p ∷ [] else p ∷ seen_parts stop ps)) → seen_parts stop (q ∷ qs) ≡ (if b then p ∷ [] else p ∷ seen_parts stop ps)
+seen_at stop true s t p q ps qs is same later h = rw (same (first_looks (Same s t) p.notes [] h), is) refl
 seen_at stop false s t p q ps qs is same later h =
-    rw (same (first_looks (Same s t) p.asked (questions_of (seen_parts stop ps)) h), is) (ap (λ rs. p ∷ rs) (later (later_looks (Same s t) p.asked (questions_of (seen_parts stop ps)) h)))
+    rw (same (first_looks (Same s t) p.notes (notes_of (seen_parts stop ps)) h), is) (ap (λ rs. p ∷ rs) (later (later_looks (Same s t) p.notes (notes_of (seen_parts stop ps)) h)))
 
 -- they are seen alike
 pub seen-rests : {X A : Type 0} (s t : World) (stop : A → Bool) (part : World → X → Part A) (xs : List X) → AllRest s t part xs
-    → AllByRecursion (Same s t) (questions_of (seen_parts stop (map (part s) xs))) → seen_parts stop (map (part t) xs) ≡ seen_parts stop (map (part s) xs)
+    → AllByRecursion (Same s t) (notes_of (seen_parts stop (map (part s) xs))) → seen_parts stop (map (part t) xs) ≡ seen_parts stop (map (part s) xs)
 seen-rests s t stop part [] each h = refl
 seen-rests s t stop part (x ∷ xs) each h = seen_at stop (stop (part s x).value) s t (part s x) (part t x) (map (part s) xs) (map (part t) xs) refl each.0 (seen-rests s t stop part xs each.1) h
 
@@ -115,31 +132,34 @@ pub whole-rests : {X A B : Type 0} (s t : World) (stop : A → Bool) (part : Wor
 whole-rests s t stop part of_values enough xs each h =
     let same : seen_parts stop (map (part t) xs) ≡ seen_parts stop (map (part s) xs) = seen-rests s t stop part xs each h in
     let by_seen = λ (u : World). enough (values (map (part u) xs)) ∙ ap of_values (sym (values-seen stop (map (part u) xs))) in
-    ap (λ v. record { value = v; asked = questions_of (seen_parts stop (map (part t) xs)) }) (by_seen t)
-    ∙ ap (λ ps. record { value = of_values (values ps); asked = questions_of ps }) same
-    ∙ ap (λ v. record { value = v; asked = questions_of (seen_parts stop (map (part s) xs)) }) (sym (by_seen s))
+    ap (λ v. record { value = v; notes = notes_of (seen_parts stop (map (part t) xs)) }) (by_seen t)
+    ∙ ap (λ ps. record { value = of_values (values ps); notes = notes_of ps }) same
+    ∙ ap (λ v. record { value = v; notes = notes_of (seen_parts stop (map (part s) xs)) }) (sym (by_seen s))
 
 -- ---- values of designators
 
 values-rest : (s t : World) (d : Designator) → Rests s t (λ u. values_part u.looks u.request d)
 values-rest s t d h = ap (λ vs. after_look (Of (asked_of d)) (without_look vs)) (sym h.0)
 
+demanded-rests : (s t : World) (d : Designator) → Rests s t (λ u. demanded u.looks u.request d)
+demanded-rests s t d = fails-rests s t (λ u. values_part u.looks u.request d) (missing d) (values-rest s t d)
+
 -- ---- targets
 
-all_match-seen : (ts : List Targeted) → all_match ts ≡ all_match (up_to_first is_no_match ts)
+pub all_match-seen : (ts : List Targeted) → all_match ts ≡ all_match (up_to_first is_no_match ts)
 all_match-seen ts = at (list_any is_no_match ts) refl where
   at : (b : Bool) → list_any is_no_match ts ≡ b → all_match ts ≡ all_match (up_to_first is_no_match ts)
   at true is = rw (is, any_up_to_first is_no_match ts, is) refl
   at false is = sym (ap all_match (combining.whole is_no_match ts is))
 
-one_matches-seen : (ts : List Targeted) → one_matches ts ≡ one_matches (up_to_first is_match ts)
+pub one_matches-seen : (ts : List Targeted) → one_matches ts ≡ one_matches (up_to_first is_match ts)
 one_matches-seen ts = at (list_any is_match ts) refl where
   at : (b : Bool) → list_any is_match ts ≡ b → one_matches ts ≡ one_matches (up_to_first is_match ts)
   at true is = rw (is, any_up_to_first is_match ts, is) refl
   at false is = sym (ap one_matches (combining.whole is_match ts is))
 
 match-rests : (s t : World) (m : Match) → Rests s t (λ u. match_part u.looks u.request m)
-match-rests s t m = mapped-rests s t (matched m) (λ u. values_part u.looks u.request m.designator) (values-rest s t m.designator)
+match-rests s t m = mapped-rests s t (matched m) (λ u. demanded u.looks u.request m.designator) (demanded-rests s t m.designator)
 
 all_of-rests : (s t : World) (a : AllOf) → Rests s t (λ u. all_of_part u.looks u.request a)
 all_of-rests s t a = whole-rests s t is_no_match (λ u m. match_part u.looks u.request m) all_match all_match-seen a.matches (each-rests s t (λ u m. match_part u.looks u.request m) (match-rests s t) a.matches)
@@ -153,7 +173,7 @@ target-rests s t target =
 
 -- ---- expressions
 
-find-seen : {A : Type 0} (p : A → Bool) (vs : List A) → find p (up_to_first p vs) ≡ find p vs
+pub find-seen : {A : Type 0} (p : A → Bool) (vs : List A) → find p (up_to_first p vs) ≡ find p vs
 find-seen p [] = refl
 find-seen p (v ∷ vs) = find_at (p v) p v vs refl (find-seen p vs) where
   find_at : {A : Type 0} (b : Bool) (p : A → Bool) (v : A) (vs : List A) → p v ≡ b → find p (up_to_first p vs) ≡ find p vs → find p (if b then v ∷ [] else v ∷ up_to_first p vs) ≡ (if p v then Some v else find p vs)
@@ -173,9 +193,22 @@ found_first f vs = found_at (find (is_result f) vs) refl where
   found_at (Some v) is = rw (is, find-seen (is_result f) vs, is) refl
   found_at None is = sym (ap (result_of f) (none-whole (is_result f) vs is))
 
+faults_first : (f : Function) (vs : List Evaluated) → faults f vs ≡ faults f (up_to_first (is_result f) vs)
+faults_first f vs = at (find (is_result f) vs) refl where
+  at : (o : Option Evaluated) → find (is_result f) vs ≡ o → faults f vs ≡ faults f (up_to_first (is_result f) vs)
+  at (Some v) is = rw (is, find-seen (is_result f) vs, is) refl
+  at None is = sym (ap (faults f) (none-whole (is_result f) vs is))
+
+-- a function of arguments rests on what they rest on
+application-rests : {X : Type 0} (s t : World) (f : Function) (part : World → X → Part Evaluated) (xs : List X) → AllRest s t part xs → Rests s t (λ u. application f (map (part u) xs))
+application-rests s t f part xs each h =
+    ap (λ (p : Part (Evaluated × List Note)). record { value = p.value.0; notes = p.notes ++ p.value.1 })
+    (whole-rests s t (is_result f) part (λ vs. (result_of f vs, faults f vs)) (λ vs. ap₂ (λ v ns. (v, ns)) (found_first f vs) (faults_first f vs)) xs each
+    (first_looks (Same s t) (notes_of (seen_parts (is_result f) (map (part s) xs))) (faults f (values (map (part s) xs))) h))
+
 -- a part that is another one rests on its look-ups
 pub rests-by : {A : Type 0} (s t : World) (p q : World → Part A) → ((u : World) → p u ≡ q u) → Rests s t q → Rests s t p
-rests-by s t p q e rests h = e t ∙ rests (subst (λ x. AllByRecursion (Same s t) x.asked) (e s) h) ∙ sym (e s)
+rests-by s t p q e rests h = e t ∙ rests (subst (λ x. AllByRecursion (Same s t) x.notes) (e s) h) ∙ sym (e s)
 
 module _ (s t : World) (refer : World → List ℕ → Part Evaluated) (each : (id : List ℕ) → Rests s t (λ u. refer u id)) where
   abbrev MeaningRests : Expression → Type 0
@@ -190,11 +223,11 @@ module _ (s t : World) (refer : World → List ℕ → Part Evaluated) (each : (
 
   layer-rests : (y : Expression-F ((e : Expression) × MeaningRests e)) → MeaningRests (roll-Expression (map-Expression ((e : Expression) × MeaningRests e) Expression (λ e. e.0) y))
   layer-rests (Expression-F.Value v) = rests-by s t _ _ (meaning_rolls (Expression-F.Value v)) (λ h. refl)
-  layer-rests (Expression-F.Designator d) = rests-by s t _ _ (meaning_rolls (Expression-F.Designator d)) (mapped-rests s t (bag_of d) (λ u. values_part u.looks u.request d) (values-rest s t d))
+  layer-rests (Expression-F.Designator d) = rests-by s t _ _ (meaning_rolls (Expression-F.Designator d)) (mapped-rests s t (bag_of d) (λ u. demanded u.looks u.request d) (demanded-rests s t d))
   layer-rests (Expression-F.Variable id) = rests-by s t _ _ (meaning_rolls (Expression-F.Variable id)) (each id)
   layer-rests (Expression-F.Apply f arguments) =
       rests-by s t _ _ (meaning_rolls (Expression-F.Apply f (map (λ e. e.0) arguments)))
-      (whole-rests s t (is_result f) (λ u e. meaning_with u.looks u.request (refer u) e) (result_of f) (found_first f) (map (λ e. e.0) arguments) (all_rest arguments))
+      (application-rests s t f (λ u e. meaning_with u.looks u.request (refer u) e) (map (λ e. e.0) arguments) (all_rest arguments))
   layer-rests (Expression-F.Function f) = rests-by s t _ _ (meaning_rolls (Expression-F.Function f)) (λ h. refl)
 
   pub meaning_with-rests : (e : Expression) → MeaningRests e
@@ -212,12 +245,13 @@ variable-rests s t definitions (suc n) id =
 condition-rests : (s t : World) (definitions : List VariableDefinition) (condition : Option Expression) → Rests s t (λ u. condition_part u.looks u.request definitions condition)
 condition-rests s t definitions None = λ h. refl
 condition-rests s t definitions (Some e) =
-    mapped-rests s t truth_of (λ u. meaning u.looks u.request definitions (length definitions) e)
-    (meaning_with-rests s t (λ u. variable_part u.looks u.request definitions (length definitions)) (variable-rests s t definitions (length definitions)) e)
+    mapped-rests s t truth_of (λ u. and_fails (meaning u.looks u.request definitions (length definitions) e) unfit_condition)
+    (fails-rests s t (λ u. meaning u.looks u.request definitions (length definitions) e) unfit_condition
+    (meaning_with-rests s t (λ u. variable_part u.looks u.request definitions (length definitions)) (variable-rests s t definitions (length definitions)) e))
 
 -- ---- obligations and advice
 
-together-seen : {A : Type 0} (vs : List (Result (List A) Status)) → together vs ≡ together (up_to_first is_err vs)
+pub together-seen : {A : Type 0} (vs : List (Result (List A) Status)) → together vs ≡ together (up_to_first is_err vs)
 together-seen [] = refl
 together-seen (Err status ∷ vs) = refl
 together-seen (Ok xs ∷ vs) = ap (joined (Ok xs)) (together-seen vs)
@@ -227,7 +261,9 @@ module _ (s t : World) (definitions : List VariableDefinition) where
   expression-rests = meaning_with-rests s t (λ u. variable_part u.looks u.request definitions (length definitions)) (variable-rests s t definitions (length definitions))
 
   assignment-rests : (a : AssignmentExpression) → Rests s t (λ u. assignment_part u.looks u.request definitions a)
-  assignment-rests a = mapped-rests s t (assigned a) (λ u. meaning u.looks u.request definitions (length definitions) a.expression) (expression-rests a.expression)
+  assignment-rests a =
+      mapped-rests s t (assigned a) (λ u. and_fails (meaning u.looks u.request definitions (length definitions) a.expression) unfit_assignment)
+      (fails-rests s t (λ u. meaning u.looks u.request definitions (length definitions) a.expression) unfit_assignment (expression-rests a.expression))
 
   turn-rests : {X A : Type 0} (part : World → X → Part (Result (List A) Status)) → ((x : X) → Rests s t (λ u. part u x)) → (xs : List X) → Rests s t (λ u. given_in_turn (part u) xs)
   turn-rests part each xs = whole-rests s t is_err part together together-seen xs (each-rests s t part each xs)
@@ -260,10 +296,13 @@ rule_after-rests s t own owns condition rests path rule is.Match = and_then-rest
 rule_after-rests s t own owns condition rests path rule is.NoMatch = λ h. refl
 rule_after-rests s t own owns condition rests path rule (is.Indeterminate status) = λ h. refl
 
-pub rule-rests : (s t : World) (definitions : List VariableDefinition) (path : List DocKey) (rule : Rule) → Rests s t (λ u. rule_part u.looks u.request definitions path rule)
-rule-rests s t definitions path rule =
+in_rule-rests : (s t : World) (definitions : List VariableDefinition) (path : List DocKey) (rule : Rule) → Rests s t (λ u. in_rule u.looks u.request definitions path rule)
+in_rule-rests s t definitions path rule =
     and_then-rests s t (λ u. target_part u.looks u.request rule.target) (λ u. rule_after (finished u.looks u.request definitions rule.given) (condition_part u.looks u.request definitions rule.condition) path rule) (target-rests s t rule.target)
     (rule_after-rests s t (λ u. finished u.looks u.request definitions rule.given) (finished-rests s t definitions rule.given) (λ u. condition_part u.looks u.request definitions rule.condition) (condition-rests s t definitions rule.condition) path rule)
+
+pub rule-rests : (s t : World) (definitions : List VariableDefinition) (path : List DocKey) (rule : Rule) → Rests s t (λ u. rule_part u.looks u.request definitions path rule)
+rule-rests s t definitions path rule = of_rule-rests s t rule.id (λ u. in_rule u.looks u.request definitions path rule) (in_rule-rests s t definitions path rule)
 
 -- ---- elements
 
@@ -280,13 +319,15 @@ children-rest s t own owns children rests is.Match = and_then-rests s t children
 children-rest s t own owns children rests is.NoMatch = λ h. refl
 children-rest s t own owns children rests (is.Indeterminate status) = mapped-rests s t (with_target (is.Indeterminate status)) children rests
 
-pub element-rests : (s t : World) (target : Target) (own : World → Answer → Part Answer) → ((a : Answer) → Rests s t (λ u. own u a)) → (children : World → Part Answer) → Rests s t children
-    → Rests s t (λ u. element (target_part u.looks u.request target) (children u) (own u))
-element-rests s t target own owns children rests =
-    and_then-rests s t (λ u. target_part u.looks u.request target) (λ u. children_after (own u) (children u)) (target-rests s t target) (children-rest s t own owns children rests)
+pub element-rests : (s t : World) (key : DocKey) (target : Target) (own : World → Answer → Part Answer) → ((a : Answer) → Rests s t (λ u. own u a)) → (children : World → Part Answer) → Rests s t children
+    → Rests s t (λ u. element key (target_part u.looks u.request target) (children u) (own u))
+element-rests s t key target own owns children rests =
+    and_then-rests s t (λ u. within key (target_part u.looks u.request target)) (λ u targeted. within key (children_after (own u) (children u) targeted))
+    (within-rests s t key (λ u. target_part u.looks u.request target) (target-rests s t target))
+    (λ targeted. within-rests s t key (λ u. children_after (own u) (children u) targeted) (children-rest s t own owns children rests targeted))
 
 pub policy-rests : (s t : World) (path : List DocKey) (policy : Policy) → Rests s t (λ u. policy_part u.looks u.request path policy)
 policy-rests s t path policy =
-    let here = path ++ record { kind = kind.Policy; id = policy.id; version = policy.version } ∷ [] in
-    element-rests s t policy.target (λ u. finished u.looks u.request policy.variables policy.given) (finished-rests s t policy.variables policy.given) (λ u. rules_part u.looks u.request here policy)
+    let here = path ++ policy_key policy ∷ [] in
+    element-rests s t (policy_key policy) policy.target (λ u. finished u.looks u.request policy.variables policy.given) (finished-rests s t policy.variables policy.given) (λ u. rules_part u.looks u.request here policy)
     (combined-rests s t here policy.algorithm (λ u r. rule_part u.looks u.request policy.variables here r) policy.rules (each-rests s t (λ u r. rule_part u.looks u.request policy.variables here r) (rule-rests s t policy.variables here) policy.rules))

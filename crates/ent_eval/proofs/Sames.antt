@@ -14,7 +14,7 @@ use Rattle.ent_combine.specs.contracts.outcome.OutcomePartialEq.TheImpl as outco
 use Rattle.ent_policy.specs.declared.key.DocKey.{DocKey}
 use Rattle.ent_policy.specs.declared.key.Reference.{Reference}
 use Rattle.ent_policy.specs.Same as documents
-use Rattle.ent_policy.proofs.Same.{same_key-Decides, same_reference-Decides}
+use Rattle.ent_policy.proofs.Same.{same_reference-Decides}
 use Rattle.ent_values.proofs.Telling.{Tells, decided, decides, enum, last, list, maybe, more, struct}
 use Rattle.ent_values.proofs.Values.{same_type-Decides, same_value-Decides}
 use Rattle.ent_finder.specs.declared.row.AttrKey.{AttrKey}
@@ -22,6 +22,7 @@ use Rattle.ent_finder.specs.contracts.row.AttrKey as attribute
 use Rattle.ent_finder.specs.contracts.row.AttrKeyPartialEq.TheImpl as attributes
 use Rattle.ent_eval.specs.contracts.answer.Answer as answer
 use Rattle.ent_eval.specs.contracts.answer.AnswerEq.TheImpl.Laws as answers
+use Rattle.ent_eval.specs.contracts.cause.CauseEq.TheImpl.Laws as causes
 use Rattle.ent_eval.specs.contracts.given.Assignment as assignment
 use Rattle.ent_eval.specs.contracts.given.AssignmentPartialEq.TheImpl as assignments
 use Rattle.ent_eval.specs.contracts.given.Given as given
@@ -34,25 +35,22 @@ use Rattle.ent_eval.specs.declared.answer.Status.TheVariants as status
 use Rattle.ent_eval.specs.declared.answer.WhyEntry.{WhyEntry}
 use Rattle.ent_eval.specs.contracts.answer.StatusPartialEq.TheImpl as statuses
 use Rattle.ent_eval.specs.contracts.answer.WhyEntryPartialEq.TheImpl as entries
+use Rattle.ent_eval.specs.declared.cause.Cause.{Cause}
 use Rattle.ent_eval.specs.declared.key.ReadKey.{ReadKey}
 use Rattle.ent_eval.specs.contracts.key.ReadKey as key
 use Rattle.ent_eval.specs.contracts.key.ReadKeyEq.TheImpl.Laws as keys
-use Rattle.ent_eval.specs.contracts.question.Asked as asked
-use Rattle.ent_eval.specs.contracts.question.AskedPartialEq.TheImpl as askeds
 use Rattle.ent_eval.specs.contracts.question.Question as question
 use Rattle.ent_eval.specs.contracts.question.QuestionEq.TheImpl.Laws as questions
-use Rattle.ent_eval.specs.declared.question.Asked.{Asked}
 use Rattle.ent_eval.specs.declared.question.Question.{Question}
+use Rattle.ent_eval.specs.Causes.{same_cause}
 use Rattle.ent_eval.specs.Same.{same_answer, same_key}
+use Rattle.ent_eval.specs.proofs_only.Telling.{asked-tells, cause-tells, path-Decides}
 use Rattle.ent_eval.specs.proofs_only.Noted.{same_question}
 
 -- two tests decide two facts
 both-Decides : {P Q : Type 0} (a b : Bool) → Decides a P → Decides b Q → Decides (a && b) (P × Q)
 both-Decides true b first second = (λ h. (first.0 refl, second.0 h), λ h. second.1 h.1)
 both-Decides false b first second = (λ h. absurd (cc), λ h. first.1 h.0)
-
-path-Decides : (p q : List DocKey) → Decides (pointwise documents.same_key p q) (p ≡ q)
-path-Decides p q = slice_eq-Decides same_key-Decides p q (pointwise documents.same_key p q) refl
 
 abbrev same_entry : WhyEntry → WhyEntry → Bool
 same_entry = (entries.ghosts).eq
@@ -142,16 +140,16 @@ key-Decides = decides keys.laws-law key-tells
 
 -- ---- questions
 
-asked-tells : (a : Asked) → Tells (askeds.ghosts).eq a
-asked-tells =
-    struct asked.struct asked.the_propositions
-    (more (decided bytes_eq-Decides) (more (decided bytes_eq-Decides) (more (decided same_type-Decides) (last (maybe (decided bytes_eq-Decides))))))
-
 question-tells : (q : Question) → Tells same_question q
 question-tells = enum question.enum _ (last (decided same_reference-Decides), (last asked-tells, tt))
 
 pub question-Decides : (a b : Question) → Decides (same_question a b) (a ≡ b)
 question-Decides = decides questions.laws-law question-tells
+
+-- ---- causes
+
+pub cause-Decides : (a b : Cause) → Decides (same_cause a b) (a ≡ b)
+cause-Decides = decides causes.laws-law cause-tells
 
 pub equal_references : (a b : Reference) → documents.same_reference a b ≡ true → a ≡ b
 equal_references a b h = (same_reference-Decides a b).0 h

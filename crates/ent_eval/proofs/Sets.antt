@@ -16,7 +16,7 @@ use Rattle.ent_eval.specs.declared.request.Request.{Request}
 use Rattle.ent_eval.specs.Looks.{Looks}
 use Rattle.ent_eval.specs.proofs_only.Hops.{children_combined, child_target, node_of, only_child, set_children, set_part}
 use Rattle.ent_eval.specs.Given.{finished}
-use Rattle.ent_eval.specs.Node.{Node, child_step, children_part, combined, element, refer, set_step}
+use Rattle.ent_eval.specs.Node.{Node, child_step, children_part, combined, element, refer, set_key, set_step}
 use Rattle.ent_eval.specs.Only.{only_one}
 use Rattle.ent_eval.specs.Target.{target_part}
 use Rattle.ent_eval.specs.proofs_only.Typed.{fit_step, is_fit, set_is_fit}
@@ -37,7 +37,7 @@ only_children looks request hops children here =
     ap (λ ts. only_one ts (map (λ (n : Node). n.answer here) (map (node_of looks request hops) children))) (map-map (node_of looks request hops) (λ (n : Node). n.target) children)
     ∙ ap (only_one (map (child_target looks request hops) children)) (map-map (node_of looks request hops) (λ (n : Node). n.answer here) children)
 
-pub set_out : (looks : Looks) (request : Request) (hops : ℕ) (path : List DocKey) (set : PolicySet) → set_part looks request hops path set ≡ element (target_part looks request set.target) (set_children looks request hops path set) (finished looks request [] set.given)
+pub set_out : (looks : Looks) (request : Request) (hops : ℕ) (path : List DocKey) (set : PolicySet) → set_part looks request hops path set ≡ element (set_key set.id set.version) (target_part looks request set.target) (set_children looks request hops path set) (finished looks request [] set.given)
 set_out looks request hops path set = ap (λ (n : Node). n.answer path) (fold_out-PolicySet Node Node (child_step looks request (refer looks request hops)) (set_step looks request) set)
 
 all_map : {X : Type 0} (p : X → Bool) (xs : List X) → list_all (λ b. b) (map p xs) ≡ list_all p xs

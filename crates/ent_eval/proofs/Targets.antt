@@ -1,12 +1,19 @@
 -- Parts of a target of which some are seen.
 use Rattle.std.proofs.Common.{◌≡◌, ℕ, ◌+◌, ◌<◌, Bool, true, false, List, [], ◌∷◌, ◌++◌, length, get_or, refl, sym, ap, ◌∙◌, Some, None}
 use Rattle.std.specs.Prelude.{find, if◌then◌else◌, unwrap_or}
+use Rattle.ent_values.specs.declared.value.Value.{Value}
+use Rattle.ent_policy.specs.declared.document.Designator.{Designator}
+use Rattle.ent_policy.specs.declared.document.Match.{Match}
+use Rattle.ent_eval.specs.declared.request.Request.{Request}
 use Rattle.ent_eval.specs.declared.target.Targeted.{Targeted}
+use Rattle.ent_eval.specs.Looks.{Looks}
+use Rattle.ent_eval.specs.Own.{is_empty, own_values}
+use Rattle.ent_eval.specs.Sources.{designated_values, source_values}
 use Rattle.ent_eval.specs.declared.target.Targeted.TheVariants as is
 use Rattle.ent_eval.specs.proofs_only.Noted.{Notes, noting}
 use Rattle.ent_eval.specs.Part.{Part}
 use Rattle.ent_eval.specs.Target.{first_indeterminate, is_indeterminate, is_match, is_no_match}
-use Rattle.ent_eval.specs.proofs_only.Target.{unless_indeterminate}
+use Rattle.ent_eval.specs.proofs_only.Target.{own_match, unless_indeterminate}
 use Rattle.ent_eval.proofs.Going.{IsGoing, goes_on, values_to, values_to-next}
 
 -- none of the first i parts stops, and `so_far` is the first of them that is Indeterminate
@@ -43,7 +50,7 @@ first-more stop otherwise other plain (s ∷ ts) t not = more_at (is_indetermina
 
 module _ {X : Type 0} (stop : Targeted → Bool) (otherwise : Targeted) (part : X → Part Targeted) (xs : List X) where
   pub next_so_far : IsOther stop otherwise → is_indeterminate otherwise ≡ false → (i : ℕ) (x : X) (so_far t next : Targeted) (start now later : Notes) → i < length xs → x ≡ get_or xs i x
-      → IsSoFar stop otherwise part xs i so_far start now → t ≡ (part x).value → later ≡ noting now (part x).asked → stop t ≡ false → next ≡ unless_indeterminate so_far t
+      → IsSoFar stop otherwise part xs i so_far start now → t ≡ (part x).value → later ≡ noting now (part x).notes → stop t ≡ false → next ≡ unless_indeterminate so_far t
       → IsSoFar stop otherwise part xs (i + 1) next start later
   next_so_far other plain i x so_far t next start now later h at was t-is later-is not next-is =
       let not_here : stop (part x).value ≡ false = ap stop (sym t-is) ∙ not in
@@ -55,9 +62,9 @@ module _ {X : Type 0} (stop : Targeted → Bool) (otherwise : Targeted) (part : 
 -- the same where a part is what the list inside it comes to
 pub next_inner : {X Y : Type 0} (stop : Targeted → Bool) (otherwise : Targeted) (inner : List Y → Part Targeted) (list : X → List Y) (xs : List X) → IsOther stop otherwise → is_indeterminate otherwise ≡ false
     → (i : ℕ) (x : X) (ys : List Y) (so_far t next : Targeted) (start now later : Notes) → i < length xs → x ≡ get_or xs i x → IsSoFar stop otherwise (λ x. inner (list x)) xs i so_far start now
-    → ys ≡ list x → t ≡ (inner ys).value → later ≡ noting now (inner ys).asked → stop t ≡ false → next ≡ unless_indeterminate so_far t → IsSoFar stop otherwise (λ x. inner (list x)) xs (i + 1) next start later
+    → ys ≡ list x → t ≡ (inner ys).value → later ≡ noting now (inner ys).notes → stop t ≡ false → next ≡ unless_indeterminate so_far t → IsSoFar stop otherwise (λ x. inner (list x)) xs (i + 1) next start later
 next_inner stop otherwise inner list xs other plain i x ys so_far t next start now later h at was ys-is t-is later-is not next-is =
-    next_so_far stop otherwise (λ x. inner (list x)) xs other plain i x so_far t next start now later h at was (t-is ∙ ap (λ zs. (inner zs).value) ys-is) (later-is ∙ ap (λ zs. noting now (inner zs).asked) ys-is) not next-is
+    next_so_far stop otherwise (λ x. inner (list x)) xs other plain i x so_far t next start now later h at was (t-is ∙ ap (λ zs. (inner zs).value) ys-is) (later-is ∙ ap (λ zs. noting now (inner zs).notes) ys-is) not next-is
 
 pub other_than_no_match : IsOther is_no_match is.Match
 other_than_no_match is.Match not plain = refl
@@ -78,3 +85,14 @@ pub isn't_match : (t : Targeted) → (t ≡ is.Match → ⊥) → is_match t ≡
 isn't_match is.Match not = absurd (not refl)
 isn't_match is.NoMatch not = refl
 isn't_match (is.Indeterminate status) not = refl
+
+-- ---- values of a match
+
+-- where the request has no match of its own it has no values of its own
+pub not_own : (m : Match) (vs : List Value) → None ≡ own_match m vs → vs ≡ []
+not_own m [] e = refl
+not_own m (v ∷ vs) e = absurd (cc)
+
+-- and then they are those of the source
+pub from_source : (looks : Looks) (request : Request) (d : Designator) → own_values d request ≡ [] → source_values looks request d ≡ designated_values looks request d
+from_source looks request d own = ap (λ vs. if is_empty vs then source_values looks request d else vs) (sym own)

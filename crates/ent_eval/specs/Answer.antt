@@ -1,15 +1,18 @@
 -- The answer to a request, what is asked for it, and the look-ups that it rests on.
-use Rattle.std.specs.Prelude.{ℕ, List, [], Option, Some, None}
+use Rattle.std.specs.Prelude.{ℕ, List, [], Bool, Option, Some, None}
 use Rattle.std.specs.List.{flat_map}
 use Rattle.ent_policy.specs.declared.key.Reference.{Reference}
 use Rattle.ent_eval.specs.declared.answer.Answer.{Answer}
+use Rattle.ent_eval.specs.declared.cause.Cause.{Cause}
 use Rattle.ent_eval.specs.declared.key.ReadKey.{ReadKey}
 use Rattle.ent_eval.specs.declared.question.Question.{Question}
 use Rattle.ent_eval.specs.declared.question.Question.TheVariants.{Root}
 use Rattle.ent_eval.specs.declared.request.Request.{Request}
+use Rattle.ent_eval.specs.Causes.{are_any, told_once}
 use Rattle.ent_eval.specs.Judged.{nothing}
 use Rattle.ent_eval.specs.Looks.{Looks}
 use Rattle.ent_eval.specs.Node.{followed, refer}
+use Rattle.ent_eval.specs.Note.{causes_in, questions_in}
 use Rattle.ent_eval.specs.Noted.{noted}
 use Rattle.ent_eval.specs.Part.{Part, without_look, after_look}
 use Rattle.ent_eval.specs.Sources.{keys_of}
@@ -33,7 +36,7 @@ answer looks request = (answer_part looks request).value
 
 -- the questions that are asked for it, each as often as it is
 abbrev pub asked : Looks → Request → List Question
-asked looks request = (answer_part looks request).asked
+asked looks request = questions_in (answer_part looks request).notes
 
 -- the keys that are looked up for it, each as often as it is
 abbrev pub looked_up : Looks → Request → List ReadKey
@@ -42,3 +45,11 @@ looked_up looks request = flat_map (keys_of request) (asked looks request)
 -- the same keys, each once
 abbrev pub recorded : Looks → Request → List ReadKey
 recorded looks request = noted [] (looked_up looks request)
+
+-- the causes: the parts that came to Indeterminate by themselves, in the order of evaluation, each once
+abbrev pub causes : Looks → Request → List Cause
+causes looks request = told_once [] (causes_in (answer_part looks request).notes)
+
+-- whether there is a cause
+abbrev pub has_cause : Looks → Request → Bool
+has_cause looks request = are_any (causes looks request)

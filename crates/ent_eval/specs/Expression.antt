@@ -16,12 +16,14 @@ use Rattle.ent_policy.specs.declared.expression.Expression.TheFolds.{fold-Expres
 use Rattle.ent_policy.specs.declared.expression.VariableDefinition.{VariableDefinition}
 use Rattle.ent_policy.specs.Variables.{definition_of}
 use Rattle.ent_eval.specs.declared.answer.Status.TheVariants.{MissingAttribute, ProcessingError}
+use Rattle.ent_eval.specs.declared.cause.What.TheVariants as what
 use Rattle.ent_eval.specs.declared.evaluated.Evaluated.{Evaluated}
 use Rattle.ent_eval.specs.declared.evaluated.Evaluated.TheVariants.{Known, Indeterminate}
 use Rattle.ent_eval.specs.declared.request.Request.{Request}
 use Rattle.ent_eval.specs.Looks.{Looks}
-use Rattle.ent_eval.specs.Part.{Part, without_look, mapped, whole}
-use Rattle.ent_eval.specs.Sources.{values_part}
+use Rattle.ent_eval.specs.Note.{Note, failing}
+use Rattle.ent_eval.specs.Part.{Part, and_fails, mapped, that_fails, whole, without_look}
+use Rattle.ent_eval.specs.Sources.{demanded}
 
 -- the bag of a designator, which is Indeterminate if it is empty and a value must be present (section 7.3.5)
 abbrev pub bag_of : Designator → List Value → Evaluated
@@ -30,7 +32,7 @@ bag_of d (v ∷ vs) = Known (Many (record { datatype = d.datatype; values = v �
 
 -- a designator
 abbrev pub designated : Looks → Request → Designator → Part Evaluated
-designated looks request d = mapped (bag_of d) (values_part looks request d)
+designated looks request d = mapped (bag_of d) (demanded looks request d)
 
 -- whether a boolean is the result whatever the other arguments are: True of `or`, False of `and` (appendix A.3.5)
 abbrev pub decides : Function → Bool → Bool
@@ -63,12 +65,35 @@ evaluated_of (Err fault) = Indeterminate ProcessingError
 abbrev pub result_of : Function → List Evaluated → Evaluated
 result_of function vs = unwrap_or (find (is_result function) vs) (evaluated_of (applied function (arguments_of vs)))
 
+-- that a function fails which has a fault
+abbrev pub fault_in : Function → Result Arg Fault → List Note
+fault_in function (Ok outcome) = []
+fault_in function (Err fault) = failing (what.Fault function fault)
+
+-- the same, unless an argument is the result
+abbrev pub fault_unless : Function → Option Evaluated → Result Arg Fault → List Note
+fault_unless function None outcome = fault_in function outcome
+fault_unless function (Some v) outcome = []
+
+-- whether a function of arguments fails by itself
+abbrev pub faults : Function → List Evaluated → List Note
+faults function vs = fault_unless function (find (is_result function) vs) (applied function (arguments_of vs))
+
+-- the arguments of a function, which are evaluated up to the first that is the result
+abbrev pub arguments_part : Function → List (Part Evaluated) → Part (List Evaluated)
+arguments_part function arguments = whole (is_result function) (λ vs. vs) arguments
+
+-- a function of them
+abbrev pub application : Function → List (Part Evaluated) → Part Evaluated
+application function arguments =
+    mapped (result_of function) (and_fails (arguments_part function arguments) (faults function))
+
 -- one level, where `refer` gives what a variable comes to, with each argument already seen as what it comes to
 abbrev pub meaning_step : Looks → Request → (List ℕ → Part Evaluated) → Expression-F (Part Evaluated) → Part Evaluated
 meaning_step looks request refer (Expression-F.Value value) = without_look (Known (One value))
 meaning_step looks request refer (Expression-F.Designator designator) = designated looks request designator
 meaning_step looks request refer (Expression-F.Variable id) = refer id
-meaning_step looks request refer (Expression-F.Apply function arguments) = whole (is_result function) (result_of function) arguments
+meaning_step looks request refer (Expression-F.Apply function arguments) = application function arguments
 meaning_step looks request refer (Expression-F.Function function) = without_look (Known (Fun function))
 
 -- an expression, where `refer` gives what a variable comes to; arguments are evaluated up to the first that is the result
@@ -77,12 +102,12 @@ meaning_with looks request refer = fold-Expression (Part Evaluated) (meaning_ste
 
 -- a definition's expression. No variable of a checked document is without a definition
 abbrev pub defined_part : (Expression → Part Evaluated) → Option VariableDefinition → Part Evaluated
-defined_part meaning None = without_look (Indeterminate ProcessingError)
+defined_part meaning None = that_fails what.Unfit (Indeterminate ProcessingError)
 defined_part meaning (Some d) = meaning d.expression
 
 -- a variable, through at most this many references (section 7.8). No chain of a checked document is longer than there are definitions
 abbrev pub variable_part : Looks → Request → List VariableDefinition → ℕ → List ℕ → Part Evaluated
-variable_part looks request definitions zero id = without_look (Indeterminate ProcessingError)
+variable_part looks request definitions zero id = that_fails what.Unfit (Indeterminate ProcessingError)
 variable_part looks request definitions (suc n) id = defined_part (meaning_with looks request (variable_part looks request definitions n)) (definition_of definitions id)
 
 -- an expression among definitions, through at most this many references

@@ -15,6 +15,7 @@ use Rattle.ent_policy.specs.declared.given.GivenExpressions.{GivenExpressions}
 use Rattle.ent_eval.specs.declared.answer.Answer.{Answer}
 use Rattle.ent_eval.specs.declared.answer.Status.{Status}
 use Rattle.ent_eval.specs.declared.answer.Status.TheVariants.{ProcessingError}
+use Rattle.ent_eval.specs.declared.cause.What.TheVariants.{Unfit}
 use Rattle.ent_eval.specs.declared.evaluated.Evaluated.{Evaluated}
 use Rattle.ent_eval.specs.declared.evaluated.Evaluated.TheVariants.{Known, Indeterminate}
 use Rattle.ent_eval.specs.declared.given.Assignment.{Assignment}
@@ -23,7 +24,8 @@ use Rattle.ent_eval.specs.declared.request.Request.{Request}
 use Rattle.ent_eval.specs.Expression.{meaning}
 use Rattle.ent_eval.specs.Judged.{indeterminate}
 use Rattle.ent_eval.specs.Looks.{Looks}
-use Rattle.ent_eval.specs.Part.{Part, without_look, and_then, mapped, whole}
+use Rattle.ent_eval.specs.Note.{Note, failing}
+use Rattle.ent_eval.specs.Part.{Part, and_fails, and_then, mapped, whole, without_look}
 
 -- ---- lists, each of which may be Indeterminate
 
@@ -55,9 +57,15 @@ assigned a (Known (Many bag)) = Ok (map (assignment_of a) bag.values)
 assigned a (Known (Fun function)) = Err ProcessingError
 assigned a (Indeterminate status) = Err status
 
+-- that an assignment of a function fails
+abbrev pub unfit_assignment : Evaluated → List Note
+unfit_assignment (Known (Fun function)) = failing Unfit
+unfit_assignment _ = []
+
 -- an assignment among the definitions of its policy
 abbrev pub assignment_part : Looks → Request → List VariableDefinition → AssignmentExpression → Part (Result (List Assignment) Status)
-assignment_part looks request definitions a = mapped (assigned a) (meaning looks request definitions (length definitions) a.expression)
+assignment_part looks request definitions a =
+    mapped (assigned a) (and_fails (meaning looks request definitions (length definitions) a.expression) unfit_assignment)
 
 -- ---- obligations and advice
 

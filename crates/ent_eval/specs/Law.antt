@@ -1,12 +1,15 @@
 -- An answer rests on what is asked for it, so on the look-ups that are recorded for it: those that are made, each once.
-use Rattle.std.specs.Prelude.{◌≡◌, ◌≢◌, ◌↔◌, List, ◌∷◌, ◌++◌}
+use Rattle.std.specs.Prelude.{◌≡◌, ◌≢◌, ◌↔◌, List, ◌∷◌, ◌++◌, map}
 use Rattle.std.specs.List.{All, Contains}
+use Rattle.ent_combine.specs.declared.outcome.IndKind.{IndKind}
+use Rattle.ent_combine.specs.declared.outcome.Outcome.TheVariants.{Ind}
+use Rattle.ent_eval.specs.declared.cause.Cause.{Cause}
 use Rattle.ent_eval.specs.declared.key.ReadKey.{ReadKey}
 use Rattle.ent_eval.specs.declared.key.ReadKey.TheVariants.{Root, Ref, Attr, CurrentDate, CurrentTime, CurrentDateTime}
 use Rattle.ent_eval.specs.declared.request.Request.{Request}
 use Rattle.ent_eval.specs.declared.question.Question.{Question}
 use Rattle.ent_eval.specs.declared.question.Question.TheVariants as question
-use Rattle.ent_eval.specs.Answer.{answer, asked, looked_up, recorded}
+use Rattle.ent_eval.specs.Answer.{answer, asked, causes, looked_up, recorded}
 use Rattle.ent_eval.specs.Looks.{Looks}
 use Rattle.ent_eval.specs.Sources.{values_of}
 
@@ -16,10 +19,10 @@ FindsSame s q t r question.Root = s.root ≡ t.root
 FindsSame s q t r (question.Ref reference) = s.document reference ≡ t.document reference
 FindsSame s q t r (question.Of a) = values_of s q a ≡ values_of t r a
 
--- where each question that is asked finds the same, whoever asks, the answers are equal, and so is what is asked
+-- where each question that is asked finds the same, whoever asks, the answers are equal, what is asked, and the causes
 abbrev pub EqualFindingsGiveEqualAnswers : Type 0
 EqualFindingsGiveEqualAnswers = (s t : Looks) (q r : Request) → All (FindsSame s q t r) (asked s q)
-    → (answer t r ≡ answer s q) × (asked t r ≡ asked s q)
+    → (answer t r ≡ answer s q) × ((asked t r ≡ asked s q) × (causes t r ≡ causes s q))
 
 -- a look-up gives the same in both
 abbrev pub IsSameLook : Looks → Looks → ReadKey → Type 0
@@ -43,3 +46,9 @@ EachKeyIsRecordedOnce = (looks : Looks) (request : Request) (before between afte
 -- a key is recorded for an answer exactly where it is looked up for it
 abbrev pub WhatIsLookedUpIsRecorded : Type 0
 WhatIsLookedUpIsRecorded = (looks : Looks) (request : Request) (key : ReadKey) → Contains (recorded looks request) key ↔ Contains (looked_up looks request) key
+
+-- an answer is Indeterminate only where there is a cause, and its status is that of one of the causes
+abbrev pub IndeterminateHasItsCause : Type 0
+IndeterminateHasItsCause = (looks : Looks) (request : Request) (kind : IndKind)
+    → (answer looks request).decision ≡ Ind kind
+    → Contains (map (λ (cause : Cause). cause.status) (causes looks request)) (answer looks request).status

@@ -1,4 +1,5 @@
 pub mod Answer
+pub mod Causes
 pub mod Change
 pub mod Environment
 pub mod Expression
@@ -11,7 +12,9 @@ pub mod KeyOrder
 pub mod Listed
 pub mod Looks
 pub mod LooksOf
+pub mod Memory
 pub mod Node
+pub mod Note
 pub mod Noted
 pub mod Only
 pub mod Own

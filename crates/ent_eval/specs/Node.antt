@@ -16,6 +16,8 @@ use Rattle.ent_policy.specs.declared.key.DocKey.{DocKey}
 use Rattle.ent_policy.specs.declared.key.Reference.{Reference}
 use Rattle.ent_eval.specs.declared.answer.Answer.{Answer}
 use Rattle.ent_eval.specs.declared.answer.Status.TheVariants.{ProcessingError}
+use Rattle.ent_eval.specs.declared.cause.What.{What}
+use Rattle.ent_eval.specs.declared.cause.What.TheVariants.{TooFar, Unfound}
 use Rattle.ent_eval.specs.declared.question.Question.{Question}
 use Rattle.ent_eval.specs.declared.question.Question.TheVariants.{Ref}
 use Rattle.ent_eval.specs.declared.request.Request.{Request}
@@ -25,7 +27,7 @@ use Rattle.ent_eval.specs.Given.{finished}
 use Rattle.ent_eval.specs.Judged.{judgement_of, nothing, stops, unresolved, with_target}
 use Rattle.ent_eval.specs.Looks.{Looks}
 use Rattle.ent_eval.specs.Only.{only_one}
-use Rattle.ent_eval.specs.Part.{Part, without_look, after_look, and_then, mapped, whole}
+use Rattle.ent_eval.specs.Part.{Part, after_look, and_then, mapped, that_fails, whole, within, without_look}
 use Rattle.ent_eval.specs.Rule.{rule_part}
 use Rattle.ent_eval.specs.Target.{target_part}
 
@@ -39,9 +41,18 @@ children_after own children NoMatch = without_look nothing
 children_after own children Match = and_then children own
 children_after own children (Indeterminate status) = mapped (with_target (Indeterminate status)) children
 
--- an element with a target and children
-abbrev pub element : Part Targeted → Part Answer → (Answer → Part Answer) → Part Answer
-element target children own = and_then target (children_after own children)
+-- an element with a key, a target and children
+abbrev pub element : DocKey → Part Targeted → Part Answer → (Answer → Part Answer) → Part Answer
+element key target children own =
+    and_then (within key target) (λ targeted. within key (children_after own children targeted))
+
+-- the key of a policy
+abbrev pub policy_key : Policy → DocKey
+policy_key policy = record { kind = kind.Policy; id = policy.id; version = policy.version }
+
+-- the key of a set
+abbrev pub set_key : List ℕ → List ℕ → DocKey
+set_key id version = record { kind = kind.PolicySet; id = id; version = version }
 
 -- rules among definitions, where `here` leads from the root to their policy
 abbrev pub rules_combined : Looks → Request → List VariableDefinition → List DocKey → RuleAlg → List Rule → Part Answer
@@ -54,12 +65,13 @@ rules_part looks request here policy = rules_combined looks request policy.varia
 -- the rules of a policy, where `path` leads from the root to what the policy stands in
 abbrev pub policy_rules : Looks → Request → List DocKey → Policy → Part Answer
 policy_rules looks request path policy =
-    rules_part looks request (path ++ record { kind = kind.Policy; id = policy.id; version = policy.version } ∷ []) policy
+    rules_part looks request (path ++ policy_key policy ∷ []) policy
 
 -- a policy, where `path` leads from the root to what it stands in
 abbrev pub policy_part : Looks → Request → List DocKey → Policy → Part Answer
 policy_part looks request path policy =
-    element (target_part looks request policy.target) (policy_rules looks request path policy) (finished looks request policy.variables policy.given)
+    element (policy_key policy) (target_part looks request policy.target) (policy_rules looks request path policy)
+    (finished looks request policy.variables policy.given)
 
 -- a policy, a set or a reference: its target, and what it comes to by the path from the root to what it stands in
 pub record Node : Type 0 where
@@ -73,16 +85,20 @@ children_part OnlyOne children here = only_one (map (λ (child : Node). child.ta
 
 -- one level of a child, where `refer` gives what a reference comes to, with a set already seen
 abbrev pub child_step : Looks → Request → (Reference → Node) → Child-F Node Node → Node
-child_step looks request refer (Child-F.Policy policy) = record { target = target_part looks request policy.target; answer = λ path. policy_part looks request path policy }
+child_step looks request refer (Child-F.Policy policy) = record {
+  target = within (policy_key policy) (target_part looks request policy.target);
+  answer = λ path. policy_part looks request path policy;
+}
 child_step looks request refer (Child-F.Set set) = set
 child_step looks request refer (Child-F.Reference reference) = refer reference
 
 -- one level of a set, with its children already seen
 abbrev pub set_step : Looks → Request → PolicySet-F Node Node → Node
 set_step looks request set = record {
-  target = target_part looks request set.target;
-  answer = λ path. element (target_part looks request set.target)
-      (children_part set.algorithm set.children (path ++ record { kind = kind.PolicySet; id = set.id; version = set.version } ∷ [])) (finished looks request [] set.given);
+  target = within (set_key set.id set.version) (target_part looks request set.target);
+  answer = λ path. element (set_key set.id set.version) (target_part looks request set.target)
+      (children_part set.algorithm set.children (path ++ set_key set.id set.version ∷ []))
+      (finished looks request [] set.given);
 }
 
 -- a child, where `refer` gives what a reference comes to
@@ -92,13 +108,16 @@ node_with looks request refer = fold-Child Node Node (child_step looks request r
 -- ---- references
 
 -- a reference that isn't resolved: its target is Indeterminate, and so is its decision (section 7.15)
-abbrev pub unresolved_node : Node
-unresolved_node = record { target = without_look (Indeterminate ProcessingError); answer = λ path. without_look unresolved }
+abbrev pub unresolved_node : What → Node
+unresolved_node what = record {
+  target = that_fails what (Indeterminate ProcessingError);
+  answer = λ path. that_fails what unresolved;
+}
 
 -- the document that a reference names, if there is one
-abbrev pub found_node : (Child → Node) → Option Tree → Node
-found_node node None = unresolved_node
-found_node node (Some t) = node (as_child t)
+abbrev pub found_node : Reference → (Child → Node) → Option Tree → Node
+found_node reference node None = unresolved_node (Unfound reference)
+found_node reference node (Some t) = node (as_child t)
 
 -- a node before which one question is asked
 abbrev pub node_after_look : Question → Node → Node
@@ -109,9 +128,10 @@ node_after_look question n = record {
 
 -- a reference that is followed, where `refer` gives what one in its document comes to: it adds nothing to the path, its document does
 abbrev pub followed : Looks → Request → (Reference → Node) → Reference → Node
-followed looks request refer reference = node_after_look (Ref reference) (found_node (node_with looks request refer) (looks.document reference))
+followed looks request refer reference =
+    node_after_look (Ref reference) (found_node reference (node_with looks request refer) (looks.document reference))
 
 -- a reference, where this many may be followed on the way down from here: with none left nothing is looked up
 abbrev pub refer : Looks → Request → ℕ → Reference → Node
-refer looks request zero reference = unresolved_node
+refer looks request zero reference = unresolved_node (TooFar reference)
 refer looks request (suc hops) reference = followed looks request (refer looks request hops) reference

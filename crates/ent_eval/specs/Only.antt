@@ -1,5 +1,5 @@
 -- The only child that applies (appendix C.9).
-use Rattle.std.specs.Prelude.{Bool, List, [], ◌∷◌, get_or, Option, Some, None, map, unwrap_or}
+use Rattle.std.specs.Prelude.{Bool, List, [], ◌∷◌, ◌++◌, get_or, Option, Some, None, map, unwrap_or}
 use Rattle.ent_combine.specs.Choose.{choose, is_bad}
 use Rattle.ent_combine.specs.Seen.{up_to_passing}
 use Rattle.ent_combine.specs.declared.chooser.Choice.{Choice}
@@ -9,12 +9,14 @@ use Rattle.ent_combine.specs.declared.chooser.TargetResult.TheVariants as result
 use Rattle.ent_eval.specs.declared.answer.Answer.{Answer}
 use Rattle.ent_eval.specs.declared.answer.Status.{Status}
 use Rattle.ent_eval.specs.declared.answer.Status.TheVariants.{ProcessingError}
+use Rattle.ent_eval.specs.declared.cause.What.TheVariants.{Several}
 use Rattle.ent_eval.specs.declared.only.Only.{Only}
 use Rattle.ent_eval.specs.declared.only.Only.TheVariants as only
 use Rattle.ent_eval.specs.declared.target.Targeted.{Targeted}
 use Rattle.ent_eval.specs.declared.target.Targeted.TheVariants.{Match, NoMatch, Indeterminate}
 use Rattle.ent_eval.specs.Judged.{bad, nothing}
-use Rattle.ent_eval.specs.Part.{Part, without_look, and_then, questions_of, values}
+use Rattle.ent_eval.specs.Note.{Note, failing}
+use Rattle.ent_eval.specs.Part.{Part, and_then, notes_of, values, without_look}
 
 -- what is chosen by: the status doesn't matter
 abbrev pub result_of_target : Targeted → TargetResult
@@ -46,11 +48,19 @@ spoils targets = is_bad (choose (results (values targets)))
 abbrev pub seen_choice : List (Part Targeted) → List (Part Targeted)
 seen_choice targets = up_to_passing spoils targets
 
+-- that a choice fails by itself, where the targets that were seen don't: two match
+abbrev pub several : Choice → Option Status → List Note
+several choice.Bad None = failing Several
+several choice.Bad (Some status) = []
+several choice.Nobody status = []
+several (choice.Only place) status = []
+
 -- which of several children is the only one whose target matches
 abbrev pub choice_part : List (Part Targeted) → Part Only
 choice_part targets = record {
   value = chosen (choose (results (values targets))) (values (seen_choice targets));
-  asked = questions_of (seen_choice targets);
+  notes = notes_of (seen_choice targets)
+      ++ several (choose (results (values targets))) (first_target_status (values (seen_choice targets)));
 }
 
 -- the chosen child alone is evaluated

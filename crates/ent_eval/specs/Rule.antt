@@ -12,6 +12,7 @@ use Rattle.ent_policy.specs.declared.expression.VariableDefinition.{VariableDefi
 use Rattle.ent_policy.specs.declared.key.DocKey.{DocKey}
 use Rattle.ent_eval.specs.declared.answer.Answer.{Answer}
 use Rattle.ent_eval.specs.declared.answer.Status.TheVariants.{Okay, ProcessingError}
+use Rattle.ent_eval.specs.declared.cause.What.TheVariants.{Unfit}
 use Rattle.ent_eval.specs.declared.evaluated.Evaluated.{Evaluated}
 use Rattle.ent_eval.specs.declared.evaluated.Evaluated.TheVariants as evaluated
 use Rattle.ent_eval.specs.declared.evaluated.Evaluated.TheVariants.{Known}
@@ -24,7 +25,8 @@ use Rattle.ent_eval.specs.declared.target.Targeted.TheVariants.{Match, NoMatch, 
 use Rattle.ent_eval.specs.Given.{finished, indeterminate_of}
 use Rattle.ent_eval.specs.Judged.{nothing}
 use Rattle.ent_eval.specs.Looks.{Looks}
-use Rattle.ent_eval.specs.Part.{Part, without_look, and_then, mapped}
+use Rattle.ent_eval.specs.Note.{Note, failing}
+use Rattle.ent_eval.specs.Part.{Part, and_fails, and_then, mapped, of_rule, without_look}
 use Rattle.ent_eval.specs.Target.{target_part}
 
 -- the decision of an effect
@@ -39,10 +41,17 @@ truth_of (Known (One (Boolean false))) = truth.False
 truth_of (evaluated.Indeterminate status) = truth.Indeterminate status
 truth_of _ = truth.Indeterminate ProcessingError
 
+-- that a condition fails which is no boolean
+abbrev pub unfit_condition : Evaluated → List Note
+unfit_condition (Known (One (Boolean b))) = []
+unfit_condition (evaluated.Indeterminate status) = []
+unfit_condition _ = failing Unfit
+
 -- a condition among the definitions of its policy; an absent one is True
 abbrev pub condition_part : Looks → Request → List VariableDefinition → Option Expression → Part Truth
 condition_part looks request definitions None = without_look truth.True
-condition_part looks request definitions (Some e) = mapped truth_of (meaning looks request definitions (length definitions) e)
+condition_part looks request definitions (Some e) =
+    mapped truth_of (and_fails (meaning looks request definitions (length definitions) e) unfit_condition)
 
 -- a rule of the policy at the end of a path, by its condition
 abbrev pub decided : List DocKey → Rule → Truth → Answer
@@ -60,6 +69,11 @@ rule_after own condition path rule Match = and_then (mapped (decided path rule) 
 abbrev pub rule_under : Looks → Request → List VariableDefinition → List DocKey → Rule → Targeted → Part Answer
 rule_under looks request definitions path rule = rule_after (finished looks request definitions rule.given) (condition_part looks request definitions rule.condition) path rule
 
+-- what stands in a rule of the policy at the end of a path, among the policy's definitions
+abbrev pub in_rule : Looks → Request → List VariableDefinition → List DocKey → Rule → Part Answer
+in_rule looks request definitions path rule =
+    and_then (target_part looks request rule.target) (rule_under looks request definitions path rule)
+
 -- a rule of the policy at the end of a path, among the policy's definitions
 abbrev pub rule_part : Looks → Request → List VariableDefinition → List DocKey → Rule → Part Answer
-rule_part looks request definitions path rule = and_then (target_part looks request rule.target) (rule_under looks request definitions path rule)
+rule_part looks request definitions path rule = of_rule rule.id (in_rule looks request definitions path rule)

@@ -7,6 +7,7 @@ use Rattle.ent_values.specs.declared.value.Value.{Value}
 use Rattle.ent_values.specs.declared.value.Value.TheVariants as value
 use Rattle.ent_policy.specs.declared.document.Designator.{Designator}
 use Rattle.ent_finder.specs.declared.row.AttrKey.{AttrKey}
+use Rattle.ent_eval.specs.declared.cause.What.TheVariants.{Missing}
 use Rattle.ent_eval.specs.declared.key.ReadKey.{ReadKey}
 use Rattle.ent_eval.specs.declared.key.ReadKey.TheVariants as key
 use Rattle.ent_eval.specs.declared.question.Asked.{Asked}
@@ -14,8 +15,9 @@ use Rattle.ent_eval.specs.declared.question.Question.{Question}
 use Rattle.ent_eval.specs.declared.question.Question.TheVariants.{Root, Ref, Of}
 use Rattle.ent_eval.specs.declared.request.Request.{Request}
 use Rattle.ent_eval.specs.Looks.{Looks}
+use Rattle.ent_eval.specs.Note.{Note, failing}
 use Rattle.ent_eval.specs.Own.{is_empty, own_values, sole_value}
-use Rattle.ent_eval.specs.Part.{Part, without_look, after_look}
+use Rattle.ent_eval.specs.Part.{Part, after_look, and_fails, without_look}
 use Rattle.ent_eval.specs.Uris as uris
 
 -- whether a designator asks for this attribute of the environment, of this type, without an issuer (section 10.2.5 and appendix B.7)
@@ -94,6 +96,15 @@ values_of looks request a = designated_values looks request (designator_for a)
 -- the values of a designator, which are asked for
 abbrev pub values_part : Looks → Request → Designator → Part (List Value)
 values_part looks request d = after_look (Of (asked_of d)) (without_look (designated_values looks request d))
+
+-- what fails where there is no value and one must be present (section 7.3.5)
+abbrev pub missing : Designator → List Value → List Note
+missing d [] = if d.must_be_present then failing (Missing (asked_of d)) else []
+missing d (v ∷ vs) = []
+
+-- the values of a designator, of which one must be present where that says so
+abbrev pub demanded : Looks → Request → Designator → Part (List Value)
+demanded looks request d = and_fails (values_part looks request d) (missing d)
 
 -- ---- the keys that are looked up
 

@@ -16,7 +16,7 @@ use Rattle.ent_eval.specs.declared.target.Targeted.{Targeted}
 use Rattle.ent_eval.specs.declared.target.Targeted.TheVariants as is
 use Rattle.ent_eval.specs.Looks.{Looks}
 use Rattle.ent_eval.specs.Part.{Part, mapped, whole}
-use Rattle.ent_eval.specs.Sources.{values_part}
+use Rattle.ent_eval.specs.Sources.{demanded}
 
 -- whether a function of a literal and a value is True (appendix A.3). On two values a function that gives a boolean has no fault
 abbrev pub is_true : Function → Value → Value → Bool
@@ -56,7 +56,7 @@ one_matches ts = if list_any is_match ts then is.Match else first_indeterminate 
 
 -- a match (section 7.6)
 abbrev pub match_part : Looks → Request → Match → Part Targeted
-match_part looks request m = mapped (matched m) (values_part looks request m.designator)
+match_part looks request m = mapped (matched m) (demanded looks request m.designator)
 
 -- an all-of element, up to its first match that is False (section 7.7)
 abbrev pub all_of_part : Looks → Request → AllOf → Part Targeted

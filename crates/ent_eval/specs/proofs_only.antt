@@ -1,5 +1,6 @@
 pub mod Comes
 pub mod Expression
+pub mod Fed
 pub mod Gathered
 pub mod Given
 pub mod Hops
@@ -12,8 +13,11 @@ pub mod Only
 pub mod Numbering
 pub mod Opened
 pub mod Path
+pub mod Reason
+pub mod Remembered
 pub mod Sought
 pub mod Target
+pub mod Telling
 pub mod Texts
 pub mod Typed
 pub mod Uncopied

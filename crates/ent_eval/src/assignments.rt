@@ -3,7 +3,7 @@
 ghost use Rattle.std.specs.Prelude.{◌≡◌, ◌++◌, IfOk, OnOk, Ok, length, map, true};
 ghost use Rattle.std.specs.List.{list_all};
 ghost use Rattle.ent_policy.specs.Typing.{assignment_is_typed};
-ghost use Rattle.ent_eval.specs.proofs_only.Comes.{Asks, Comes, in_walk};
+ghost use Rattle.ent_eval.specs.proofs_only.Comes.{Adds, Comes, in_walk};
 ghost use Rattle.ent_eval.specs.Given.{assigned, assignment_of, assignment_part, given_in_turn, joined};
 ghost use Rattle.ent_eval.specs.proofs_only.Given.{added, joined_with};
 ghost use Rattle.ent_eval.specs.proofs_only.Typed.{is_held};
@@ -51,8 +51,8 @@ impl<L: LookUps> Walk<'_, L> {
         requires { assignment_is_typed definitions.now expression.now ≡ true }
         ensures value { IfOk result (λ s. added assignments.new s ≡ joined_with assignments.old
             (in_walk L.looks self.old assignment_part definitions.now expression.now)) }
-        ensures notes { OnOk result (Asks
-            (in_walk L.looks self.old assignment_part definitions.now expression.now).asked
+        ensures notes { OnOk result (Adds
+            (in_walk L.looks self.old assignment_part definitions.now expression.now).notes
             self.old self.new) }
     {
         let evaluated = self.expression(definitions, definitions.len(), &expression.expression)?;

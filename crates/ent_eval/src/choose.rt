@@ -1,14 +1,16 @@
 //! Which child of several applies.
 
-ghost use Rattle.std.specs.Prelude.{◌≡◌, ◌≤◌, IfOk, length, map, true};
+ghost use Rattle.std.specs.Prelude.{◌≡◌, ◌≤◌, IfOk, OnOk, length, map, true};
 ghost use Rattle.std.specs.List.{list_all};
-ghost use Rattle.ent_eval.specs.proofs_only.Comes.{Comes, in_walk};
+ghost use Rattle.ent_eval.specs.proofs_only.Comes.{Adds, Comes, in_walk};
 ghost use Rattle.ent_eval.specs.proofs_only.Hops.{child_target};
 ghost use Rattle.ent_eval.specs.Only.{choice_part, result_of_target};
-ghost use Rattle.ent_eval.specs.proofs_only.Only.{status_of_target};
+ghost use Rattle.ent_eval.specs.proofs_only.Only.{second_match, status_of_target};
 ghost use Rattle.ent_eval.specs.proofs_only.Typed.{is_fit};
+ghost use Rattle.ent_eval.specs.declared.only.Only.TheVariants.{Bad};
 
 use crate::answer::Status;
+use crate::cause::Reason;
 use crate::look_ups::LookUps;
 use crate::only::Only;
 use crate::target::Targeted;
@@ -31,13 +33,27 @@ impl<'a, L: LookUps> Walk<'a, L> {
         for child in children {
             let targeted = self.target_of(hops, child)?;
             if let Progress::Stop = chooser.take(result_of(targeted)) {
-                return Ok(Only::Bad(status_of(targeted)));
+                return self.spoiled(targeted);
             }
         }
         match chooser.finish() {
             Choice::Nobody => Ok(Only::Nobody),
             Choice::Only(place) => Ok(Only::Child(place)),
             Choice::Bad => unreachable!(),
+        }
+    }
+
+    // What a target comes to that is Indeterminate or the second that matches.
+    fn spoiled(&mut self, targeted: Targeted) -> Result<Only, AllocError>
+        ensures value { IfOk result (λ only. only ≡ Bad (status_of_target targeted)) }
+        ensures notes { OnOk result (Adds (second_match targeted) self.old self.new) }
+    {
+        match targeted {
+            Targeted::Indeterminate(status) => Ok(Only::Bad(status)),
+            _ => {
+                self.fail(Reason::Several)?;
+                Ok(Only::Bad(Status::ProcessingError))
+            }
         }
     }
 
@@ -49,8 +65,8 @@ impl<'a, L: LookUps> Walk<'a, L> {
             (in_walk L.looks self.old child_target hops child.now) self.old self.new) }
     {
         match child {
-            Child::Policy(policy) => self.target(&policy.target),
-            Child::Set(set) => self.target(&set.target),
+            Child::Policy(policy) => self.policy_target(policy),
+            Child::Set(set) => self.set_target(set),
             Child::Reference(reference) => self.reference_target(hops, reference),
         }
     }
@@ -64,15 +80,5 @@ fn result_of(targeted: Targeted) -> TargetResult
         Targeted::Match => TargetResult::Match,
         Targeted::NoMatch => TargetResult::NoMatch,
         Targeted::Indeterminate(_) => TargetResult::Indeterminate,
-    }
-}
-
-// The status of the target that made the choice Bad. A second match is a processing error.
-fn status_of(targeted: Targeted) -> Status
-    ensures { result ≡ status_of_target targeted }
-{
-    match targeted {
-        Targeted::Indeterminate(status) => status,
-        _ => Status::ProcessingError,
     }
 }

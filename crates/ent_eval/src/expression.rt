@@ -8,16 +8,18 @@ ghost use Rattle.ent_functions.specs.Types.{boolean, result_type_of};
 ghost use Rattle.ent_functions.specs.declared.types.ArgType.TheVariants.{Many};
 ghost use Rattle.ent_policy.specs.Typing.{variable_type};
 ghost use Rattle.ent_policy.specs.Variables.{definition_of};
-ghost use Rattle.ent_eval.specs.proofs_only.Comes.{Asks, Comes, in_walk};
-ghost use Rattle.ent_eval.specs.Expression.{evaluated_of, designated, is_result, meaning, settles};
+ghost use Rattle.ent_eval.specs.proofs_only.Comes.{Adds, Comes, in_walk};
+ghost use Rattle.ent_eval.specs.Expression.{designated, evaluated_of, fault_in, is_result, meaning, settles};
+ghost use Rattle.ent_eval.specs.Sources.{missing};
 ghost use Rattle.ent_eval.specs.proofs_only.Expression.{apply_part};
 ghost use Rattle.ent_eval.specs.Expression.{variable_part};
 ghost use Rattle.ent_eval.specs.declared.evaluated.Evaluated.TheVariants.{Known};
 ghost use Rattle.ent_eval.specs.proofs_only.Typed.{HasType, apply_type, type_of};
 ghost use Rattle.ent_eval.specs.proofs_only.Noted.{asked_by};
-ghost use Rattle.ent_eval.specs.proofs_only.Uncopied.{equal_part, member_part};
+ghost use Rattle.ent_eval.specs.proofs_only.Uncopied.{equal_part, member, member_part};
 
 use crate::answer::Status;
+use crate::cause::Reason;
 use crate::evaluated::Evaluated;
 use crate::look_ups::LookUps;
 use crate::own_bag::{is_empty, is_own};
@@ -25,8 +27,8 @@ use crate::uncopied::{Sole, compared, equal, is_found, member, membership};
 use crate::walk::Walk;
 use ent_functions::{Arg, Fault, Function, apply};
 use ent_policy::{Designator, Expression, VariableDefinition};
-use ent_values::{Items, Text, Value};
-use std::alloc::{AllocError, Global};
+use ent_values::{Bag, Items, Text, Value};
+use std::alloc::AllocError;
 
 impl<L: LookUps> Walk<'_, L> {
     // An expression among the definitions of its policy, through at most so many references. It has its type.
@@ -111,7 +113,7 @@ impl<L: LookUps> Walk<'_, L> {
                 Ok(argument) => evaluated.push(argument)?,
             }
         }
-        applied_to(self.alloc, function, evaluated.as_slice())
+        self.applied_to(function, evaluated.as_slice())
     }
 
     // Is-in of a value and a designator, of whose values the request's own aren't copied.
@@ -127,6 +129,21 @@ impl<L: LookUps> Walk<'_, L> {
             return Ok(is_found(found));
         }
         let bag = self.source(designator)?;
+        self.member_of(sole, designator, &bag)
+    }
+
+    // Is-in of a value and of the values of a designator.
+    pub(crate) fn member_of(
+        &mut self,
+        sole: &Sole<'_>,
+        designator: &Designator,
+        bag: &Bag,
+    ) -> Result<Evaluated, AllocError>
+        ensures value { IfOk result (λ v. v ≡ member sole.now.value.now designator.now bag.now.values) }
+        ensures typed { IfOk result (λ v. HasType (Some boolean) v) }
+        ensures notes { OnOk result (Adds (missing designator.now bag.now.values) self.old self.new) }
+    {
+        self.demand(designator, bag)?;
         Ok(member(sole.value, designator, bag.values()))
     }
 
@@ -143,7 +160,7 @@ impl<L: LookUps> Walk<'_, L> {
 
     // Notes what is asked for a value.
     pub(crate) fn note_sole(&mut self, sole: &Sole<'_>) -> Result<(), AllocError>
-        ensures { OnOk result (Asks (asked_by (option_copied sole.now.asked)) self.old self.new) }
+        ensures { OnOk result (Adds (asked_by (option_copied sole.now.asked)) self.old self.new) }
     {
         match sole.asked {
             None => Ok(()),
@@ -157,11 +174,28 @@ impl<L: LookUps> Walk<'_, L> {
             (in_walk L.looks self.old designated designator.now) self.old self.new) }
         ensures typed { IfOk result (λ v. HasType (Some (Many designator.now.datatype)) v) }
     {
-        let bag = self.values(designator)?;
+        let bag = self.demanded(designator)?;
         if designator.must_be_present && is_empty(&bag) {
             return Ok(Evaluated::Indeterminate(Status::MissingAttribute));
         }
         Ok(Evaluated::Known(Arg::Many(bag)))
+    }
+
+    // The value of a function of arguments that it takes. A fault is a processing error.
+    fn applied_to(&mut self, function: Function, arguments: &[Arg]) -> Result<Evaluated, AllocError>
+        requires { IsSome (result_type_of function (map type_of_arg arguments.now)) }
+        ensures value { IfOk result (λ v. v ≡ evaluated_of (applied function arguments.now)) }
+        ensures typed { IfOk result (λ v. HasType (result_type_of function (map type_of_arg arguments.now)) v) }
+        ensures notes { OnOk result (Adds (fault_in function (applied function arguments.now)) self.old self.new) }
+    {
+        match apply(self.alloc, function, arguments) {
+            Ok(outcome) => Ok(Evaluated::Known(outcome)),
+            Err(Fault::Memory) => Err(AllocError),
+            Err(fault) => {
+                self.fail(Reason::Fault(function, fault))?;
+                Ok(Evaluated::Indeterminate(Status::ProcessingError))
+            }
+        }
     }
 }
 
@@ -205,18 +239,5 @@ fn settles(function: Function, argument: &Arg) -> bool
         (Function::Or, Arg::One(Value::Boolean(boolean))) => *boolean,
         (Function::And, Arg::One(Value::Boolean(boolean))) => !*boolean,
         _ => false,
-    }
-}
-
-// The value of a function of arguments that it takes. A fault is a processing error.
-fn applied_to(alloc: Global, function: Function, arguments: &[Arg]) -> Result<Evaluated, AllocError>
-    requires { IsSome (result_type_of function (map type_of_arg arguments.now)) }
-    ensures value { IfOk result (λ v. v ≡ evaluated_of (applied function arguments.now)) }
-    ensures typed { IfOk result (λ v. HasType (result_type_of function (map type_of_arg arguments.now)) v) }
-{
-    match apply(alloc, function, arguments) {
-        Ok(outcome) => Ok(Evaluated::Known(outcome)),
-        Err(Fault::Memory) => Err(AllocError),
-        Err(_) => Ok(Evaluated::Indeterminate(Status::ProcessingError)),
     }
 }

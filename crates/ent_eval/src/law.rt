@@ -1,10 +1,11 @@
 //! Laws of what answers rest on.
 
 ghost use Rattle.ent_eval.specs.Law.{EachKeyIsRecordedOnce, EqualFindingsGiveEqualAnswers};
-ghost use Rattle.ent_eval.specs.Law.{EqualLookUpsGiveEqualAnswers, WhatIsLookedUpIsRecorded};
+ghost use Rattle.ent_eval.specs.Law.{EqualLookUpsGiveEqualAnswers, IndeterminateHasItsCause};
+ghost use Rattle.ent_eval.specs.Law.{WhatIsLookedUpIsRecorded};
 
 /// Law: where each question that is asked for an answer finds the same for another request, over what is held then, the
-/// answer is the same, and so is what is asked.
+/// answer is the same, and so are what is asked and the causes.
 pub fn equal_findings_give_equal_answers()
     ensures { EqualFindingsGiveEqualAnswers }
 {}
@@ -23,4 +24,9 @@ pub fn each_key_is_recorded_once()
 /// Law: the keys that are recorded for an answer are those that are looked up for it.
 pub fn what_is_looked_up_is_recorded()
     ensures { WhatIsLookedUpIsRecorded }
+{}
+
+/// Law: an answer is Indeterminate only where there is a cause, and its status is that of one of the causes.
+pub fn an_indeterminate_answer_has_its_cause()
+    ensures { IndeterminateHasItsCause }
 {}

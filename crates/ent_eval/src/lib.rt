@@ -5,11 +5,18 @@
 mod answer;
 mod asking;
 mod assignments;
+mod bags;
+mod case;
+mod cases;
+mod cause;
+mod causes;
 mod change;
 mod choose;
+mod distinct;
 mod environment;
 mod evaluated;
 mod expression;
+mod findings;
 mod gather;
 mod given;
 mod holds;
@@ -18,6 +25,8 @@ mod latest;
 mod law;
 mod look_ups;
 mod looked;
+mod memory;
+mod names;
 mod node;
 mod notes;
 mod only;
@@ -36,6 +45,7 @@ mod reference;
 mod request;
 mod rule;
 mod same;
+mod scene;
 mod set;
 mod sources;
 mod target;
@@ -45,6 +55,7 @@ mod uris;
 mod walk;
 
 pub use answer::{Answer, Status, WhyEntry};
+pub use cause::{Cause, What};
 pub use change::{
     document_leaves_others, environment_leaves_others, root_leaves_others, values_leave_others,
 };
@@ -52,11 +63,13 @@ pub use environment::Environment;
 pub use given::{Assignment, Given};
 pub use key::ReadKey;
 pub use law::{
-    each_key_is_recorded_once, equal_findings_give_equal_answers,
-    equal_look_ups_give_equal_answers, what_is_looked_up_is_recorded,
+    an_indeterminate_answer_has_its_cause, each_key_is_recorded_once,
+    equal_findings_give_equal_answers, equal_look_ups_give_equal_answers,
+    what_is_looked_up_is_recorded,
 };
 pub use look_ups::LookUps;
-pub use pdp::{Evaluation, ListedEvaluation, Pdp};
+pub use memory::Memory;
+pub use pdp::{Evaluation, Explained, ListedEvaluation, Pdp};
 pub use question::{Asked, Question};
 pub use questions::Questions;
 pub use readers::{

@@ -11,7 +11,7 @@ ghost use Rattle.ent_eval.specs.proofs_only.Uncopied.{member_part};
 use crate::evaluated::Evaluated;
 use crate::latest::seeks_same;
 use crate::look_ups::LookUps;
-use crate::uncopied::{Sole, member, membership};
+use crate::uncopied::{Sole, membership};
 use crate::walk::Walk;
 use ent_policy::{Designator, Expression, VariableDefinition};
 use ent_values::Bag;
@@ -70,11 +70,11 @@ impl<'a, L: LookUps> Walk<'a, L> {
         self.note_sole(sole)?;
         if let Some(latest) = &*looked {
             if seeks_same(latest.designator, designator) {
-                return Ok(member(sole.value, designator, latest.bag.values()));
+                return self.member_of(sole, designator, &latest.bag);
             }
         }
         let bag = self.values(designator)?;
-        let found = member(sole.value, designator, bag.values());
+        let found = self.member_of(sole, designator, &bag)?;
         *looked = Some(Looked { designator, bag });
         Ok(found)
     }

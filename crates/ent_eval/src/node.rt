@@ -2,12 +2,12 @@
 
 ghost use Rattle.std.specs.Prelude.{◌≡◌, IfOk, true};
 ghost use Rattle.std.specs.List.{list_all};
-ghost use Rattle.ent_policy.specs.Typing.{given_is_typed, rule_is_typed};
+ghost use Rattle.ent_policy.specs.Typing.{given_is_typed, rule_is_typed, target_is_typed};
 ghost use Rattle.ent_eval.specs.proofs_only.Comes.{Comes, in_walk};
 ghost use Rattle.ent_eval.specs.Judged.{under_target};
 ghost use Rattle.ent_eval.specs.proofs_only.Judged.{or_nothing};
 ghost use Rattle.ent_eval.specs.Node.{policy_rules, rules_combined};
-ghost use Rattle.ent_eval.specs.proofs_only.Node.{policy_after};
+ghost use Rattle.ent_eval.specs.proofs_only.Node.{in_policy, policy_after, policy_target};
 ghost use Rattle.ent_eval.specs.proofs_only.Path.{keys_of};
 
 use crate::answer::{Answer, Status};
@@ -23,9 +23,19 @@ use ent_values::Items;
 use std::alloc::{AllocError, Global};
 
 impl<'a, L: LookUps> Walk<'a, L> {
-    // The rules are evaluated unless the target doesn't match, and behind them what the policy gives itself, if it
-    // matches.
-    #[tactic(auto, using(crate::proofs::Going::noting_both))]
+    // Whether the target of a policy matches.
+    pub(crate) fn policy_target(&mut self, policy: &'a Policy) -> Result<Targeted, AllocError>
+        requires { target_is_typed policy.now.target ≡ true }
+        ensures comes { IfOk result (Comes
+            (in_walk L.looks self.old policy_target policy.now) self.old self.new) }
+    {
+        self.enter(Kind::Policy, &policy.id, &policy.version)?;
+        let targeted = self.target(&policy.target)?;
+        self.leave();
+        Ok(targeted)
+    }
+
+    // What comes behind the target of a policy.
     pub(crate) fn policy_after(
         &mut self,
         path: &Path<'_>,
@@ -36,6 +46,27 @@ impl<'a, L: LookUps> Walk<'a, L> {
         requires given { given_is_typed policy.now.variables policy.now.given ≡ true }
         ensures comes { IfOk result (λ a. Comes
             (in_walk L.looks self.old policy_after (keys_of path.now) policy.now targeted)
+            self.old self.new (or_nothing a)) }
+    {
+        self.enter(Kind::Policy, &policy.id, &policy.version)?;
+        let answer = self.in_policy(path, policy, targeted)?;
+        self.leave();
+        Ok(answer)
+    }
+
+    // The rules are evaluated unless the target doesn't match, and behind them what the policy gives itself, if it
+    // matches.
+    #[tactic(auto, using(crate::proofs::Going::noting_both))]
+    fn in_policy(
+        &mut self,
+        path: &Path<'_>,
+        policy: &'a Policy,
+        targeted: Targeted,
+    ) -> Result<Option<Answer>, AllocError>
+        requires rules { list_all (rule_is_typed policy.now.variables) policy.now.rules ≡ true }
+        requires given { given_is_typed policy.now.variables policy.now.given ≡ true }
+        ensures comes { IfOk result (λ a. Comes
+            (in_walk L.looks self.old in_policy (keys_of path.now) policy.now targeted)
             self.old self.new (or_nothing a)) }
     {
         match targeted {

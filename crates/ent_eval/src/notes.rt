@@ -1,60 +1,74 @@
 //! What an evaluation notes of its questions.
 
-ghost use Rattle.std.specs.Prelude.{◌≡◌, [], IfOk, IfSome, OnOk, Some, None, if◌then◌else◌};
+ghost use Rattle.std.specs.Prelude.{◌≡◌, [], IfOk, IfSome, OnOk, Some, None, false, if◌then◌else◌};
 ghost use Rattle.std.specs.List.{flat_map};
+ghost use Rattle.ent_eval.specs.Causes.{told_once};
+ghost use Rattle.ent_eval.specs.Note.{asks, fails, status_of};
 ghost use Rattle.ent_eval.specs.Noted.{noted};
 ghost use Rattle.ent_eval.specs.Questions.{AreNumbers, BeginsWith, at_numbers};
 ghost use Rattle.ent_eval.specs.Sources as sources;
 ghost use Rattle.ent_eval.specs.Sources.{asked_of};
-ghost use Rattle.ent_eval.specs.proofs_only.Noted.{with_note};
+ghost use Rattle.ent_eval.specs.proofs_only.Noted.{entering, in_rule, leaving, rule_in, with_note};
 ghost use Rattle.ent_eval.specs.proofs_only.Path.{keys_of};
+ghost use Rattle.ent_eval.specs.proofs_only.Reason.{what_of};
 ghost use Rattle.ent_eval.specs.declared.question.Question.TheVariants.{Of, Ref, Root};
 
 use crate::asking::Asking;
+use crate::cause::{Cause, Reason};
+use crate::causes::Causes;
+use crate::distinct::told_once;
 use crate::path::Path;
 use crate::paths::Paths;
 use crate::questions::Questions;
 use crate::reads::Reads;
 use crate::request::Request;
-use ent_policy::{Designator, DocKey, Reference};
-use ent_values::{Items, Shared};
+use ent_policy::{Designator, DocKey, Kind, Reference, Version};
+use ent_values::{Items, Shared, Text};
 use std::alloc::{AllocError, Global};
 use std::marker::Model;
 use std::mem;
 
-// The questions that an evaluation asked so far, or nothing where they aren't asked for: then none of them is kept.
-// Beside them what was made last, which may serve again.
+// The questions that an evaluation asked so far, or nothing where they aren't asked for: then none of them is kept. So
+// with what failed; but whether anything did is always kept. Beside them what was made last, which may serve again.
 #[derive(Drop)]
 pub(crate) struct Notes {
     is_asked: bool,
     asking: Asking,
+    causes: Option<Causes>,
+    failed: bool,
     paths: Paths,
 }
 
 impl Model for Notes {
-    ghost use Rattle.std.specs.Prelude.{List, Option, Some, None, if◌then◌else◌};
-    ghost use Rattle.ent_eval.specs.declared.question.Question.{Question};
+    ghost use Rattle.std.specs.Prelude.{Some, None, if◌then◌else◌};
+    ghost use Rattle.ent_eval.specs.proofs_only.Noted.{Notes};
 
-    ghost Value = { Option (List Question) };
+    ghost Value = { Notes };
 
-    ghost view = { λ n. if n.is_asked then Some n.asking else None };
+    ghost view = { λ n. record {
+      questions = if n.is_asked then Some n.asking else None;
+      causes = n.causes;
+      failed = n.failed;
+    } };
 }
 
 impl Notes {
     // Of an evaluation that is asked for its answer alone.
     pub(crate) fn unasked(alloc: Global) -> Notes
-        ensures { result ≡ None }
+        ensures { result ≡ record { questions = None; causes = None; failed = false } }
     {
         Notes {
             is_asked: false,
             asking: Asking::new(alloc),
+            causes: None,
+            failed: false,
             paths: Paths::new(alloc),
         }
     }
 
     // The keys that are looked up for the questions, each once, if they were asked for.
     pub(crate) fn reads(&self, alloc: Global, request: &Request) -> Result<Reads, AllocError>
-        ensures { IfOk result (λ r. IfSome self.now (λ questions.
+        ensures { IfOk result (λ r. IfSome self.now.questions (λ questions.
             r ≡ noted [] (flat_map (sources.keys_of request.now) questions))) }
     {
         self.asking.keys(alloc, request)
@@ -66,7 +80,7 @@ impl Notes {
         alloc: Global,
         questions: &mut Questions,
     ) -> Result<Items<u32>, AllocError>
-        ensures asked { IfOk result (λ numbers. IfSome self.old (λ asked. at_numbers questions.new numbers ≡ asked)) }
+        ensures asked { IfOk result (λ numbers. IfSome self.old.questions (λ asked. at_numbers questions.new numbers ≡ asked)) }
         ensures within { IfOk result (AreNumbers questions.new) }
         ensures begins { BeginsWith questions.new questions.old }
     {
@@ -75,7 +89,7 @@ impl Notes {
 
     // Notes that the root is asked for, if it isn't there yet.
     pub(crate) fn note_root(&mut self, alloc: Global) -> Result<(), AllocError>
-        ensures { OnOk result (self.new ≡ with_note self.old Root) }
+        ensures { OnOk result (self.new ≡ with_note self.old (asks Root)) }
     {
         if self.is_asked {
             self.asking.note_root(alloc)?;
@@ -89,7 +103,7 @@ impl Notes {
         alloc: Global,
         reference: &Reference,
     ) -> Result<(), AllocError>
-        ensures { OnOk result (self.new ≡ with_note self.old (Ref reference.now)) }
+        ensures { OnOk result (self.new ≡ with_note self.old (asks (Ref reference.now))) }
     {
         if self.is_asked {
             self.asking.note_reference(alloc, reference)?;
@@ -103,12 +117,102 @@ impl Notes {
         alloc: Global,
         designator: &Designator,
     ) -> Result<(), AllocError>
-        ensures { OnOk result (self.new ≡ with_note self.old (Of (asked_of designator.now))) }
+        ensures { OnOk result (self.new ≡ with_note self.old (asks (Of (asked_of designator.now)))) }
     {
         if self.is_asked {
             self.asking.note_values(alloc, designator)?;
         }
         Ok(())
+    }
+
+    // Notes that something fails where the evaluation is.
+    pub(crate) fn fail(&mut self, alloc: Global, reason: Reason<'_>) -> Result<(), AllocError>
+        ensures { OnOk result (self.new ≡ with_note self.old (fails (record {
+          path = [];
+          rule = None;
+          status = status_of (what_of reason.entry);
+          what = what_of reason.entry;
+        }))) }
+    {
+        self.failed = true;
+        match &mut self.causes {
+            None => Ok(()),
+            Some(causes) => causes.add(alloc, reason),
+        }
+    }
+
+    // Whether anything failed.
+    pub(crate) fn has_failed(&self) -> bool
+        ensures { result ≡ self.now.failed }
+    {
+        self.failed
+    }
+
+    // What failed, each cause once, if that is asked for.
+    pub(crate) fn take_causes(&mut self, alloc: Global) -> Result<Items<Cause>, AllocError>
+        ensures { IfOk result (λ causes. IfSome self.old.causes (λ k. causes ≡ told_once [] k.told)) }
+    {
+        match mem::replace(&mut self.causes, None) {
+            None => Ok(Items::new(alloc)),
+            Some(causes) => told_once(alloc, causes.told),
+        }
+    }
+
+    // Goes into a policy or a set.
+    #[inline(always)]
+    pub(crate) fn enter(
+        &mut self,
+        alloc: Global,
+        kind: Kind,
+        id: &Text,
+        version: &Version,
+    ) -> Result<(), AllocError>
+        ensures { OnOk result (self.new ≡ entering self.old (record {
+          kind = kind;
+          id = id.now;
+          version = version.now;
+        })) }
+    {
+        match &mut self.causes {
+            None => Ok(()),
+            Some(causes) => causes.enter(alloc, kind, id, version),
+        }
+    }
+
+    // And out of it.
+    #[inline(always)]
+    pub(crate) fn leave(&mut self)
+        ensures { self.new ≡ leaving self.old }
+    {
+        if let Some(causes) = &mut self.causes {
+            causes.leave();
+        }
+    }
+
+    // Goes into a rule. What it was in before is given.
+    #[inline(always)]
+    pub(crate) fn enter_rule(
+        &mut self,
+        alloc: Global,
+        id: &Text,
+    ) -> Result<Option<Text>, AllocError>
+        ensures notes { OnOk result (self.new ≡ in_rule self.old (Some id.now)) }
+        ensures outer { IfOk result (λ outer. outer ≡ rule_in self.old) }
+    {
+        match &mut self.causes {
+            None => Ok(None),
+            Some(causes) => Ok(mem::replace(&mut causes.rule, Some(id.copy(alloc)?))),
+        }
+    }
+
+    // And out of it.
+    #[inline(always)]
+    pub(crate) fn leave_rule(&mut self, outer: Option<Text>)
+        ensures { self.new ≡ in_rule self.old outer }
+    {
+        if let Some(causes) = &mut self.causes {
+            causes.rule = outer;
+        }
     }
 
     // The keys of a path.
@@ -145,13 +249,22 @@ impl Notebook {
         }
     }
 
-    // The notes of an evaluation before its first question.
-    pub(crate) fn open(&mut self, alloc: Global, is_asked: bool) -> Notes
-        ensures { result ≡ (if is_asked then Some [] else None) }
+    // The notes of an evaluation before its first question, by whether its questions are asked for, and its causes.
+    pub(crate) fn open(&mut self, alloc: Global, is_asked: bool, is_told: bool) -> Notes
+        ensures { result ≡ record {
+          questions = if is_asked then Some [] else None;
+          causes = if is_told then Some (record { path = []; rule = None; told = [] }) else None;
+          failed = false;
+        } }
     {
         let mut notes = mem::replace(&mut self.notes, Notes::unasked(alloc));
         notes.is_asked = is_asked;
         notes.asking.begin(alloc);
+        notes.failed = false;
+        notes.causes = None;
+        if is_told {
+            notes.causes = Some(Causes::none(alloc));
+        }
         notes
     }
 

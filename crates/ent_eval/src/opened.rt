@@ -15,6 +15,7 @@ ghost use Rattle.ent_eval.specs.proofs_only.Path.{keys_of};
 ghost use Rattle.ent_eval.specs.proofs_only.Typed.{is_fit, set_is_fit};
 
 use crate::answer::Answer;
+use crate::cause::Reason;
 use crate::look_ups::LookUps;
 use crate::path::Path;
 use crate::target::Targeted;
@@ -69,6 +70,7 @@ impl<'a, L: LookUps> Walk<'a, L> {
         ensures worth { IfOk result (λ o. worth o ≤ hops * worth_of_hop) }
     {
         if hops == 0 {
+            self.fail(Reason::TooFar(reference))?;
             return Ok(Opened::Unresolved);
         }
         self.open_followed(hops - 1, reference)
@@ -89,7 +91,10 @@ impl<'a, L: LookUps> Walk<'a, L> {
         ensures worth { IfOk result (λ o. worth o ≤ hops * worth_of_hop + 8 * 31) }
     {
         match self.look_up(reference)? {
-            None => Ok(Opened::Unresolved),
+            None => {
+                self.fail(Reason::Unfound(reference))?;
+                Ok(Opened::Unresolved)
+            }
             Some(document) => self.open_tree(hops, document.tree()),
         }
     }
@@ -124,7 +129,7 @@ impl<'a, L: LookUps> Walk<'a, L> {
         ensures fit { IfOk result (λ o. is_fit_left o ≡ true) }
         ensures worth { IfOk result (λ o. worth o ≡ 0) }
     {
-        let targeted = self.target(&policy.target)?;
+        let targeted = self.policy_target(policy)?;
         if let Targeted::NoMatch = targeted {
             return Ok(Opened::Passed);
         }
@@ -141,7 +146,7 @@ impl<'a, L: LookUps> Walk<'a, L> {
         ensures fit { IfOk result (λ o. is_fit_left o ≡ true) }
         ensures worth { IfOk result (λ o. worth o ≤ hops * worth_of_hop + 8 * size-PolicySet set.now) }
     {
-        let targeted = self.target(&set.target)?;
+        let targeted = self.set_target(set)?;
         if let Targeted::NoMatch = targeted {
             return Ok(Opened::Passed);
         }

@@ -3,7 +3,7 @@
 ghost use Rattle.std.specs.Prelude.{◌≡◌, IfOk, OnOk, Ok, true};
 ghost use Rattle.std.specs.List.{list_all};
 ghost use Rattle.ent_policy.specs.Typing.{given_expression_is_typed, given_is_typed};
-ghost use Rattle.ent_eval.specs.proofs_only.Comes.{Asks, Comes, in_walk};
+ghost use Rattle.ent_eval.specs.proofs_only.Comes.{Adds, Comes, in_walk};
 ghost use Rattle.ent_eval.specs.Given.{advice_after, effect_of, finished, given_part, given_with, givens_part};
 ghost use Rattle.ent_eval.specs.proofs_only.Given.{added};
 ghost use Rattle.ent_eval.specs.Given.{goes_with, indeterminate_of, joined, with_own};
@@ -155,8 +155,8 @@ impl<L: LookUps> Walk<'_, L> {
         requires { given_expression_is_typed due.definitions.now expression.now ≡ true }
         ensures value { IfOk result (λ s. added givens.new s ≡ joined (Ok givens.old)
             (in_walk L.looks self.old given_part due.entry.definitions.now due.entry.effect expression.now).value) }
-        ensures notes { OnOk result (Asks
-            (in_walk L.looks self.old given_part due.entry.definitions.now due.entry.effect expression.now).asked
+        ensures notes { OnOk result (Adds
+            (in_walk L.looks self.old given_part due.entry.definitions.now due.entry.effect expression.now).notes
             self.old self.new) }
     {
         if !goes_with(due.effect, expression.effect) {

@@ -1,26 +1,31 @@
 //! The decision point.
 
-ghost use Rattle.std.specs.Prelude.{◌≡◌, ◌+◌, ◌-◌, ◌^◌, min, [], None, IfOk, OnOk};
+ghost use Rattle.std.specs.Prelude.{◌≡◌, ◌+◌, ◌-◌, ◌^◌, min, [], None, IfNone, IfOk, IfSome, OnOk};
 ghost use Rattle.std.specs.Borrow.{sem};
-ghost use Rattle.ent_eval.specs.Answer.{answer, asked, recorded};
+ghost use Rattle.ent_eval.specs.Answer.{answer, answer_part, asked, causes, has_cause, recorded};
 ghost use Rattle.ent_eval.specs.Lending.{LendsAttributes, LendsPolicies};
 ghost use Rattle.ent_eval.specs.Listed.{listed};
 ghost use Rattle.ent_eval.specs.LooksOf.{looks_of};
+ghost use Rattle.ent_eval.specs.Memory.{Gives, HasCase, IsKnown, Remembers};
 ghost use Rattle.ent_eval.specs.Questions.{AreNumbers, BeginsWith, asked_once, at_numbers, keys_at};
 ghost use Rattle.ent_eval.specs.proofs_only.Noted.{noting};
+ghost use Rattle.ent_eval.specs.proofs_only.Remembered.{NoneFits};
 ghost use Rattle.ent_eval.specs.declared.environment.Environment.TheVariants.{Empty};
 
 use crate::answer::Answer;
+use crate::cause::Cause;
 use crate::environment::Environment;
 use crate::look_ups::LookUps;
+use crate::memory::Memory;
 use crate::notes::{Notebook, Notes};
 use crate::questions::Questions;
 use crate::reads::Reads;
 use crate::request::Request;
+use crate::scene::Scene;
 use crate::walk::Walk;
 use ent_finder::{AttrKey, AttributeFinder, Attributes, Policies, PolicyFinder};
 use ent_policy::{Document, Reference};
-use ent_values::{Bag, Date, DateTime, Items, Text, Time};
+use ent_values::{Bag, Date, DateTime, Items, Shared, Text, Time};
 use std::alloc::{AllocError, Global};
 use std::mem;
 
@@ -44,11 +49,21 @@ pub struct Evaluation {
     pub reads: Reads,
 }
 
-/// The answer to a listed request, and the numbers of the questions that were asked for it.
+/// The answer to a listed request, the numbers of the questions that were asked for it, and whether a part of it failed
+/// by itself. The first two have as many owners as there are requests that were found to have the same.
 #[derive(Drop)]
 pub struct ListedEvaluation {
+    pub answer: Shared<Answer>,
+    pub asked: Shared<Items<u32>>,
+    pub failed: bool,
+}
+
+/// The answer to a request, the look-ups that it rests on, and the parts that failed by themselves.
+#[derive(Drop)]
+pub struct Explained {
     pub answer: Answer,
-    pub asked: Items<u32>,
+    pub reads: Reads,
+    pub causes: Items<Cause>,
 }
 
 impl<A: Attributes, P: Policies> LookUps for Pdp<A, P> {
@@ -113,17 +128,158 @@ impl<A: Attributes, P: Policies> Pdp<A, P> {
         ensures counted { self.new.evaluations ≡ min (self.old.evaluations + 1) (2 ^ 128 - 1) }
         ensures rest { self.new ≡ record self.old { evaluations = self.new.evaluations } }
     {
-        let mut notes = self.notebook.open(self.alloc, true);
+        let mut notes = self.notebook.open(self.alloc, true, false);
         let answer = self.answered(&mut notes, request)?;
         let reads = notes.reads(self.alloc, request)?;
         self.notebook.close(notes);
         Ok(Evaluation { answer, reads })
     }
 
+    /// The same, and the causes: the parts that came to Indeterminate by themselves, in the order of evaluation, each
+    /// once (section 5.55). A part that isn't evaluated has none, and that of a child is told whatever its parent
+    /// decides.
+    pub fn explain(&mut self, request: &Request) -> Result<Explained, AllocError>
+        ensures answer { IfOk result (λ e. e.answer ≡ answer (looks_of A.sources P.slots self.old) request.now) }
+        ensures reads { IfOk result (λ e. e.reads ≡ recorded (looks_of A.sources P.slots self.old) request.now) }
+        ensures causes { IfOk result (λ e. e.causes ≡ causes (looks_of A.sources P.slots self.old) request.now) }
+        ensures counted { self.new.evaluations ≡ min (self.old.evaluations + 1) (2 ^ 128 - 1) }
+        ensures rest { self.new ≡ record self.old { evaluations = self.new.evaluations } }
+    {
+        let mut notes = self.notebook.open(self.alloc, true, true);
+        let answer = self.answered(&mut notes, request)?;
+        let reads = notes.reads(self.alloc, request)?;
+        let causes = notes.take_causes(self.alloc)?;
+        self.notebook.close(notes);
+        Ok(Explained {
+            answer,
+            reads,
+            causes,
+        })
+    }
+
     /// The answer to the request of three names (section 7), and the questions that were asked for it, each once, by
     /// their numbers among those of the caller. One that has none there gets one; the others keep theirs, whatever
     /// comes. The look-ups that the answer rests on are those of these questions. For the rest it is as `evaluate`.
+    /// A case that is remembered and that the request fits is taken over; else the request is evaluated, and is a case.
     pub fn evaluate_listed(
+        &mut self,
+        memory: &mut Memory,
+        questions: &mut Questions,
+        person: &Text,
+        action: &Text,
+        resource: &Text,
+    ) -> Result<ListedEvaluation, AllocError>
+        requires remembers { Remembers (looks_of A.sources P.slots self.old) questions.old memory.old }
+        ensures answer { IfOk result (λ e. e.answer
+            ≡ answer (looks_of A.sources P.slots self.old) (listed person.now action.now resource.now)) }
+        ensures asked { IfOk result (λ e. at_numbers questions.new e.asked
+            ≡ asked_once [] (asked (looks_of A.sources P.slots self.old) (listed person.now action.now resource.now))) }
+        ensures within { IfOk result (λ e. AreNumbers questions.new e.asked) }
+        ensures reads { IfOk result (λ e.
+            keys_at (listed person.now action.now resource.now) (at_numbers questions.new e.asked)
+            ≡ recorded (looks_of A.sources P.slots self.old) (listed person.now action.now resource.now)) }
+        ensures failed { IfOk result (λ e. e.failed
+            ≡ has_cause (looks_of A.sources P.slots self.old) (listed person.now action.now resource.now)) }
+        ensures numbers { BeginsWith questions.new questions.old }
+        ensures remembers { Remembers (looks_of A.sources P.slots self.old) questions.new memory.new }
+        ensures kept { IfOk result (λ e. HasCase (looks_of A.sources P.slots self.old) questions.new memory.new
+            (listed person.now action.now resource.now) (Gives e)) }
+        ensures again { IsKnown (looks_of A.sources P.slots self.old) questions.old memory.old
+            (listed person.now action.now resource.now)
+            → (memory.new.cases.cases.items ≡ memory.old.cases.cases.items) × (questions.new ≡ questions.old) }
+        ensures counted { self.new.evaluations ≡ min (self.old.evaluations + 1) (2 ^ 128 - 1) }
+        ensures rest { self.new ≡ record self.old { evaluations = self.new.evaluations } }
+    {
+        match self.recalled(memory, questions, person, action, resource) {
+            Err(error) => {
+                self.evaluations = raised(self.evaluations);
+                Err(error)
+            }
+            Ok(Some(evaluation)) => Ok(self.counting(evaluation)),
+            Ok(None) => self.evaluate_anew(memory, questions, person, action, resource),
+        }
+    }
+
+    // Counts an evaluation that was taken over.
+    fn counting(&mut self, evaluation: ListedEvaluation) -> ListedEvaluation
+        ensures evaluation { result ≡ evaluation }
+        ensures counted { self.new.evaluations ≡ min (self.old.evaluations + 1) (2 ^ 128 - 1) }
+        ensures rest { self.new ≡ record self.old { evaluations = self.new.evaluations } }
+    {
+        let evaluations = raised(self.evaluations);
+        self.evaluations = evaluations;
+        evaluation
+    }
+
+    // The answer and the questions of a case that is remembered, if the request fits one.
+    fn recalled(
+        &self,
+        memory: &mut Memory,
+        questions: &Questions,
+        person: &Text,
+        action: &Text,
+        resource: &Text,
+    ) -> Result<Option<ListedEvaluation>, AllocError>
+        requires { Remembers (looks_of A.sources P.slots self.now) questions.now memory.old }
+        ensures some { IfOk result (λ o. IfSome o (λ e.
+            HasCase (looks_of A.sources P.slots self.now) questions.now memory.new
+            (listed person.now action.now resource.now) (Gives e))) }
+        ensures none { IfOk result (λ o. IfNone o (NoneFits (looks_of A.sources P.slots self.now) questions.now
+            memory.old.findings.bags (listed person.now action.now resource.now) memory.old.cases.cases.items)) }
+        ensures remembers { Remembers (looks_of A.sources P.slots self.now) questions.now memory.new }
+        ensures cases { memory.new.cases.cases.items ≡ memory.old.cases.cases.items }
+    {
+        memory.recall(&Scene {
+            alloc: self.alloc,
+            held: self,
+            questions,
+            person,
+            action,
+            resource,
+        })
+    }
+
+    // Evaluates the request and remembers its case.
+    fn evaluate_anew(
+        &mut self,
+        memory: &mut Memory,
+        questions: &mut Questions,
+        person: &Text,
+        action: &Text,
+        resource: &Text,
+    ) -> Result<ListedEvaluation, AllocError>
+        requires remembers { Remembers (looks_of A.sources P.slots self.old) questions.old memory.old }
+        ensures answer { IfOk result (λ e. e.answer
+            ≡ answer (looks_of A.sources P.slots self.old) (listed person.now action.now resource.now)) }
+        ensures asked { IfOk result (λ e. at_numbers questions.new e.asked
+            ≡ asked_once [] (asked (looks_of A.sources P.slots self.old) (listed person.now action.now resource.now))) }
+        ensures failed { IfOk result (λ e. e.failed
+            ≡ has_cause (looks_of A.sources P.slots self.old) (listed person.now action.now resource.now)) }
+        ensures within { IfOk result (λ e. AreNumbers questions.new e.asked) }
+        ensures numbers { BeginsWith questions.new questions.old }
+        ensures remembers { Remembers (looks_of A.sources P.slots self.old) questions.new memory.new }
+        ensures kept { IfOk result (λ e. HasCase (looks_of A.sources P.slots self.old) questions.new memory.new
+            (listed person.now action.now resource.now) (Gives e)) }
+        ensures counted { self.new.evaluations ≡ min (self.old.evaluations + 1) (2 ^ 128 - 1) }
+        ensures rest { self.new ≡ record self.old { evaluations = self.new.evaluations } }
+    {
+        let evaluation = self.evaluate_afresh(questions, person, action, resource)?;
+        memory.keep(
+            &Scene {
+                alloc: self.alloc,
+                held: self,
+                questions,
+                person,
+                action,
+                resource,
+            },
+            &evaluation,
+        )?;
+        Ok(evaluation)
+    }
+
+    // Evaluates the request.
+    fn evaluate_afresh(
         &mut self,
         questions: &mut Questions,
         person: &Text,
@@ -134,10 +290,9 @@ impl<A: Attributes, P: Policies> Pdp<A, P> {
             ≡ answer (looks_of A.sources P.slots self.old) (listed person.now action.now resource.now)) }
         ensures asked { IfOk result (λ e. at_numbers questions.new e.asked
             ≡ asked_once [] (asked (looks_of A.sources P.slots self.old) (listed person.now action.now resource.now))) }
+        ensures failed { IfOk result (λ e. e.failed
+            ≡ has_cause (looks_of A.sources P.slots self.old) (listed person.now action.now resource.now)) }
         ensures within { IfOk result (λ e. AreNumbers questions.new e.asked) }
-        ensures reads { IfOk result (λ e.
-            keys_at (listed person.now action.now resource.now) (at_numbers questions.new e.asked)
-            ≡ recorded (looks_of A.sources P.slots self.old) (listed person.now action.now resource.now)) }
         ensures numbers { BeginsWith questions.new questions.old }
         ensures counted { self.new.evaluations ≡ min (self.old.evaluations + 1) (2 ^ 128 - 1) }
         ensures rest { self.new ≡ record self.old { evaluations = self.new.evaluations } }
@@ -157,7 +312,7 @@ impl<A: Attributes, P: Policies> Pdp<A, P> {
         }
     }
 
-    // The same of any request.
+    // The same of a request that is made.
     fn evaluate_numbered(
         &mut self,
         questions: &mut Questions,
@@ -167,17 +322,24 @@ impl<A: Attributes, P: Policies> Pdp<A, P> {
         ensures asked { IfOk result (λ e. at_numbers questions.new e.asked
             ≡ asked_once [] (asked (looks_of A.sources P.slots self.old) request.now)) }
         ensures within { IfOk result (λ e. AreNumbers questions.new e.asked) }
-        ensures reads { IfOk result (λ e. keys_at request.now (at_numbers questions.new e.asked)
-            ≡ recorded (looks_of A.sources P.slots self.old) request.now) }
+        ensures failed { IfOk result (λ e. e.failed
+            ≡ has_cause (looks_of A.sources P.slots self.old) request.now) }
         ensures numbers { BeginsWith questions.new questions.old }
         ensures counted { self.new.evaluations ≡ min (self.old.evaluations + 1) (2 ^ 128 - 1) }
         ensures rest { self.new ≡ record self.old { evaluations = self.new.evaluations } }
     {
-        let mut notes = self.notebook.open(self.alloc, true);
+        let mut notes = self.notebook.open(self.alloc, true, false);
         let answer = self.answered(&mut notes, request)?;
-        let asked = notes.numbers_among(self.alloc, questions)?;
+        let failed = notes.has_failed();
+        let numbers = notes.numbers_among(self.alloc, questions)?;
         self.notebook.close(notes);
-        Ok(ListedEvaluation { answer, asked })
+        let asked = Shared::new(self.alloc, numbers)?;
+        let answer = Shared::new(self.alloc, answer)?;
+        Ok(ListedEvaluation {
+            answer,
+            asked,
+            failed,
+        })
     }
 
     /// The answer alone, for which no look-up is recorded. For the rest it is as `evaluate`.
@@ -186,7 +348,7 @@ impl<A: Attributes, P: Policies> Pdp<A, P> {
         ensures counted { self.new.evaluations ≡ min (self.old.evaluations + 1) (2 ^ 128 - 1) }
         ensures rest { self.new ≡ record self.old { evaluations = self.new.evaluations } }
     {
-        let mut notes = self.notebook.open(self.alloc, false);
+        let mut notes = self.notebook.open(self.alloc, false, false);
         let answer = self.answered(&mut notes, request)?;
         self.notebook.close(notes);
         Ok(answer)
@@ -196,7 +358,7 @@ impl<A: Attributes, P: Policies> Pdp<A, P> {
     fn answered(&mut self, notes: &mut Notes, request: &Request) -> Result<Answer, AllocError>
         ensures answer { IfOk result (λ a. a ≡ answer (looks_of A.sources P.slots self.old) request.now) }
         ensures notes { OnOk result (notes.new
-            ≡ noting notes.old (asked (looks_of A.sources P.slots self.old) request.now)) }
+            ≡ noting notes.old (answer_part (looks_of A.sources P.slots self.old) request.now).notes) }
         ensures counted { self.new.evaluations ≡ min (self.old.evaluations + 1) (2 ^ 128 - 1) }
         ensures rest { self.new ≡ record self.old { evaluations = self.new.evaluations } }
     {
@@ -208,7 +370,8 @@ impl<A: Attributes, P: Policies> Pdp<A, P> {
         came
     }
 
-    /// How many times `evaluate`, `evaluate_listed` or `answer` was called. The count stays at its greatest value.
+    /// How many times `evaluate`, `explain`, `evaluate_listed` or `answer` was called. The count stays at its greatest
+    /// value.
     pub fn evaluations(&self) -> u128
         ensures { result ≡ self.now.evaluations }
     {

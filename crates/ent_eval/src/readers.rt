@@ -108,7 +108,7 @@ fn readers_in(category: &str) -> Readers
 }
 
 // Whether listed requests have values of their own for what a key asks.
-fn is_own(key: &AttrKey) -> bool
+pub(crate) fn is_own(key: &AttrKey) -> bool
     ensures { result ≡ is_own key.now }
 {
     is_id_attribute(key.category.as_str(), key.attribute.as_str())

@@ -3,12 +3,14 @@
 ghost use Rattle.std.specs.Prelude.{◌≡◌, [], ◌∷◌, IfOk, OnOk, true};
 ghost use Rattle.std.specs.Option.{option_copied};
 ghost use Rattle.ent_policy.specs.Children.{as_child};
-ghost use Rattle.ent_eval.specs.proofs_only.Comes.{Asks, Comes, in_walk};
+ghost use Rattle.ent_eval.specs.Note.{asks};
+ghost use Rattle.ent_eval.specs.proofs_only.Comes.{Adds, Comes, in_walk};
 ghost use Rattle.ent_eval.specs.proofs_only.Hops.{child_target, reference_target};
 ghost use Rattle.ent_eval.specs.proofs_only.Typed.{is_fit};
 ghost use Rattle.ent_eval.specs.declared.question.Question.TheVariants.{Ref};
 
 use crate::answer::Status;
+use crate::cause::Reason;
 use crate::look_ups::LookUps;
 use crate::target::Targeted;
 use crate::walk::Walk;
@@ -26,10 +28,14 @@ impl<'a, L: LookUps> Walk<'a, L> {
             (in_walk L.looks self.old reference_target hops reference.now) self.old self.new) }
     {
         if hops == 0 {
+            self.fail(Reason::TooFar(reference))?;
             return Ok(Targeted::Indeterminate(Status::ProcessingError));
         }
         match self.look_up(reference)? {
-            None => Ok(Targeted::Indeterminate(Status::ProcessingError)),
+            None => {
+                self.fail(Reason::Unfound(reference))?;
+                Ok(Targeted::Indeterminate(Status::ProcessingError))
+            }
             Some(document) => self.tree_target(hops - 1, document.tree()),
         }
     }
@@ -42,8 +48,8 @@ impl<'a, L: LookUps> Walk<'a, L> {
             (in_walk L.looks self.old child_target hops (as_child tree.now)) self.old self.new) }
     {
         match tree {
-            Tree::Policy(policy) => self.target(&policy.target),
-            Tree::Set(set) => self.target(&set.target),
+            Tree::Policy(policy) => self.policy_target(policy),
+            Tree::Set(set) => self.set_target(set),
         }
     }
 
@@ -54,7 +60,7 @@ impl<'a, L: LookUps> Walk<'a, L> {
         reference: &Reference,
     ) -> Result<Option<&'a Document>, AllocError>
         ensures found { IfOk result (λ d. option_copied d ≡ (L.looks self.old.held.now).document reference.now) }
-        ensures notes { OnOk result (Asks (Ref reference.now ∷ []) self.old self.new) }
+        ensures notes { OnOk result (Adds (asks (Ref reference.now) ∷ []) self.old self.new) }
     {
         self.notes.note_reference(self.alloc, reference)?;
         let held = self.held;

@@ -3,12 +3,12 @@
 ghost use Rattle.std.specs.Prelude.{◌≡◌, [], IfOk, OnOk, Some, true};
 ghost use Rattle.ent_functions.specs.Types.{boolean};
 ghost use Rattle.ent_policy.specs.Typing.{condition_is_typed, given_is_typed, rule_is_typed};
-ghost use Rattle.ent_eval.specs.proofs_only.Comes.{Asks, Comes, in_walk};
+ghost use Rattle.ent_eval.specs.proofs_only.Comes.{Adds, Comes, in_walk};
 ghost use Rattle.ent_eval.specs.proofs_only.Gathered.{Gathers, Tells};
 ghost use Rattle.ent_eval.specs.proofs_only.Judged.{or_nothing};
 ghost use Rattle.ent_eval.specs.proofs_only.Looked.{AreLooked};
 ghost use Rattle.ent_eval.specs.proofs_only.Path.{keys_of};
-ghost use Rattle.ent_eval.specs.Rule.{condition_part, decided, decision_of, rule_part, rule_under, truth_of};
+ghost use Rattle.ent_eval.specs.Rule.{condition_part, decided, decision_of, in_rule, rule_part, rule_under, truth_of};
 ghost use Rattle.ent_eval.specs.proofs_only.Typed.{HasType};
 
 use crate::answer::{Answer, Status, WhyEntry};
@@ -36,7 +36,6 @@ pub(crate) struct Within<'b> {
 impl<'a, L: LookUps> Walk<'a, L> {
     // One rule more of the policy at the end of the path, among the policy's definitions, which is gathered, and
     // whether it fixes the decision.
-    #[tactic(auto, using(crate::proofs::Going::noting_both, crate::proofs::Typing::both_true), unfolding(ent_policy::specs::Typing::rule_is_typed))]
     pub(crate) fn next_rule(
         &mut self,
         gathering: &mut Gathering,
@@ -52,9 +51,39 @@ impl<'a, L: LookUps> Walk<'a, L> {
         ensures progress { IfOk result (Tells gathering.old
             (in_walk L.looks self.old rule_part within.entry.definitions.now
             (keys_of within.entry.path.now) rule.now).value) }
-        ensures notes { OnOk result (Asks
+        ensures notes { OnOk result (Adds
             (in_walk L.looks self.old rule_part within.entry.definitions.now
-            (keys_of within.entry.path.now) rule.now).asked
+            (keys_of within.entry.path.now) rule.now).notes
+            self.old self.new) }
+        ensures looked { OnOk result (in_walk L.looks self.old AreLooked self.new.notes looked.new) }
+    {
+        let outer = self.enter_rule(&rule.id)?;
+        let progress = self.in_rule(gathering, looked, within, rule)?;
+        self.leave_rule(outer);
+        Ok(progress)
+    }
+
+    // What stands in the rule.
+    #[inline(always)]
+    #[tactic(auto, using(crate::proofs::Going::noting_both, crate::proofs::Typing::both_true), unfolding(ent_policy::specs::Typing::rule_is_typed))]
+    fn in_rule(
+        &mut self,
+        gathering: &mut Gathering,
+        looked: &mut Option<Looked<'a>>,
+        within: Within<'_>,
+        rule: &'a Rule,
+    ) -> Result<Progress, AllocError>
+        requires typed { rule_is_typed within.definitions.now rule.now ≡ true }
+        requires looked { in_walk L.looks self.old AreLooked self.old.notes looked.old }
+        ensures gathered { OnOk result (Gathers gathering.old gathering.new
+            (in_walk L.looks self.old in_rule within.entry.definitions.now
+            (keys_of within.entry.path.now) rule.now).value) }
+        ensures progress { IfOk result (Tells gathering.old
+            (in_walk L.looks self.old in_rule within.entry.definitions.now
+            (keys_of within.entry.path.now) rule.now).value) }
+        ensures notes { OnOk result (Adds
+            (in_walk L.looks self.old in_rule within.entry.definitions.now
+            (keys_of within.entry.path.now) rule.now).notes
             self.old self.new) }
         ensures looked { OnOk result (in_walk L.looks self.old AreLooked self.new.notes looked.new) }
     {
@@ -129,7 +158,7 @@ impl<'a, L: LookUps> Walk<'a, L> {
         truth: Truth,
     ) -> Result<Option<Answer>, AllocError>
         ensures value { IfOk result (λ a. or_nothing a ≡ decided (keys_of path.now) rule.now truth) }
-        ensures notes { OnOk result (Asks [] self.old self.new) }
+        ensures notes { OnOk result (Adds [] self.old self.new) }
     {
         match truth {
             Truth::False => Ok(None),

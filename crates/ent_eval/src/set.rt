@@ -2,10 +2,11 @@
 
 ghost use Rattle.std.specs.Prelude.{◌≡◌, ◌≤◌, [], IfOk, OnOk, length, map, true};
 ghost use Rattle.std.specs.List.{list_all};
-ghost use Rattle.ent_policy.specs.Typing.{given_is_typed};
-ghost use Rattle.ent_eval.specs.proofs_only.Comes.{Asks, Comes, in_walk};
+ghost use Rattle.ent_policy.specs.Typing.{given_is_typed, target_is_typed};
+ghost use Rattle.ent_eval.specs.proofs_only.Comes.{Adds, Comes, in_walk};
 ghost use Rattle.ent_eval.specs.proofs_only.Gathered.{Gathers, Tells};
-ghost use Rattle.ent_eval.specs.proofs_only.Hops.{child_part, children_combined, only_child, set_after, set_children};
+ghost use Rattle.ent_eval.specs.proofs_only.Hops.{child_part, children_combined, in_set, only_child};
+ghost use Rattle.ent_eval.specs.proofs_only.Hops.{set_after, set_children, set_target};
 ghost use Rattle.ent_eval.specs.proofs_only.Judged.{or_nothing};
 ghost use Rattle.ent_eval.specs.Only.{chosen_part};
 ghost use Rattle.ent_eval.specs.proofs_only.Opened.{is_fit_left, left_part};
@@ -58,8 +59,8 @@ impl<'a, L: LookUps> Walk<'a, L> {
             (in_walk L.looks self.old child_part hops (keys_of path.now) child.now).value) }
         ensures progress { IfOk result (Tells gathering.old
             (in_walk L.looks self.old child_part hops (keys_of path.now) child.now).value) }
-        ensures notes { OnOk result (Asks
-            (in_walk L.looks self.old child_part hops (keys_of path.now) child.now).asked
+        ensures notes { OnOk result (Adds
+            (in_walk L.looks self.old child_part hops (keys_of path.now) child.now).notes
             self.old self.new) }
     {
         let opened = self.open(hops, child)?;
@@ -83,18 +84,28 @@ impl<'a, L: LookUps> Walk<'a, L> {
             (in_walk L.looks self.old left_part (keys_of path.now) opened.entry).value) }
         ensures progress { IfOk result (Tells gathering.old
             (in_walk L.looks self.old left_part (keys_of path.now) opened.entry).value) }
-        ensures notes { OnOk result (Asks
-            (in_walk L.looks self.old left_part (keys_of path.now) opened.entry).asked
+        ensures notes { OnOk result (Adds
+            (in_walk L.looks self.old left_part (keys_of path.now) opened.entry).notes
             self.old self.new) }
     {
         let answer = self.judge(path, opened)?;
         gathering.take(answer)
     }
 
-    // The children are evaluated unless the target doesn't match, and behind them what the set gives itself, if it
-    // matches.
+    // Whether the target of a set matches.
+    pub(crate) fn set_target(&mut self, set: &'a PolicySet) -> Result<Targeted, AllocError>
+        requires { target_is_typed set.now.target ≡ true }
+        ensures comes { IfOk result (Comes
+            (in_walk L.looks self.old set_target set.now) self.old self.new) }
+    {
+        self.enter(Kind::PolicySet, &set.id, &set.version)?;
+        let targeted = self.target(&set.target)?;
+        self.leave();
+        Ok(targeted)
+    }
+
+    // What comes behind the target of a set.
     #[cycle(child)]
-    #[tactic(auto, using(crate::proofs::Going::noting_both))]
     pub(crate) fn set_after(
         &mut self,
         hops: usize,
@@ -107,6 +118,30 @@ impl<'a, L: LookUps> Walk<'a, L> {
         requires given { given_is_typed [] set.now.given ≡ true }
         ensures comes { IfOk result (λ a. Comes
             (in_walk L.looks self.old set_after hops (keys_of path.now) set.now targeted)
+            self.old self.new (or_nothing a)) }
+    {
+        self.enter(Kind::PolicySet, &set.id, &set.version)?;
+        let answer = self.in_set(hops, path, set, targeted)?;
+        self.leave();
+        Ok(answer)
+    }
+
+    // The children are evaluated unless the target doesn't match, and behind them what the set gives itself, if it
+    // matches.
+    #[cycle(child)]
+    #[tactic(auto, using(crate::proofs::Going::noting_both))]
+    fn in_set(
+        &mut self,
+        hops: usize,
+        path: &Path<'_>,
+        set: &'a PolicySet,
+        targeted: Targeted,
+    ) -> Result<Option<Answer>, AllocError>
+        requires fit { list_all is_fit set.now.children ≡ true }
+        requires room { length set.now.children ≤ 256 }
+        requires given { given_is_typed [] set.now.given ≡ true }
+        ensures comes { IfOk result (λ a. Comes
+            (in_walk L.looks self.old in_set hops (keys_of path.now) set.now targeted)
             self.old self.new (or_nothing a)) }
     {
         match targeted {

@@ -1,16 +1,17 @@
 //! Where the values of a designator come from.
 
-ghost use Rattle.std.specs.Prelude.{◌≡◌, IfOk, IfSome, option_to_list};
+ghost use Rattle.std.specs.Prelude.{◌≡◌, IfOk, IfSome, OnOk, option_to_list};
 ghost use Rattle.std.specs.Option.{option_copied};
 ghost use Rattle.ent_values.specs.Types.{datatype_of};
 ghost use Rattle.ent_values.specs.declared.datatype.DataType.TheVariants as types;
 ghost use Rattle.ent_values.specs.declared.value.Value.TheVariants as values;
 ghost use Rattle.ent_eval.specs.Sources.{asks_for, entity_of, id_attribute, key_for, known_values, only_text};
-ghost use Rattle.ent_eval.specs.Sources.{source_values, text_of, values_part};
-ghost use Rattle.ent_eval.specs.proofs_only.Comes.{Comes, bag_part, in_walk};
+ghost use Rattle.ent_eval.specs.Sources.{demanded, missing, source_values, text_of, values_part};
+ghost use Rattle.ent_eval.specs.proofs_only.Comes.{Adds, Comes, bag_part, in_walk};
 ghost use Rattle.ent_eval.specs.proofs_only.Sought.{designator_of};
 
 use crate::answer::copied_text;
+use crate::cause::Reason;
 use crate::look_ups::LookUps;
 use crate::own::Sought;
 use crate::own_bag::{is_empty, only_own, own_bag};
@@ -38,6 +39,28 @@ impl<L: LookUps> Walk<'_, L> {
             return Ok(own);
         }
         self.source(designator)
+    }
+
+    // The same, of which there must be one where the designator says so.
+    #[tactic(auto, using(crate::proofs::Going::noting_both))]
+    pub(crate) fn demanded(&mut self, designator: &Designator) -> Result<Bag, AllocError>
+        ensures comes { IfOk result (Comes
+            (bag_part designator.now.datatype (in_walk L.looks self.old demanded designator.now))
+            self.old self.new) }
+    {
+        let bag = self.values(designator)?;
+        self.demand(designator, &bag)?;
+        Ok(bag)
+    }
+
+    // Notes that values are missing, where there are none and one must be present.
+    pub(crate) fn demand(&mut self, designator: &Designator, bag: &Bag) -> Result<(), AllocError>
+        ensures { OnOk result (Adds (missing designator.now bag.now.values) self.old self.new) }
+    {
+        if designator.must_be_present && is_empty(bag) {
+            return self.fail(Reason::Missing(designator));
+        }
+        Ok(())
     }
 
     // The values of a designator for which the request has none.

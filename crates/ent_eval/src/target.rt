@@ -105,6 +105,7 @@ impl<'a, L: LookUps> Walk<'a, L> {
             return Ok(targeted);
         }
         let bag = self.source(&test.designator)?;
+        self.demand(&test.designator, &bag)?;
         matched(self.alloc, test, &bag)
     }
 }

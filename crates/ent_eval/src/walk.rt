@@ -1,17 +1,22 @@
 //! An evaluation: what it runs over, and how it begins.
 
-ghost use Rattle.std.specs.Prelude.{◌≡◌, [], IfOk};
+ghost use Rattle.std.specs.Prelude.{◌≡◌, [], IfOk, OnOk, Some};
 ghost use Rattle.ent_eval.specs.Answer.{answer_part};
-ghost use Rattle.ent_eval.specs.proofs_only.Comes.{Comes, in_walk};
+ghost use Rattle.ent_eval.specs.Note.{failing};
+ghost use Rattle.ent_eval.specs.proofs_only.Comes.{Adds, Comes, Keeps, in_walk};
 ghost use Rattle.ent_eval.specs.proofs_only.Hops.{followed_part};
+ghost use Rattle.ent_eval.specs.proofs_only.Noted.{entering, in_rule, leaving, rule_in};
+ghost use Rattle.ent_eval.specs.proofs_only.Reason.{what_of};
 
 use crate::answer::Answer;
+use crate::cause::Reason;
 use crate::latest::Latest;
 use crate::look_ups::LookUps;
 use crate::notes::Notes;
 use crate::path::Path;
 use crate::request::Request;
-use ent_policy::Reference;
+use ent_policy::{Kind, Reference, Version};
+use ent_values::Text;
 use std::alloc::{AllocError, Global};
 
 /// On each path from the root at most this many references are followed. The root itself doesn't count.
@@ -44,6 +49,56 @@ impl<'a, L: LookUps> Walk<'a, L> {
             request: Latest::of(request),
             notes,
         }
+    }
+
+    // Notes that something fails where the evaluation is.
+    pub(crate) fn fail(&mut self, reason: Reason<'_>) -> Result<(), AllocError>
+        ensures { OnOk result (Adds (failing (what_of reason.entry)) self.old self.new) }
+    {
+        self.notes.fail(self.alloc, reason)
+    }
+
+    // Goes into a policy or a set.
+    #[inline(always)]
+    pub(crate) fn enter(
+        &mut self,
+        kind: Kind,
+        id: &Text,
+        version: &Version,
+    ) -> Result<(), AllocError>
+        ensures notes { OnOk result (self.new.notes
+            ≡ entering self.old.notes (record { kind = kind; id = id.now; version = version.now })) }
+        ensures keeps { OnOk result (Keeps self.old self.new) }
+    {
+        self.notes.enter(self.alloc, kind, id, version)
+    }
+
+    // And out of it.
+    #[inline(always)]
+    pub(crate) fn leave(&mut self)
+        ensures notes { self.new.notes ≡ leaving self.old.notes }
+        ensures keeps { Keeps self.old self.new }
+    {
+        self.notes.leave();
+    }
+
+    // Goes into a rule. What it was in before is given.
+    #[inline(always)]
+    pub(crate) fn enter_rule(&mut self, id: &Text) -> Result<Option<Text>, AllocError>
+        ensures notes { OnOk result (self.new.notes ≡ in_rule self.old.notes (Some id.now)) }
+        ensures outer { IfOk result (λ outer. outer ≡ rule_in self.old.notes) }
+        ensures keeps { OnOk result (Keeps self.old self.new) }
+    {
+        self.notes.enter_rule(self.alloc, id)
+    }
+
+    // And out of it.
+    #[inline(always)]
+    pub(crate) fn leave_rule(&mut self, outer: Option<Text>)
+        ensures notes { self.new.notes ≡ in_rule self.old.notes outer }
+        ensures keeps { Keeps self.old self.new }
+    {
+        self.notes.leave_rule(outer);
     }
 
     // The answer to the request.

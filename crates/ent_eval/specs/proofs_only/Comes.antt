@@ -1,12 +1,12 @@
--- What an evaluation leaves: the value of a part, and its questions in the notes.
+-- What an evaluation leaves: the value of a part, and what is noted of it.
 use Rattle.std.specs.Prelude.{◌≡◌, List}
 use Rattle.ent_values.specs.Bags.{Contents}
 use Rattle.ent_values.specs.declared.datatype.DataType.{DataType}
 use Rattle.ent_values.specs.declared.value.Value.{Value}
-use Rattle.ent_eval.specs.declared.question.Question.{Question}
 use Rattle.ent_eval.specs.declared.request.Request.{Request}
 use Rattle.ent_eval.specs.declared.walk.Walk.{Walk}
 use Rattle.ent_eval.specs.Looks.{Looks}
+use Rattle.ent_eval.specs.Note.{Note}
 use Rattle.ent_eval.specs.proofs_only.Noted.{noting}
 use Rattle.ent_eval.specs.Part.{Part, mapped}
 
@@ -19,15 +19,15 @@ pub record Keeps {L : Type 0} (before after : Walk L) : Type 0 where
   pub held : after.held ≡ before.held
   pub request : after.request ≡ before.request
 
--- a walk noted these questions, and stays what it is otherwise
-pub record Asks {L : Type 0} (questions : List Question) (before after : Walk L) : Type 0 where
-  pub notes : after.notes ≡ noting before.notes questions
+-- a walk noted these, and stays what it is otherwise
+pub record Adds {L : Type 0} (more : List Note) (before after : Walk L) : Type 0 where
+  pub notes : after.notes ≡ noting before.notes more
   pub keeps : Keeps before after
 
--- a value came of a part, whose questions were noted
+-- a value came of a part, of which everything was noted
 pub record Comes {A L : Type 0} (part : Part A) (before after : Walk L) (came : A) : Type 0 where
   pub value : came ≡ part.value
-  pub notes : after.notes ≡ noting before.notes part.asked
+  pub notes : after.notes ≡ noting before.notes part.notes
   pub keeps : Keeps before after
 
 -- the values of a part, as a bag of that type

@@ -6,10 +6,10 @@ use Rattle.ent_policy.specs.declared.expression.VariableDefinition.{VariableDefi
 use Rattle.ent_eval.specs.declared.evaluated.Evaluated.{Evaluated}
 use Rattle.ent_eval.specs.declared.request.Request.{Request}
 use Rattle.ent_eval.specs.Looks.{Looks}
-use Rattle.ent_eval.specs.Part.{Part, whole}
-use Rattle.ent_eval.specs.Expression.{is_result, meaning, result_of}
+use Rattle.ent_eval.specs.Part.{Part}
+use Rattle.ent_eval.specs.Expression.{application, meaning}
 
 -- a function of arguments, which are such expressions
 abbrev pub apply_part : Looks → Request → List VariableDefinition → ℕ → Function → List Expression → Part Evaluated
 apply_part looks request definitions n function arguments =
-    whole (is_result function) (result_of function) (map (meaning looks request definitions n) arguments)
+    application function (map (meaning looks request definitions n) arguments)

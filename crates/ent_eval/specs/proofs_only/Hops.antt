@@ -4,17 +4,17 @@ use Rattle.ent_combine.specs.declared.outcome.RuleAlg.{RuleAlg}
 use Rattle.ent_policy.specs.declared.document.Child.{Child}
 use Rattle.ent_policy.specs.declared.document.PolicySet.{PolicySet}
 use Rattle.ent_policy.specs.declared.key.DocKey.{DocKey}
-use Rattle.ent_policy.specs.declared.key.Kind.TheVariants as kind
 use Rattle.ent_policy.specs.declared.key.Reference.{Reference}
 use Rattle.ent_eval.specs.declared.answer.Answer.{Answer}
 use Rattle.ent_eval.specs.declared.request.Request.{Request}
 use Rattle.ent_eval.specs.declared.target.Targeted.{Targeted}
 use Rattle.ent_eval.specs.Given.{finished}
 use Rattle.ent_eval.specs.Looks.{Looks}
-use Rattle.ent_eval.specs.Node.{Node, children_after, children_part, combined, followed, node_with, refer}
+use Rattle.ent_eval.specs.Node.{Node, children_after, children_part, combined, followed, node_with, refer, set_key}
 use Rattle.ent_eval.specs.proofs_only.Node.{set_node_with}
 use Rattle.ent_eval.specs.Only.{only_one}
-use Rattle.ent_eval.specs.Part.{Part}
+use Rattle.ent_eval.specs.Part.{Part, within}
+use Rattle.ent_eval.specs.Target.{target_part}
 
 -- a child
 abbrev pub node_of : Looks → Request → ℕ → Child → Node
@@ -55,11 +55,19 @@ only_child looks request hops here children = only_one (map (child_target looks 
 -- the children of a set, where `path` leads from the root to what the set stands in
 abbrev pub set_children : Looks → Request → ℕ → List DocKey → PolicySet → Part Answer
 set_children looks request hops path set =
-    children_part set.algorithm (map (node_of looks request hops) set.children) (path ++ record { kind = kind.PolicySet; id = set.id; version = set.version } ∷ [])
+    children_part set.algorithm (map (node_of looks request hops) set.children) (path ++ set_key set.id set.version ∷ [])
+
+-- what stands in a set behind its target
+abbrev pub in_set : Looks → Request → ℕ → List DocKey → PolicySet → Targeted → Part Answer
+in_set looks request hops path set = children_after (finished looks request [] set.given) (set_children looks request hops path set)
 
 -- what comes behind the target of a set
 abbrev pub set_after : Looks → Request → ℕ → List DocKey → PolicySet → Targeted → Part Answer
-set_after looks request hops path set = children_after (finished looks request [] set.given) (set_children looks request hops path set)
+set_after looks request hops path set targeted = within (set_key set.id set.version) (in_set looks request hops path set targeted)
+
+-- the target of a set
+abbrev pub set_target : Looks → Request → PolicySet → Part Targeted
+set_target looks request set = within (set_key set.id set.version) (target_part looks request set.target)
 
 -- what a set comes to
 abbrev pub set_part : Looks → Request → ℕ → List DocKey → PolicySet → Part Answer

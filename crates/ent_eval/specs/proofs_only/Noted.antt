@@ -1,26 +1,64 @@
--- Notes of what is asked, where they are asked for: words of the code's own contracts.
-use Rattle.std.specs.Prelude.{List, [], ◌∷◌, Option, Some, None}
+-- What is noted of an evaluation so far: words of the code's own contracts.
+use Rattle.std.specs.Prelude.{ℕ, List, [], ◌∷◌, ◌++◌, Bool, true, Option, Some, None, option_and_then, option_map, length, take, ◌-◌}
+use Rattle.std.specs.Option.{option_or}
 use Rattle.ent_policy.specs.declared.document.Designator.{Designator}
+use Rattle.ent_policy.specs.declared.key.DocKey.{DocKey}
+use Rattle.ent_eval.specs.declared.cause.Cause.{Cause}
+use Rattle.ent_eval.specs.declared.causes.Causes.{Causes}
 use Rattle.ent_eval.specs.declared.question.Question.{Question}
 use Rattle.ent_eval.specs.declared.question.Question.TheVariants.{Of}
+use Rattle.ent_eval.specs.Note.{Note, asks, fails}
 use Rattle.ent_eval.specs.Sources.{asked_of}
 pub use Rattle.ent_eval.specs.Questions.{asked_once, is_asked, same_question, with_question}
 
--- what is noted of the questions of an evaluation: each once so far, or nothing where they aren't asked for
-abbrev pub Notes : Type 0
-Notes = Option (List Question)
+-- the questions, each once so far, if they are asked for; what failed, if that is asked for; and whether anything did
+pub record Notes : Type 0 where
+  pub questions : Option (List Question)
+  pub causes : Option Causes
+  pub failed : Bool
 
--- the notes, with one more question
-abbrev pub with_note : Notes → Question → Notes
-with_note None question = None
-with_note (Some questions) question = Some (with_question questions question)
+-- the questions, with one more
+abbrev pub with_asked : Option (List Question) → Question → Option (List Question)
+with_asked None question = None
+with_asked (Some questions) question = Some (with_question questions question)
+
+-- what failed, with one more: it stands where the evaluation is
+abbrev pub with_failed : Causes → Cause → Causes
+with_failed k cause =
+    record k { told = k.told ++ record cause { path = k.path ++ cause.path; rule = option_or cause.rule k.rule } ∷ [] }
+
+-- the same, if that is asked for
+abbrev pub with_failure : Option Causes → Cause → Option Causes
+with_failure None cause = None
+with_failure (Some k) cause = Some (with_failed k cause)
+
+-- the notes, with one more
+abbrev pub with_note : Notes → Note → Notes
+with_note notes (asks question) = record notes { questions = with_asked notes.questions question }
+with_note notes (fails cause) = record notes { causes = with_failure notes.causes cause; failed = true }
 
 -- the notes, with several more
-abbrev pub noting : Notes → List Question → Notes
+abbrev pub noting : Notes → List Note → Notes
 noting notes [] = notes
 noting notes (more ∷ others) = noting (with_note notes more) others
 
+-- the notes of an evaluation that goes into a policy or a set
+abbrev pub entering : Notes → DocKey → Notes
+entering notes key = record notes { causes = option_map (λ (k : Causes). record k { path = k.path ++ key ∷ [] }) notes.causes }
+
+-- and out of it
+abbrev pub leaving : Notes → Notes
+leaving notes = record notes { causes = option_map (λ (k : Causes). record k { path = take (length k.path - 1) k.path }) notes.causes }
+
+-- the rule that an evaluation is in, if it is told
+abbrev pub rule_in : Notes → Option (List ℕ)
+rule_in notes = option_and_then (λ (k : Causes). k.rule) notes.causes
+
+-- the notes of an evaluation that goes into a rule, or out of it into what it was in before
+abbrev pub in_rule : Notes → Option (List ℕ) → Notes
+in_rule notes rule = record notes { causes = option_map (λ (k : Causes). record k { rule = rule }) notes.causes }
+
 -- what is asked for a designator, if there is one
-abbrev pub asked_by : Option Designator → List Question
+abbrev pub asked_by : Option Designator → List Note
 asked_by None = []
-asked_by (Some d) = Of (asked_of d) ∷ []
+asked_by (Some d) = asks (Of (asked_of d)) ∷ []

@@ -24,7 +24,7 @@ left_part looks request path (Set set hops targeted) = set_after looks request h
 
 -- a part is what is left of a whole whose first look-ups were made between these notes
 abbrev pub IsLeft : Part Answer → Part Answer → Notes → Notes → Type 0
-IsLeft whole left before after = (left.value ≡ whole.value) × (noting after left.asked ≡ noting before whole.asked)
+IsLeft whole left before after = (left.value ≡ whole.value) × (noting after left.notes ≡ noting before whole.notes)
 
 -- an opened child is what is left of a whole, wherever that stands
 abbrev pub Leaves : Looks → Request → (Looks → Request → List DocKey → Part Answer) → Notes → Notes → Opened → Type 0

@@ -19,14 +19,14 @@ use Rattle.ent_eval.specs.Expression.{meaning}
 use Rattle.ent_eval.specs.Looks.{Looks}
 use Rattle.ent_eval.specs.Own.{own_values}
 use Rattle.ent_eval.specs.Part.{Part, and_then, mapped}
-use Rattle.ent_eval.specs.Sources.{values_part}
+use Rattle.ent_eval.specs.Sources.{demanded}
 use Rattle.ent_eval.specs.proofs_only.Expression.{apply_part}
 use Rattle.ent_eval.specs.proofs_only.Noted.{asked_by}
 use Rattle.ent_eval.specs.proofs_only.Typed.{HasType, apply_type}
 
 -- a value, and what is asked for it
 abbrev pub sole_part : Sole → Part Evaluated
-sole_part s = record { value = Known (One s.value.now); asked = asked_by (option_copied s.asked) }
+sole_part s = record { value = Known (One s.value.now); notes = asked_by (option_copied s.asked) }
 
 -- an expression comes to one value
 abbrev pub IsSole : Request → Expression → Sole → Type 0
@@ -46,7 +46,7 @@ IsOnly request d s = (own_values d request ≡ s.value.now ∷ []) × (option_co
 abbrev pub equal_part : Sole → Sole → Part Evaluated
 equal_part s t = record {
   value = Known (One (Boolean (same_value s.value.now t.value.now)));
-  asked = asked_by (option_copied s.asked) ++ asked_by (option_copied t.asked);
+  notes = asked_by (option_copied s.asked) ++ asked_by (option_copied t.asked);
 }
 
 -- a function of arguments tells that
@@ -62,7 +62,7 @@ member v d (w ∷ ws) = Known (One (Boolean (is_among v (w ∷ ws))))
 -- is-in of a value and a designator
 abbrev pub member_part : Looks → Request → Sole → Designator → Part Evaluated
 member_part looks request s d =
-    and_then (sole_part s) (λ v. mapped (member s.value.now d) (values_part looks request d))
+    and_then (sole_part s) (λ v. mapped (member s.value.now d) (demanded looks request d))
 
 -- a function of arguments is is-in of a value and a designator
 abbrev pub IsMembership : Request → Function → List Expression → Sole → Designator → Type 0

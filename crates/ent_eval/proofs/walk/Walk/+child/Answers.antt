@@ -1,7 +1,8 @@
 use Rattle.std.proofs.Common.{◌∙◌, ap, arith, subst, sym}
 use Rattle.std.proofs.lemmas.Result.{IfOk-weaker}
+use Rattle.ent_eval.specs.Node.{set_key}
 use Rattle.ent_eval.specs.proofs_only.Judged.{or_nothing}
-use Rattle.ent_eval.specs.proofs_only.Hops.{child_part, children_combined}
+use Rattle.ent_eval.specs.proofs_only.Hops.{child_part, children_combined, in_set}
 use Rattle.ent_eval.specs.proofs_only.Gathered.{Gathers, Tells}
 use Rattle.ent_eval.specs.proofs_only.Noted.{noting}
 use Rattle.ent_eval.specs.proofs_only.Opened.{is_fit_left, left_part, worth}
@@ -11,6 +12,7 @@ use Rattle.ent_eval.proofs.Left.{gathers_equal, tells_equal}
 use Rattle.ent_eval.proofs.Parts.{asks_left, came_behind, comes, comes_equal, comes_left, kept, keeps_on, on_ok}
 use Rattle.ent_eval.proofs.PathKeys.{keys_of_below}
 use Rattle.ent_eval.proofs.Sets.{only-part, set-fit, shared-part}
+use Rattle.ent_eval.proofs.Within.{came_within}
 use Rattle.ent_eval.proofs.walk.Walk.+child.Goals as goal
 
 pub children-returns-in-Stop : goal.children-returns-in-Stop
@@ -21,12 +23,12 @@ children-returns-in-Stop g t c =
       comes = comes or_nothing c.finish.result (children_combined (g.L.LookUps.looks c.args.self.now.held.now) c.args.self.now.request c.args.hops (keys_of c.args.path.now) c.args.algorithm c.args.children.now) c.args.self.now _
           (IfOk-weaker c.finish.result _ _ (λ a is. last_child (keys_of c.args.path.now) c.args.algorithm (child_part (g.L.LookUps.looks c.args.self.now.held.now) c.args.self.now.request c.args.hops (keys_of c.args.path.now)) c.args.children.now c.loop-child.child-index c.child-item.result _ c.in_ok-progress.progress
           c.loop-child.gathering c.next_child.new.gathering c.args.self.now.notes c.loop-child.self.notes c.next_child.new.self.notes
-          c.loop-child-test.true c.child-item.is c.loop-child.invariant.going c.loop-child.invariant.gathered (ap (λ p. p.value) same) (c.in_ok-progress.ensures.notes.notes ∙ ap (λ p. noting c.loop-child.self.notes p.asked) same)
+          c.loop-child-test.true c.child-item.is c.loop-child.invariant.going c.loop-child.invariant.gathered (ap (λ p. p.value) same) (c.in_ok-progress.ensures.notes.notes ∙ ap (λ p. noting c.loop-child.self.notes p.notes) same)
           c.in_ok-progress.ensures.gathered c.in_ok-progress.ensures.progress c.in-Stop.is (or_nothing a) is) c.finish.ensures.value)
           (on_ok c.finish.result _ (record {
             notes = c.finish.ensures.notes ∙ last_notes (keys_of c.args.path.now) c.args.algorithm (child_part (g.L.LookUps.looks c.args.self.now.held.now) c.args.self.now.request c.args.hops (keys_of c.args.path.now)) c.args.children.now c.loop-child.child-index c.child-item.result _ c.in_ok-progress.progress
                 c.loop-child.gathering c.next_child.new.gathering c.args.self.now.notes c.loop-child.self.notes c.next_child.new.self.notes
-                c.loop-child-test.true c.child-item.is c.loop-child.invariant.going c.loop-child.invariant.gathered (ap (λ p. p.value) same) (c.in_ok-progress.ensures.notes.notes ∙ ap (λ p. noting c.loop-child.self.notes p.asked) same)
+                c.loop-child-test.true c.child-item.is c.loop-child.invariant.going c.loop-child.invariant.gathered (ap (λ p. p.value) same) (c.in_ok-progress.ensures.notes.notes ∙ ap (λ p. noting c.loop-child.self.notes p.notes) same)
                 c.in_ok-progress.ensures.gathered c.in_ok-progress.ensures.progress c.in-Stop.is;
             keeps = record { held = keeps.held; request = keeps.request };
           }));
@@ -38,7 +40,7 @@ children-loop-child-preserved g t c =
     let keeps = keeps_on c.args.self.now c.loop-child.self c.next_child.new.self c.loop-child.invariant.keeps c.in_ok-progress.ensures.notes.keeps in
     let next = next_child c.args.algorithm (child_part (g.L.LookUps.looks c.args.self.now.held.now) c.args.self.now.request c.args.hops (keys_of c.args.path.now)) c.args.children.now c.loop-child.child-index c.child-item.result _ c.in_ok-progress.progress
     c.loop-child.gathering c.next_child.new.gathering c.args.self.now.notes c.loop-child.self.notes c.next_child.new.self.notes
-    c.loop-child-test.true c.child-item.is c.loop-child.invariant.going c.loop-child.invariant.gathered (ap (λ p. p.value) same) (c.in_ok-progress.ensures.notes.notes ∙ ap (λ p. noting c.loop-child.self.notes p.asked) same)
+    c.loop-child-test.true c.child-item.is c.loop-child.invariant.going c.loop-child.invariant.gathered (ap (λ p. p.value) same) (c.in_ok-progress.ensures.notes.notes ∙ ap (λ p. noting c.loop-child.self.notes p.notes) same)
     c.in_ok-progress.ensures.gathered c.in_ok-progress.ensures.progress c.in_default.is in
     record { going = next.going; gathered = next.gathered; keeps = keeps }
 
@@ -97,7 +99,7 @@ pub next_child-returns-in-Passed-clause-notes : goal.next_child-returns-in-Passe
 next_child-returns-in-Passed-clause-notes g t c =
     let left = left_part (g.L.LookUps.looks c.args.self.now.held.now) c.args.self.now.request (keys_of c.args.path.now) in
     record {
-      notes = ap (λ o. noting c.open.new.self.notes (left o).asked) (sym c.in-Passed.is) ∙ (c.in_ok-opened.ensures.left (keys_of c.args.path.now)).1;
+      notes = ap (λ o. noting c.open.new.self.notes (left o).notes) (sym c.in-Passed.is) ∙ (c.in_ok-opened.ensures.left (keys_of c.args.path.now)).1;
       keeps = c.in_ok-opened.ensures.keeps;
     }
 
@@ -117,7 +119,7 @@ next_child-returns-clause-progress g t c =
 pub next_child-returns-clause-notes : goal.next_child-returns-clause-notes
 next_child-returns-clause-notes g t c =
     let same = kept g.L.LookUps.looks (λ looks request. left_part looks request (keys_of c.args.path.now) c.in_ok-opened.opened) c.args.self.now c.open.new.self c.in_ok-opened.ensures.keeps in
-    asks_left c.next_left.result _ _ c.args.self.now c.open.new.self c.next_left.new.self (ap (λ p. noting c.open.new.self.notes p.asked) same ∙ (c.in_ok-opened.ensures.left (keys_of c.args.path.now)).1) c.in_ok-opened.ensures.keeps c.next_left.ensures.notes
+    asks_left c.next_left.result _ _ c.args.self.now c.open.new.self c.next_left.new.self (ap (λ p. noting c.open.new.self.notes p.notes) same ∙ (c.in_ok-opened.ensures.left (keys_of c.args.path.now)).1) c.in_ok-opened.ensures.keeps c.next_left.ensures.notes
 
 pub next_left-returns-clause-gathered : goal.next_left-returns-clause-gathered
 next_left-returns-clause-gathered g t c = gathers_equal c.take.result c.args.gathering.now c.take.new.self _ _ c.in_ok-answer.ensures.comes.value c.take.ensures.gathered
@@ -131,3 +133,11 @@ next_left-returns-clause-notes g t c = on_ok c.take.result _ (record { notes = c
 pub judge-returns-in-Set : goal.judge-returns-in-Set
 judge-returns-in-Set g t c =
     record { comes = comes_equal or_nothing c.set_after.result c.args.self.now c.set_after.new.self _ _ (ap (left_part (g.L.LookUps.looks c.args.self.now.held.now) c.args.self.now.request (keys_of c.args.path.now)) (sym c.in-Set.is)) c.set_after.ensures.comes }
+
+pub set_after-returns : goal.set_after-returns
+set_after-returns g t c =
+    let set = c.args.set.now in
+    record {
+      comes = came_within g.L.LookUps.looks (set_key set.id set.version) (λ looks request. in_set looks request c.args.hops (keys_of c.args.path.now) set c.args.targeted) c.args.self.now c.enter.new.self c.in_set.new.self c.leave.new.self
+          (or_nothing c.in_ok-answer.answer) c.in_ok-enter.ensures.notes c.in_ok-enter.ensures.keeps c.in_ok-answer.ensures.comes c.leave.ensures.notes c.leave.ensures.keeps;
+    }

@@ -9,19 +9,22 @@ use Rattle.ent_eval.proofs.Going.{IsGoing, values_to}
 use Rattle.ent_eval.proofs.walk.Walk.+child.Given as goal
 
 abbrev pub decreases-child : goal.decreases-child
-decreases-child g l = l.hops * worth_of_hop + 8 * goal.size-child g l + 8
+decreases-child g l = l.hops * worth_of_hop + 8 * goal.size-child g l + 9
 
 abbrev pub decreases-next_child : goal.decreases-next_child
-decreases-next_child g l = l.hops * worth_of_hop + 8 * goal.size-next_child g l + 8
+decreases-next_child g l = l.hops * worth_of_hop + 8 * goal.size-next_child g l + 9
 
 abbrev pub decreases-next_left : goal.decreases-next_left
-decreases-next_left g l = worth l.opened + 7
+decreases-next_left g l = worth l.opened + 8
 
 abbrev pub decreases-judge : goal.decreases-judge
-decreases-judge g l = worth l.opened + 6
+decreases-judge g l = worth l.opened + 7
 
 abbrev pub decreases-set_after : goal.decreases-set_after
-decreases-set_after g l = l.hops * worth_of_hop + 8 * goal.size-set_after g l + 5
+decreases-set_after g l = l.hops * worth_of_hop + 8 * goal.size-set_after g l + 6
+
+abbrev pub decreases-in_set : goal.decreases-in_set
+decreases-in_set g l = l.hops * worth_of_hop + 8 * goal.size-in_set g l + 5
 
 abbrev pub decreases-children_under : goal.decreases-children_under
 decreases-children_under g l = l.hops * worth_of_hop + 8 * goal.size-children_under g l + 4

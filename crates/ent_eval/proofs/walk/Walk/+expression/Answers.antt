@@ -1,14 +1,15 @@
-use Rattle.std.proofs.Common.{◌≡◌, ◌∙◌, Some, sym, ap, subst, arith}
+use Rattle.std.proofs.Common.{◌≡◌, ◌∙◌, Some, refl, sym, ap, subst, arith}
 use Rattle.std.specs.Prelude.{IsSome}
 use Rattle.std.proofs.lemmas.Result.{IfOk-weaker}
 use Rattle.ent_functions.specs.Applied.{applied}
 use Rattle.ent_policy.specs.Variables.{definition_of}
-use Rattle.ent_eval.specs.Expression.{evaluated_of, meaning}
+use Rattle.ent_eval.specs.Expression.{evaluated_of, fault_in, meaning}
 use Rattle.ent_eval.specs.proofs_only.Expression.{apply_part}
+use Rattle.ent_eval.specs.proofs_only.Noted.{noting}
 use Rattle.ent_eval.specs.proofs_only.Typed.{HasType, type_of}
 use Rattle.ent_eval.specs.proofs_only.Uncopied.{equal_part, member_part}
 use Rattle.ent_eval.proofs.Arguments.{all-notes, all-value, next_argument, settled-notes, settled-type, settled-value}
-use Rattle.ent_eval.proofs.Parts.{came_from, comes_equal, keeps_on}
+use Rattle.ent_eval.proofs.Parts.{asks_left, came_from, comes, comes_equal, keeps_on}
 use Rattle.ent_eval.proofs.Variables.{definition_part, definition_type, has_reference, worth-falls}
 use Rattle.ent_eval.proofs.walk.Walk.+expression.Goals as goal
 
@@ -43,12 +44,14 @@ pub application-returns-clause-comes : goal.application-returns-clause-comes
 application-returns-clause-comes g t c =
     let part = meaning (g.L.LookUps.looks c.args.self.now.held.now) c.args.self.now.request c.args.definitions.now c.args.references in
     let type = type_of c.args.definitions.now c.args.references in
-    IfOk-weaker c.applied_to.result _ _ (λ v is. record {
-      value = is ∙ ap (λ given. evaluated_of (applied c.args.function given)) c.as_slice.ensures
-          ∙ all-value c.args.function part type c.args.arguments.now c.loop-argument.argument-index c.loop-argument.evaluated c.args.self.now.notes c.loop-argument.self.notes (omega (arith, c.loop-argument-test.false)) c.loop-argument.invariant.evaluated;
-      notes = all-notes c.args.function part type c.args.arguments.now c.loop-argument.argument-index c.loop-argument.evaluated c.args.self.now.notes c.loop-argument.self.notes (omega (arith, c.loop-argument-test.false)) c.loop-argument.invariant.evaluated;
-      keeps = c.loop-argument.invariant.keeps;
-    }) c.applied_to.ensures.value
+    let all = apply_part (g.L.LookUps.looks c.args.self.now.held.now) c.args.self.now.request c.args.definitions.now c.args.references c.args.function c.args.arguments.now in
+    let noted = ap (λ given. noting c.loop-argument.self.notes (fault_in c.args.function (applied c.args.function given))) c.as_slice.ensures
+    ∙ all-notes c.args.function part type c.args.arguments.now c.loop-argument.argument-index c.loop-argument.evaluated c.args.self.now.notes c.loop-argument.self.notes (omega (arith, c.loop-argument-test.false)) c.loop-argument.invariant.evaluated
+    (noting c.loop-argument.self.notes (fault_in c.args.function (applied c.args.function c.loop-argument.evaluated))) refl in
+    comes (λ v. v) c.applied_to.result all c.args.self.now c.applied_to.new.self
+    (IfOk-weaker c.applied_to.result _ _ (λ v is. is ∙ ap (λ given. evaluated_of (applied c.args.function given)) c.as_slice.ensures
+    ∙ all-value c.args.function part type c.args.arguments.now c.loop-argument.argument-index c.loop-argument.evaluated c.args.self.now.notes c.loop-argument.self.notes (omega (arith, c.loop-argument-test.false)) c.loop-argument.invariant.evaluated) c.applied_to.ensures.value)
+    (asks_left c.applied_to.result (fault_in c.args.function (applied c.args.function c.as_slice.result.now)) all.notes c.args.self.now c.loop-argument.self c.applied_to.new.self noted c.loop-argument.invariant.keeps c.applied_to.ensures.notes)
 
 pub variable-expression-requires : goal.variable-expression-requires
 variable-expression-requires g t c κs within =

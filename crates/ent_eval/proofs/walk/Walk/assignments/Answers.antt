@@ -22,7 +22,7 @@ loop-expression-preserved g c =
       keeps = keeps;
       giving = gives_on (assignment_part (g.L.LookUps.looks c.args.self.now.held.now) c.args.self.now.request c.args.definitions.now) c.args.expressions.now c.loop-expression.expression-index c.loop-expression.assignments
           c.args.self.now.notes c.loop-expression.self.notes c.loop-expression.invariant.giving c.expression-item.result c.assign.new.assignments c.assign.new.self.notes c.loop-expression-test.true c.expression-item.is
-          (ap (added c.assign.new.assignments) (sym c.in_default.is) ∙ c.in_ok-stopped.ensures.value ∙ ap (joined_with c.loop-expression.assignments) same) (c.in_ok-stopped.ensures.notes.notes ∙ ap (λ p. noting c.loop-expression.self.notes p.asked) same);
+          (ap (added c.assign.new.assignments) (sym c.in_default.is) ∙ c.in_ok-stopped.ensures.value ∙ ap (joined_with c.loop-expression.assignments) same) (c.in_ok-stopped.ensures.notes.notes ∙ ap (λ p. noting c.loop-expression.self.notes p.notes) same);
     }
 
 pub returns-in-Some : goal.returns-in-Some
@@ -38,7 +38,7 @@ returns-in-Some g c =
         keeps = keeps;
         notes = stopped-notes (assignment_part (g.L.LookUps.looks c.args.self.now.held.now) c.args.self.now.request c.args.definitions.now) c.args.expressions.now c.loop-expression.expression-index c.loop-expression.assignments
             c.args.self.now.notes c.loop-expression.self.notes c.loop-expression.invariant.giving c.expression-item.result c.in-Some.status c.assign.new.self.notes c.loop-expression-test.true c.expression-item.is
-            (ap (added c.assign.new.assignments) (sym c.in-Some.is) ∙ c.in_ok-stopped.ensures.value ∙ ap (joined_with c.loop-expression.assignments) same) (c.in_ok-stopped.ensures.notes.notes ∙ ap (λ p. noting c.loop-expression.self.notes p.asked) same);
+            (ap (added c.assign.new.assignments) (sym c.in-Some.is) ∙ c.in_ok-stopped.ensures.value ∙ ap (joined_with c.loop-expression.assignments) same) (c.in_ok-stopped.ensures.notes.notes ∙ ap (λ p. noting c.loop-expression.self.notes p.notes) same);
       };
     }
 

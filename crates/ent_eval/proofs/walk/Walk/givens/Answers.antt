@@ -23,7 +23,7 @@ loop-expression-preserved g c =
       keeps = keeps;
       giving = gives_on (given_part (g.L.LookUps.looks c.args.self.now.held.now) c.args.self.now.request c.args.due.definitions.now c.args.due.effect) c.args.expressions.now c.loop-expression.expression-index c.loop-expression.givens
           c.args.self.now.notes c.loop-expression.self.notes c.loop-expression.invariant.giving c.expression-item.result c.give.new.givens c.give.new.self.notes c.loop-expression-test.true c.expression-item.is
-          (ap (added c.give.new.givens) (sym c.in_default.is) ∙ c.in_ok-stopped.ensures.value ∙ ap (λ p. joined (Ok c.loop-expression.givens) p.value) same) (c.in_ok-stopped.ensures.notes.notes ∙ ap (λ p. noting c.loop-expression.self.notes p.asked) same);
+          (ap (added c.give.new.givens) (sym c.in_default.is) ∙ c.in_ok-stopped.ensures.value ∙ ap (λ p. joined (Ok c.loop-expression.givens) p.value) same) (c.in_ok-stopped.ensures.notes.notes ∙ ap (λ p. noting c.loop-expression.self.notes p.notes) same);
     }
 
 pub returns-in-Some : goal.returns-in-Some
@@ -39,7 +39,7 @@ returns-in-Some g c =
         keeps = keeps;
         notes = stopped-notes (given_part (g.L.LookUps.looks c.args.self.now.held.now) c.args.self.now.request c.args.due.definitions.now c.args.due.effect) c.args.expressions.now c.loop-expression.expression-index c.loop-expression.givens
             c.args.self.now.notes c.loop-expression.self.notes c.loop-expression.invariant.giving c.expression-item.result c.in-Some.status c.give.new.self.notes c.loop-expression-test.true c.expression-item.is
-            (ap (added c.give.new.givens) (sym c.in-Some.is) ∙ c.in_ok-stopped.ensures.value ∙ ap (λ p. joined (Ok c.loop-expression.givens) p.value) same) (c.in_ok-stopped.ensures.notes.notes ∙ ap (λ p. noting c.loop-expression.self.notes p.asked) same);
+            (ap (added c.give.new.givens) (sym c.in-Some.is) ∙ c.in_ok-stopped.ensures.value ∙ ap (λ p. joined (Ok c.loop-expression.givens) p.value) same) (c.in_ok-stopped.ensures.notes.notes ∙ ap (λ p. noting c.loop-expression.self.notes p.notes) same);
       };
     }
 

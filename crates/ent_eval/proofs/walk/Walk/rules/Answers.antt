@@ -18,12 +18,12 @@ returns-in-Stop g c =
       comes = comes or_nothing c.finish.result (rules_combined (g.L.LookUps.looks c.args.self.now.held.now) c.args.self.now.request c.args.within.definitions.now (keys_of c.args.within.path.now) c.args.algorithm c.args.rules.now) c.args.self.now _
           (IfOk-weaker c.finish.result _ _ (λ a is. last_child (keys_of c.args.within.path.now) c.args.algorithm (rule_part (g.L.LookUps.looks c.args.self.now.held.now) c.args.self.now.request c.args.within.definitions.now (keys_of c.args.within.path.now)) c.args.rules.now c.loop-rule.rule-index c.rule-item.result _ c.in_ok-progress.progress
           c.loop-rule.gathering c.next_rule.new.gathering c.args.self.now.notes c.loop-rule.self.notes c.next_rule.new.self.notes
-          c.loop-rule-test.true c.rule-item.is c.loop-rule.invariant.going c.loop-rule.invariant.gathered (ap (λ p. p.value) same) (c.in_ok-progress.ensures.notes.notes ∙ ap (λ p. noting c.loop-rule.self.notes p.asked) same)
+          c.loop-rule-test.true c.rule-item.is c.loop-rule.invariant.going c.loop-rule.invariant.gathered (ap (λ p. p.value) same) (c.in_ok-progress.ensures.notes.notes ∙ ap (λ p. noting c.loop-rule.self.notes p.notes) same)
           c.in_ok-progress.ensures.gathered c.in_ok-progress.ensures.progress c.in-Stop.is (or_nothing a) is) c.finish.ensures.value)
           (on_ok c.finish.result _ (record {
             notes = c.finish.ensures.notes ∙ last_notes (keys_of c.args.within.path.now) c.args.algorithm (rule_part (g.L.LookUps.looks c.args.self.now.held.now) c.args.self.now.request c.args.within.definitions.now (keys_of c.args.within.path.now)) c.args.rules.now c.loop-rule.rule-index c.rule-item.result _ c.in_ok-progress.progress
                 c.loop-rule.gathering c.next_rule.new.gathering c.args.self.now.notes c.loop-rule.self.notes c.next_rule.new.self.notes
-                c.loop-rule-test.true c.rule-item.is c.loop-rule.invariant.going c.loop-rule.invariant.gathered (ap (λ p. p.value) same) (c.in_ok-progress.ensures.notes.notes ∙ ap (λ p. noting c.loop-rule.self.notes p.asked) same)
+                c.loop-rule-test.true c.rule-item.is c.loop-rule.invariant.going c.loop-rule.invariant.gathered (ap (λ p. p.value) same) (c.in_ok-progress.ensures.notes.notes ∙ ap (λ p. noting c.loop-rule.self.notes p.notes) same)
                 c.in_ok-progress.ensures.gathered c.in_ok-progress.ensures.progress c.in-Stop.is;
             keeps = record { held = keeps.held; request = keeps.request };
           }));
@@ -35,7 +35,7 @@ loop-rule-preserved g c =
     let keeps = keeps_on c.args.self.now c.loop-rule.self c.next_rule.new.self c.loop-rule.invariant.keeps c.in_ok-progress.ensures.notes.keeps in
     let next = next_child c.args.algorithm (rule_part (g.L.LookUps.looks c.args.self.now.held.now) c.args.self.now.request c.args.within.definitions.now (keys_of c.args.within.path.now)) c.args.rules.now c.loop-rule.rule-index c.rule-item.result _ c.in_ok-progress.progress
     c.loop-rule.gathering c.next_rule.new.gathering c.args.self.now.notes c.loop-rule.self.notes c.next_rule.new.self.notes
-    c.loop-rule-test.true c.rule-item.is c.loop-rule.invariant.going c.loop-rule.invariant.gathered (ap (λ p. p.value) same) (c.in_ok-progress.ensures.notes.notes ∙ ap (λ p. noting c.loop-rule.self.notes p.asked) same)
+    c.loop-rule-test.true c.rule-item.is c.loop-rule.invariant.going c.loop-rule.invariant.gathered (ap (λ p. p.value) same) (c.in_ok-progress.ensures.notes.notes ∙ ap (λ p. noting c.loop-rule.self.notes p.notes) same)
     c.in_ok-progress.ensures.gathered c.in_ok-progress.ensures.progress c.in_default.is in
     record { going = next.going; gathered = next.gathered; keeps = keeps; looked = looked_back g.L.LookUps.looks c.args.self.now c.loop-rule.self c.next_rule.new.self.notes c.next_rule.new.looked c.loop-rule.invariant.keeps c.in_ok-progress.ensures.looked }
 

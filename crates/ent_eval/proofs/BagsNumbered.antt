@@ -1,0 +1,57 @@
+-- Bags that have numbers, and what a hasher is fed of them.
+use Rattle.std.proofs.Common.{◌≡◌, ℕ, ◌+◌, ◌<◌, ◌≤◌, Bool, true, false, List, [], ◌∷◌, ◌++◌, length, get_or, map, take, Some, slice_get, sym, ap, ◌∙◌}
+use Rattle.std.specs.Prelude.{fold, if◌then◌else◌, option_map}
+use Rattle.std.specs.Hash.{fed_then}
+use Rattle.std.specs.List.{AllByRecursion, IsDistinct, flat_map, list_any}
+use Rattle.std.proofs.lemmas.List.{append-nil, map-append, take_more, take_all}
+use Rattle.std.proofs.lemmas.List.Concat.{flat_map-append}
+use Rattle.std.proofs.lemmas.Option.{slice_get-map}
+use Rattle.indexmap.specs.IndexSet.{insert_key}
+use Rattle.ent_values.specs.Bags.{Contents}
+use Rattle.ent_values.specs.Same.{same_bag}
+use Rattle.ent_values.proofs.Values.{same_bag-Decides}
+use Rattle.ent_eval.specs.contracts.bags.FoundPartialEq.TheImpl as founds
+use Rattle.ent_eval.specs.declared.bags.Found.{Found}
+use Rattle.ent_eval.specs.proofs_only.Remembered.{Begins}
+use Rattle.ent_eval.proofs.Growing.{starts_itself}
+
+-- what `==` of two found bags says
+abbrev pub same_found : Found → Found → Bool
+same_found = (founds.ghosts).eq
+
+abbrev bags_in : List Found → List Contents
+bags_in found = map (λ (f : Found). f.bag) found
+
+apart_map : (x : Found) (found : List Found) → AllByRecursion (λ y. same_found x y ≡ false) found → AllByRecursion (λ b. same_bag x.bag b ≡ false) (bags_in found)
+apart_map x [] all = tt
+apart_map x (y ∷ found) all = (all.0, apart_map x found all.1)
+
+pub distinct_map : (found : List Found) → IsDistinct same_found found → IsDistinct same_bag (bags_in found)
+unfolding IsDistinct
+distinct_map [] all = tt
+distinct_map (x ∷ found) all = (apart_map x found all.0, distinct_map found all.1)
+
+pub put_begins : (old new : List Found) (f : Found) → new ≡ insert_key same_found old f → Begins (bags_in new) (bags_in old)
+put_begins old new f is = by (list_any (same_found f) old) is where
+  by : (b : Bool) → new ≡ (if b then old else old ++ f ∷ []) → Begins (bags_in new) (bags_in old)
+  by true e = starts_itself (bags_in old) (bags_in new) (ap bags_in e)
+  by false e = (f.bag ∷ [], ap bags_in e ∙ map-append (λ (x : Found). x.bag) old (f ∷ []))
+
+pub put_at : (new : List Found) (f k : Found) (n : ℕ) → slice_get new n ≡ Some k → same_found f k ≡ true → slice_get (bags_in new) n ≡ Some f.bag
+put_at new f k n at same =
+    slice_get-map (λ (x : Found). x.bag) new n ∙ ap (option_map (λ (x : Found). x.bag)) at ∙ ap Some (sym ((same_bag-Decides f.bag k.bag).0 same))
+
+-- ---- the loop over what a hasher is fed of
+
+module _ {A S : Type 0} (write : S → List ℕ → S) (writes : A → List (List ℕ)) where
+  pub fed_next : (items : List A) (i : ℕ) (x : A) (s t u : S) → i < length items → x ≡ get_or items i x → t ≡ fold write s (flat_map writes (take i items)) → u ≡ fold write t (writes x)
+      → u ≡ fold write s (flat_map writes (take (i + 1) items))
+  fed_next items i x s t u below read before fed =
+      let first = take i items in
+      let all : flat_map writes first ++ writes x ≡ flat_map writes (take (i + 1) items) =
+      ap (λ ws. flat_map writes first ++ ws) (sym (append-nil (writes x))) ∙ sym (flat_map-append writes first (x ∷ []))
+      ∙ ap (λ y. flat_map writes (first ++ y ∷ [])) read ∙ ap (flat_map writes) (sym (take_more items i x below)) in
+      fed_then write s t u (flat_map writes first) (writes x) before fed ∙ ap (fold write s) all
+
+  pub fed_all : (items : List A) (i : ℕ) (s t : S) → length items ≤ i → t ≡ fold write s (flat_map writes (take i items)) → t ≡ fold write s (flat_map writes items)
+  fed_all items i s t past is = is ∙ ap (λ xs. fold write s (flat_map writes xs)) (take_all i items past)

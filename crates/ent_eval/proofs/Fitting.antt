@@ -1,0 +1,325 @@
+-- Whether a request finds the same as a case, and which case an evaluation makes.
+use Rattle.std.proofs.Common.{◌≡◌, ◌≢◌, inl, inr, ℕ, ◌+◌, ◌<◌, ◌≤◌, Bool, true, false, List, [], ◌∷◌, ◌++◌, Option, Some, None, Result, Ok, Err, length, take, slice_get, get_or, refl, sym, ap, subst, ◌∙◌, arith}
+use Rattle.std.specs.Prelude.{◌||◌, IfNone, IfOk, if◌then◌else◌}
+use Rattle.std.specs.Bool.{OnFalse, OnTrue}
+use Rattle.std.specs.List.{AllByRecursion}
+use Rattle.std.proofs.lemmas.List.{length-append, length-set, map-append, take_all, take_more}
+use Rattle.std.proofs.lemmas.Option.{get_or_from_slice_get, slice_get-get_or, slice_get_within}
+use Rattle.ent_values.specs.Bags.{Contents}
+use Rattle.ent_eval.specs.declared.case.Case.{Case}
+use Rattle.ent_eval.specs.declared.case.Finding.{Finding}
+use Rattle.ent_eval.specs.declared.cases.Cases.{Cases}
+use Rattle.ent_eval.specs.declared.findings.Findings.{Findings}
+use Rattle.ent_eval.specs.declared.memory.Memory.{Memory}
+use Rattle.ent_eval.specs.declared.pdp.ListedEvaluation.{ListedEvaluation}
+use Rattle.ent_eval.specs.declared.question.Question.{Question}
+use Rattle.ent_eval.specs.declared.question.Question.TheVariants.{Root}
+use Rattle.ent_eval.specs.declared.readers.Place.{Place}
+use Rattle.ent_eval.specs.declared.request.Request.{Request}
+use Rattle.ent_eval.specs.declared.scene.Scene.{Scene}
+use Rattle.ent_eval.specs.Answer.{answer, asked, causes, has_cause, recorded}
+use Rattle.ent_eval.specs.Law.{FindsSame}
+use Rattle.ent_eval.specs.Listed.{listed}
+use Rattle.ent_eval.specs.Looks.{Looks}
+use Rattle.ent_eval.specs.Causes.{are_any}
+use Rattle.ent_eval.specs.Memory.{AreFindings, FindsBag, Fits, Gives, HasCase, IsCase, IsFinding, IsKnown, Remembers, bag_for, most_cases, place_of}
+use Rattle.ent_eval.specs.Questions.{AreNumbers, asked_once, at_numbers, is_asked, keys_at, same_question, with_question}
+use Rattle.ent_eval.specs.proofs_only.Remembered.{AreAt, Begins, FindsAll, IsAbout, NoneFits, NotesFinding, PutsCase, TellsAll, request_of}
+use Rattle.ent_eval.proofs.AnswersRest.{findings-rest}
+use Rattle.ent_eval.proofs.Growing.{all_append, all_first, all_later, all_set, all_take, at_end, get_set, one_place, some_same, starts_get, starts_itself, starts_then, take_shorter}
+use Rattle.ent_eval.proofs.ListedBags.{bags_same, none_same}
+use Rattle.ent_eval.proofs.Numbered.{recorded_by}
+use Rattle.ent_eval.proofs.Numbering.{all_at}
+use Rattle.ent_eval.proofs.Recorded.{from_recursion}
+use Rattle.ent_eval.proofs.Remembering.{all_back, all_more, are_more, cases_more}
+use Rattle.ent_eval.proofs.Sames.{question-Decides}
+
+-- the items before a place, and the one there
+pub taken : {A : Type 0} (xs : List A) (i : ℕ) (x : A) → slice_get xs i ≡ Some x → take (i + 1) xs ≡ take i xs ++ x ∷ []
+taken xs i x at = take_more xs i x (slice_get_within xs i x at) ∙ ap (λ y. take i xs ++ y ∷ []) (get_or_from_slice_get xs i x x at)
+
+-- ---- the loop over what a case found
+
+-- a request finds what stands before the next one
+pub record IsFitting {L : Type 0} (looks : Looks) (scene : Scene L) (old new : Findings) (found : List Finding) (i : ℕ) : Type 0 where
+  pub findings : AreFindings looks scene.questions.now new
+  pub at : AreAt scene new
+  pub begins : Begins new.bags old.bags
+  pub so_far : FindsAll looks scene.questions.now new.bags (request_of scene) (take i found)
+
+module _ {L : Type 0} (looks : Looks) (scene : Scene L) (old mid new : Findings) (found : List Finding) (i : ℕ) (f : Finding) (n : ℕ) (there : slice_get found i ≡ Some f) where
+  pub fitting_next : IsFitting looks scene old mid found i → FindsBag looks scene.questions.now new.bags (request_of scene) f.question n → n ≡ f.bag
+      → AreFindings looks scene.questions.now new → AreAt scene new → Begins new.bags mid.bags → IsFitting looks scene old new found (i + 1)
+  fitting_next so_far finds same findings at begins = record {
+    findings = findings;
+    at = at;
+    begins = starts_then old.bags mid.bags new.bags so_far.begins begins;
+    so_far =
+        let questions = scene.questions.now in
+        let request = request_of scene in
+        let P : Finding → Type 0 = λ x. FindsBag looks questions new.bags request x.question x.bag in
+        let this : P f = subst (λ k. FindsBag looks questions new.bags request f.question k) same finds in
+        let before : FindsAll looks questions new.bags request (take i found) = all_more looks questions questions mid.bags new.bags (starts_itself questions questions refl) begins request (take i found) so_far.so_far in
+        subst (AllByRecursion P) (sym (taken found i f there)) (all_append P (take i found) (f ∷ []) before (this, tt));
+  }
+
+  -- it doesn't fit where it finds another bag
+  pub fitting_fails : IsFitting looks scene old mid found i → FindsBag looks scene.questions.now new.bags (request_of scene) f.question n → n ≢ f.bag
+      → AreFindings looks scene.questions.now new → Begins new.bags mid.bags → FindsAll looks scene.questions.now old.bags (request_of scene) found → ⊥
+  fitting_fails so_far finds differ findings begins all =
+      let questions = scene.questions.now in
+      let request = request_of scene in
+      let before : FindsBag looks questions old.bags request f.question f.bag = all_at (λ x. FindsBag looks questions old.bags request x.question x.bag) found i f all there in
+      let same : before.0 ≡ finds.0 = some_same before.0 finds.0 (sym before.1.0 ∙ finds.1.0) in
+      let bag : slice_get new.bags f.bag ≡ Some (bag_for looks request finds.0) =
+      starts_get old.bags new.bags f.bag (bag_for looks request before.0) (starts_then old.bags mid.bags new.bags so_far.begins begins) before.1.1 ∙ ap (λ x. Some (bag_for looks request x)) same in
+      differ (one_place new.bags n f.bag (bag_for looks request finds.0) findings.distinct finds.1.1 bag)
+
+pub fitting_all : {L : Type 0} (looks : Looks) (scene : Scene L) (old new : Findings) (found : List Finding) (i : ℕ) → length found ≤ i → IsFitting looks scene old new found i
+    → FindsAll looks scene.questions.now new.bags (request_of scene) found
+fitting_all looks scene old new found i past so_far = subst (FindsAll looks scene.questions.now new.bags (request_of scene)) (take_all i found past) so_far.so_far
+
+-- ---- the loop over cases
+
+-- a request fits none of those before the next one
+pub record IsScanning {L : Type 0} (looks : Looks) (scene : Scene L) (old new : Findings) (cases : List Case) (i : ℕ) : Type 0 where
+  pub findings : AreFindings looks scene.questions.now new
+  pub at : AreAt scene new
+  pub begins : Begins new.bags old.bags
+  pub none : NoneFits looks scene.questions.now old.bags (request_of scene) (take i cases)
+
+pub scanning_next : {L : Type 0} (looks : Looks) (scene : Scene L) (old mid new : Findings) (cases : List Case) (i : ℕ) (c : Case) → slice_get cases i ≡ Some c → IsScanning looks scene old mid cases i
+    → (FindsAll looks scene.questions.now mid.bags (request_of scene) c.found → ⊥) → AreFindings looks scene.questions.now new → AreAt scene new → Begins new.bags mid.bags
+    → IsScanning looks scene old new cases (i + 1)
+scanning_next looks scene old mid new cases i c there so_far differs findings at begins = record {
+  findings = findings;
+  at = at;
+  begins = starts_then old.bags mid.bags new.bags so_far.begins begins;
+  none =
+      let questions = scene.questions.now in
+      let request = request_of scene in
+      let P : Case → Type 0 = λ x. Fits looks questions old.bags request x → ⊥ in
+      let this : P c = λ fits. differs (all_more looks questions questions old.bags mid.bags (starts_itself questions questions refl) so_far.begins request c.found fits) in
+      subst (AllByRecursion P) (sym (taken cases i c there)) (all_append P (take i cases) (c ∷ []) so_far.none (this, tt));
+}
+
+pub scanning_all : {L : Type 0} (looks : Looks) (scene : Scene L) (old new : Findings) (cases : List Case) (i : ℕ) → length cases ≤ i → IsScanning looks scene old new cases i
+    → NoneFits looks scene.questions.now old.bags (request_of scene) cases
+scanning_all looks scene old new cases i past so_far = subst (NoneFits looks scene.questions.now old.bags (request_of scene)) (take_all i cases past) so_far.none
+
+-- ---- the loop over questions
+
+-- what was found for the questions before the next one tells what they find
+pub record IsFound {L : Type 0} (looks : Looks) (scene : Scene L) (old new : Findings) (numbers : List ℕ) (i : ℕ) (found : List Finding) : Type 0 where
+  pub findings : AreFindings looks scene.questions.now new
+  pub at : AreAt scene new
+  pub begins : Begins new.bags old.bags
+  pub are : AllByRecursion (IsFinding scene.questions.now new.bags) found
+  pub finds : FindsAll looks scene.questions.now new.bags (request_of scene) found
+  pub tells : TellsAll looks scene.questions.now new.bags (request_of scene) (take i numbers) found
+
+module _ {L : Type 0} (looks : Looks) (scene : Scene L) (old : Findings) (numbers : List ℕ) (within : AreNumbers scene.questions.now numbers) (i : ℕ) (n : ℕ) (there : slice_get numbers i ≡ Some n) where
+  abbrev questions : List Question
+  questions = scene.questions.now
+
+  abbrev request : Request
+  request = request_of scene
+
+  abbrev this : Question
+  this = get_or questions n Root
+
+  is_there : slice_get questions n ≡ Some this
+  is_there = slice_get-get_or questions n Root (all_at (λ m. m < length questions) numbers i n within there)
+
+  one_more : (other : Request) → AllByRecursion (FindsSame looks request looks other) (at_numbers questions (take i numbers)) → FindsSame looks request looks other this
+      → AllByRecursion (FindsSame looks request looks other) (at_numbers questions (take (i + 1) numbers))
+  one_more other before now =
+      let P : Question → Type 0 = FindsSame looks request looks other in
+      let same : at_numbers questions (take (i + 1) numbers) ≡ at_numbers questions (take i numbers) ++ this ∷ [] =
+      ap (at_numbers questions) (taken numbers i n there) ∙ map-append (λ m. get_or questions m Root) (take i numbers) (n ∷ []) in
+      subst (AllByRecursion P) (sym same) (all_append P (at_numbers questions (take i numbers)) (this ∷ []) before (now, tt))
+
+  pub found_skip : (mid new : Findings) (found : List Finding) → ((x : Question) → slice_get questions n ≡ Some x → place_of x ≡ None) → AreFindings looks questions new → AreAt scene new
+      → Begins new.bags mid.bags → IsFound looks scene old mid numbers i found → IsFound looks scene old new numbers (i + 1) found
+  found_skip mid new found none findings at begins so_far =
+      let same : Begins questions questions = starts_itself questions questions refl in
+      record {
+        findings = findings;
+        at = at;
+        begins = starts_then old.bags mid.bags new.bags so_far.begins begins;
+        are = are_more looks questions questions mid.bags new.bags same begins found so_far.are;
+        finds = all_more looks questions questions mid.bags new.bags same begins request found so_far.finds;
+        tells = λ person action resource all.
+            let other = listed person action resource in
+            one_more other (so_far.tells person action resource (all_back looks questions questions mid.bags new.bags same begins other found so_far.are all))
+            (none_same looks scene.person.now scene.action.now scene.resource.now person action resource this (none this is_there));
+      }
+
+  pub found_put : (mid new : Findings) (found more : List Finding) (place : Place) (k : ℕ) → IsAbout questions n place → FindsBag looks questions new.bags request n k
+      → AreFindings looks questions new → AreAt scene new → Begins new.bags mid.bags → more ≡ found ++ record { question = n; place = place; bag = k } ∷ []
+      → IsFound looks scene old mid numbers i found → IsFound looks scene old new numbers (i + 1) more
+  found_put mid new found more place k about bag findings at begins pushed so_far =
+      let f : Finding = record { question = n; place = place; bag = k } in
+      let same : Begins questions questions = starts_itself questions questions refl in
+      subst (IsFound looks scene old new numbers (i + 1)) (sym pushed) (record {
+        findings = findings;
+        at = at;
+        begins = starts_then old.bags mid.bags new.bags so_far.begins begins;
+        are = all_append (IsFinding questions new.bags) found (f ∷ []) (are_more looks questions questions mid.bags new.bags same begins found so_far.are)
+            ((slice_get_within new.bags k (bag_for looks request bag.0) bag.1.1, about), tt);
+        finds = all_append (λ x. FindsBag looks questions new.bags request x.question x.bag) found (f ∷ []) (all_more looks questions questions mid.bags new.bags same begins request found so_far.finds) (bag, tt);
+        tells = λ person action resource all.
+            let other = listed person action resource in
+            let P : Finding → Type 0 = λ x. FindsBag looks questions new.bags other x.question x.bag in
+            let its : FindsBag looks questions new.bags other n k = (all_later P found (f ∷ []) all).0 in
+            let mine : bag.0 ≡ this = some_same bag.0 this (sym bag.1.0 ∙ is_there) in
+            let theirs : its.0 ≡ this = some_same its.0 this (sym its.1.0 ∙ is_there) in
+            let bags : bag_for looks request this ≡ bag_for looks other this =
+            some_same (bag_for looks request this) (bag_for looks other this)
+            (ap (λ x. Some (bag_for looks request x)) (sym mine) ∙ sym bag.1.1 ∙ its.1.1 ∙ ap (λ x. Some (bag_for looks other x)) theirs) in
+            one_more other
+            (so_far.tells person action resource (all_back looks questions questions mid.bags new.bags same begins other found so_far.are (all_first P found (f ∷ []) all)))
+            (bags_same looks request other this bags);
+      })
+
+pub found_next : {L : Type 0} (looks : Looks) (scene : Scene L) (old mid new : Findings) (numbers : List ℕ) (i : ℕ) (found more : List Finding) → AreNumbers scene.questions.now numbers → i < length numbers
+    → NotesFinding looks scene.questions.now new.bags (request_of scene) (get_or numbers i 0) found more → AreFindings looks scene.questions.now new → AreAt scene new → Begins new.bags mid.bags
+    → IsFound looks scene old mid numbers i found → IsFound looks scene old new numbers (i + 1) more
+found_next looks scene old mid new numbers i found more within below notes findings at begins so_far =
+    let n = get_or numbers i 0 in
+    let there : slice_get numbers i ≡ Some n = slice_get-get_or numbers i 0 below in
+    elim notes [
+      | inl p ↦ subst (IsFound looks scene old new numbers (i + 1)) (sym p.0) (found_skip looks scene old numbers within i n there mid new found p.1 findings at begins so_far)
+      | inr p ↦ found_put looks scene old numbers within i n there mid new found more p.0 p.1.0 p.1.1.0 p.1.1.1.0 findings at begins p.1.1.1.1 so_far
+    ]
+
+pub found_all : {L : Type 0} (looks : Looks) (scene : Scene L) (old new : Findings) (numbers : List ℕ) (i : ℕ) (found : List Finding) → length numbers ≤ i → IsFound looks scene old new numbers i found
+    → TellsAll looks scene.questions.now new.bags (request_of scene) numbers found
+found_all looks scene old new numbers i found past so_far =
+    subst (λ ns. TellsAll looks scene.questions.now new.bags (request_of scene) ns found) (take_all i numbers past) so_far.tells
+
+-- ---- a case
+
+-- what holds of each question that is asked once holds of each that is asked
+among : (P : Question → Type 0) (questions : List Question) (x : Question) → is_asked questions x ≡ true → AllByRecursion P questions → P x
+among P [] x is all = absurd (cc)
+among P (q ∷ questions) x is all = by (same_question x q) refl is (λ later. among P questions x later all.1) where
+  by : (b : Bool) → same_question x q ≡ b → (b || is_asked questions x) ≡ true → (is_asked questions x ≡ true → P x) → P x
+  by true same h later = subst P (sym ((question-Decides x q).0 same)) all.0
+  by false same h later = later h
+
+all_asked : (P : Question → Type 0) (questions more : List Question) → AllByRecursion P (asked_once questions more) → AllByRecursion P questions × AllByRecursion P more
+all_asked P questions [] all = (all, tt)
+all_asked P questions (x ∷ more) all =
+    let next = all_asked P (with_question questions x) more all in
+    by (is_asked questions x) refl next.0 next.1 where
+      by : (b : Bool) → is_asked questions x ≡ b → AllByRecursion P (if b then questions else questions ++ x ∷ []) → AllByRecursion P more → AllByRecursion P questions × AllByRecursion P (x ∷ more)
+      by true is first later = (first, (among P questions x is first, later))
+      by false is first later = (all_first P questions (x ∷ []) first, ((all_later P questions (x ∷ []) first).0, later))
+
+pub is_case : {L : Type 0} (looks : Looks) (scene : Scene L) (bags : List Contents) (c : Case) → AllByRecursion (IsFinding scene.questions.now bags) c.found → AreNumbers scene.questions.now c.asked
+    → c.answer ≡ answer looks (request_of scene) → at_numbers scene.questions.now c.asked ≡ asked_once [] (asked looks (request_of scene))
+    → c.failed ≡ has_cause looks (request_of scene) → TellsAll looks scene.questions.now bags (request_of scene) c.asked c.found → IsCase looks scene.questions.now bags c
+is_case looks scene bags c are within answered asks fails tells = record {
+  findings = are;
+  within = within;
+  answer = λ person action resource fits. (law person action resource fits).0 ∙ sym answered;
+  asked = λ person action resource fits. asks ∙ ap (asked_once []) (sym (law person action resource fits).1.0);
+  failed = λ person action resource fits. ap are_any (law person action resource fits).1.1 ∙ sym fails;
+} where
+  law : (person action resource : List ℕ) → Fits looks scene.questions.now bags (listed person action resource) c
+      → (answer looks (listed person action resource) ≡ answer looks (request_of scene))
+      × ((asked looks (listed person action resource) ≡ asked looks (request_of scene)) × (causes looks (listed person action resource) ≡ causes looks (request_of scene)))
+  law person action resource fits =
+      let other = listed person action resource in
+      let P : Question → Type 0 = FindsSame looks (request_of scene) looks other in
+      let all : AllByRecursion P (asked_once [] (asked looks (request_of scene))) = subst (AllByRecursion P) asks (tells person action resource fits) in
+      findings-rest looks looks (request_of scene) other (from_recursion P (asked looks (request_of scene)) (all_asked P [] (asked looks (request_of scene)) all).1)
+
+-- ---- a case is put in
+
+pub put_all : (P : Case → Type 0) (old new : List Case) (c : Case) → PutsCase old new c → P c → AllByRecursion P old → AllByRecursion P new
+put_all P old new c puts is all = elim puts [
+  | inl p ↦ subst (AllByRecursion P) (sym p.1) (all_append P old (c ∷ []) all (is, tt))
+  | inr p ↦ subst (AllByRecursion P) (sym p.1.1.1) (all_set P (take p.0 old) p.1.0 c (λ x at before. is) (all_take P p.0 old all))
+]
+
+pub put_few : (old new : List Case) (c : Case) → PutsCase old new c → length old ≤ most_cases → length new ≤ most_cases
+put_few old new c puts few = elim puts [
+  | inl p ↦ omega (arith, p.0, ap (λ l. length l) p.1, length-append old (c ∷ []))
+  | inr p ↦ omega (arith, few, ap (λ l. length l) p.1.1.1, length-set (take p.0 old) p.1.0 c, take_shorter p.0 old)
+]
+
+pub put_there : (old new : List Case) (c : Case) → PutsCase old new c → (i : ℕ) × (slice_get new i ≡ Some c)
+put_there old new c puts = elim puts [
+  | inl p ↦ (length old, at_end old new c (length old) p.1 refl)
+  | inr p ↦ (p.1.0, ap (λ l. slice_get l p.1.0) p.1.1.1 ∙ get_set (take p.0 old) p.1.0 c p.1.1.0)
+]
+
+-- ---- choices
+
+pub on_true : (b : Bool) (P : Type 0) → b ≡ true → OnTrue b P → P
+on_true true P is h = h
+on_true false P is h = absurd (cc)
+
+pub on_false : (b : Bool) (P : Type 0) → b ≡ false → OnFalse b P → P
+on_false true P is h = absurd (cc)
+on_false false P is h = h
+
+-- ---- what is remembered then
+
+pub recalls : (looks : Looks) (questions : List Question) (old : Memory) (findings : Findings) (cases : Cases) → Remembers looks questions old → AreFindings looks questions findings
+    → Begins findings.bags old.findings.bags → cases.cases.items ≡ old.cases.cases.items → Remembers looks questions (record { findings = findings; cases = cases })
+recalls looks questions old findings cases has are begins same = record {
+  findings = are;
+  cases = subst (AllByRecursion (IsCase looks questions findings.bags)) (sym same)
+      (cases_more looks questions questions old.findings.bags findings.bags (starts_itself questions questions refl) begins old.cases.cases.items has.cases);
+  few = subst (λ l. length l ≤ most_cases) (sym same) has.few;
+}
+
+pub keeps : (looks : Looks) (questions : List Question) (old : Memory) (cases : Cases) (c : Case) → Remembers looks questions old → IsCase looks questions old.findings.bags c
+    → PutsCase old.cases.cases.items cases.cases.items c → Remembers looks questions (record { findings = old.findings; cases = cases })
+keeps looks questions old cases c has is puts = record {
+  findings = has.findings;
+  cases = put_all (IsCase looks questions old.findings.bags) old.cases.cases.items cases.cases.items c puts is has.cases;
+  few = put_few old.cases.cases.items cases.cases.items c puts has.few;
+}
+
+-- no case fits over fewer bags
+pub if_none : {E : Type 0} (r : Result (Option ℕ) E) (P Q : Type 0) → (P → Q) → IfOk r (λ o. IfNone o P) → IfOk r (λ o. IfNone o Q)
+if_none (Err e) P Q weaker h = tt
+if_none (Ok None) P Q weaker h = weaker h
+if_none (Ok (Some i)) P Q weaker h = tt
+
+-- ---- what a case that fits says
+
+pub none_known : (looks : Looks) (questions : List Question) (memory : Memory) (request : Request) → NoneFits looks questions memory.findings.bags request memory.cases.cases.items
+    → IsKnown looks questions memory request → ⊥
+none_known looks questions memory request none known =
+    all_at (λ c. Fits looks questions memory.findings.bags request c → ⊥) memory.cases.cases.items known.0 known.1.0 none known.1.1.0 known.1.1.1.0
+
+module _ (looks : Looks) (questions : List Question) (memory : Memory) (person action resource : List ℕ) (e : ListedEvaluation) (has : Remembers looks questions memory)
+    (found : HasCase looks questions memory (listed person action resource) (Gives e)) where
+  its_case : IsCase looks questions memory.findings.bags found.1.0
+  its_case = all_at (IsCase looks questions memory.findings.bags) memory.cases.cases.items found.0 found.1.0 has.cases found.1.1.0
+
+  pub case_answer : e.answer ≡ answer looks (listed person action resource)
+  case_answer = sym found.1.1.1.1.0 ∙ sym (its_case.answer person action resource found.1.1.1.0)
+
+  pub case_asked : at_numbers questions e.asked ≡ asked_once [] (asked looks (listed person action resource))
+  case_asked = ap (at_numbers questions) (sym found.1.1.1.1.1.0) ∙ its_case.asked person action resource found.1.1.1.0
+
+  pub case_failed : e.failed ≡ has_cause looks (listed person action resource)
+  case_failed = sym found.1.1.1.1.1.1 ∙ sym (its_case.failed person action resource found.1.1.1.0)
+
+  pub case_within : AreNumbers questions e.asked
+  case_within = subst (AreNumbers questions) found.1.1.1.1.1.0 its_case.within
+
+  pub case_reads : keys_at (listed person action resource) (at_numbers questions e.asked) ≡ recorded looks (listed person action resource)
+  case_reads = recorded_by looks (listed person action resource) (at_numbers questions e.asked) case_asked
+
+-- the keys that are looked up for the questions of an evaluation are those that are recorded
+pub reads_by : {E : Type 0} (r : Result ListedEvaluation E) (looks : Looks) (request : Request) (questions : List Question)
+    → IfOk r (λ e. at_numbers questions e.asked ≡ asked_once [] (asked looks request)) → IfOk r (λ e. keys_at request (at_numbers questions e.asked) ≡ recorded looks request)
+reads_by (Err e) looks request questions h = tt
+reads_by (Ok e) looks request questions h = recorded_by looks request (at_numbers questions e.asked) h

@@ -1,0 +1,141 @@
+//! What is remembered over evaluations of listed requests.
+
+ghost use Rattle.std.specs.Prelude.{◌≡◌, List, [], IfNone, IfOk, IfSome, OnOk};
+ghost use Rattle.std.specs.List.{AllByRecursion};
+ghost use Rattle.ent_eval.specs.Answer.{answer, asked, has_cause};
+ghost use Rattle.ent_eval.specs.Looks.{Looks};
+ghost use Rattle.ent_eval.specs.Memory.{AreFindings, Gives, HasCase, IsFinding, Remembers};
+ghost use Rattle.ent_eval.specs.Questions.{AreNumbers, asked_once, at_numbers};
+ghost use Rattle.ent_eval.specs.proofs_only.Remembered.{AreAt, Begins, FindsAll, NoneFits, NotesFinding};
+ghost use Rattle.ent_eval.specs.proofs_only.Remembered.{TellsAll};
+ghost use Rattle.ent_eval.specs.proofs_only.Remembered.{in_scene, request_of};
+ghost use Rattle.ent_eval.specs.declared.question.Question.{Question};
+
+use crate::case::{Case, Finding};
+use crate::cases::{Cases, fitting};
+use crate::findings::{Findings, place_of};
+use crate::look_ups::LookUps;
+use crate::pdp::ListedEvaluation;
+use crate::scene::Scene;
+use ent_values::Items;
+use std::alloc::{AllocError, Global};
+
+/// What is remembered over evaluations of listed requests, as long as nothing that is held changes: what questions
+/// found for names, and cases. It is of use where many requests find the same.
+#[derive(Drop)]
+pub struct Memory {
+    pub(crate) findings: Findings,
+    pub(crate) cases: Cases,
+}
+
+impl Memory {
+    /// Nothing is remembered, whatever is held. Nothing is allocated.
+    pub fn new(alloc: Global) -> Memory
+        ensures { (looks : Looks) (questions : List Question) → Remembers looks questions result }
+    {
+        Memory {
+            findings: Findings::new(alloc),
+            cases: Cases::new(alloc),
+        }
+    }
+
+    // The answer and the questions of a case that a request fits, if there is one.
+    pub(crate) fn recall<L: LookUps>(
+        &mut self,
+        scene: &Scene<'_, L>,
+    ) -> Result<Option<ListedEvaluation>, AllocError>
+        requires { in_scene L.looks scene.now Remembers self.old }
+        ensures some { IfOk result (λ o. IfSome o (λ e. in_scene L.looks scene.now HasCase self.new
+            (request_of scene.now) (Gives e))) }
+        ensures none { IfOk result (λ o. IfNone o (in_scene L.looks scene.now NoneFits self.old.findings.bags
+            (request_of scene.now) self.old.cases.cases.items)) }
+        ensures remembers { in_scene L.looks scene.now Remembers self.new }
+        ensures cases { self.new.cases.cases.items ≡ self.old.cases.cases.items }
+    {
+        self.findings.turn_to(scene)?;
+        match fitting(scene, &mut self.findings, &self.cases)? {
+            None => Ok(None),
+            Some(place) => Ok(Some(self.cases.take(place)?)),
+        }
+    }
+
+    // Remembers an evaluation as a case.
+    pub(crate) fn keep<L: LookUps>(
+        &mut self,
+        scene: &Scene<'_, L>,
+        evaluation: &ListedEvaluation,
+    ) -> Result<(), AllocError>
+        requires remembers { in_scene L.looks scene.now Remembers self.old }
+        requires answer { evaluation.now.answer ≡ answer (L.looks scene.now.held.now) (request_of scene.now) }
+        requires failed { evaluation.now.failed ≡ has_cause (L.looks scene.now.held.now) (request_of scene.now) }
+        requires within { AreNumbers scene.now.questions.now evaluation.now.asked }
+        requires asked { at_numbers scene.now.questions.now evaluation.now.asked
+            ≡ asked_once [] (asked (L.looks scene.now.held.now) (request_of scene.now)) }
+        ensures remembers { in_scene L.looks scene.now Remembers self.new }
+        ensures kept { OnOk result (in_scene L.looks scene.now HasCase self.new (request_of scene.now)
+            (Gives evaluation.now)) }
+    {
+        self.findings.turn_to(scene)?;
+        let asked = evaluation.asked.get().as_slice();
+        let found = findings_of(scene, &mut self.findings, asked)?;
+        let case = Case {
+            found,
+            asked: evaluation.asked.copy()?,
+            answer: evaluation.answer.copy()?,
+            failed: evaluation.failed,
+        };
+        self.cases.put(case)?;
+        Ok(())
+    }
+}
+
+// What a request finds for those of some questions that are about its names.
+fn findings_of<L: LookUps>(
+    scene: &Scene<'_, L>,
+    findings: &mut Findings,
+    asked: &[u32],
+) -> Result<Items<Finding>, AllocError>
+    requires findings { in_scene L.looks scene.now AreFindings findings.old }
+    requires at { AreAt scene.now findings.old }
+    requires within { AreNumbers scene.now.questions.now asked.now }
+    ensures are { IfOk result (AllByRecursion (IsFinding scene.now.questions.now findings.new.bags)) }
+    ensures found { IfOk result (in_scene L.looks scene.now FindsAll findings.new.bags (request_of scene.now)) }
+    ensures tells { IfOk result
+        (in_scene L.looks scene.now TellsAll findings.new.bags (request_of scene.now) asked.now) }
+    ensures findings { in_scene L.looks scene.now AreFindings findings.new }
+    ensures begins { Begins findings.new.bags findings.old.bags }
+{
+    let mut found = Items::new(scene.alloc);
+    for number in asked {
+        note_finding(scene, findings, *number, &mut found)?;
+    }
+    Ok(found)
+}
+
+// Notes what a request finds for a question, if it is about one of its names.
+fn note_finding<L: LookUps>(
+    scene: &Scene<'_, L>,
+    findings: &mut Findings,
+    number: u32,
+    found: &mut Items<Finding>,
+) -> Result<(), AllocError>
+    requires findings { in_scene L.looks scene.now AreFindings findings.old }
+    requires at { AreAt scene.now findings.old }
+    ensures notes { OnOk result
+        (in_scene L.looks scene.now NotesFinding findings.new.bags (request_of scene.now) number found.old found.new) }
+    ensures findings { in_scene L.looks scene.now AreFindings findings.new }
+    ensures at { AreAt scene.now findings.new }
+    ensures begins { Begins findings.new.bags findings.old.bags }
+{
+    match place_of(scene.questions, number) {
+        None => Ok(()),
+        Some(place) => {
+            let bag = findings.bag_of(scene, number, place)?;
+            found.push(Finding {
+                question: number,
+                place,
+                bag,
+            })
+        }
+    }
+}
