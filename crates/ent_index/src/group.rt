@@ -74,19 +74,22 @@ fn insert(groups: &mut Slab<Group>, group: Group) -> Result<u32, AllocError>
     Ok(number)
 }
 
-/// Makes a group with one cell, and gives its number. The cells that are there stay, also after a refusal.
+/// Makes a group with one cell and a copy of the numbers, and gives its number. The cells that are there stay, also
+/// after a refusal.
 pub(crate) fn make_group(
     alloc: Global,
     groups: &mut Slab<Group>,
-    numbers: Items<u32>,
+    numbers: &[u32],
     cell: u32,
 ) -> Result<u32, AllocError>
     ensures there { IfOk result (λ g. holds_in groups.new g cell ≡ true) }
-    ensures numbers { IfOk result (λ g. numbers_in groups.new g ≡ numbers) }
+    ensures numbers { IfOk result (λ g. numbers_in groups.new g ≡ numbers.now) }
     ensures stay { StayInBut (λ _ _. false) groups.old groups.new }
 {
     let mut cells = Roll::new(alloc);
     cells.put(cell)?;
+    let copied = Vec::from_slice(alloc, numbers)?;
+    let numbers = Items::from_vec(copied);
     let number = insert(groups, Group { numbers, cells })?;
     Ok(number)
 }

@@ -13,7 +13,7 @@ use crate::names::Names;
 use crate::roll::Roll;
 use crate::wanted::Wanted;
 use ent_eval::{Place, ReadKey, Readers};
-use ent_values::{Items, Text};
+use ent_values::Text;
 use slab::Slab;
 use std::alloc::{AllocError, Global};
 use std::collections::{BTreeMap, BTreeSet};
@@ -107,18 +107,18 @@ impl Groups {
     }
 
     /// Puts a cell into the group of some questions, which is made if there is none, and tells its number. It is likely
-    /// the one beside it. After a refusal the cell has joined none.
-    pub fn join(&mut self, cell: usize, numbers: Items<u32>, beside: u32) -> Result<u32, AllocError>
+    /// the one beside it. The numbers are copied where a group is made. After a refusal the cell has joined none.
+    pub fn join(&mut self, cell: usize, numbers: &[u32], beside: u32) -> Result<u32, AllocError>
         ensures there { IfOk result (λ g. holds self.new g cell ≡ true) }
-        ensures numbers { IfOk result (λ g. numbers_of self.new g ≡ numbers) }
+        ensures numbers { IfOk result (λ g. numbers_of self.new g ≡ numbers.now) }
         ensures groups { KeepsGroups self.old self.new }
         ensures names { HasSameNames self.old self.new }
     {
         let Ok(cell) = u32::try_from(cell) else {
             return Err(AllocError);
         };
-        let mixed = mixed(numbers.as_slice());
-        match self.group_of(numbers.as_slice(), mixed, beside) {
+        let mixed = mixed(numbers);
+        match self.group_of(numbers, mixed, beside) {
             Some(group) => {
                 put_cell(&mut self.groups, group, cell)?;
                 Ok(group)
@@ -144,9 +144,9 @@ impl Groups {
     }
 
     // Makes the group of some questions, with one cell, and tells its number. After a refusal there is none.
-    fn make(&mut self, cell: u32, numbers: Items<u32>, mixed: u64) -> Result<u32, AllocError>
+    fn make(&mut self, cell: u32, numbers: &[u32], mixed: u64) -> Result<u32, AllocError>
         ensures there { IfOk result (λ g. holds self.new g cell ≡ true) }
-        ensures numbers { IfOk result (λ g. numbers_of self.new g ≡ numbers) }
+        ensures numbers { IfOk result (λ g. numbers_of self.new g ≡ numbers.now) }
         ensures groups { KeepsGroups self.old self.new }
         ensures names { HasSameNames self.old self.new }
     {
@@ -232,7 +232,12 @@ impl Groups {
     {
         match one.key {
             ReadKey::Attr(key) => {
-                add_roll(self.named(place, &key.entity), cells)?;
+                let named = self.named(place, &key.entity);
+                if self.are_fewer_asking(one.number, named) {
+                    self.add_asking(one.number, cells)?;
+                    return Ok(());
+                }
+                add_roll(named, cells)?;
                 Ok(())
             }
             _ => {
@@ -240,6 +245,24 @@ impl Groups {
                 Ok(())
             }
         }
+    }
+
+    // Whether fewer cells are in the groups that have the question of a number than under a name. To tell it takes no
+    // longer than to go over these: so where there are more groups, it isn't tried.
+    fn are_fewer_asking(&self, number: u32, named: Option<&Roll>) -> bool {
+        let Some(named) = named else {
+            return false;
+        };
+        if self.groups.len() >= named.len() {
+            return false;
+        }
+        let mut asking: usize = 0;
+        for (_, group) in self.groups.iter() {
+            if group.numbers.as_slice().contains(&number) {
+                asking = asking.saturating_add(group.cells.len());
+            }
+        }
+        asking < named.len()
     }
 
     // The cells of a name at a place, if there are any.

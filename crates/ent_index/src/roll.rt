@@ -40,6 +40,11 @@ impl Roll {
         self.cells.is_empty()
     }
 
+    /// How many cells there are.
+    pub(crate) fn len(&self) -> usize {
+        self.cells.len()
+    }
+
     /// One of the cells, if there is one.
     pub(crate) fn first(&self) -> Option<u32> {
         self.cells.first().copied()
