@@ -127,3 +127,7 @@ module _ (q : List Question) (g : Groups) (s : Slab Cell) (is : IsStore q g s) (
 pub if_ok_both : {A E : Type 0} {P Q R : A → Type 0} (r : Result A E) → ((a : A) → P a → Q a → R a) → IfOk r P → IfOk r Q → IfOk r R
 if_ok_both (Ok a) f p q = f a p q
 if_ok_both (Err e) f p q = tt
+
+pub if_ok_three : {A E : Type 0} {P Q R S : A → Type 0} (r : Result A E) → ((a : A) → P a → Q a → R a → S a) → IfOk r P → IfOk r Q → IfOk r R → IfOk r S
+if_ok_three (Ok a) f p q s = f a p q s
+if_ok_three (Err e) f p q s = tt

@@ -43,7 +43,7 @@ module _ (q q' : List Question) (g g' : Groups) (begins : BeginsWith q' q) where
       let kept = stays is.there in
       let same : at_numbers q' (numbers_of g' said.group) ≡ at_numbers q (numbers_of g said.group) =
       ap (at_numbers q') kept.1 ∙ questions_stay q q' begins (numbers_of g said.group) is.within in (
-        (λ i. record { answer = said.answer; reads = keys_at (listed x.person x.action x.resource) (same i) }),
+        (λ i. record { answer = said.answer; reads = keys_at (listed x.person x.action x.resource) (same i); failed = said.failed }),
         record {
           there = kept.0;
           within = subst (AreNumbers q') (sym kept.1) (more_numbers q q' begins (numbers_of g said.group) is.within);

@@ -3,14 +3,15 @@ use Rattle.std.proofs.Common.{◌≡◌, inl, inr, ℕ, zero, suc, ◌+◌, ◌<
 use Rattle.std.specs.List.{AllByRecursion, cons_option, filter}
 use Rattle.std.proofs.lemmas.Bool.{and_from, and_parts, false≢true, or_parts, true_from_ne_false}
 use Rattle.std.proofs.lemmas.Bool.Decides.{eqb_tells}
+use Rattle.std.proofs.Math.Seq.{take-append_seam}
 use Rattle.std.proofs.lemmas.List.{length-map, map-append, take-map, drop-map}
 use Rattle.std.proofs.lemmas.Option.{slice_get-map}
+use Rattle.std.proofs.lemmas.Simd.{map-map}
 use Rattle.slab.specs.Slab.{Slab, get}
-use Rattle.ent_eval.specs.declared.answer.Answer.{Answer}
 use Rattle.ent_eval.specs.declared.key.ReadKey.{ReadKey}
 use Rattle.ent_eval.specs.Noted.{has_key}
 use Rattle.ent_index.proofs.RowsAsked.{alike}
-use Rattle.ent_cells.specs.Cell.{AreReadKeys, Kept, answers_in, is_read}
+use Rattle.ent_cells.specs.Cell.{AreReadKeys, Kept, is_read}
 use Rattle.ent_cells.specs.Entries.{Entry, IsLive, kept_of}
 use Rattle.ent_cells.specs.proofs_only.Entries.{Inserts}
 use Rattle.ent_cells.specs.proofs_only.Asked.{AreKeysOf, reads_at}
@@ -116,22 +117,20 @@ are_listed asks s ks keys live are k =
 pub kept_long : (s : Slab Entry) (ks : List ℕ) → IsGrid s ks → length (kept_of s ks) ≡ length ks
 kept_long s ks grid = length-map (values (entries_of s ks)) cell_in ∙ length-map (entries_of s ks) (λ e. e.1) ∙ long s ks grid
 
-answers_are : (es : List Entry) → answers_in (map cell_in es) ≡ map (λ e. e.kept.said.answer) es
-answers_are [] = refl
-answers_are (e ∷ es) = ap (λ (as_ : List Answer). e.kept.said.answer ∷ as_) (answers_are es)
+-- what is shown of the cell at a place is what is shown of that under its key
+module _ {B : Type 0} (f : Kept → B) (s : Slab Entry) (ks : List ℕ) (i : ℕ) (grid : IsGrid s ks) where
+  shown_in : slice_get (map f (kept_of s ks)) i ≡ option_map (λ (e : Entry). f e.kept) (slice_get (values (entries_of s ks)) i)
+  shown_in = ap (λ (bs : List B). slice_get bs i) (map-map f cell_in (values (entries_of s ks))) ∙ slice_get-map (λ (e : Entry). f e.kept) (values (entries_of s ks)) i
 
--- the answer at a place is that of the cell under its key
-pub answer_at : (s : Slab Entry) (ks : List ℕ) (i k : ℕ) → IsGrid s ks → i < length ks → k ≡ get_or ks i k → slice_get (answers_in (kept_of s ks)) i ≡ option_map (λ e. e.kept.said.answer) (get s k)
-answer_at s ks i k grid within read =
-    ap (λ (as_ : List Answer). slice_get as_ i) (answers_are (values (entries_of s ks)))
-    ∙ slice_get-map (λ e. e.kept.said.answer) (values (entries_of s ks)) i
-    ∙ ap (option_map (λ e. e.kept.said.answer)) (at s ks i k grid within read)
+  pub shown_at : (k : ℕ) → i < length ks → k ≡ get_or ks i k → slice_get (map f (kept_of s ks)) i ≡ option_map (λ (e : Entry). f e.kept) (get s k)
+  shown_at k within read = shown_in ∙ ap (option_map (λ (e : Entry). f e.kept)) (at s ks i k grid within read)
 
-pub answer_past : (s : Slab Entry) (ks : List ℕ) (i : ℕ) → IsGrid s ks → slice_get ks i ≡ None → slice_get (answers_in (kept_of s ks)) i ≡ None
-answer_past s ks i grid past =
-    ap (λ (as_ : List Answer). slice_get as_ i) (answers_are (values (entries_of s ks)))
-    ∙ slice_get-map (λ e. e.kept.said.answer) (values (entries_of s ks)) i
-    ∙ ap (option_map (λ e. e.kept.said.answer)) (at_none s ks i grid past)
+  pub shown_past : slice_get ks i ≡ None → slice_get (map f (kept_of s ks)) i ≡ None
+  shown_past past = shown_in ∙ ap (option_map (λ (e : Entry). f e.kept)) (at_none s ks i grid past)
+
+-- a part of what is shown of the cell at a place
+pub shown_part : {B C : Type 0} (g : B → C) (f : Kept → B) (o : Option B) (es : List Kept) (i : ℕ) → o ≡ slice_get (map f es) i → option_map g o ≡ slice_get (map (λ e. g (f e)) es) i
+shown_part g f o es i is = ap (option_map g) is ∙ sym (slice_get-map g (map f es) i) ∙ ap (λ xs. slice_get xs i) (map-map g f es)
 
 -- ---- a new cell
 new_free : (e f : Entry) (o : Option Entry) → e.next ≡ None → o ≡ Some e → o ≡ Some f → f.next ≡ None
@@ -151,6 +150,11 @@ more_kept s t ks k e new grid =
     ap (λ (es : List (ℕ × Entry)). map cell_in (values es)) (more_values s t k e new.1 ks new.0 grid)
     ∙ ap (map cell_in) (map-append (λ p. p.1) (entries_of s ks) ((k, e) ∷ []))
     ∙ map-append cell_in (values (entries_of s ks)) (e ∷ [])
+
+-- the cells before those that were put last
+pub first_kept : (s t : Slab Entry) (ks ls : List ℕ) (more : List Kept) → IsGrid s ks → kept_of t ls ≡ kept_of s ks ++ more → take (length ks) (kept_of t ls) ≡ kept_of s ks
+first_kept s t ks ls more grid is =
+    (λ j. take (sym (kept_long s ks grid) j) (is j)) ∙ take-append_seam (kept_of s ks) more
 
 -- ---- cells are dropped
 left_free : (n : ℕ) (o : Option Entry) (e : Entry) → ((x : Entry) → o ≡ Some x → x.next ≡ None) → left_after n o ≡ Some e → e.next ≡ None

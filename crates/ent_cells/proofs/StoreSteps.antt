@@ -66,9 +66,9 @@ roomier_seen q g s t e = ap (seen q g) e
 
 -- ---- what is said of a cell, by an evaluation
 
-module _ (q : List Question) (g : Groups) (looks : Looks) (x : Who) (e : ListedEvaluation) (said : Grouped) (answer : said.answer ≡ e.answer) (numbers : numbers_of g said.group ≡ e.asked) (says_so : said_in q x e ≡ says looks x) where
+module _ (q : List Question) (g : Groups) (looks : Looks) (x : Who) (e : ListedEvaluation) (said : Grouped) (answer : said.answer ≡ e.answer) (failed : said.failed ≡ e.failed) (numbers : numbers_of g said.group ≡ e.asked) (says_so : said_in q x e ≡ says looks x) where
   pub said_right : said_of q g x said ≡ says looks x
-  said_right = (λ i. record { answer = answer i; reads = keys_at (listed x.person x.action x.resource) (at_numbers q (numbers i)) }) ∙ says_so
+  said_right = (λ i. record { answer = answer i; reads = keys_at (listed x.person x.action x.resource) (at_numbers q (numbers i)); failed = failed i }) ∙ says_so
 
 pub is_grouped : (q : List Question) (g : Groups) (c : ℕ) (said : Grouped) (ns : List ℕ) → holds g said.group c ≡ true → numbers_of g said.group ≡ ns → AreNumbers q ns → IsGrouped q g c said
 is_grouped q g c said ns there numbers within = record { there = there; within = subst (AreNumbers q) (sym numbers) within }

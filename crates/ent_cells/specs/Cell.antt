@@ -3,17 +3,18 @@ use Rattle.std.specs.Prelude.{◌≡◌, ℕ, ◌+◌, List, [], ◌∷◌, Bool
 use Rattle.std.specs.List.{list_any}
 use Rattle.ent_eval.specs.declared.answer.Answer.{Answer}
 use Rattle.ent_eval.specs.declared.key.ReadKey.{ReadKey}
-use Rattle.ent_eval.specs.Answer.{answer, recorded}
+use Rattle.ent_eval.specs.Answer.{answer, has_cause, recorded}
 use Rattle.ent_eval.specs.Listed.{listed}
 use Rattle.ent_eval.specs.Looks.{Looks}
 use Rattle.ent_eval.specs.Noted.{has_key}
 use Rattle.ent_eval.specs.Same.{same_answer}
 use Rattle.ent_cells.specs.declared.who.Who.{Who}
 
--- what a request is answered, and the keys of the look-ups that this rests on
+-- what a request is answered, the keys of the look-ups that this rests on, and whether a part of the evaluation failed by itself
 pub record Said : Type 0 where
   pub answer : Answer
   pub reads : List ReadKey
+  pub failed : Bool
 
 -- a request, and what it is answered
 pub record Kept : Type 0 where
@@ -22,7 +23,9 @@ pub record Kept : Type 0 where
 
 -- what a request of the table is answered, by what is looked up
 abbrev pub says : Looks → Who → Said
-says looks x = record { answer = answer looks (listed x.person x.action x.resource); reads = recorded looks (listed x.person x.action x.resource) }
+says looks x =
+    let request = listed x.person x.action x.resource in
+    record { answer = answer looks request; reads = recorded looks request; failed = has_cause looks request }
 
 -- the cell of a request, by what is looked up
 abbrev pub cell_of : Looks → Who → Kept
@@ -35,6 +38,10 @@ renewed looks e = cell_of looks e.who
 -- the answers of cells, in their order
 abbrev pub answers_in : List Kept → List Answer
 answers_in es = map (λ e. e.said.answer) es
+
+-- whether a part of their evaluations failed by itself, in their order
+abbrev pub failures_in : List Kept → List Bool
+failures_in es = map (λ e. e.said.failed) es
 
 -- whether a cell reads one of some keys
 abbrev pub reads_any : List ReadKey → Kept → Bool

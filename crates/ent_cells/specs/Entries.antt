@@ -1,6 +1,7 @@
 -- Cells under keys that last, each beside what is to be said of it next, if an edit has that ready.
 use Rattle.std.specs.Prelude.{◌≡◌, ℕ, List, map, Option, Some, None}
 use Rattle.slab.specs.Slab.{Slab, get}
+use Rattle.ent_eval.specs.declared.question.Question.{Question}
 use Rattle.ent_cells.specs.Cell.{Kept, Said}
 use Rattle.ent_cells.specs.Grid.{IsGrid, entries_of, values}
 
@@ -8,6 +9,11 @@ use Rattle.ent_cells.specs.Grid.{IsGrid, entries_of, values}
 pub record Entry : Type 0 where
   pub kept : Kept
   pub next : Option Said
+
+-- cells under their keys, and the questions that are asked for them, by number
+pub record Stored : Type 0 where
+  pub cells : Slab Entry
+  pub questions : List Question
 
 -- nothing is ready of any cell
 abbrev pub AreFree : Slab Entry → Type 0

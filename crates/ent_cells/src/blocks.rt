@@ -35,7 +35,7 @@ fn split(keys: &[usize], count: usize) -> (&[usize], &[usize])
 
 /// Takes the cells under some keys out. It takes no memory.
 fn remove_all(store: &mut Store, keys: &[usize])
-    ensures { (q : ℕ) → get store.new q ≡ left_of store.old keys.now q }
+    ensures { (q : ℕ) → get store.new.cells q ≡ left_of store.old.cells keys.now q }
 {
     for key in keys {
         store.remove(*key);
@@ -44,7 +44,7 @@ fn remove_all(store: &mut Store, keys: &[usize])
 
 /// Takes out the cells whose keys stand from place `from` on. It takes no memory.
 pub(crate) fn remove_from(store: &mut Store, keys: &[usize], from: usize)
-    ensures { (q : ℕ) → get store.new q ≡ left_of store.old (drop from keys.now) q }
+    ensures { (q : ℕ) → get store.new.cells q ≡ left_of store.old.cells (drop from keys.now) q }
 {
     let (_, gone) = split(keys, from);
     remove_all(store, gone);
@@ -53,8 +53,8 @@ pub(crate) fn remove_from(store: &mut Store, keys: &[usize], from: usize)
 /// Takes the cell under a key out, if there is one, and logs its answer. It takes no memory.
 fn remove_one(store: &mut Store, log: &mut Log<Who, Answer>, key: usize)
     requires { 0 < room_of log.old }
-    ensures cells { Updates store.old store.new key None }
-    ensures logged { Puts (gone_in store.old (key ∷ [])) log.old log.new }
+    ensures cells { Updates store.old.cells store.new.cells key None }
+    ensures logged { Puts (gone_in store.old.cells (key ∷ [])) log.old log.new }
 {
     if let Some(old) = store.remove(key) {
         log.put(old);
@@ -65,8 +65,8 @@ fn remove_one(store: &mut Store, log: &mut Log<Who, Answer>, key: usize)
 fn remove_logged(store: &mut Store, log: &mut Log<Who, Answer>, keys: &[usize])
     requires once { (c : ℕ) → times c keys.now ≤ 1 }
     requires room { length keys.now ≤ room_of log.old }
-    ensures cells { (q : ℕ) → get store.new q ≡ left_of store.old keys.now q }
-    ensures logged { Puts (gone_in store.old keys.now) log.old log.new }
+    ensures cells { (q : ℕ) → get store.new.cells q ≡ left_of store.old.cells keys.now q }
+    ensures logged { Puts (gone_in store.old.cells keys.now) log.old log.new }
 {
     for key in keys {
         remove_one(store, log, *key);
@@ -85,8 +85,9 @@ pub(crate) fn remove_blocks(
     requires once { (c : ℕ) → times c keys.now ≤ 1 }
     requires room { length keys.now ≤ room_of log.old }
     ensures cells { (q : ℕ)
-        → get store.new q ≡ left_of store.old (taken_out blocks.count blocks.width from blocks.each keys.now) q }
-    ensures logged { Puts (gone_in store.old (taken_out blocks.count blocks.width from blocks.each keys.now))
+        → get store.new.cells q
+        ≡ left_of store.old.cells (taken_out blocks.count blocks.width from blocks.each keys.now) q }
+    ensures logged { Puts (gone_in store.old.cells (taken_out blocks.count blocks.width from blocks.each keys.now))
         log.old log.new }
 {
     let mut rest = keys;
@@ -140,14 +141,14 @@ fn append(room: &mut Vec<usize>, keys: &[usize])
 
 /// Whether there is a cell under a key.
 fn is_present(store: &Store, key: usize) -> bool
-    ensures { result ≡ is_some (get store.now key) }
+    ensures { result ≡ is_some (get store.now.cells key) }
 {
     store.under(key).is_some()
 }
 
 /// Keeps the keys that have a cell. It takes no memory.
 pub(crate) fn keep_present(keys: &mut Vec<usize>, store: &Store)
-    ensures { keys.new.items ≡ filter (λ q. is_some (get store.now q)) keys.old.items }
+    ensures { keys.new.items ≡ filter (λ q. is_some (get store.now.cells q)) keys.old.items }
 {
     keys.retain(|key| is_present(store, *key));
 }

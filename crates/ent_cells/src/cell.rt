@@ -4,10 +4,12 @@ use crate::who::Who;
 use ent_eval::Answer;
 use ent_values::Shared;
 
-/// An answer, and the group of the cells for whose answers the same is asked. Equal answers are shared between cells.
+/// An answer, whether a part of its evaluation failed by itself, and the group of the cells for whose answers the same
+/// is asked. Equal answers are shared between cells.
 #[derive(Drop)]
 pub(crate) struct Grouped {
     pub(crate) answer: Shared<Answer>,
+    pub(crate) failed: bool,
     pub(crate) group: u32,
 }
 

@@ -2,6 +2,7 @@
 //! what is asked: so that an edit evaluates exactly the cells that read what it changes, and tells their old answers.
 #![tactic(auto)]
 
+mod added;
 mod asked;
 mod blocks;
 mod cell;

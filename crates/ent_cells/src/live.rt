@@ -1,17 +1,21 @@
 //! The live table: cells in list order, and an index of what they read.
 
 ghost use Rattle.std.specs.Prelude.{◌≡◌, ◌<◌, ◌≤◌, ◌+◌, ◌++◌, ◌∷◌, [], count_by, drop, length, map, slice_get, take};
-ghost use Rattle.std.specs.Prelude.{IfOk, IfSome, MatchOption, OnErr, OnOk, option_copied, vec_capacity};
+ghost use Rattle.std.specs.Prelude.{IfOk, IfSome, MatchOption, OnErr, OnOk, option_copied, option_map, vec_capacity};
 ghost use Rattle.std.specs.List.{AllByRecursion};
 ghost use Rattle.ent_eval.specs.LooksOf.{looks_of};
 ghost use Rattle.ent_index.specs.Asked.{asks_policy, asks_row};
 ghost use Rattle.ent_log.specs.Tables.{IsSameLog, room_of};
-ghost use Rattle.ent_cells.specs.Cell.{AreReadKeys, IsRightBut, answers_in, cell_of, reads_any, renewed, unlike_count};
+ghost use Rattle.ent_cells.specs.Cell.{AreReadKeys, IsRightBut, answers_in, cell_of, failures_in, reads_any, renewed};
+ghost use Rattle.ent_cells.specs.Cell.{unlike_count};
 ghost use Rattle.ent_cells.specs.Count.{Counts, CountsAtMost};
 ghost use Rattle.ent_cells.specs.Old.{AreOld, IsLogged};
 ghost use Rattle.ent_cells.specs.Shape.{without, woven};
+ghost use Rattle.ent_cells.specs.proofs_only.Grouping.{shown, shown_kept};
 
+use crate::added::push_all;
 use crate::blocks::{Blocks, keep_present, remove_blocks, remove_from, weave};
+use crate::cell::Cell;
 use crate::phases::{commit_all, give_up_all, prepare};
 use crate::store::Store;
 use crate::who::Who;
@@ -46,19 +50,9 @@ impl Model for Live {
 
     ghost use Rattle.ent_cells.specs.Entries.{IsLive, kept_of};
 
-    ghost view = { λ l. kept_of l.store l.keys.items };
+    ghost view = { λ l. kept_of l.store.cells l.keys.items };
 
-    ghost invariant = { λ l. IsLive l.store l.keys.items };
-}
-
-/// Keys of cells that likely say the same as the next one: the last of these, and one so many places back.
-fn near(keys: &[usize], apart: usize) -> [usize; 2] {
-    let last = keys.last().copied().unwrap_or(0);
-    let before = match keys.len().checked_sub(apart) {
-        Some(place) => keys.get(place).copied().unwrap_or(0),
-        None => 0,
-    };
-    [last, before]
+    ghost invariant = { λ l. IsLive l.store.cells l.keys.items };
 }
 
 impl Live {
@@ -80,14 +74,32 @@ impl Live {
         self.keys.len()
     }
 
+    /// The cell at a place in list order.
+    fn cell(&self, place: usize) -> Option<&Cell>
+        ensures cell { option_map shown (option_copied result) ≡ slice_get (map shown_kept self.now) place }
+        ensures within { IfSome result (λ _. place < usize.MAX) }
+    {
+        let key = self.keys.get(place)?;
+        let cell = self.store.under(*key)?;
+        Some(cell)
+    }
+
     /// The answer at a place in list order, as its owner.
     pub fn shared_answer(&self, place: usize) -> Option<&Shared<Answer>>
         ensures answer { option_copied result ≡ slice_get (answers_in self.now) place }
         ensures within { IfSome result (λ _. place < usize.MAX) }
     {
-        let key = self.keys.get(place)?;
-        let cell = self.store.under(*key)?;
+        let cell = self.cell(place)?;
         Some(&cell.said.answer)
+    }
+
+    /// Whether a part of the evaluation at a place in list order came to Indeterminate by itself (section 5.55),
+    /// whatever the answer is.
+    pub fn failed(&self, place: usize) -> Option<bool>
+        ensures { result ≡ slice_get (failures_in self.now) place }
+    {
+        let cell = self.cell(place)?;
+        Some(cell.said.failed)
     }
 
     /// The answer at a place in list order.
@@ -236,26 +248,6 @@ impl Live {
         self.keys = room;
     }
 
-    /// Evaluates a request that has no cell, and puts its cell last. After a refusal the cells are as before.
-    fn push<A: Attributes, P: Policies>(
-        &mut self,
-        pdp: &mut Pdp<A, P>,
-        apart: usize,
-        who: Shared<Who>,
-    ) -> Result<(), AllocError>
-        ensures ok { OnOk result (self.new ≡ self.old ++ cell_of (looks_of A.sources P.slots pdp.old) who ∷ []) }
-        ensures err { OnErr result (self.new ≡ self.old) }
-        ensures counted { OnOk result (Counts pdp.old.evaluations pdp.new.evaluations 1) }
-        ensures bound { CountsAtMost pdp.old.evaluations pdp.new.evaluations 1 }
-        ensures rest { pdp.new ≡ record pdp.old { evaluations = pdp.new.evaluations } }
-    {
-        self.keys.reserve(1)?;
-        let near = near(&self.keys, apart);
-        let key = self.store.insert(pdp, who, &near)?;
-        self.keys.push(key)?;
-        Ok(())
-    }
-
     /// Evaluates requests that have no cells, and puts their cells last. After a refusal the cells are as before.
     fn append<A: Attributes, P: Policies>(
         &mut self,
@@ -270,12 +262,13 @@ impl Live {
         ensures rest { pdp.new ≡ record pdp.old { evaluations = pdp.new.evaluations } }
     {
         let start = self.len();
-        for who in requests.into_vec() {
-            if let Err(error) = self.push(pdp, apart, who) {
+        let (store, keys) = (&mut self.store, &mut self.keys);
+        match push_all(self.alloc, store, keys, pdp, apart, requests) {
+            Ok(()) => Ok(()),
+            Err(error) => {
                 self.truncate(start);
-                return Err(error);
+                Err(error)
             }
         }
-        Ok(())
     }
 }

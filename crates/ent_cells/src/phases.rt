@@ -15,31 +15,35 @@ ghost use Rattle.ent_cells.specs.proofs_only.Phases.{IsPrepared, KeepsCells, cha
 
 use crate::store::Store;
 use crate::who::Who;
-use ent_eval::{Answer, Pdp};
+use ent_eval::{Answer, Memory, Pdp};
 use ent_finder::{Attributes, Policies};
 use ent_log::{Log, OldAnswer};
 use ent_values::Items;
 use std::alloc::{AllocError, Global};
 use std::slice;
 
-/// Evaluates the cells under some keys, each once, and makes ready what that says. After a refusal some may be ready.
+/// Evaluates the cells under some keys, each once, and makes ready what that says. What is found for one serves those
+/// behind it, and is forgotten then. After a refusal some may be ready.
 fn prepare_all<A: Attributes, P: Policies>(
+    alloc: Global,
     store: &mut Store,
     pdp: &mut Pdp<A, P>,
     keys: &[usize],
 ) -> Result<(), AllocError>
-    requires free { AreFree store.old }
-    requires there { All (λ c. IsSome (get store.old c)) keys.now }
+    requires free { AreFree store.old.cells }
+    requires there { All (λ c. IsSome (get store.old.cells c)) keys.now }
     requires once { (c : ℕ) → times c keys.now ≤ 1 }
-    ensures ok { OnOk result (IsPrepared (looks_of A.sources P.slots pdp.old) keys.now store.old store.new) }
-    ensures err { OnErr result (KeepsCells keys.now store.old store.new) }
+    ensures ok { OnOk result
+        (IsPrepared (looks_of A.sources P.slots pdp.old) keys.now store.old.cells store.new.cells) }
+    ensures err { OnErr result (KeepsCells keys.now store.old.cells store.new.cells) }
     ensures counted { OnOk result (Counts pdp.old.evaluations pdp.new.evaluations (length keys.now)) }
     ensures bound { CountsAtMost pdp.old.evaluations pdp.new.evaluations (length keys.now) }
     ensures rest { pdp.new ≡ record pdp.old { evaluations = pdp.new.evaluations } }
 {
+    let mut memory = Memory::new(alloc);
     let mut beside: &[usize] = &[];
     for key in keys {
-        store.prepare(pdp, *key, beside)?;
+        store.prepare(pdp, &mut memory, *key, beside)?;
         beside = slice::from_ref(key);
     }
     Ok(())
@@ -51,7 +55,7 @@ fn old_answers(
     store: &Store,
     keys: &[usize],
 ) -> Result<Items<OldAnswer<Who, Answer>>, AllocError>
-    ensures { IfOk result (λ olds. olds ≡ olds_in store.now keys.now) }
+    ensures { IfOk result (λ olds. olds ≡ olds_in store.now.cells keys.now) }
 {
     let mut olds = Vec::new(alloc);
     for key in keys {
@@ -72,21 +76,22 @@ pub(crate) fn prepare<A: Attributes, P: Policies>(
     keys: &[usize],
     others: usize,
 ) -> Result<Items<OldAnswer<Who, Answer>>, AllocError>
-    requires free { AreFree store.old }
-    requires there { All (λ c. IsSome (get store.old c)) keys.now }
+    requires free { AreFree store.old.cells }
+    requires there { All (λ c. IsSome (get store.old.cells c)) keys.now }
     requires once { (c : ℕ) → times c keys.now ≤ 1 }
     requires fits { length keys.now + others < 2 ^ 64 }
-    ensures ok { OnOk result (IsPrepared (looks_of A.sources P.slots pdp.old) keys.now store.old store.new) }
-    ensures olds { IfOk result (λ olds. olds ≡ olds_in store.new keys.now) }
+    ensures ok { OnOk result
+        (IsPrepared (looks_of A.sources P.slots pdp.old) keys.now store.old.cells store.new.cells) }
+    ensures olds { IfOk result (λ olds. olds ≡ olds_in store.new.cells keys.now) }
     ensures room { IfOk result (λ olds. length olds + others ≤ room_of log.new) }
-    ensures err { OnErr result (KeepsCells keys.now store.old store.new) }
+    ensures err { OnErr result (KeepsCells keys.now store.old.cells store.new.cells) }
     ensures log { IsSameLog log.old log.new }
     ensures grows { room_of log.old ≤ room_of log.new }
     ensures counted { OnOk result (Counts pdp.old.evaluations pdp.new.evaluations (length keys.now)) }
     ensures bound { CountsAtMost pdp.old.evaluations pdp.new.evaluations (length keys.now) }
     ensures rest { pdp.new ≡ record pdp.old { evaluations = pdp.new.evaluations } }
 {
-    prepare_all(store, pdp, keys)?;
+    prepare_all(alloc, store, pdp, keys)?;
     let olds = old_answers(alloc, store, keys)?;
     log.reserve(olds.len() + others)?;
     Ok(olds)
@@ -94,9 +99,9 @@ pub(crate) fn prepare<A: Attributes, P: Policies>(
 
 /// Gives up what is ready of the cells under some keys. It takes no memory.
 pub(crate) fn give_up_all(store: &mut Store, keys: &[usize])
-    requires there { All (λ c. IsSome (get store.old c)) keys.now }
+    requires there { All (λ c. IsSome (get store.old.cells c)) keys.now }
     requires once { (c : ℕ) → times c keys.now ≤ 1 }
-    ensures { (c : ℕ) → get store.new c ≡ changed_at given_up keys.now c (get store.old c) }
+    ensures { (c : ℕ) → get store.new.cells c ≡ changed_at given_up keys.now c (get store.old.cells c) }
 {
     for key in keys {
         store.give_up(*key);
@@ -105,9 +110,9 @@ pub(crate) fn give_up_all(store: &mut Store, keys: &[usize])
 
 /// Says of the cells under some keys what is ready of them. It takes no memory.
 pub(crate) fn commit_all(store: &mut Store, keys: &[usize])
-    requires there { All (λ c. IsSome (get store.old c)) keys.now }
+    requires there { All (λ c. IsSome (get store.old.cells c)) keys.now }
     requires once { (c : ℕ) → times c keys.now ≤ 1 }
-    ensures { (c : ℕ) → get store.new c ≡ changed_at settled keys.now c (get store.old c) }
+    ensures { (c : ℕ) → get store.new.cells c ≡ changed_at settled keys.now c (get store.old.cells c) }
 {
     for key in keys {
         store.commit(*key);

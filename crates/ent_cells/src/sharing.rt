@@ -6,7 +6,7 @@ use crate::cell::{Cell, Grouped};
 use ent_eval::Answer;
 use ent_values::Shared;
 use slab::Slab;
-use std::alloc::{AllocError, Global};
+use std::alloc::AllocError;
 
 /// The group that the cell under the first of some keys is to be in: where it is likely that others are to be, too.
 pub(crate) fn group_of_first(cells: &Slab<Cell>, beside: &[usize]) -> u32 {
@@ -38,27 +38,26 @@ fn said_under(cells: &Slab<Cell>, key: usize) -> (Option<&Grouped>, Option<&Grou
     }
 }
 
-/// This answer, in the owner that has it already in the cell under a key or in one beside it.
+/// This answer, in the owner that has it already in the cell under a key or in one beside it, or else in its own.
 pub(crate) fn shared_answer(
-    alloc: Global,
     cells: &Slab<Cell>,
     key: usize,
     beside: &[usize],
-    answer: Answer,
+    answer: Shared<Answer>,
 ) -> Result<Shared<Answer>, AllocError>
     ensures { IfOk result (λ s. s ≡ answer) }
 {
-    if let Some(same) = same_answer(said_under(cells, key).0, &answer) {
+    if let Some(same) = same_answer(said_under(cells, key).0, answer.get()) {
         return same.copy();
     }
     for other in beside {
         let (said, next) = said_under(cells, *other);
-        if let Some(same) = same_answer(next, &answer) {
+        if let Some(same) = same_answer(next, answer.get()) {
             return same.copy();
         }
-        if let Some(same) = same_answer(said, &answer) {
+        if let Some(same) = same_answer(said, answer.get()) {
             return same.copy();
         }
     }
-    Shared::new(alloc, answer)
+    Ok(answer)
 }

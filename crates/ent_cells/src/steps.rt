@@ -8,7 +8,6 @@ ghost use Rattle.ent_cells.specs.proofs_only.Grouping.{KeepsCell, KeepsIn, Keeps
 use crate::cell::{Cell, Grouped};
 use crate::who::Who;
 use ent_index::Groups;
-use ent_values::Items;
 use slab::Slab;
 use std::alloc::AllocError;
 use std::mem;
@@ -19,16 +18,16 @@ pub(crate) fn regroup(
     groups: &mut Groups,
     key: usize,
     group: u32,
-    numbers: Items<u32>,
+    numbers: &[u32],
     beside: u32,
 ) -> Result<u32, AllocError>
     requires { holds groups.old group key ≡ true }
     ensures there { IfOk result (λ g. holds groups.new g key ≡ true) }
-    ensures numbers { IfOk result (λ g. numbers_of groups.new g ≡ numbers) }
+    ensures numbers { IfOk result (λ g. numbers_of groups.new g ≡ numbers.now) }
     ensures groups { KeepsGroups groups.old groups.new }
     ensures names { HasSameNames groups.old groups.new }
 {
-    if groups.numbers(group) == numbers.as_slice() {
+    if groups.numbers(group) == numbers {
         return Ok(group);
     }
     groups.join(key, numbers, beside)
@@ -40,11 +39,11 @@ pub(crate) fn enter(
     groups: &mut Groups,
     key: usize,
     who: &Who,
-    numbers: Items<u32>,
+    numbers: &[u32],
     beside: u32,
 ) -> Result<u32, AllocError>
     ensures there { IfOk result (λ g. holds groups.new g key ≡ true) }
-    ensures numbers { IfOk result (λ g. numbers_of groups.new g ≡ numbers) }
+    ensures numbers { IfOk result (λ g. numbers_of groups.new g ≡ numbers.now) }
     ensures named { OnOk result (IsNamed groups.new who.now.person who.now.action who.now.resource key) }
     ensures others { KeepsOthers key groups.old groups.new }
 {

@@ -5,6 +5,7 @@ ghost use Rattle.std.specs.Prelude.{option_and_then, option_copied, option_map};
 ghost use Rattle.slab.specs.Slab.{Updates, get};
 ghost use Rattle.ent_eval.specs.declared.key.ReadKey.{ReadKey as Key};
 ghost use Rattle.ent_eval.specs.LooksOf.{looks_of};
+ghost use Rattle.ent_eval.specs.Memory.{Remembers};
 ghost use Rattle.ent_index.specs.Asked.{asks_policy, asks_row};
 ghost use Rattle.ent_cells.specs.Cell.{says};
 ghost use Rattle.ent_cells.specs.Count.{Counts, CountsAtMost};
@@ -24,7 +25,7 @@ use crate::old::{gone_answer, old_answer_under};
 use crate::sharing::{group_of_first, shared_answer};
 use crate::steps::{drop_next, enter, leave, make_ready, regroup, say_next};
 use crate::who::Who;
-use ent_eval::{Answer, Pdp, Questions, ReadKey};
+use ent_eval::{Answer, Memory, Pdp, Questions, ReadKey};
 use ent_finder::{Attributes, Policies, RowKey};
 use ent_index::{Groups, Wanted};
 use ent_log::OldAnswer;
@@ -46,20 +47,20 @@ pub(crate) struct Store {
 }
 
 impl Model for Store {
-    ghost use Rattle.slab.specs.Slab.{Slab, slab_code};
     ghost use Rattle.ent_eval.specs.contracts.answer.Answer as answer;
     ghost use Rattle.ent_eval.specs.contracts.key.ReadKey as key;
+    ghost use Rattle.ent_eval.specs.contracts.question.Question as question;
     ghost use Rattle.ent_cells.specs.contracts.who.Who as whose;
-    ghost use Rattle.ent_cells.specs.Entries.{Entry};
-    ghost use Rattle.ent_cells.specs.proofs_only.Codes.{entry_code};
+    ghost use Rattle.ent_cells.specs.Entries.{Stored};
+    ghost use Rattle.ent_cells.specs.proofs_only.Codes.{stored_code};
 
-    ghost Value = { Slab Entry };
+    ghost Value = { Stored };
 
-    ghost coded = { slab_code (entry_code whose.the_row.coded answer.the_row.coded key.the_row.coded) };
+    ghost coded = { stored_code whose.the_row.coded answer.the_row.coded key.the_row.coded question.the_row.coded };
 
     ghost use Rattle.ent_cells.specs.proofs_only.Grouping.{IsStore, seen};
 
-    ghost view = { λ s. seen s.questions s.groups s.slab };
+    ghost view = { λ s. record { cells = seen s.questions s.groups s.slab; questions = s.questions } };
 
     ghost invariant = { λ s. IsStore s.questions s.groups s.slab };
 }
@@ -67,7 +68,7 @@ impl Model for Store {
 impl Store {
     /// No cells, for which nothing is allocated.
     pub(crate) fn new(alloc: Global) -> Store
-        ensures { result ≡ no_entries }
+        ensures { result.cells ≡ no_entries }
     {
         Store {
             alloc,
@@ -79,7 +80,7 @@ impl Store {
 
     /// The cell under a key.
     pub(crate) fn under(&self, key: usize) -> Option<&Cell>
-        ensures { option_map shown (option_copied result) ≡ option_map shown_entry (get self.now key) }
+        ensures { option_map shown (option_copied result) ≡ option_map shown_entry (get self.now.cells key) }
     {
         self.slab.get(key)
     }
@@ -89,12 +90,16 @@ impl Store {
     pub(crate) fn prepare<A: Attributes, P: Policies>(
         &mut self,
         pdp: &mut Pdp<A, P>,
+        memory: &mut Memory,
         key: usize,
         beside: &[usize],
     ) -> Result<(), AllocError>
-        requires { IsFree (get self.old key) }
-        ensures ok { OnOk result (Becomes (made_ready (looks_of A.sources P.slots pdp.old)) key self.old self.new) }
-        ensures err { OnErr result (self.new ≡ self.old) }
+        requires free { IsFree (get self.old.cells key) }
+        requires remembers { Remembers (looks_of A.sources P.slots pdp.old) self.old.questions memory.old }
+        ensures ok { OnOk result
+            (Becomes (made_ready (looks_of A.sources P.slots pdp.old)) key self.old.cells self.new.cells) }
+        ensures err { OnErr result (self.new.cells ≡ self.old.cells) }
+        ensures remembers { Remembers (looks_of A.sources P.slots pdp.old) self.new.questions memory.new }
         ensures counted { OnOk result (Counts pdp.old.evaluations pdp.new.evaluations 1) }
         ensures bound { CountsAtMost pdp.old.evaluations pdp.new.evaluations 1 }
         ensures rest { pdp.new ≡ record pdp.old { evaluations = pdp.new.evaluations } }
@@ -102,17 +107,21 @@ impl Store {
         let Some(cell) = self.slab.get(key) else {
             unreachable!();
         };
-        let evaluation = evaluate(pdp, &mut self.questions, cell.who.get())?;
-        let answer = shared_answer(self.alloc, &self.slab, key, beside, evaluation.answer)?;
+        let evaluation = evaluate(pdp, memory, &mut self.questions, cell.who.get())?;
+        let answer = shared_answer(&self.slab, key, beside, evaluation.answer)?;
         let near = group_of_first(&self.slab, beside);
-        let group = regroup(
-            &mut self.groups,
+        let asked = evaluation.asked.get().as_slice();
+        let group = regroup(&mut self.groups, key, cell.said.group, asked, near)?;
+        let failed = evaluation.failed;
+        make_ready(
+            &mut self.slab,
             key,
-            cell.said.group,
-            evaluation.asked,
-            near,
-        )?;
-        make_ready(&mut self.slab, key, Grouped { answer, group });
+            Grouped {
+                answer,
+                failed,
+                group,
+            },
+        );
         Ok(())
     }
 
@@ -121,23 +130,23 @@ impl Store {
         &self,
         key: usize,
     ) -> Result<Option<OldAnswer<Who, Answer>>, AllocError>
-        ensures { IfOk result (λ old. old ≡ option_and_then old_at (get self.now key)) }
+        ensures { IfOk result (λ old. old ≡ option_and_then old_at (get self.now.cells key)) }
     {
         old_answer_under(&self.slab, key)
     }
 
     /// Says of the cell under a key what is ready of it. It takes no memory.
     pub(crate) fn commit(&mut self, key: usize)
-        requires { IsSome (get self.old key) }
-        ensures { Becomes settled key self.old self.new }
+        requires { IsSome (get self.old.cells key) }
+        ensures { Becomes settled key self.old.cells self.new.cells }
     {
         say_next(&mut self.slab, &mut self.groups, key);
     }
 
     /// Gives up what is ready of the cell under a key. It takes no memory.
     pub(crate) fn give_up(&mut self, key: usize)
-        requires { IsSome (get self.old key) }
-        ensures { Becomes given_up key self.old self.new }
+        requires { IsSome (get self.old.cells key) }
+        ensures { Becomes given_up key self.old.cells self.new.cells }
     {
         drop_next(&mut self.slab, &mut self.groups, key);
     }
@@ -147,31 +156,40 @@ impl Store {
     pub(crate) fn insert<A: Attributes, P: Policies>(
         &mut self,
         pdp: &mut Pdp<A, P>,
+        memory: &mut Memory,
         who: Shared<Who>,
         beside: &[usize],
     ) -> Result<usize, AllocError>
+        requires { Remembers (looks_of A.sources P.slots pdp.old) self.old.questions memory.old }
         ensures ok { IfOk result
-            (Inserts (entry_of_cell who (says (looks_of A.sources P.slots pdp.old) who)) self.old self.new) }
-        ensures err { OnErr result (self.new ≡ self.old) }
+            (Inserts (entry_of_cell who (says (looks_of A.sources P.slots pdp.old) who))
+            self.old.cells self.new.cells) }
+        ensures err { OnErr result (self.new.cells ≡ self.old.cells) }
+        ensures remembers { Remembers (looks_of A.sources P.slots pdp.old) self.new.questions memory.new }
         ensures counted { OnOk result (Counts pdp.old.evaluations pdp.new.evaluations 1) }
         ensures bound { CountsAtMost pdp.old.evaluations pdp.new.evaluations 1 }
         ensures rest { pdp.new ≡ record pdp.old { evaluations = pdp.new.evaluations } }
     {
         self.slab.reserve(1)?;
         let key = self.slab.vacant_key();
-        let evaluation = evaluate(pdp, &mut self.questions, who.get())?;
-        let answer = shared_answer(self.alloc, &self.slab, key, beside, evaluation.answer)?;
+        let evaluation = evaluate(pdp, memory, &mut self.questions, who.get())?;
+        let answer = shared_answer(&self.slab, key, beside, evaluation.answer)?;
         let near = group_of_first(&self.slab, beside);
-        let group = enter(&mut self.groups, key, who.get(), evaluation.asked, near)?;
-        let said = Grouped { answer, group };
+        let asked = evaluation.asked.get().as_slice();
+        let group = enter(&mut self.groups, key, who.get(), asked, near)?;
+        let said = Grouped {
+            answer,
+            failed: evaluation.failed,
+            group,
+        };
         let next = None;
         Ok(self.slab.insert_reserved(Cell { who, said, next }))
     }
 
     /// Takes the cell under a key out, if there is one, and gives its answer. It takes no memory.
     pub(crate) fn remove(&mut self, key: usize) -> Option<OldAnswer<Who, Answer>>
-        ensures cells { Updates self.old self.new key None }
-        ensures gone { result ≡ option_map (λ e. old_of e.kept) (get self.old key) }
+        ensures cells { Updates self.old.cells self.new.cells key None }
+        ensures gone { result ≡ option_map (λ e. old_of e.kept) (get self.old.cells key) }
     {
         let Some(cell) = self.slab.try_remove(key) else {
             return None;
@@ -183,7 +201,8 @@ impl Store {
     /// The keys of the cells that read one of the changed keys, each once: the groups say where to look, and a cell's
     /// own group and names decide.
     pub(crate) fn touched(&self, changed: &[ReadKey]) -> Result<Vec<usize>, AllocError>
-        ensures { IfOk result (λ v. (c : ℕ) → times c v.items ≡ cond (touched_at changed.now (get self.now c)) 1 0) }
+        ensures { IfOk result
+            (λ v. (c : ℕ) → times c v.items ≡ cond (touched_at changed.now (get self.now.cells c)) 1 0) }
     {
         let wanted = Wanted::of(self.alloc, &self.questions, changed)?;
         let cells = self.groups.candidates(&wanted)?;
@@ -192,7 +211,7 @@ impl Store {
 
     /// Whether a cell reads a key.
     fn is_read(&self, key: &ReadKey) -> Result<bool, AllocError>
-        ensures { IfOk result (IsReadBy self.now key.now) }
+        ensures { IfOk result (IsReadBy self.now.cells key.now) }
     {
         let keys = slice::from_ref(key);
         let wanted = Wanted::of(self.alloc, &self.questions, keys)?;
@@ -205,8 +224,8 @@ impl Store {
 
     /// Puts a key last, if a cell reads it.
     fn keep_one(&self, kept: &mut Items<ReadKey>, key: &ReadKey) -> Result<(), AllocError>
-        ensures { OnOk result (
-            (keys : List Key) → AreReadOf keys self.now kept.old → AreReadOf (keys ++ key.now ∷ []) self.now kept.new) }
+        ensures { OnOk result ((keys : List Key) → AreReadOf keys self.now.cells kept.old
+            → AreReadOf (keys ++ key.now ∷ []) self.now.cells kept.new) }
     {
         let is_read = self.is_read(key)?;
         if is_read {
@@ -217,7 +236,7 @@ impl Store {
 
     /// Those of some keys that a cell reads.
     fn keep_read(&self, keys: &[ReadKey]) -> Result<Items<ReadKey>, AllocError>
-        ensures { IfOk result (AreReadOf keys.now self.now) }
+        ensures { IfOk result (AreReadOf keys.now self.now.cells) }
     {
         let mut kept = Items::new(self.alloc);
         for key in keys {
@@ -228,7 +247,7 @@ impl Store {
 
     /// The keys that a cell reads and whose values the row may change.
     pub(crate) fn keys_of_row(&self, row: &RowKey) -> Result<Items<ReadKey>, AllocError>
-        ensures { IfOk result (AreKeysOf (asks_row row.now) self.now) }
+        ensures { IfOk result (AreKeysOf (asks_row row.now) self.now.cells) }
     {
         let keys = row_keys(self.alloc, row)?;
         self.keep_read(keys.as_slice())
@@ -236,7 +255,7 @@ impl Store {
 
     /// The keys that a cell reads and that are references of a kind and an id.
     pub(crate) fn keys_of_policy(&self, kind: Kind, id: &str) -> Result<Items<ReadKey>, AllocError>
-        ensures { IfOk result (AreKeysOf (asks_policy kind id.now) self.now) }
+        ensures { IfOk result (AreKeysOf (asks_policy kind id.now) self.now.cells) }
     {
         let keys = references(self.alloc, self.questions.as_slice(), kind, id)?;
         self.keep_read(keys.as_slice())

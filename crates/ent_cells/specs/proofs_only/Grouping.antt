@@ -14,17 +14,17 @@ use Rattle.ent_index.specs.Groups.{IsNamed, holds, is_wanted, numbers_of, reads_
 use Rattle.ent_cells.specs.declared.cell.Cell.{Cell}
 use Rattle.ent_cells.specs.declared.cell.Grouped.{Grouped}
 use Rattle.ent_cells.specs.declared.who.Who.{Who}
-use Rattle.ent_cells.specs.Cell.{Said}
+use Rattle.ent_cells.specs.Cell.{Kept, Said}
 use Rattle.ent_cells.specs.Entries.{Entry}
 
 -- what an evaluation says of a request, with keys in place of the numbers of questions
 abbrev pub said_in : List Question → Who → ListedEvaluation → Said
-said_in questions x e = record { answer = e.answer; reads = keys_at (listed x.person x.action x.resource) (at_numbers questions e.asked) }
+said_in questions x e = record { answer = e.answer; reads = keys_at (listed x.person x.action x.resource) (at_numbers questions e.asked); failed = e.failed }
 
 module _ (questions : List Question) (groups : Groups) where
   -- what is said of a request, with keys in place of the group
   abbrev pub said_of : Who → Grouped → Said
-  said_of x said = record { answer = said.answer; reads = reads_in questions groups x.person x.action x.resource said.group }
+  said_of x said = record { answer = said.answer; reads = reads_in questions groups x.person x.action x.resource said.group; failed = said.failed }
 
   -- a cell, with keys in place of groups
   abbrev pub entry_in : Cell → Entry
@@ -101,9 +101,12 @@ wanted_at groups wanted (Some cell) = list_any (is_wanted cell.who.person cell.w
 
 -- ---- a cell that is lent
 
--- its request and its answer
-abbrev pub shown : Cell → Who × Answer
-shown cell = (cell.who, cell.said.answer)
+-- its request, its answer, and whether a part of the evaluation failed by itself
+abbrev pub shown : Cell → Who × (Answer × Bool)
+shown cell = (cell.who, (cell.said.answer, cell.said.failed))
 
-abbrev pub shown_entry : Entry → Who × Answer
-shown_entry e = (e.kept.who, e.kept.said.answer)
+abbrev pub shown_kept : Kept → Who × (Answer × Bool)
+shown_kept e = (e.who, (e.said.answer, e.said.failed))
+
+abbrev pub shown_entry : Entry → Who × (Answer × Bool)
+shown_entry e = shown_kept e.kept

@@ -36,8 +36,8 @@ loop-done-preserved c =
     let rest : List ℕ = c.loop-done.rest.now in
     let gone : List ℕ = c.split-in-loop-done-2.result.0.now in
     let later : List ℕ = c.split.result.1.now in
-    let s = c.loop-done.store in
-    let t = c.remove_logged.new.store in
+    let s = c.loop-done.store.cells in
+    let t = c.remove_logged.new.store.cells in
     let is : gone ≡ take each (drop o (take w rest)) =
     c.split-in-loop-done-2.ensures.front ∙ ap (take each) (c.split-in-loop-done.ensures.back ∙ ap (drop o) c.split.ensures.front) in
     let next : List ℕ = taken_out (n - (i + 1)) w o each later in
@@ -46,7 +46,7 @@ loop-done-preserved c =
     let once : (q : ℕ) → times q (gone ++ next) ≤ 1 =
     λ q. omega (arith, ap (times q) step, times_parts q (n - i) w o each rest, c.loop-done.invariant.once q) in
     record {
-      cells = block_step c.args.store.now s t n i w o each _ rest gone later c.loop-done-test.true is c.split.ensures.back c.loop-done.invariant.cells c.remove_logged.ensures.cells;
+      cells = block_step c.args.store.now.cells s t n i w o each _ rest gone later c.loop-done-test.true is c.split.ensures.back c.loop-done.invariant.cells c.remove_logged.ensures.cells;
       once = λ q. omega (arith, ap (times q) c.split.ensures.back, times_split q w rest, c.loop-done.invariant.once q);
       room = omega (arith, block_length w o each rest gone later is c.split.ensures.back, gone_length s gone, c.remove_logged.ensures.logged.room, c.loop-done.invariant.room);
       logged = λ end puts.

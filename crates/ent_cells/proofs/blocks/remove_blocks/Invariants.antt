@@ -11,10 +11,10 @@ use Rattle.ent_cells.proofs.blocks.remove_blocks.Given as goal
 -- what is still to be put into the log makes the whole of it
 abbrev pub invariant-loop-done : goal.invariant-loop-done
 invariant-loop-done l = record {
-  cells : (q : ℕ) → left_of l.store (taken_out (l.blocks.count - l.done) l.blocks.width l.from l.blocks.each l.rest) q
-      ≡ left_of l.initial.store (taken_out l.blocks.count l.blocks.width l.from l.blocks.each l.keys) q;
+  cells : (q : ℕ) → left_of l.store.cells (taken_out (l.blocks.count - l.done) l.blocks.width l.from l.blocks.each l.rest) q
+      ≡ left_of l.initial.store.cells (taken_out l.blocks.count l.blocks.width l.from l.blocks.each l.keys) q;
   once : (c : ℕ) → times c l.rest ≤ 1;
   room : length l.rest ≤ room_of l.log;
-  logged : (end : Log Who Answer) → Puts (gone_in l.store (taken_out (l.blocks.count - l.done) l.blocks.width l.from l.blocks.each l.rest)) l.log end
-      → Puts (gone_in l.initial.store (taken_out l.blocks.count l.blocks.width l.from l.blocks.each l.keys)) l.initial.log end;
+  logged : (end : Log Who Answer) → Puts (gone_in l.store.cells (taken_out (l.blocks.count - l.done) l.blocks.width l.from l.blocks.each l.rest)) l.log end
+      → Puts (gone_in l.initial.store.cells (taken_out l.blocks.count l.blocks.width l.from l.blocks.each l.keys)) l.initial.log end;
 }

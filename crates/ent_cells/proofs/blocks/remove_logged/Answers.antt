@@ -10,7 +10,7 @@ use Rattle.ent_cells.proofs.blocks.remove_logged.Goals as goal
 pub remove_one-requires : goal.remove_one-requires
 remove_one-requires c =
     let i : ℕ = c.loop-key.key-index in
-    let few : length (gone_in c.args.store.now (take i c.args.keys.now)) ≤ length (take i c.args.keys.now) = gone_length c.args.store.now (take i c.args.keys.now) in
+    let few : length (gone_in c.args.store.now.cells (take i c.args.keys.now)) ≤ length (take i c.args.keys.now) = gone_length c.args.store.now.cells (take i c.args.keys.now) in
     omega (arith, c.loop-key.invariant.logged.room, few, length-take i c.args.keys.now, c.loop-key-test.true, c.requires.room)
 
 pub loop-key-preserved : goal.loop-key-preserved
@@ -18,15 +18,15 @@ loop-key-preserved c =
     let i : ℕ = c.loop-key.key-index in
     let keys : List ℕ = c.args.keys.now in
     let k : ℕ = slice_index_or keys i 0 in
-    let s = c.args.store.now in
-    let one : gone_in c.loop-key.store (k ∷ []) ≡ gone_in s (k ∷ []) =
-    gone_one s c.loop-key.store (take i keys) c.loop-key.invariant.cells k (first_times keys i c.loop-key-test.true (c.requires.once k)) in
+    let s = c.args.store.now.cells in
+    let one : gone_in c.loop-key.store.cells (k ∷ []) ≡ gone_in s (k ∷ []) =
+    gone_one s c.loop-key.store.cells (take i keys) c.loop-key.invariant.cells k (first_times keys i c.loop-key-test.true (c.requires.once k)) in
     record {
       cells = λ q.
-          left_more s c.loop-key.store c.remove_one.new.store _ k c.loop-key.invariant.cells c.remove_one.ensures.cells q
+          left_more s c.loop-key.store.cells c.remove_one.new.store.cells _ k c.loop-key.invariant.cells c.remove_one.ensures.cells q
           ∙ ap (λ (ks : List ℕ). left_of s ks q) (sym (take_more keys i 0 c.loop-key-test.true));
       logged =
-          puts-as (gone_in s (take i keys) ++ gone_in c.loop-key.store (k ∷ [])) (gone_in s (take (i + 1) keys)) c.args.log.now c.remove_one.new.log
+          puts-as (gone_in s (take i keys) ++ gone_in c.loop-key.store.cells (k ∷ [])) (gone_in s (take (i + 1) keys)) c.args.log.now c.remove_one.new.log
           (ap (λ os. gone_in s (take i keys) ++ os) one ∙ sym (gone_more s keys i c.loop-key-test.true))
-          (puts-append (gone_in s (take i keys)) (gone_in c.loop-key.store (k ∷ [])) c.args.log.now c.loop-key.log c.remove_one.new.log c.loop-key.invariant.logged c.remove_one.ensures.logged);
+          (puts-append (gone_in s (take i keys)) (gone_in c.loop-key.store.cells (k ∷ [])) c.args.log.now c.loop-key.log c.remove_one.new.log c.loop-key.invariant.logged c.remove_one.ensures.logged);
     }

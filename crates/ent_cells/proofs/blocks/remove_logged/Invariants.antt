@@ -6,6 +6,6 @@ use Rattle.ent_cells.proofs.blocks.remove_logged.Given as goal
 
 abbrev pub invariant-loop-key : goal.invariant-loop-key
 invariant-loop-key l = record {
-  cells : (q : ℕ) → get l.store q ≡ left_of l.initial.store (take l.key-index l.keys) q;
-  logged : Puts (gone_in l.initial.store (take l.key-index l.keys)) l.initial.log l.log;
+  cells : (q : ℕ) → get l.store.cells q ≡ left_of l.initial.store.cells (take l.key-index l.keys) q;
+  logged : Puts (gone_in l.initial.store.cells (take l.key-index l.keys)) l.initial.log l.log;
 }

@@ -6,9 +6,9 @@ use Rattle.ent_cells.proofs.phases.give_up_all.Goals as goal
 pub give_up-requires : goal.give_up-requires
 give_up-requires c =
     let i : ℕ = c.loop-key.key-index in
-    still_there given_up c.args.store.now c.loop-key.store c.args.keys.now i c.loop-key-test.true (c.requires.once (slice_index_or c.args.keys.now i 0)) c.loop-key.invariant (c.requires.there i 0 c.loop-key-test.true)
+    still_there given_up c.args.store.now.cells c.loop-key.store.cells c.args.keys.now i c.loop-key-test.true (c.requires.once (slice_index_or c.args.keys.now i 0)) c.loop-key.invariant (c.requires.there i 0 c.loop-key-test.true)
 
 pub loop-key-preserved : goal.loop-key-preserved
 loop-key-preserved c =
     let i : ℕ = c.loop-key.key-index in
-    one_step given_up c.args.store.now c.loop-key.store c.args.keys.now i c.loop-key-test.true (c.requires.once (slice_index_or c.args.keys.now i 0)) c.loop-key.invariant c.give_up.new.self (c.requires.there i 0 c.loop-key-test.true) c.give_up.ensures
+    one_step given_up c.args.store.now.cells c.loop-key.store.cells c.args.keys.now i c.loop-key-test.true (c.requires.once (slice_index_or c.args.keys.now i 0)) c.loop-key.invariant c.give_up.new.self.cells (c.requires.there i 0 c.loop-key-test.true) c.give_up.ensures

@@ -5,7 +5,7 @@ use Rattle.ent_cells.proofs.phases.old_answers.Goals.{in-Some+in_ok-push, in_def
 
 pub loop-key-preserved : goal.loop-key-preserved
 loop-key-preserved c =
-    let s = c.args.store.now in
+    let s = c.args.store.now.cells in
     let keys = c.args.keys.now in
     let i = c.loop-key.key-index in
     elim c.match-branch-2.branch [

@@ -10,7 +10,7 @@ use Rattle.ent_cells.proofs.live.Live.keys_of_policy.Goals as goal
 pub returns : goal.returns
 returns c =
     let asks = asks_policy c.args.kind c.args.id.now in
-    let s = c.self.inside.store in
+    let s = c.self.inside.store.cells in
     let ks = c.self.inside.keys.items in
     subst (λ (es : List Kept). IfOk c.keys_of_policy.result (AreReadKeys asks es)) c.self.view_is
     (IfOk-weaker c.keys_of_policy.result (AreKeysOf asks s) (AreReadKeys asks (kept_of s ks)) (λ keys has. are_listed asks s ks keys c.self.invariant has) c.keys_of_policy.ensures)

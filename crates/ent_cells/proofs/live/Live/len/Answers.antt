@@ -4,5 +4,5 @@ use Rattle.ent_cells.proofs.live.Live.len.Goals as goal
 
 pub returns : goal.returns
 returns c =
-    let e : length c.self.inside.keys.items ≡ length c.args.self.now = sym (kept_long c.self.inside.store c.self.inside.keys.items c.self.invariant.grid) ∙ ap length c.self.view_is in
+    let e : length c.self.inside.keys.items ≡ length c.args.self.now = sym (kept_long c.self.inside.store.cells c.self.inside.keys.items c.self.invariant.grid) ∙ ap length c.self.view_is in
     omega (arith, c.len.ensures)

@@ -24,17 +24,17 @@ keys_once : (s : Slab Entry) (ks : List ℕ) → IsGrid s ks → (c : ℕ) → t
 keys_once s ks grid c = at_most_one (is_some (get s c)) (times c ks) (grid c)
 
 pub remove_blocks-requires-clause-once : goal.remove_blocks-requires-clause-once
-remove_blocks-requires-clause-once c = rw c.deref.ensures.value (keys_once c.self.inside.store c.self.inside.keys.items c.self.invariant.grid)
+remove_blocks-requires-clause-once c = rw c.deref.ensures.value (keys_once c.self.inside.store.cells c.self.inside.keys.items c.self.invariant.grid)
 
 pub remove_blocks-requires-clause-room : goal.remove_blocks-requires-clause-room
 remove_blocks-requires-clause-room c =
-    omega (arith, c.requires.room, ap length c.deref.ensures.value, kept_long c.self.inside.store c.self.inside.keys.items c.self.invariant.grid, ap length c.self.view_is)
+    omega (arith, c.requires.room, ap length c.deref.ensures.value, kept_long c.self.inside.store.cells c.self.inside.keys.items c.self.invariant.grid, ap length c.self.view_is)
 
 pub invariant_of-self : goal.invariant_of-self
 invariant_of-self c =
     let cleared = rw c.deref.ensures.value at c.remove_blocks.ensures.cells in
-    let is = c.keep_present.ensures ∙ narrow_filter c.self.inside.store c.remove_blocks.new.store c.args.blocks.count c.args.blocks.width c.args.from c.args.blocks.each c.self.inside.keys.items c.self.invariant.grid cleared in
-    rw is (narrow_live c.self.inside.store c.remove_blocks.new.store c.args.blocks.count c.args.blocks.width c.args.from c.args.blocks.each c.self.inside.keys.items c.self.invariant cleared)
+    let is = c.keep_present.ensures ∙ narrow_filter c.self.inside.store.cells c.remove_blocks.new.store.cells c.args.blocks.count c.args.blocks.width c.args.from c.args.blocks.each c.self.inside.keys.items c.self.invariant.grid cleared in
+    rw is (narrow_live c.self.inside.store.cells c.remove_blocks.new.store.cells c.args.blocks.count c.args.blocks.width c.args.from c.args.blocks.each c.self.inside.keys.items c.self.invariant cleared)
 
 -- the cells that are left, and what is logged of those that go
 module _ (s t : Slab Entry) (m w o n : ℕ) (ks left : List ℕ) (grid : IsGrid s ks) (before after : Log Who Answer) (puts : Puts (gone_in s (taken_out m w o n ks)) before after)
@@ -56,29 +56,29 @@ module _ (s t : Slab Entry) (m w o n : ℕ) (ks left : List ℕ) (grid : IsGrid 
 pub returns-clause-cells : goal.returns-clause-cells
 returns-clause-cells c =
     let cleared = rw c.deref.ensures.value at c.remove_blocks.ensures.cells in
-    let is = c.keep_present.ensures ∙ narrow_filter c.self.inside.store c.remove_blocks.new.store c.args.blocks.count c.args.blocks.width c.args.from c.args.blocks.each c.self.inside.keys.items c.self.invariant.grid cleared in
-    ap (kept_of c.remove_blocks.new.store) is
-    ∙ narrow_kept c.self.inside.store c.remove_blocks.new.store c.args.blocks.count c.args.blocks.width c.args.from c.args.blocks.each c.self.inside.keys.items c.self.invariant cleared
+    let is = c.keep_present.ensures ∙ narrow_filter c.self.inside.store.cells c.remove_blocks.new.store.cells c.args.blocks.count c.args.blocks.width c.args.from c.args.blocks.each c.self.inside.keys.items c.self.invariant.grid cleared in
+    ap (kept_of c.remove_blocks.new.store.cells) is
+    ∙ narrow_kept c.self.inside.store.cells c.remove_blocks.new.store.cells c.args.blocks.count c.args.blocks.width c.args.from c.args.blocks.each c.self.inside.keys.items c.self.invariant cleared
     ∙ ap (without c.args.blocks.count c.args.blocks.width c.args.from c.args.blocks.each) c.self.view_is
 
 pub returns-clause-logged : goal.returns-clause-logged
 returns-clause-logged c =
     let cleared = rw c.deref.ensures.value at c.remove_blocks.ensures.cells in
     let puts = rw c.deref.ensures.value at c.remove_blocks.ensures.logged in
-    let is = c.keep_present.ensures ∙ narrow_filter c.self.inside.store c.remove_blocks.new.store c.args.blocks.count c.args.blocks.width c.args.from c.args.blocks.each c.self.inside.keys.items c.self.invariant.grid cleared in
-    let new_is = ap (kept_of c.remove_blocks.new.store) is
-    ∙ narrow_kept c.self.inside.store c.remove_blocks.new.store c.args.blocks.count c.args.blocks.width c.args.from c.args.blocks.each c.self.inside.keys.items c.self.invariant cleared
+    let is = c.keep_present.ensures ∙ narrow_filter c.self.inside.store.cells c.remove_blocks.new.store.cells c.args.blocks.count c.args.blocks.width c.args.from c.args.blocks.each c.self.inside.keys.items c.self.invariant.grid cleared in
+    let new_is = ap (kept_of c.remove_blocks.new.store.cells) is
+    ∙ narrow_kept c.self.inside.store.cells c.remove_blocks.new.store.cells c.args.blocks.count c.args.blocks.width c.args.from c.args.blocks.each c.self.inside.keys.items c.self.invariant cleared
     ∙ ap (without c.args.blocks.count c.args.blocks.width c.args.from c.args.blocks.each) c.self.view_is in
-    is_logged c.self.inside.store c.remove_blocks.new.store c.args.blocks.count c.args.blocks.width c.args.from c.args.blocks.each c.self.inside.keys.items c.keep_present.new.keys.items c.self.invariant.grid c.args.log.now c.remove_blocks.new.log puts
+    is_logged c.self.inside.store.cells c.remove_blocks.new.store.cells c.args.blocks.count c.args.blocks.width c.args.from c.args.blocks.each c.self.inside.keys.items c.keep_present.new.keys.items c.self.invariant.grid c.args.log.now c.remove_blocks.new.log puts
     c.args.self.now c.self.view_is new_is
 
 pub returns-clause-room : goal.returns-clause-room
 returns-clause-room c =
     let cleared = rw c.deref.ensures.value at c.remove_blocks.ensures.cells in
     let puts = rw c.deref.ensures.value at c.remove_blocks.ensures.logged in
-    let is = c.keep_present.ensures ∙ narrow_filter c.self.inside.store c.remove_blocks.new.store c.args.blocks.count c.args.blocks.width c.args.from c.args.blocks.each c.self.inside.keys.items c.self.invariant.grid cleared in
-    let new_is = ap (kept_of c.remove_blocks.new.store) is
-    ∙ narrow_kept c.self.inside.store c.remove_blocks.new.store c.args.blocks.count c.args.blocks.width c.args.from c.args.blocks.each c.self.inside.keys.items c.self.invariant cleared
+    let is = c.keep_present.ensures ∙ narrow_filter c.self.inside.store.cells c.remove_blocks.new.store.cells c.args.blocks.count c.args.blocks.width c.args.from c.args.blocks.each c.self.inside.keys.items c.self.invariant.grid cleared in
+    let new_is = ap (kept_of c.remove_blocks.new.store.cells) is
+    ∙ narrow_kept c.self.inside.store.cells c.remove_blocks.new.store.cells c.args.blocks.count c.args.blocks.width c.args.from c.args.blocks.each c.self.inside.keys.items c.self.invariant cleared
     ∙ ap (without c.args.blocks.count c.args.blocks.width c.args.from c.args.blocks.each) c.self.view_is in
-    still_room c.self.inside.store c.remove_blocks.new.store c.args.blocks.count c.args.blocks.width c.args.from c.args.blocks.each c.self.inside.keys.items c.keep_present.new.keys.items c.self.invariant.grid c.args.log.now c.remove_blocks.new.log puts
+    still_room c.self.inside.store.cells c.remove_blocks.new.store.cells c.args.blocks.count c.args.blocks.width c.args.from c.args.blocks.each c.self.inside.keys.items c.keep_present.new.keys.items c.self.invariant.grid c.args.log.now c.remove_blocks.new.log puts
     c.args.self.now c.self.view_is new_is c.requires.room

@@ -6,13 +6,13 @@ use Rattle.ent_cells.proofs.live.Live.truncate.Goals as goal
 pub invariant_of-self : goal.invariant_of-self
 invariant_of-self c =
     let cleared = rw c.deref.ensures.value at c.remove_from.ensures in
-    let is = c.keep_present.ensures ∙ front_filter c.self.inside.store c.remove_from.new.store c.args.len c.self.inside.keys.items c.self.invariant cleared in
-    rw is (front_live c.self.inside.store c.remove_from.new.store c.args.len c.self.inside.keys.items c.self.invariant cleared)
+    let is = c.keep_present.ensures ∙ front_filter c.self.inside.store.cells c.remove_from.new.store.cells c.args.len c.self.inside.keys.items c.self.invariant cleared in
+    rw is (front_live c.self.inside.store.cells c.remove_from.new.store.cells c.args.len c.self.inside.keys.items c.self.invariant cleared)
 
 pub returns : goal.returns
 returns c =
     let cleared = rw c.deref.ensures.value at c.remove_from.ensures in
-    let is = c.keep_present.ensures ∙ front_filter c.self.inside.store c.remove_from.new.store c.args.len c.self.inside.keys.items c.self.invariant cleared in
-    ap (kept_of c.remove_from.new.store) is
-    ∙ front_kept c.self.inside.store c.remove_from.new.store c.args.len c.self.inside.keys.items c.self.invariant cleared
+    let is = c.keep_present.ensures ∙ front_filter c.self.inside.store.cells c.remove_from.new.store.cells c.args.len c.self.inside.keys.items c.self.invariant cleared in
+    ap (kept_of c.remove_from.new.store.cells) is
+    ∙ front_kept c.self.inside.store.cells c.remove_from.new.store.cells c.args.len c.self.inside.keys.items c.self.invariant cleared
     ∙ ap (take c.args.len) c.self.view_is

@@ -1,4 +1,4 @@
-use Rattle.std.proofs.Common.{◌≡◌, sym, subst, ◌∙◌}
+use Rattle.std.proofs.Common.{◌≡◌, refl, sym, subst, ◌∙◌}
 use Rattle.ent_eval.specs.LooksOf.{looks_of}
 use Rattle.ent_eval.specs.Looks.{Looks}
 use Rattle.ent_cells.proofs.Grouped.{stays_itself, still_seen, still_store}
@@ -26,7 +26,7 @@ returns-in_err-evaluation-clause-err g c =
     on_err c.from_residual-in_err-evaluation.result
     (still_seen q c.evaluate.new.questions gs gs c.evaluate.ensures.begins (stays_itself gs) c.reserve.new.self (roomier_store q gs c.self.inside.slab c.reserve.new.self c.reserve.ensures.rest_kept c.self.invariant)
     ∙ roomier_seen q gs c.self.inside.slab c.reserve.new.self c.reserve.ensures.rest_kept
-    ∙ c.self.view_is)
+    ∙ (λ j. (c.self.view_is j).cells))
 
 pub invariant_of-self-in_err-answer : goal.invariant_of-self-in_err-answer
 invariant_of-self-in_err-answer g c =
@@ -41,7 +41,7 @@ returns-in_err-answer-clause-err g c =
     on_err c.from_residual-in_err-answer.result
     (still_seen q c.evaluate.new.questions gs gs c.evaluate.ensures.begins (stays_itself gs) c.reserve.new.self (roomier_store q gs c.self.inside.slab c.reserve.new.self c.reserve.ensures.rest_kept c.self.invariant)
     ∙ roomier_seen q gs c.self.inside.slab c.reserve.new.self c.reserve.ensures.rest_kept
-    ∙ c.self.view_is)
+    ∙ (λ j. (c.self.view_is j).cells))
 
 pub invariant_of-self-in_err-group : goal.invariant_of-self-in_err-group
 invariant_of-self-in_err-group g c =
@@ -58,20 +58,20 @@ returns-in_err-group-clause-err g c =
     (vacant_seen q c.evaluate.new.questions gs c.enter.new.groups c.reserve.new.self c.vacant_key-key.result c.evaluate.ensures.begins c.enter.ensures.others
     (roomier_store q gs c.self.inside.slab c.reserve.new.self c.reserve.ensures.rest_kept c.self.invariant) c.vacant_key-key.ensures.vacant
     ∙ roomier_seen q gs c.self.inside.slab c.reserve.new.self c.reserve.ensures.rest_kept
-    ∙ c.self.view_is)
+    ∙ (λ j. (c.self.view_is j).cells))
 
 pub invariant_of-self-2 : goal.invariant_of-self-2
 invariant_of-self-2 g c =
     let gs = c.self.inside.groups in
     let q = c.self.inside.questions in
     let key = c.vacant_key-key.result in
-    let said : Grouped = record { answer = c.in_ok-answer.answer; group = c.in_ok-group.group } in
+    let said : Grouped = record { answer = c.in_ok-answer.answer; failed = c.in_ok-evaluation.evaluation.failed; group = c.in_ok-group.group } in
     let same : c.insert_reserved.result ≡ key = c.insert_reserved.ensures.key ∙ sym c.vacant_key-key.ensures.value in
     put_store q c.evaluate.new.questions gs c.enter.new.groups c.reserve.new.self c.insert_reserved.new.self key c.args.who said c.evaluate.ensures.begins c.enter.ensures.others
     (roomier_store q gs c.self.inside.slab c.reserve.new.self c.reserve.ensures.rest_kept c.self.invariant) c.vacant_key-key.ensures.vacant
     (rw same at c.insert_reserved.ensures.updates)
-    (is_grouped c.evaluate.new.questions c.enter.new.groups key said c.in_ok-evaluation.evaluation.asked c.in_ok-group.ensures.there c.in_ok-group.ensures.numbers c.in_ok-evaluation.ensures.within)
-    (rw c.get-2.ensures at c.in_ok-group.ensures.named)
+    (is_grouped c.evaluate.new.questions c.enter.new.groups key said c.in_ok-evaluation.evaluation.asked c.in_ok-group.ensures.there (c.in_ok-group.ensures.numbers ∙ c.as_slice-asked.ensures ∙ c.get-2.ensures) c.in_ok-evaluation.ensures.within)
+    (rw c.get-3.ensures at c.in_ok-group.ensures.named)
 
 pub returns-clause-ok : goal.returns-clause-ok
 returns-clause-ok g c =
@@ -82,15 +82,15 @@ returns-clause-ok g c =
     let e = c.in_ok-evaluation.evaluation in
     let x : Who = c.args.who in
     let key = c.vacant_key-key.result in
-    let said : Grouped = record { answer = c.in_ok-answer.answer; group = c.in_ok-group.group } in
+    let said : Grouped = record { answer = c.in_ok-answer.answer; failed = c.in_ok-evaluation.evaluation.failed; group = c.in_ok-group.group } in
     let same : c.insert_reserved.result ≡ key = c.insert_reserved.ensures.key ∙ sym c.vacant_key-key.ensures.value in
     let so : said_in new x e ≡ says looks x = subst (λ (y : Who). said_in new y e ≡ says looks y) c.get.ensures c.in_ok-evaluation.ensures.said in
     rw same
     (subst (λ old. Inserts (entry_of_cell x (says looks x)) old (seen new c.enter.new.groups c.insert_reserved.new.self) key)
-    (roomier_seen q gs c.self.inside.slab c.reserve.new.self c.reserve.ensures.rest_kept ∙ c.self.view_is)
+    (roomier_seen q gs c.self.inside.slab c.reserve.new.self c.reserve.ensures.rest_kept ∙ (λ j. (c.self.view_is j).cells))
     (put_seen q new gs c.enter.new.groups c.reserve.new.self c.insert_reserved.new.self key x said c.evaluate.ensures.begins c.enter.ensures.others
     (roomier_store q gs c.self.inside.slab c.reserve.new.self c.reserve.ensures.rest_kept c.self.invariant) c.vacant_key-key.ensures.vacant
     (rw same at c.insert_reserved.ensures.updates)
-    (is_grouped new c.enter.new.groups key said e.asked c.in_ok-group.ensures.there c.in_ok-group.ensures.numbers c.in_ok-evaluation.ensures.within)
-    (rw c.get-2.ensures at c.in_ok-group.ensures.named)
-    looks (said_right new c.enter.new.groups looks x e said c.in_ok-answer.ensures c.in_ok-group.ensures.numbers so)))
+    (is_grouped new c.enter.new.groups key said e.asked c.in_ok-group.ensures.there (c.in_ok-group.ensures.numbers ∙ c.as_slice-asked.ensures ∙ c.get-2.ensures) c.in_ok-evaluation.ensures.within)
+    (rw c.get-3.ensures at c.in_ok-group.ensures.named)
+    looks (said_right new c.enter.new.groups looks x e said c.in_ok-answer.ensures refl (c.in_ok-group.ensures.numbers ∙ c.as_slice-asked.ensures ∙ c.get-2.ensures) so)))

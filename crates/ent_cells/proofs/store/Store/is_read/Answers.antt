@@ -20,4 +20,4 @@ pub returns : goal.returns
 returns c =
     let v = c.in_ok-touched.touched.items in
     let is = rw c.as_slice.ensures.value at c.is_empty.ensures in
-    read_by c.args.self.now c.args.key.now v (rw c.from_ref-keys.ensures.value at c.in_ok-touched.ensures) _ (filled_list v c.is_empty.result is) (empty_list v c.is_empty.result is)
+    read_by c.args.self.now.cells c.args.key.now v (rw c.from_ref-keys.ensures.value at c.in_ok-touched.ensures) _ (filled_list v c.is_empty.result is) (empty_list v c.is_empty.result is)

@@ -5,7 +5,7 @@ use Rattle.ent_cells.proofs.store.Store.keep_one.Goals as goal
 
 pub returns-then-is_read : goal.returns-then-is_read
 returns-then-is_read c =
-    let s = c.args.self.now in
+    let s = c.args.self.now.cells in
     let k = c.args.key.now in
     let old = c.args.kept.now in
     on_ok_by c.push.result
@@ -15,4 +15,4 @@ returns-then-is_read c =
     c.push.ensures.ok
 
 pub returns : goal.returns
-returns c = λ keys are. one_unread c.args.self.now keys c.args.kept.now c.args.key.now are (c.in_ok-is_read.ensures.none c.if-is_read.false)
+returns c = λ keys are. one_unread c.args.self.now.cells keys c.args.kept.now c.args.key.now are (c.in_ok-is_read.ensures.none c.if-is_read.false)

@@ -9,4 +9,4 @@ loop-key-preserved c =
     let i = c.loop-key.key-index in
     let x = c.key-item.result in
     let more = take_more keys i x c.loop-key-test.true ∙ ap (λ y. take i keys ++ y ∷ []) (sym c.key-item.is) in
-    subst (λ ks. AreReadOf ks c.args.self.now c.keep_one.new.kept) (sym more) (c.in_ok-keep_one.ensures (take i keys) c.loop-key.invariant)
+    subst (λ ks. AreReadOf ks c.args.self.now.cells c.keep_one.new.kept) (sym more) (c.in_ok-keep_one.ensures (take i keys) c.loop-key.invariant)

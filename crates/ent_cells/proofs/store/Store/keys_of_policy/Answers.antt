@@ -11,7 +11,7 @@ use Rattle.ent_cells.proofs.store.Store.keys_of_policy.Goals as goal
 
 pub returns : goal.returns
 returns c =
-    let s = c.args.self.now in
+    let s = c.args.self.now.cells in
     let q = c.self.inside.questions in
     let kind = c.args.kind in
     let id = c.args.id.now in
@@ -23,5 +23,5 @@ returns c =
     (λ k h. references_asked kind id q k (ap (λ xs. has_key xs k) (sym is) ∙ h))
     (λ k x asked reads.
     ap (λ xs. has_key xs k) is
-    ∙ references_there kind id q k asked (read_asked listed_look_ups q c.self.inside.groups c.self.inside.slab c.self.invariant k x (ap (λ z. reads_at (get z x) k) c.self.view_is ∙ reads))))
+    ∙ references_there kind id q k asked (read_asked listed_look_ups q c.self.inside.groups c.self.inside.slab c.self.invariant k x (ap (λ z. reads_at (get z.cells x) k) c.self.view_is ∙ reads))))
     c.keep_read.ensures

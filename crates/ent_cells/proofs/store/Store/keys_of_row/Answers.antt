@@ -9,7 +9,7 @@ use Rattle.ent_cells.proofs.store.Store.keys_of_row.Goals as goal
 
 pub returns : goal.returns
 returns c =
-    let s = c.args.self.now in
+    let s = c.args.self.now.cells in
     let asks = asks_row c.args.row.now in
     let ks = c.as_slice.result.now in
     let has : (k : ReadKey) → has_key ks k ≡ asks k = λ k. ap (λ xs. has_key xs k) c.as_slice.ensures ∙ c.in_ok-keys.ensures k in

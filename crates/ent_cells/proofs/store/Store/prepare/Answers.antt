@@ -1,4 +1,4 @@
-use Rattle.std.proofs.Common.{◌≡◌, sym, subst, ap, ◌∙◌}
+use Rattle.std.proofs.Common.{◌≡◌, refl, sym, subst, ap, ◌∙◌}
 use Rattle.std.proofs.lemmas.Option.{same_Some}
 use Rattle.ent_eval.specs.LooksOf.{looks_of}
 use Rattle.ent_eval.specs.Looks.{Looks}
@@ -18,7 +18,7 @@ invariant_of-self g c =
 pub returns-in_err-evaluation-clause-err : goal.returns-in_err-evaluation-clause-err
 returns-in_err-evaluation-clause-err g c =
     let gs = c.self.inside.groups in
-    on_err c.from_residual.result (still_seen c.self.inside.questions c.evaluate.new.questions gs gs c.evaluate.ensures.begins (stays_itself gs) c.self.inside.slab c.self.invariant ∙ c.self.view_is)
+    on_err c.from_residual.result (still_seen c.self.inside.questions c.evaluate.new.questions gs gs c.evaluate.ensures.begins (stays_itself gs) c.self.inside.slab c.self.invariant ∙ (λ j. (c.self.view_is j).cells))
 
 pub invariant_of-self-in_err-answer : goal.invariant_of-self-in_err-answer
 invariant_of-self-in_err-answer g c =
@@ -28,7 +28,7 @@ invariant_of-self-in_err-answer g c =
 pub returns-in_err-answer-clause-err : goal.returns-in_err-answer-clause-err
 returns-in_err-answer-clause-err g c =
     let gs = c.self.inside.groups in
-    on_err c.from_residual-in_err-answer.result (still_seen c.self.inside.questions c.evaluate.new.questions gs gs c.evaluate.ensures.begins (stays_itself gs) c.self.inside.slab c.self.invariant ∙ c.self.view_is)
+    on_err c.from_residual-in_err-answer.result (still_seen c.self.inside.questions c.evaluate.new.questions gs gs c.evaluate.ensures.begins (stays_itself gs) c.self.inside.slab c.self.invariant ∙ (λ j. (c.self.view_is j).cells))
 
 pub invariant_of-self-in_err-group : goal.invariant_of-self-in_err-group
 invariant_of-self-in_err-group g c =
@@ -41,16 +41,16 @@ returns-in_err-group-clause-err g c =
     let gs = c.self.inside.groups in
     let joined = c.regroup.new.groups in
     on_err c.from_residual-in_err-group.result
-    (still_seen c.self.inside.questions c.evaluate.new.questions gs joined c.evaluate.ensures.begins (joined_stays gs joined c.regroup.ensures.groups c.regroup.ensures.names) c.self.inside.slab c.self.invariant ∙ c.self.view_is)
+    (still_seen c.self.inside.questions c.evaluate.new.questions gs joined c.evaluate.ensures.begins (joined_stays gs joined c.regroup.ensures.groups c.regroup.ensures.names) c.self.inside.slab c.self.invariant ∙ (λ j. (c.self.view_is j).cells))
 
 pub invariant_of-self-2 : goal.invariant_of-self-2
 invariant_of-self-2 g c =
     let gs = c.self.inside.groups in
     let joined = c.regroup.new.groups in
-    let said : Grouped = record { answer = c.in_ok-answer.answer; group = c.in_ok-group.group } in
+    let said : Grouped = record { answer = c.in_ok-answer.answer; failed = c.in_ok-evaluation.evaluation.failed; group = c.in_ok-group.group } in
     prepared_store c.self.inside.questions c.evaluate.new.questions gs joined c.self.inside.slab c.make_ready.new.cells c.args.key said c.evaluate.ensures.begins
-    (joined_stays gs joined c.regroup.ensures.groups c.regroup.ensures.names) c.self.invariant (rw (← c.self.view_is) at c.requires) c.make_ready.ensures
-    (is_grouped c.evaluate.new.questions joined c.args.key said c.in_ok-evaluation.evaluation.asked c.in_ok-group.ensures.there c.in_ok-group.ensures.numbers c.in_ok-evaluation.ensures.within)
+    (joined_stays gs joined c.regroup.ensures.groups c.regroup.ensures.names) c.self.invariant (rw (← c.self.view_is) at c.requires.free) c.make_ready.ensures
+    (is_grouped c.evaluate.new.questions joined c.args.key said c.in_ok-evaluation.evaluation.asked c.in_ok-group.ensures.there (c.in_ok-group.ensures.numbers ∙ c.as_slice-asked.ensures ∙ c.get-3.ensures) c.in_ok-evaluation.ensures.within)
 
 pub returns-clause-ok : goal.returns-clause-ok
 returns-clause-ok g c =
@@ -59,12 +59,12 @@ returns-clause-ok g c =
     let joined = c.regroup.new.groups in
     let q = c.evaluate.new.questions in
     let e = c.in_ok-evaluation.evaluation in
-    let said : Grouped = record { answer = c.in_ok-answer.answer; group = c.in_ok-group.group } in
+    let said : Grouped = record { answer = c.in_ok-answer.answer; failed = c.in_ok-evaluation.evaluation.failed; group = c.in_ok-group.group } in
     let x : Who = c.in-Some.cell.now.who in
     let so : said_in q x e ≡ says looks x = subst (λ (y : Who). said_in q y e ≡ says looks y) c.get-2.ensures c.in_ok-evaluation.ensures.said in
     rw (← c.self.view_is)
     (prepared_seen c.self.inside.questions q gs joined c.self.inside.slab c.make_ready.new.cells c.args.key said c.evaluate.ensures.begins
-    (joined_stays gs joined c.regroup.ensures.groups c.regroup.ensures.names) c.self.invariant (rw (← c.self.view_is) at c.requires) c.make_ready.ensures
-    (is_grouped q joined c.args.key said e.asked c.in_ok-group.ensures.there c.in_ok-group.ensures.numbers c.in_ok-evaluation.ensures.within)
+    (joined_stays gs joined c.regroup.ensures.groups c.regroup.ensures.names) c.self.invariant (rw (← c.self.view_is) at c.requires.free) c.make_ready.ensures
+    (is_grouped q joined c.args.key said e.asked c.in_ok-group.ensures.there (c.in_ok-group.ensures.numbers ∙ c.as_slice-asked.ensures ∙ c.get-3.ensures) c.in_ok-evaluation.ensures.within)
     looks x (λ cell at. ap (λ y. y.who) (same_Some cell c.in-Some.cell.now (sym at ∙ sym c.in-Some.ensures)))
-    (said_right q joined looks x e said c.in_ok-answer.ensures c.in_ok-group.ensures.numbers so))
+    (said_right q joined looks x e said c.in_ok-answer.ensures refl (c.in_ok-group.ensures.numbers ∙ c.as_slice-asked.ensures ∙ c.get-3.ensures) so))
