@@ -1,4 +1,6 @@
 pub mod Attributes
+pub mod Causes
 pub mod Documents
 pub mod Facts
+pub mod Paths
 pub mod proofs_only

@@ -2,10 +2,14 @@
 #![tactic(auto)]
 
 mod attributes;
+mod causes;
 mod documents;
 mod facts;
 mod members;
+mod paths;
 
 pub use attributes::attributes_text;
+pub use causes::{untold, write_causes};
 pub use documents::documents_text;
 pub use facts::write_facts;
+pub use paths::{status_text, write_path, write_rule};

@@ -79,6 +79,7 @@ form_asks P d names.Cells h = of_question P _
 form_asks P d names.Attributes h = of_question P _
 form_asks P d names.Documents h = of_question P _
 form_asks P d names.Explain h = of_question P _
+form_asks P d names.Faults h = of_question P (Some asked.faults)
 
 -- ---- a line
 

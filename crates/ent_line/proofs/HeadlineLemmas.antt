@@ -9,7 +9,7 @@ use Rattle.ent_report.proofs.Counted.{are_the_difference}
 use Rattle.ent_report.specs.World.{World}
 use Rattle.ent_line.specs.Asked.{Change}
 use Rattle.ent_line.specs.Commands.{attributes_told, by_rule_told, can_told, cell_told, cells_told, changes_told, counts_told, documents_told, dump_told}
-use Rattle.ent_line.specs.Commands.{cell_explained, format_told, heard, made, request_answered, request_explained, requested, respond, run, settled, state_told, table_marked, table_told, told, who_told, work_told}
+use Rattle.ent_line.specs.Commands.{cell_explained, faults_told, format_told, heard, made, request_answered, request_explained, requested, respond, run, settled, state_told, table_marked, table_told, told, who_told, work_told}
 use Rattle.ent_line.specs.Dumping.{can_tell, format_text, is_version}
 use Rattle.ent_line.specs.Headline.{IsEdited, IsHeadline, IsHeard, IsTold}
 use Rattle.ent_line.specs.Lines.{line_limit}
@@ -60,7 +60,7 @@ no_dump s None e = refl
 no_dump s (Some version) e = ap (λ (b : Bool). if b then text (dump_text version s) else refused BadValue) e
 
 is_told : (n : ℕ) (w : World) (session : ℕ) → IsTold n w session
-unfolding run told table_told cell_told counts_told can_told who_told by_rule_told table_marked changes_told request_answered work_told format_told dump_told state_told cells_told attributes_told documents_told cell_explained request_explained
+unfolding run told table_told cell_told counts_told can_told who_told by_rule_told table_marked changes_told request_answered work_told format_told dump_told state_told cells_told attributes_told documents_told cell_explained request_explained faults_told
 is_told n w session = record {
   question = λ q. refl;
   table = refl;
@@ -84,6 +84,7 @@ is_told n w session = record {
   documents = λ id. refl;
   explain_cell = λ y. refl;
   explain = λ d. refl;
+  faults = refl;
   mark = refl;
 }
 

@@ -24,7 +24,7 @@ use Rattle.ent_report.specs.World.{Mark, World, mark_in, mark_of, marked_table}
 use Rattle.ent_report.specs.declared.fault.ReportFault.{ReportFault}
 use Rattle.ent_line.specs.Asked as asked
 use Rattle.ent_line.specs.Asked.{Change, Command, Question, command_in}
-use Rattle.ent_line.specs.Commands.{attributes_told, by_rule_told, can_told, cell_or_refusal, cell_told, cells_told, changes_told, counts_told, documents_told, dump_told, format_told, heard}
+use Rattle.ent_line.specs.Commands.{attributes_told, by_rule_told, can_told, cell_or_refusal, cell_told, cells_told, changes_told, counts_told, documents_told, dump_told, faults_told, format_told, heard}
 use Rattle.ent_line.specs.Commands.{cell_explained, explanation_or_refusal, made, notices_or_refusal, report_or_refusal, request_answered, request_explained, request_or_refusal, requested, respond, response_or_refusal, run}
 use Rattle.ent_line.specs.Commands.{settled, state_told, table_marked, table_told, told, who_told, work_told}
 use Rattle.ent_line.specs.Dumping.{can_tell, format_text, is_version}
@@ -133,7 +133,7 @@ dump_quiet (Some version) s = version_quiet (can_tell version s.held.environment
 
 -- what is told changes nothing
 pub told_quiet : (n : ℕ) (w : World) (x : ℕ) (q : Question) → IsQuiet (told n w x q)
-unfolding told table_told cell_told counts_told can_told who_told by_rule_told changes_told request_answered work_told state_told cells_told attributes_told documents_told cell_explained request_explained
+unfolding told table_told cell_told counts_told can_told who_told by_rule_told changes_told request_answered work_told state_told cells_told attributes_told documents_told cell_explained request_explained faults_told
 told_quiet n w x asked.table = tt
 told_quiet n w x (asked.cell y) = cell_quiet y (answer_at w.state y)
 told_quiet n w x (asked.ask d) = response_quiet w.state (asks d)
@@ -152,6 +152,7 @@ told_quiet n w x (asked.attributes (Some category) entity) = tt
 told_quiet n w x (asked.documents id) = tt
 told_quiet n w x (asked.explain_cell y) = explanation_quiet w.state y (answer_at w.state y)
 told_quiet n w x (asked.explain d) = explained_quiet w.state (asks d)
+told_quiet n w x asked.faults = tt
 
 -- ---- edits
 

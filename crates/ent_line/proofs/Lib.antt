@@ -1,6 +1,7 @@
 pub mod ChangeLemmas
 mod CommandLemmas
 mod ExplainedLemmas
+mod FailedLemmas
 mod HeadlineLemmas
 mod HistoryLemmas
 pub mod KeptLemmas

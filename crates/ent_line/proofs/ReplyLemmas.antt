@@ -28,18 +28,18 @@ use Rattle.ent_report.specs.declared.fault.ReportFault.{ReportFault}
 use Rattle.ent_line.specs.Asked as asked
 use Rattle.ent_line.specs.Asked.{Command, Question, command_in}
 use Rattle.ent_line.specs.Cells.{cell_data, cells_text, list_data, one_cell_text, reply_data, response_text, table_text}
-use Rattle.ent_line.specs.Commands.{attributes_told, by_rule_told, can_told, cell_or_refusal, cell_told, cells_told, changes_told, counts_told, documents_told, dump_told, format_told, heard}
+use Rattle.ent_line.specs.Commands.{attributes_told, by_rule_told, can_told, cell_or_refusal, cell_told, cells_told, changes_told, counts_told, documents_told, dump_told, faults_told, format_told, heard}
 use Rattle.ent_line.specs.Commands.{cell_explained, explanation_or_refusal, made, notices_or_refusal, report_or_refusal, request_answered, request_explained, request_or_refusal, requested, respond, response_or_refusal, run}
 use Rattle.ent_line.specs.Commands.{settled, state_told, table_marked, table_told, told, who_told, work_told}
 use Rattle.ent_line.specs.Dumping.{can_tell, format_text, is_version}
 use Rattle.ent_line.specs.Edits.{edit_of}
-use Rattle.ent_line.specs.Explained.{answer_data, explained_data, explained_text, facts_of}
+use Rattle.ent_line.specs.Explained.{answer_data, causes_in, causes_of, explained_data, explained_text, facts_of}
 use Rattle.ent_line.specs.Lines.{IsOneLine, line_limit}
 use Rattle.ent_line.specs.Refusals.{code_of, sub_of}
 use Rattle.ent_line.specs.Replies as replies
 use Rattle.ent_line.specs.Replies.{Answer, accepted, line_of, refusal_line, refused, text}
-use Rattle.ent_line.specs.Reports.{counts_data, notice_data, pair_data, triple_data}
-use Rattle.ent_line.specs.Reports.{by_rule_text, can_text, counts_text, notices_text, who_text, work_text}
+use Rattle.ent_line.specs.Reports.{counts_data, fault_data, notice_data, pair_data, triple_data}
+use Rattle.ent_line.specs.Reports.{by_rule_text, can_text, counts_text, faults_text, notices_text, who_text, work_text}
 use Rattle.ent_line.specs.Standing.{state_data, state_text}
 use Rattle.ent_line.specs.Step.{Answers, data_of}
 use Rattle.ent_line.specs.Wanted.{are_listed, is_asked}
@@ -75,12 +75,12 @@ response_printed s (Some request) = text_printed (response (answer_in s request)
 explanation_printed : (s : State) (x : Triple) (o : Option Evaluated) → IsPrinted (explanation_or_refusal s x o)
 unfolding explained_text
 explanation_printed s x None = tt
-explanation_printed s x (Some answer) = text_printed (explained_data (cell_data (x, answer)) (facts_of s.held x))
+explanation_printed s x (Some answer) = text_printed (explained_data (cell_data (x, answer)) (causes_of s.held x) (facts_of s.held x))
 
 explained_printed : (s : State) (o : Option Request) → IsPrinted (request_or_refusal s o)
 unfolding explained_text
 explained_printed s None = tt
-explained_printed s (Some request) = text_printed (explained_data (answer_data (answer_in s request)) (facts s.held request))
+explained_printed s (Some request) = text_printed (explained_data (answer_data (answer_in s request)) (causes_in s.held request) (facts s.held request))
 
 report_printed : {A : Type 0} (written : A → List ℕ) → ((x : A) → ArePrinted (written x)) → (r : Result A ReportFault) → IsPrinted (report_or_refusal written r)
 report_printed written h (Ok x) = h x
@@ -139,7 +139,7 @@ cells_printed true cells = text_printed (only_member (codes "cells") (list_data 
 cells_printed false cells = tt
 
 told_printed : (n : ℕ) (w : World) (x : ℕ) (q : Question) → IsPrinted (told n w x q)
-unfolding told table_told cell_told counts_told can_told who_told by_rule_told changes_told request_answered work_told counts_text state_told state_text cells_told attributes_told attributes_text documents_told documents_text cell_explained request_explained
+unfolding told table_told cell_told counts_told can_told who_told by_rule_told changes_told request_answered work_told counts_text state_told state_text cells_told attributes_told attributes_text documents_told documents_text cell_explained request_explained faults_told faults_text
 told_printed n w x asked.table = table_printed (table_of w.state)
 told_printed n w x (asked.cell y) = cell_printed y (answer_at w.state y)
 told_printed n w x (asked.ask d) = response_printed w.state (asks d)
@@ -158,6 +158,7 @@ told_printed n w x (asked.attributes (Some category) entity) = text_printed (att
 told_printed n w x (asked.documents id) = text_printed (documents_data w.state.held id)
 told_printed n w x (asked.explain_cell y) = explanation_printed w.state y (answer_at w.state y)
 told_printed n w x (asked.explain d) = explained_printed w.state (asks d)
+told_printed n w x asked.faults = text_printed (reply_data (codes "faults") (list_data fault_data (report.faults w.state)))
 
 -- ---- commands and lines
 

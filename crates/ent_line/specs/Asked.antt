@@ -69,10 +69,12 @@ pub data Question : Type 0 where
   attributes : Option (List ℕ) → List ℕ → Question
   -- the documents that are held, or those of an id
   documents : Option (List ℕ) → Question
-  -- one cell, and what its answer rests on
+  -- one cell, its causes, and what its answer rests on
   explain_cell : Triple → Question
-  -- the answer to a request, and what it rests on
+  -- the answer to a request, its causes, and what it rests on
   explain : Data → Question
+  -- the cells of which a part failed
+  faults : Question
 
 pub data Command : Type 0 where
   change : Change → Command
@@ -172,6 +174,7 @@ form_of names.Cells = asks (codes "cells") (codes "action" ∷ codes "decisions"
 form_of names.Attributes = asks (codes "attributes") (codes "category" ∷ codes "entity" ∷ []) attributes_asked
 form_of names.Documents = asks (codes "documents") (codes "id" ∷ []) (λ d. option_map documents (optional_text (codes "id") d))
 form_of names.Explain = asks (codes "explain") (codes "action" ∷ codes "person" ∷ codes "request" ∷ codes "resource" ∷ []) explain_asked
+form_of names.Faults = asks (codes "faults") [] (λ d. Some faults)
 form_of names.Dump = asks (codes "dump") (codes "version" ∷ []) (λ d. option_map dump (number_at (codes "version") 2 d))
 
 -- every name
@@ -181,7 +184,7 @@ every_name =
     names.PolicyAdd ∷ names.PolicyReplace ∷ names.PolicyWithdraw ∷ names.AttributeSet ∷ names.RootSet ∷ names.DaySet ∷
     names.MomentSet ∷ names.Table ∷ names.Cell ∷ names.Ask ∷ names.Counts ∷ names.Can ∷ names.Who ∷ names.ByRule ∷
     names.Mark ∷ names.Notices ∷ names.Work ∷ names.Format ∷ names.Dump ∷ names.State ∷
-    names.Cells ∷ names.Attributes ∷ names.Documents ∷ names.Explain ∷ []
+    names.Cells ∷ names.Attributes ∷ names.Documents ∷ names.Explain ∷ names.Faults ∷ []
 
 -- the name that a word is
 unfoldable pub name_of : List ℕ → Option Name

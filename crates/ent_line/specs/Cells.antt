@@ -1,20 +1,16 @@
 -- The JSON of cells.
-use Rattle.std.specs.Prelude.{ℕ, List, [], ◌∷◌, map, Option, Some, None, codes}
+use Rattle.std.specs.Prelude.{ℕ, List, map, codes}
 use Rattle.serde_json.specs.Data as json
-use Rattle.serde_json.specs.Data.{Data, Members}
+use Rattle.serde_json.specs.Data.{Data}
 use Rattle.serde_json.specs.View.{items_of}
 use Rattle.serde_json.specs.Written.{compact_text}
 use Rattle.ent_combine.specs.declared.outcome.IndKind.TheVariants as kind
 use Rattle.ent_combine.specs.declared.outcome.Outcome.{Outcome}
 use Rattle.ent_combine.specs.declared.outcome.Outcome.TheVariants as outcome
-use Rattle.ent_policy.specs.Key.{kind_word}
-use Rattle.ent_policy.specs.Versions.{version_text}
-use Rattle.ent_policy.specs.declared.key.DocKey.{DocKey}
 use Rattle.ent_eval.specs.declared.answer.Answer.{Answer}
-use Rattle.ent_eval.specs.declared.answer.Status.{Status}
-use Rattle.ent_eval.specs.declared.answer.Status.TheVariants as status
 use Rattle.ent_eval.specs.declared.answer.WhyEntry.{WhyEntry}
 use Rattle.ent_eval.specs.declared.request.Request.{Request}
+use Rattle.ent_held.specs.Paths.{path_data, rule_data, status_text}
 use Rattle.ent_profile.specs.Response.{given_written, response}
 use Rattle.ent_table.specs.Names.{Triple}
 
@@ -29,31 +25,16 @@ decision_text (outcome.Ind kind.P) = codes "Indeterminate{P}"
 decision_text (outcome.Ind kind.D) = codes "Indeterminate{D}"
 decision_text (outcome.Ind kind.DP) = codes "Indeterminate{DP}"
 
--- the last part of the identifier of a status (appendix B.8)
-abbrev pub status_text : Status → List ℕ
-status_text status.Okay = codes "ok"
-status_text status.MissingAttribute = codes "missing-attribute"
-status_text status.ProcessingError = codes "processing-error"
-
 -- ---- values
 
 -- a list, each member of which is written in the same way
 abbrev pub list_data : {A : Type 0} → (A → Data) → List A → Data
 list_data written xs = json.array (items_of (map written xs))
 
--- a document on the path to a rule: its kind, id and version
-abbrev pub key_data : DocKey → Data
-key_data key = json.array (items_of (json.string (kind_word key.kind) ∷ json.string key.id ∷ json.string (version_text key.version) ∷ []))
-
--- a rule's id, null for a default
-abbrev pub rule_data : Option (List ℕ) → Data
-rule_data None = json.null
-rule_data (Some id) = json.string id
-
 -- a rule that gave the decision, with the path to it
 abbrev pub entry_data : WhyEntry → Data
 entry_data entry = json.object (
-    json.member (codes "path") (list_data key_data entry.path)
+    json.member (codes "path") (path_data entry.path)
     (json.member (codes "rule") (rule_data entry.rule) json.no_members))
 
 -- a request of the table with its answer

@@ -29,12 +29,12 @@ use Rattle.ent_line.specs.Asked.{Command, Question, command_in}
 use Rattle.ent_line.specs.Cells.{cell_data, cells_text, one_cell_text, response_text, table_text}
 use Rattle.ent_line.specs.Dumping.{can_tell, format_text, is_version}
 use Rattle.ent_line.specs.Edits.{edit_of, unread}
-use Rattle.ent_line.specs.Explained.{answer_data, explained_text, facts_of}
+use Rattle.ent_line.specs.Explained.{answer_data, causes_in, causes_of, explained_text, facts_of}
 use Rattle.ent_line.specs.Lines.{line_limit}
 use Rattle.ent_line.specs.Refusals.{refusal_of}
 use Rattle.ent_line.specs.Replies as replies
 use Rattle.ent_line.specs.Replies.{Answer, accepted, refused, text, text_or}
-use Rattle.ent_line.specs.Reports.{by_rule_text, can_text, counts_text, notices_text, who_text, work_text}
+use Rattle.ent_line.specs.Reports.{by_rule_text, can_text, counts_text, faults_text, notices_text, who_text, work_text}
 use Rattle.ent_line.specs.Standing.{state_text}
 use Rattle.ent_line.specs.Wanted.{Wanted, are_listed, is_asked}
 use Rattle.ent_line.specs.declared.making.NoEdit.{NoEdit}
@@ -144,20 +144,24 @@ documents_told s id = text (documents_text s.held id)
 -- an explanation of a cell that there is, or the refusal of a request that isn't listed
 abbrev pub explanation_or_refusal : State → Triple → Option Evaluated → Answer
 explanation_or_refusal s x o =
-    text_or NotThere (λ answer. explained_text (cell_data (x, answer)) (facts_of s.held x)) o
+    text_or NotThere (λ answer. explained_text (cell_data (x, answer)) (causes_of s.held x) (facts_of s.held x)) o
 
--- what the cell of a request is, and what it rests on
+-- what the cell of a request is, its causes, and what it rests on
 unfoldable pub cell_explained : State → Triple → Answer
 cell_explained s x = explanation_or_refusal s x (answer_at s x)
 
 -- the same of the answer to a request that was read, or the refusal of what asks for none
 abbrev pub request_or_refusal : State → Option Request → Answer
 request_or_refusal s o =
-    text_or NoRequest (λ request. explained_text (answer_data (answer_in s request)) (facts s.held request)) o
+    text_or NoRequest (λ request. explained_text (answer_data (answer_in s request)) (causes_in s.held request) (facts s.held request)) o
 
--- what the answer to a request is, and what it rests on
+-- what the answer to a request is, its causes, and what it rests on
 unfoldable pub request_explained : State → Data → Answer
 request_explained s d = request_or_refusal s (asks d)
+
+-- the cells of which a part failed
+unfoldable pub faults_told : State → Answer
+faults_told s = text (faults_text (report.faults s))
 
 -- what a question of a session is answered after n evaluations. Only `work` tells n
 unfoldable pub told : ℕ → World → ℕ → Question → Answer
@@ -178,6 +182,7 @@ told n w session (asked.attributes category entity) = attributes_told w.state ca
 told n w session (asked.documents id) = documents_told w.state id
 told n w session (asked.explain_cell x) = cell_explained w.state x
 told n w session (asked.explain d) = request_explained w.state d
+told n w session asked.faults = faults_told w.state
 
 -- ---- commands
 

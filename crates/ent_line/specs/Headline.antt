@@ -41,13 +41,13 @@ use Rattle.ent_line.specs.Asked.{Change, Command, IsOfCommands, Question, comman
 use Rattle.ent_line.specs.Cells.{cell_data, cells_text, one_cell_text, response_text, table_text}
 use Rattle.ent_line.specs.Dumping.{can_tell, format_text, is_version}
 use Rattle.ent_line.specs.Edits.{edit_of, unread}
-use Rattle.ent_line.specs.Explained.{answer_data, explained_text, facts_of}
+use Rattle.ent_line.specs.Explained.{answer_data, causes_in, causes_of, explained_text, facts_of}
 use Rattle.ent_line.specs.History.{Lead, accepted_edits, history, next, seen_by}
 use Rattle.ent_line.specs.Lines.{IsOneLine, line_limit}
 use Rattle.ent_line.specs.Refusals.{refusal_of}
 use Rattle.ent_line.specs.Replies as replies
 use Rattle.ent_line.specs.Replies.{Answer, accepted, line_of, refused, text, text_or}
-use Rattle.ent_line.specs.Reports.{by_rule_text, can_text, counts_text, notices_text, who_text, work_text}
+use Rattle.ent_line.specs.Reports.{by_rule_text, can_text, counts_text, faults_text, notices_text, who_text, work_text}
 use Rattle.ent_line.specs.Runs.{Run}
 use Rattle.ent_line.specs.Serving.{Ends, ServesUntil}
 use Rattle.ent_line.specs.Sessions.{SessionsAreSeparate}
@@ -148,14 +148,16 @@ pub record IsTold (n : ℕ) (w : World) (x : ℕ) : Type 0 where
   pub no_category : (entity : List ℕ) → told n w x (asked.attributes None entity) ≡ refused refusals.Reserved
   -- documents: those that are held, or those of an id
   pub documents : (id : Option (List ℕ)) → told n w x (asked.documents id) ≡ text (documents_text w.state.held id)
-  -- an explanation, of a cell or of the answer to a request: the fresh answer beside the look-ups that are recorded for
-  -- it, each with what it gives
+  -- an explanation, of a cell or of the answer to a request: the fresh answer beside the causes of a fresh evaluation and
+  -- the look-ups that are recorded for it, each with what it gives
   pub explain_cell : (y : Triple) → told n w x (asked.explain_cell y)
-      ≡ text_or refusals.NotThere (λ answer. explained_text (cell_data (y, answer)) (facts_of w.state.held y))
-      (answer_at w.state y)
+      ≡ text_or refusals.NotThere (λ answer. explained_text (cell_data (y, answer)) (causes_of w.state.held y)
+      (facts_of w.state.held y)) (answer_at w.state y)
   pub explain : (d : Data) → told n w x (asked.explain d)
       ≡ text_or refusals.Request (λ request. explained_text (answer_data (answer_in w.state request))
-      (facts w.state.held request)) (asks d)
+      (causes_in w.state.held request) (facts w.state.held request)) (asks d)
+  -- faults: the cells of the fresh table of which a part failed, whatever their decision, in list order
+  pub faults : told n w x asked.faults ≡ text (faults_text (report.faults w.state))
   -- a mark: the fresh table of that moment is kept for its session alone
   pub mark : run n w x asked.mark ≡ (replies.marked w.state.serial, marked w x)
 

@@ -4,6 +4,8 @@ use Rattle.serde_json.specs.Data as json
 use Rattle.serde_json.specs.Data.{Data}
 use Rattle.serde_json.specs.Written.{compact_text}
 use Rattle.ent_combine.specs.declared.outcome.Outcome.{Outcome}
+use Rattle.ent_eval.specs.declared.answer.Answer.{Answer}
+use Rattle.ent_table.specs.Names.{Triple}
 use Rattle.ent_line.specs.Cells.{decision_text, list_data, reply_data}
 use Rattle.ent_report.specs.declared.counts.Counts.{Counts}
 use Rattle.ent_report.specs.declared.notices.Notice.{Notice}
@@ -49,6 +51,14 @@ notice_data n = json.object (
     (json.member (codes "person") (json.string n.person)
     (json.member (codes "resource") (json.string n.resource) json.no_members)))))
 
+-- a cell by its names and its decision
+abbrev pub fault_data : Triple × Answer → Data
+fault_data c = json.object (
+    json.member (codes "action") (json.string c.0.action)
+    (json.member (codes "decision") (json.string (decision_text c.1.decision))
+    (json.member (codes "person") (json.string c.0.person)
+    (json.member (codes "resource") (json.string c.0.resource) json.no_members))))
+
 -- ---- texts
 
 -- the text of the reply to `counts`
@@ -70,6 +80,10 @@ by_rule_text found = compact_text (reply_data (codes "by_rule") (list_data tripl
 -- the text of the reply to `notices`
 unfoldable pub notices_text : List Notice → List ℕ
 notices_text notices = compact_text (reply_data (codes "notices") (list_data notice_data notices))
+
+-- the text of the reply to `faults`
+unfoldable pub faults_text : List (Triple × Answer) → List ℕ
+faults_text cells = compact_text (reply_data (codes "faults") (list_data fault_data cells))
 
 -- the text of the reply to `work`: how many times a request was evaluated
 unfoldable pub work_text : ℕ → List ℕ

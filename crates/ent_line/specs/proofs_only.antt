@@ -1,4 +1,5 @@
 pub mod CommandView
+pub mod Failing
 pub mod LongLines
 pub mod Making
 pub mod Pieces

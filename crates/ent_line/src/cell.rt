@@ -7,16 +7,16 @@ ghost use Rattle.ent_json.specs.proofs_only.Text.{items_tokens_of};
 ghost use Rattle.ent_profile.specs.Response.{given_written};
 ghost use Rattle.ent_table.specs.Left.{cells_left};
 ghost use Rattle.ent_table.specs.Names.{triple_of};
-ghost use Rattle.ent_line.specs.Cells.{cell_data, entry_data, key_data, list_data, reply_data, rule_data};
-ghost use Rattle.ent_line.specs.Cells.{decision_text, one_cell_text, response_text, status_text, table_text};
+ghost use Rattle.ent_held.specs.Paths.{status_text};
+ghost use Rattle.ent_line.specs.Cells.{cell_data, entry_data, list_data, reply_data};
+ghost use Rattle.ent_line.specs.Cells.{decision_text, one_cell_text, response_text, table_text};
 
 use ent_combine::{IndKind, Outcome};
 use ent_eval::{Answer, Given, Request, Status, WhyEntry};
+use ent_held::{status_text, write_path, write_rule};
 use ent_json::JsonText;
-use ent_policy::DocKey;
 use ent_profile::{write_given_text, write_response_text};
 use ent_table::Cells;
-use ent_values::Text;
 use std::alloc::{AllocError, Global};
 
 /// The word of a decision.
@@ -30,57 +30,6 @@ pub(crate) fn decision_text(decision: Outcome) -> &'static str
         Outcome::Ind(IndKind::P) => "Indeterminate{P}",
         Outcome::Ind(IndKind::D) => "Indeterminate{D}",
         Outcome::Ind(IndKind::DP) => "Indeterminate{DP}",
-    }
-}
-
-/// The word of a status.
-fn status_text(status: Status) -> &'static str
-    ensures { result.now ≡ status_text status }
-{
-    match status {
-        Status::Okay => "ok",
-        Status::MissingAttribute => "missing-attribute",
-        Status::ProcessingError => "processing-error",
-    }
-}
-
-/// Writes a document on a path.
-fn write_key(alloc: Global, out: &mut JsonText, key: &DocKey) -> Result<(), AllocError>
-    ensures { OnOk result (out.new ≡ out.old ++ tokens_of (key_data key.now)) }
-{
-    let version = key.version.text(alloc)?;
-    out.begin_array()?;
-    out.string(key.kind.word())?;
-    out.string(key.id.as_str())?;
-    out.string(version.as_str())?;
-    out.end_array()
-}
-
-/// Writes the documents on a path, to the end of their list.
-fn write_keys(alloc: Global, out: &mut JsonText, keys: &[DocKey]) -> Result<(), AllocError>
-    ensures { OnOk result (out.new ≡ out.old ++ items_tokens_of (map key_data keys.now)) }
-{
-    for key in keys {
-        write_key(alloc, out, key)?;
-    }
-    out.end_array()
-}
-
-/// Writes a path.
-fn write_path(alloc: Global, out: &mut JsonText, keys: &[DocKey]) -> Result<(), AllocError>
-    ensures { OnOk result (out.new ≡ out.old ++ tokens_of (list_data key_data keys.now)) }
-{
-    out.begin_array()?;
-    write_keys(alloc, out, keys)
-}
-
-/// Writes a rule's id, or null.
-fn write_rule(out: &mut JsonText, rule: &Option<Text>) -> Result<(), AllocError>
-    ensures { OnOk result (out.new ≡ out.old ++ tokens_of (rule_data rule.now)) }
-{
-    match rule {
-        None => out.null(),
-        Some(id) => out.string(id.as_str()),
     }
 }
 
@@ -123,7 +72,7 @@ pub(crate) fn write_text(out: &mut JsonText, key: &str, text: &str) -> Result<()
 }
 
 /// Writes a decision at its key.
-fn write_decision(out: &mut JsonText, decision: Outcome) -> Result<(), AllocError>
+pub(crate) fn write_decision(out: &mut JsonText, decision: Outcome) -> Result<(), AllocError>
     ensures { OnOk result (out.new ≡ out.old
         ++ token.key (codes "decision") ∷ token.string (decision_text decision) ∷ []) }
 {
@@ -172,7 +121,11 @@ pub(crate) fn write_decided(
 }
 
 /// Goes on with the person and the resource of a cell.
-fn write_names(out: &mut JsonText, person: &str, resource: &str) -> Result<(), AllocError>
+pub(crate) fn write_names(
+    out: &mut JsonText,
+    person: &str,
+    resource: &str,
+) -> Result<(), AllocError>
     ensures { OnOk result (out.new ≡ out.old
         ++ token.key (codes "person") ∷ token.string person.now
         ∷ token.key (codes "resource") ∷ token.string resource.now ∷ []) }

@@ -80,10 +80,12 @@ pub(crate) enum Question<'a, J> {
     Attributes(Option<&'a str>, &'a str),
     /// The documents that are held, or those of an id.
     Documents(Option<&'a str>),
-    /// The cell of a person, an action and a resource, and what its answer rests on.
+    /// The cell of a person, an action and a resource, its causes, and what its answer rests on.
     ExplainCell(&'a str, &'a str, &'a str),
-    /// The answer to a request, and what it rests on.
+    /// The answer to a request, its causes, and what it rests on.
     Explain(&'a J),
+    /// The cells of which a part failed.
+    Faults,
 }
 
 /// The command of that name that an object asks for, or why there is none.

@@ -1,8 +1,9 @@
-//! Explanations: an answer beside the look-ups that it rests on.
+//! Explanations: an answer beside why parts of it are Indeterminate, and the look-ups that it rests on.
 
-ghost use Rattle.std.specs.Prelude.{◌≡◌, [], ◌∷◌, ◌++◌, IfOk, OnOk, codes, string_bytes};
+ghost use Rattle.std.specs.Prelude.{◌≡◌, [], ◌∷◌, ◌++◌, IfOk, OnOk, codes, decimal, string_bytes};
 ghost use Rattle.json.specs.Token as token;
 ghost use Rattle.ent_eval.specs.LooksOf.{held_by};
+ghost use Rattle.ent_held.specs.Causes.{causes_data, untold};
 ghost use Rattle.ent_held.specs.Facts.{facts_data};
 ghost use Rattle.ent_json.specs.Text.{tokens_of};
 ghost use Rattle.ent_table.specs.Names.{triple_of};
@@ -17,10 +18,11 @@ ghost use Rattle.ent_line.specs.proofs_only.Replying.{Keeps, Replies, Works};
 use crate::cell::{write_cell, write_decided, write_reason};
 use crate::refusal::Refusal;
 use crate::reply::Reply;
+use crate::reports::write_count;
 use crate::service::Service;
-use ent_eval::{Answer, Evaluation, Pdp, Reads, Request};
+use ent_eval::{Answer, Cause, Explained, Pdp, Reads, Request};
 use ent_finder::{Attributes, Policies};
-use ent_held::write_facts;
+use ent_held::{untold, write_causes, write_facts};
 use ent_json::{JsonText, JsonTree};
 use ent_profile::{RequestFault, read_request, write_given_text};
 use std::alloc::{AllocError, Global};
@@ -52,14 +54,19 @@ fn end_reply<A: Attributes, P: Policies>(
     alloc: Global,
     out: &mut JsonText,
     pdp: &Pdp<A, P>,
+    causes: &[Cause],
     reads: Reads,
 ) -> Result<(), AllocError>
-    ensures { OnOk result (out.new ≡ out.old ++ token.key (codes "facts")
-        ∷ (tokens_of (facts_data (held_by A.sources P.slots pdp.now) reads)
-        ++ token.end_object ∷ token.end_object ∷ [])) }
+    ensures { OnOk result (out.new ≡ out.old ++ token.key (codes "causes") ∷ (tokens_of (causes_data causes.now)
+        ++ token.key (codes "facts") ∷ (tokens_of (facts_data (held_by A.sources P.slots pdp.now) reads)
+        ++ token.key (codes "more") ∷ token.number (decimal (untold causes.now))
+        ∷ token.end_object ∷ token.end_object ∷ []))) }
 {
+    out.key("causes")?;
+    write_causes(alloc, out, causes)?;
     out.key("facts")?;
     write_facts(alloc, out, pdp, reads)?;
+    write_count(out, "more", untold(causes))?;
     out.end_object()?;
     out.end_object()
 }
@@ -69,18 +76,22 @@ fn cell_explained_text<A: Attributes, P: Policies>(
     alloc: Global,
     pdp: &Pdp<A, P>,
     who: (&str, &str, &str),
-    evaluation: Evaluation,
+    explained: Explained,
 ) -> Result<String, AllocError>
     ensures { IfOk result (λ s. string_bytes s
-        ≡ explained_text (cell_data (triple_of who.entry.0.now who.entry.1.now who.entry.2.now, evaluation.answer))
-        (facts_data (held_by A.sources P.slots pdp.now) evaluation.reads)) }
+        ≡ explained_text (cell_data (triple_of who.entry.0.now who.entry.1.now who.entry.2.now, explained.answer))
+        explained.causes (facts_data (held_by A.sources P.slots pdp.now) explained.reads)) }
 {
     let (person, action, resource) = who;
-    let Evaluation { answer, reads } = evaluation;
+    let Explained {
+        answer,
+        reads,
+        causes,
+    } = explained;
     let mut out = JsonText::with_room(alloc)?;
     begin_reply(&mut out)?;
     write_cell(alloc, &mut out, person, action, resource, &answer)?;
-    end_reply(alloc, &mut out, pdp, reads)?;
+    end_reply(alloc, &mut out, pdp, causes.as_slice(), reads)?;
     Ok(out.into_string())
 }
 
@@ -88,16 +99,20 @@ fn cell_explained_text<A: Attributes, P: Policies>(
 fn answer_explained_text<A: Attributes, P: Policies>(
     alloc: Global,
     pdp: &Pdp<A, P>,
-    evaluation: Evaluation,
+    explained: Explained,
 ) -> Result<String, AllocError>
-    ensures { IfOk result (λ s. string_bytes s ≡ explained_text (answer_data evaluation.answer)
-        (facts_data (held_by A.sources P.slots pdp.now) evaluation.reads)) }
+    ensures { IfOk result (λ s. string_bytes s ≡ explained_text (answer_data explained.answer) explained.causes
+        (facts_data (held_by A.sources P.slots pdp.now) explained.reads)) }
 {
-    let Evaluation { answer, reads } = evaluation;
+    let Explained {
+        answer,
+        reads,
+        causes,
+    } = explained;
     let mut out = JsonText::with_room(alloc)?;
     begin_reply(&mut out)?;
     write_answer(alloc, &mut out, &answer)?;
-    end_reply(alloc, &mut out, pdp, reads)?;
+    end_reply(alloc, &mut out, pdp, causes.as_slice(), reads)?;
     Ok(out.into_string())
 }
 
@@ -124,10 +139,10 @@ impl<A: Attributes, P: Policies> Service<A, P> {
             return Ok(Reply::Refused(Refusal::NotThere));
         }
         let request = Request::listed(self.alloc, person, action, resource)?;
-        let evaluation = self.desk.explain(&request)?;
+        let explained = self.desk.explain(&request)?;
         let pdp = self.desk.review().pdp();
         let who = (person, action, resource);
-        let text = cell_explained_text(self.alloc, pdp, who, evaluation)?;
+        let text = cell_explained_text(self.alloc, pdp, who, explained)?;
         Ok(Reply::Text(text))
     }
 
@@ -144,9 +159,9 @@ impl<A: Attributes, P: Policies> Service<A, P> {
     {
         match read_request(self.alloc, json) {
             Ok(request) => {
-                let evaluation = self.desk.explain(&request)?;
+                let explained = self.desk.explain(&request)?;
                 let pdp = self.desk.review().pdp();
-                let text = answer_explained_text(self.alloc, pdp, evaluation)?;
+                let text = answer_explained_text(self.alloc, pdp, explained)?;
                 Ok(Reply::Text(text))
             }
             Err(RequestFault::Bad) => Ok(Reply::Refused(Refusal::Request)),

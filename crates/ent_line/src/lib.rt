@@ -8,6 +8,7 @@ mod command;
 mod dumping;
 mod explaining;
 mod fault;
+mod faulting;
 mod holding;
 mod input;
 mod keys;

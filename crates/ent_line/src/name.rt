@@ -49,6 +49,7 @@ pub(crate) enum Name {
     Attributes,
     Documents,
     Explain,
+    Faults,
 }
 
 impl Name {
@@ -84,6 +85,7 @@ impl Name {
         Name::Attributes,
         Name::Documents,
         Name::Explain,
+        Name::Faults,
     ];
 
     /// The name that a word is.
@@ -130,6 +132,7 @@ impl Name {
             Name::Attributes => "attributes",
             Name::Documents => "documents",
             Name::Explain => "explain",
+            Name::Faults => "faults",
         }
     }
 
@@ -190,6 +193,7 @@ impl Name {
             Name::Explain => object.has_only(&[
                 "do", "session", "action", "person", "request", "resource",
             ]),
+            Name::Faults => object.has_only(&["do", "session"]),
         }
     }
 
@@ -229,6 +233,7 @@ impl Name {
             Name::Attributes => attributes(object),
             Name::Documents => documents(object),
             Name::Explain => explain(object),
+            Name::Faults => Some(Command::Question(Question::Faults)),
         }
     }
 }

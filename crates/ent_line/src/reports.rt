@@ -152,7 +152,7 @@ fn write_counts_reply(out: &mut JsonText, counts: Counts) -> Result<(), AllocErr
 }
 
 /// Begins a reply with a list.
-fn begin_list(out: &mut JsonText, name: &str) -> Result<(), AllocError>
+pub(crate) fn begin_list(out: &mut JsonText, name: &str) -> Result<(), AllocError>
     ensures { OnOk result (out.new ≡ out.old ++ token.begin_object ∷ token.key name.now ∷ token.begin_array ∷ []) }
 {
     out.begin_object()?;

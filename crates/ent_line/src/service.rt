@@ -184,6 +184,7 @@ impl<A: Attributes, P: Policies> Service<A, P> {
                 self.explain_cell(person, action, resource)
             }
             Question::Explain(request) => self.explain(request),
+            Question::Faults => self.faults(),
         }
     }
 

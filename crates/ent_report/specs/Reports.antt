@@ -7,6 +7,7 @@ use Rattle.ent_combine.specs.declared.outcome.Outcome.TheVariants.{Permit, Deny,
 use Rattle.ent_eval.specs.declared.answer.Answer.{Answer}
 use Rattle.ent_eval.specs.declared.answer.WhyEntry.{WhyEntry}
 use Rattle.ent_policy.specs.declared.key.DocKey.{DocKey}
+use Rattle.ent_table.specs.Failed.{has_failed}
 use Rattle.ent_table.specs.Names.{Triple, has_name}
 use Rattle.ent_table.specs.State.{State, table_of}
 use Rattle.ent_report.specs.declared.counts.Counts.{Counts}
@@ -91,6 +92,10 @@ abbrev pub by_rule_in : List ℕ → Option (List ℕ) → List (Triple × Answe
 by_rule_in policy rule cells = map (λ c. (c.0.person, c.0.action, c.0.resource)) (filter (λ c. has_rule policy rule c.1) cells)
 
 -- ---- over a state
+
+-- the cells of which a part failed, whatever their decision
+abbrev pub faults : State → List (Triple × Answer)
+faults s = filter (λ c. has_failed s c.0) (table_of s)
 
 abbrev pub can : State → List ℕ → Result (List (List ℕ × List ℕ)) ReportFault
 can s person = if has_name person s.names.people then Ok (can_in person (table_of s)) else Err NotThere

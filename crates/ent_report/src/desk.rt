@@ -1,7 +1,7 @@
 //! The desk: a review, and the marks of its sessions.
 
 ghost use Rattle.std.specs.Prelude.{◌≡◌, ◌+◌, ◌-◌, ◌<◌, ◌^◌, min, IfOk, Some, option_copied};
-ghost use Rattle.ent_eval.specs.Answer.{recorded};
+ghost use Rattle.ent_eval.specs.Answer.{causes, recorded};
 ghost use Rattle.ent_eval.specs.Held.{looks_in};
 ghost use Rattle.ent_table.specs.Ask.{answer_in};
 ghost use Rattle.ent_table.specs.Change.{Edits, IsSure};
@@ -18,7 +18,7 @@ use crate::counts::{Counts, counted};
 use crate::fault::{NoticeFault, ReportFault};
 use crate::notices::{Notice, notices_of};
 use crate::reports::{by_rule_in, can_in, who_in};
-use ent_eval::{Answer, Evaluation, Request};
+use ent_eval::{Answer, Explained, Request};
 use ent_finder::{AttributeFinder, Attributes, Policies, PolicyFinder};
 use ent_table::{Accepted, Edit, EditFault, List, Review};
 use ent_values::{Items, Text};
@@ -142,19 +142,22 @@ impl<A: Attributes, P: Policies> Desk<A, P> {
         self.review.ask(request)
     }
 
-    /// The answer to any request, listed or not, with the look-ups that it rests on, each once. The answer is that of
-    /// `ask`, and the call counts as that does.
+    /// The answer to any request, listed or not, with the look-ups that it rests on, each once, and its causes: the parts
+    /// that came to Indeterminate by themselves, in the order of evaluation. The answer is that of `ask`, and the call
+    /// counts as that does.
     ///
     /// # Errors
     ///
     /// `AllocError` if memory runs out.
-    pub fn explain(&mut self, request: &Request) -> Result<Evaluation, AllocError>
+    pub fn explain(&mut self, request: &Request) -> Result<Explained, AllocError>
         requires { IsReady A.sources P.slots self.old }
         ensures ready { IsReady A.sources P.slots self.new }
         ensures answer { IfOk result
             (λ e. e.answer ≡ answer_in (world_of A.sources P.slots self.old).state request.now) }
         ensures reads { IfOk result
             (λ e. e.reads ≡ recorded (looks_in (world_of A.sources P.slots self.old).state.held) request.now) }
+        ensures causes { IfOk result
+            (λ e. e.causes ≡ causes (looks_in (world_of A.sources P.slots self.old).state.held) request.now) }
         ensures counted { self.new.review.pdp.evaluations ≡ min (self.old.review.pdp.evaluations + 1) (2 ^ 128 - 1) }
         ensures rest { OnlyEvaluates self.old.review self.new.review }
         ensures world { KeepsWorld A.sources P.slots self.old self.new }

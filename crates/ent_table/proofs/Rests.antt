@@ -1,15 +1,20 @@
 -- The cells that an exchange touches are those that read a key that gives another.
 use Rattle.std.proofs.Common.{◌≡◌, Bool, true, false, ◌||◌, cond, not, suc, List, [], ◌∷◌, filter, length, map, count_by, refl, sym, ap, subst, ◌∙◌}
-use Rattle.std.specs.List.{AllByRecursion, list_any}
+use Rattle.std.specs.List.{All, AllByRecursion, list_any}
 use Rattle.std.proofs.lemmas.List.Sums.{length-filter}
 use Rattle.std.proofs.lemmas.Simd.{map-map}
-use Rattle.ent_eval.specs.Answer.{recorded}
+use Rattle.ent_eval.specs.Answer.{asked, has_cause, looked_up, recorded}
+use Rattle.ent_eval.specs.Causes.{are_any}
 use Rattle.ent_eval.specs.Held.{looks_in}
-use Rattle.ent_eval.specs.Law.{IsSameLook}
+use Rattle.ent_eval.specs.Law.{FindsSame, IsSameLook}
 use Rattle.ent_eval.specs.Listed.{listed}
+use Rattle.ent_eval.specs.Looks.{Looks}
 use Rattle.ent_eval.specs.Noted.{has_key}
 use Rattle.ent_eval.specs.declared.key.ReadKey.{ReadKey}
-use Rattle.ent_eval.proofs.AnswersRest.{answers-rest}
+use Rattle.ent_eval.specs.declared.request.Request.{Request}
+use Rattle.ent_eval.proofs.AnswersRest.{answers-rest, findings-rest}
+use Rattle.ent_eval.proofs.Finds.{all-find}
+use Rattle.ent_eval.proofs.Keys.{all_noted, by_recursion}
 use Rattle.ent_eval.proofs.Recorded.{from_recursion}
 use Rattle.ent_eval.proofs.SameLooks.{same_look-Decides}
 use Rattle.ent_cells.specs.Cell.{IsRightBut, Kept, cell_of, is_read, reads_any, renewed}
@@ -44,6 +49,12 @@ renewed_are : (s : State) (x : Exchange) → map (renewed (looks_in (with_exchan
 renewed_are s x =
     let t = with_exchange s x in
     map-map (renewed (looks_in t.held)) (cell_of (looks_in s.held)) (triples s.names) ∙ ap (λ (n : Names). map (cell_of (looks_in t.held)) (triples n)) (sym (names_stay s x))
+
+-- where each look-up that is recorded for an answer gives the same, there is a cause if there was one
+causes_rest : (s t : Looks) (request : Request) → All (IsSameLook s t) (recorded s request) → has_cause t request ≡ has_cause s request
+causes_rest s t request h =
+    let looks = (all_noted (IsSameLook s t) [] (looked_up s request) (by_recursion (IsSameLook s t) (recorded s request) h)).1 in
+    ap are_any (findings-rest s t request request (from_recursion (FindsSame s request t request) (asked s request) (all-find s t request (asked s request) looks))).1.1
 
 -- ---- the cells of a state, and which of the keys that they read give another for an exchange
 
@@ -81,8 +92,10 @@ module _ (s : State) (x : Exchange) (changed : List ReadKey) (are : AreChanged s
   -- a cell that reads none of them is right afterwards
   right : (w : Triple) → ((k : ReadKey) → has_key (reads w) k ≡ true → is_read (fresh_cells s) k ≡ true) → IsRightBut changed (looks_in t.held) (cell_of (looks_in s.held) w)
   right w read none =
-      let same = answers-rest (looks_in s.held) (looks_in t.held) (listed w.person w.action w.resource) (from_recursion _ _ (all_same (reads w) (sym (rests w read) ∙ none))) in
-      λ i. record { who = w; said = record { answer = sym same.0 i; reads = sym same.1 i } }
+      let all = from_recursion _ _ (all_same (reads w) (sym (rests w read) ∙ none)) in
+      let same = answers-rest (looks_in s.held) (looks_in t.held) (listed w.person w.action w.resource) all in
+      let fails = causes_rest (looks_in s.held) (looks_in t.held) (listed w.person w.action w.resource) all in
+      λ i. record { who = w; said = record { answer = sym same.0 i; reads = sym same.1 i; failed = sym fails i } }
 
   all_right : (ws : List Triple) → AreRead ws → AllByRecursion (IsRightBut changed (looks_in t.held)) (map (cell_of (looks_in s.held)) ws)
   all_right [] are = tt

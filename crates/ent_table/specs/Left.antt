@@ -1,9 +1,10 @@
 -- The cells that an iterator has left.
-use Rattle.std.specs.Prelude.{ℕ, List, [], ◌∷◌, ◌++◌, drop}
+use Rattle.std.specs.Prelude.{ℕ, List, [], ◌∷◌, ◌++◌, Bool, drop}
 use Rattle.std.specs.List.{zip}
-use Rattle.ent_cells.specs.Cell.{answers_in}
+use Rattle.ent_cells.specs.Cell.{answers_in, failures_in}
 use Rattle.ent_eval.specs.declared.answer.Answer.{Answer}
 use Rattle.ent_table.specs.declared.cells.Cells.{Cells}
+use Rattle.ent_table.specs.declared.judged.Judged.{Judged}
 use Rattle.std.specs.Borrow.{Bor}
 use Rattle.ent_table.specs.Names.{Triple, texts, triple_of, with_resources, with_actions, all_triples}
 
@@ -33,6 +34,14 @@ answers_left c = drop c.place (answers_in c.answers.now)
 abbrev pub cells_left : Cells → List (Triple × Answer)
 cells_left c = zip (requests_left c) (answers_left c)
 
+-- the cells that an iterator of judged cells has left, each with whether a part of it failed
+abbrev pub judged_left : Judged → List ((Triple × Answer) × Bool)
+judged_left j = zip (cells_left j.cells) (drop j.place (failures_in j.marks.now))
+
 -- an item as a request with its answer
 abbrev pub cell_of : Bor (List ℕ) × Bor (List ℕ) × Bor (List ℕ) × Bor Answer → Triple × Answer
 cell_of item = (triple_of item.0.now item.1.now item.2.now, item.3.now)
+
+-- an item as a request with its answer, and whether a part of it failed
+abbrev pub judged_of : Bor (List ℕ) × Bor (List ℕ) × Bor (List ℕ) × Bor Answer × Bool → (Triple × Answer) × Bool
+judged_of item = ((triple_of item.0.now item.1.now item.2.now, item.3.now), item.4)

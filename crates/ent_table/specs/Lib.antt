@@ -4,6 +4,7 @@ pub mod Change
 pub mod Counted
 pub mod Difference
 pub mod Doubles
+pub mod Failed
 pub mod Left
 pub mod Limits
 pub mod Names

@@ -1,33 +1,36 @@
-//! What the answers to requests rest on.
+//! What the answers to requests rest on, and why parts of them are Indeterminate.
 
 ghost use Rattle.std.specs.Prelude.{◌≡◌, ◌+◌, ◌-◌, ◌^◌, min, IfOk};
-ghost use Rattle.ent_eval.specs.Answer.{recorded};
+ghost use Rattle.ent_eval.specs.Answer.{causes, recorded};
 ghost use Rattle.ent_eval.specs.Held.{looks_in};
 ghost use Rattle.ent_table.specs.Ask.{answer_in};
 ghost use Rattle.ent_table.specs.Review.{IsFresh, OnlyEvaluates, state_of};
 
 use crate::review::Review;
-use ent_eval::{Evaluation, Request};
+use ent_eval::{Explained, Request};
 use ent_finder::{Attributes, Policies};
 use std::alloc::AllocError;
 
 impl<A: Attributes, P: Policies> Review<A, P> {
-    /// The answer to any request, listed or not, with the look-ups that it rests on, each once. The answer is that of
-    /// [`Review::ask`], and the call counts as that does.
+    /// The answer to any request, listed or not, with the look-ups that it rests on, each once, and its causes: the parts
+    /// that came to Indeterminate by themselves, in the order of evaluation. The answer is that of [`Review::ask`], and
+    /// the call counts as that does.
     ///
     /// # Errors
     ///
     /// `AllocError` if memory runs out.
-    pub fn explain(&mut self, request: &Request) -> Result<Evaluation, AllocError>
+    pub fn explain(&mut self, request: &Request) -> Result<Explained, AllocError>
         requires { IsFresh A.sources P.slots self.old }
         ensures fresh { IsFresh A.sources P.slots self.new }
         ensures answer { IfOk result
             (λ e. e.answer ≡ answer_in (state_of A.sources P.slots self.old) request.now) }
         ensures reads { IfOk result
             (λ e. e.reads ≡ recorded (looks_in (state_of A.sources P.slots self.old).held) request.now) }
+        ensures causes { IfOk result
+            (λ e. e.causes ≡ causes (looks_in (state_of A.sources P.slots self.old).held) request.now) }
         ensures counted { self.new.pdp.evaluations ≡ min (self.old.pdp.evaluations + 1) (2 ^ 128 - 1) }
         ensures rest { OnlyEvaluates self.old self.new }
     {
-        self.pdp.evaluate(request)
+        self.pdp.explain(request)
     }
 }

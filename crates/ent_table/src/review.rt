@@ -8,7 +8,8 @@ ghost use Rattle.ent_table.specs.Change.{Edits, IsSure};
 ghost use Rattle.ent_table.specs.proofs_only.Change.{Counted};
 ghost use Rattle.ent_table.specs.Counted.{IsCounted};
 ghost use Rattle.ent_table.specs.proofs_only.Exchange.{IsWithin, count_with, exchanged, exchanged_unless_last};
-ghost use Rattle.ent_table.specs.Left.{cells_left};
+ghost use Rattle.ent_table.specs.Failed.{judged};
+ghost use Rattle.ent_table.specs.Left.{cells_left, judged_left};
 ghost use Rattle.ent_table.specs.Limits.{IsStandardAtMost};
 ghost use Rattle.ent_table.specs.Names.{has_name, list_of, triple_of};
 ghost use Rattle.ent_table.specs.Review.{IsFresh, IsIdle, state_of};
@@ -19,6 +20,7 @@ ghost use Rattle.ent_table.specs.Tables.{IsFreshAtSerial, KeepsTables, Logs};
 use crate::cells::Cells;
 use crate::change::Exchange;
 use crate::edit::{Accepted, Edit, EditFault, List};
+use crate::judged::Judged;
 use crate::limits::Limits;
 use crate::table::Table;
 use ent_cells::Who;
@@ -182,6 +184,14 @@ impl<A: Attributes, P: Policies> Review<A, P> {
             &self.table.cells,
             0,
         )
+    }
+
+    /// The cells in list order, each with whether a part of it came to Indeterminate by itself, whatever its decision.
+    pub fn judged(&self) -> Judged<'_>
+        requires { IsFresh A.sources P.slots self.now }
+        ensures { judged_left result ≡ judged (state_of A.sources P.slots self.now) }
+    {
+        Judged::new(self.cells(), &self.table.cells)
     }
 
     /// Whether a list has the name.

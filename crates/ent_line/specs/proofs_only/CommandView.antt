@@ -10,7 +10,7 @@ use Rattle.ent_line.specs.declared.command.Change.TheVariants.{AddName, DropName
 use Rattle.ent_line.specs.declared.command.Command as command
 use Rattle.ent_line.specs.declared.command.Command.TheVariants as commands
 use Rattle.ent_line.specs.declared.command.Question.{Question}
-use Rattle.ent_line.specs.declared.command.Question.TheVariants.{Table, Cell, Ask, Counts, Can, Who, ByRule, Notices, Work, Format, Dump, State, Cells, Attributes, Documents, ExplainCell, Explain}
+use Rattle.ent_line.specs.declared.command.Question.TheVariants.{Table, Cell, Ask, Counts, Can, Who, ByRule, Notices, Work, Format, Dump, State, Cells, Attributes, Documents, ExplainCell, Explain, Faults}
 use Rattle.ent_line.specs.declared.keys.AskedRow.{AskedRow}
 use Rattle.ent_line.specs.declared.refusal.Refusal.{Refusal}
 use Rattle.ent_line.specs.declared.wanted.Wanted.{Wanted}
@@ -67,6 +67,7 @@ question_view content (Attributes category entity) = asked.attributes (option_co
 question_view content (Documents id) = asked.documents (option_copied id)
 question_view content (ExplainCell person action resource) = asked.explain_cell (triple_of person.now action.now resource.now)
 question_view content (Explain request) = asked.explain (content request.now)
+question_view content Faults = asked.faults
 
 -- the same of a command
 abbrev pub command_view : {J : Type 0} → (J → Data) → command.Command J → asked.Command

@@ -7,7 +7,8 @@ use Rattle.ent_line.proofs.explaining.answer_explained_text.Goals as goal
 
 pub returns : goal.returns
 returns g c =
-    let told = facts_data (held_by g.A.Attributes.sources g.P.Policies.slots c.args.pdp.now) c.args.evaluation.reads in
+    let told = facts_data (held_by g.A.Attributes.sources g.P.Policies.slots c.args.pdp.now) c.args.explained.reads in
+    let causes = c.args.explained.causes in
     c.into_string.ensures
-    ∙ explained_written (answer_data c.args.evaluation.answer) told _ _ _ _ c.in_ok-out.ensures c.in_ok-begin_reply.ensures
-    c.in_ok-write_answer.ensures c.in_ok-end_reply.ensures
+    ∙ explained_written (answer_data c.args.explained.answer) causes told _ _ _ _ c.in_ok-out.ensures c.in_ok-begin_reply.ensures
+    c.in_ok-write_answer.ensures (rw (c.as_slice.ensures) at c.in_ok-end_reply.ensures)

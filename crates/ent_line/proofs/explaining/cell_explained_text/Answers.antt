@@ -9,7 +9,8 @@ use Rattle.ent_line.proofs.explaining.cell_explained_text.Goals as goal
 pub returns : goal.returns
 returns g c =
     let who = c.args.who in
-    let told = facts_data (held_by g.A.Attributes.sources g.P.Policies.slots c.args.pdp.now) c.args.evaluation.reads in
+    let told = facts_data (held_by g.A.Attributes.sources g.P.Policies.slots c.args.pdp.now) c.args.explained.reads in
+    let causes = c.args.explained.causes in
     c.into_string.ensures
-    ∙ explained_written (cell_data (triple_of who.0.now who.1.now who.2.now, c.args.evaluation.answer)) told _ _ _ _ c.in_ok-out.ensures c.in_ok-begin_reply.ensures
-    c.in_ok-write_cell.ensures c.in_ok-end_reply.ensures
+    ∙ explained_written (cell_data (triple_of who.0.now who.1.now who.2.now, c.args.explained.answer)) causes told _ _ _ _ c.in_ok-out.ensures c.in_ok-begin_reply.ensures
+    c.in_ok-write_cell.ensures (rw (c.as_slice.ensures) at c.in_ok-end_reply.ensures)

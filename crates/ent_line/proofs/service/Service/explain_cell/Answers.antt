@@ -13,6 +13,7 @@ returns-clause-reply g c =
     let who = triple_of c.args.person.now c.args.action.now c.args.resource.now in
     let there : is_listed s.names who ≡ true = sym c.are_listed.ensures ∙ c.if-not-are_listed.false in
     let held : held_by sources slots c.pdp-pdp.result.now ≡ s.held =
-    ap (held_by sources slots) (c.pdp-pdp.ensures ∙ ap (λ v. v.pdp) c.review.ensures) ∙ ap (λ w. w.state.held) c.in_ok-evaluation.ensures.world in
-    let told = cell_said s c.in_ok-request.request _ _ _ _ who there c.in_ok-request.ensures c.in_ok-evaluation.ensures.answer c.in_ok-evaluation.ensures.reads held c.in_ok-text.ensures in
-    λ i. (told i, c.in_ok-evaluation.ensures.world i)
+    ap (held_by sources slots) (c.pdp-pdp.ensures ∙ ap (λ v. v.pdp) c.review.ensures) ∙ ap (λ w. w.state.held) c.in_ok-explained.ensures.world in
+    let told = cell_said s c.in_ok-request.request _ _ _ _ _ who there c.in_ok-request.ensures c.in_ok-explained.ensures.answer
+    c.in_ok-explained.ensures.causes c.in_ok-explained.ensures.reads held c.in_ok-text.ensures in
+    λ i. (told i, c.in_ok-explained.ensures.world i)

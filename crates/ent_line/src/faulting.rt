@@ -1,0 +1,85 @@
+//! The cells of which a part failed: the reply to `faults`.
+
+ghost use Rattle.std.specs.Prelude.{◌≡◌, ◌++◌, IfOk, OnOk, codes, map, string_bytes};
+ghost use Rattle.ent_json.specs.Text.{tokens_of};
+ghost use Rattle.ent_json.specs.proofs_only.Text.{items_tokens_of};
+ghost use Rattle.ent_table.specs.Left.{judged_left};
+ghost use Rattle.ent_table.specs.Names.{triple_of};
+ghost use Rattle.ent_line.specs.Cells.{list_data, reply_data};
+ghost use Rattle.ent_line.specs.Commands.{faults_told};
+ghost use Rattle.ent_line.specs.Reports.{fault_data, faults_text};
+ghost use Rattle.ent_line.specs.World.{IsReady};
+ghost use Rattle.ent_line.specs.proofs_only.Failing.{failed_in};
+ghost use Rattle.ent_line.specs.proofs_only.Replying.{Tells};
+
+use crate::cell::{write_decision, write_names, write_text};
+use crate::reply::Reply;
+use crate::reports::begin_list;
+use crate::service::Service;
+use ent_eval::Answer;
+use ent_finder::{Attributes, Policies};
+use ent_json::JsonText;
+use ent_table::Judged;
+use std::alloc::{AllocError, Global};
+
+/// Writes a cell by its names and its decision.
+fn write_fault(
+    out: &mut JsonText,
+    person: &str,
+    action: &str,
+    resource: &str,
+    answer: &Answer,
+) -> Result<(), AllocError>
+    ensures { OnOk result (out.new ≡ out.old
+        ++ tokens_of (fault_data (triple_of person.now action.now resource.now, answer.now))) }
+{
+    out.begin_object()?;
+    write_text(out, "action", action)?;
+    write_decision(out, answer.decision)?;
+    write_names(out, person, resource)?;
+    out.end_object()
+}
+
+/// Writes those of the cells that are left of which a part failed, to the end of their list.
+fn write_failed(out: &mut JsonText, cells: Judged<'_>) -> Result<(), AllocError>
+    ensures { OnOk result (out.new ≡ out.old
+        ++ items_tokens_of (map fault_data (failed_in (judged_left cells.entry)))) }
+{
+    for (person, action, resource, answer, failed) in cells {
+        if failed {
+            write_fault(out, person, action, resource, answer)?;
+        }
+    }
+    out.end_array()
+}
+
+/// Writes the reply to `faults`.
+fn write_reply(out: &mut JsonText, cells: Judged<'_>) -> Result<(), AllocError>
+    ensures { OnOk result (out.new ≡ out.old ++ tokens_of (reply_data (codes "faults")
+        (list_data fault_data (failed_in (judged_left cells.entry))))) }
+{
+    begin_list(out, "faults")?;
+    write_failed(out, cells)?;
+    out.end_object()
+}
+
+/// The text of the reply to `faults`.
+fn faults_text(alloc: Global, cells: Judged<'_>) -> Result<String, AllocError>
+    ensures { IfOk result (λ s. string_bytes s ≡ faults_text (failed_in (judged_left cells.entry))) }
+{
+    let mut out = JsonText::with_room(alloc)?;
+    write_reply(&mut out, cells)?;
+    Ok(out.into_string())
+}
+
+impl<A: Attributes, P: Policies> Service<A, P> {
+    /// `faults`.
+    #[tactic(auto, unfolding(crate::specs::Commands::faults_told))]
+    pub(crate) fn faults(&self) -> Result<Reply, AllocError>
+        requires { IsReady A.sources P.slots self.now }
+        ensures { Tells A.sources P.slots (λ w. faults_told w.state) self.now result }
+    {
+        let text = faults_text(self.alloc, self.desk.review().judged())?;
+        Ok(Reply::Text(text))
+    }
+}
