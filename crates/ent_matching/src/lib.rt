@@ -4,6 +4,7 @@
 mod compared;
 mod fits;
 mod placing;
+mod told;
 
 pub use compared::{is_part, is_same, places};
 pub use fits::have_same_data;

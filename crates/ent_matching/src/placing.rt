@@ -1,15 +1,16 @@
-//! The places at which JSON isn't what is expected.
+//! The places at which JSON isn't what is expected, and what is told of each.
 
 ghost use Rattle.std.specs.Prelude.{◌≡◌, ◌++◌, ◌∷◌, [], IfOk, OnOk, decimal, drop, is_some, map, option_map, true, unwrap_or};
 ghost use Rattle.std.specs.List.{flat_map};
-ghost use Rattle.serde_json.specs.Data.{no_items, object};
-ghost use Rattle.serde_json.specs.Find.{as_array, get, get_member};
+ghost use Rattle.serde_json.specs.Data.{no_items};
+ghost use Rattle.serde_json.specs.Find.{get, get_member};
 ghost use Rattle.serde_json.specs.View.{items_view, members_view, view};
-ghost use Rattle.ent_matching.specs.Matching.{fits};
 ghost use Rattle.ent_matching.specs.Places.{below, escaped_byte, item_places, list_places, member_places, missing};
-ghost use Rattle.ent_matching.specs.Places.{places, unexpected, unless};
+ghost use Rattle.ent_matching.specs.Places.{places, unexpected, unexpected_if};
+ghost use Rattle.ent_matching.specs.Told.{nothing};
 
 use crate::fits::{fits, is_among};
+use crate::told::{tell_another, tell_needless, tell_nothing, tell_unlike};
 use itoa::Buffer;
 use serde_json::{Map, Value};
 use std::alloc::{AllocError, Global};
@@ -53,22 +54,6 @@ fn below_at(alloc: Global, place: &[u8], number: usize) -> Result<Vec<u8>, Alloc
     below(alloc, place, buffer.format(number).as_bytes())
 }
 
-/// Puts a place behind others, unless what is expected stands there.
-fn push_unless(
-    alloc: Global,
-    stands: bool,
-    place: &[u8],
-    found: &mut Vec<Vec<u8>>,
-) -> Result<(), AllocError>
-    ensures { OnOk result (map (λ v. v.items) found.new.items
-        ≡ map (λ v. v.items) found.old.items ++ unless stands place.now) }
-{
-    if !stands {
-        found.push(Vec::from_slice(alloc, place)?)?;
-    }
-    Ok(())
-}
-
 /// What stands at a key.
 fn member<'m>(members: &'m Map<String, Value>, key: &str) -> Option<&'m Value>
     ensures { option_map (λ v. view v.now) result ≡ get_member key.now (members_view members.now.entries) }
@@ -92,19 +77,15 @@ fn push_unexpected(
     place: &[u8],
     expected: &Map<String, Value>,
     members: &Map<String, Value>,
-    found: &mut Vec<Vec<u8>>,
+    told: &mut Vec<Vec<u8>>,
 ) -> Result<(), AllocError>
-    ensures { OnOk result (map (λ v. v.items) found.new.items ≡ map (λ v. v.items) found.old.items
+    ensures { OnOk result (map (λ v. v.items) told.new.items ≡ map (λ v. v.items) told.old.items
         ++ unexpected place.now (members_view expected.now.entries) (members_view members.now.entries)) }
 {
-    for (key, _) in members.iter() {
+    for (key, member) in members.iter() {
         let inner = below(alloc, place, key.as_bytes())?;
-        push_unless(
-            alloc,
-            has_key(expected, key.as_str()),
-            inner.as_slice(),
-            found,
-        )?;
+        let is_expected = has_key(expected, key.as_str());
+        tell_needless(alloc, is_expected, inner.as_slice(), member, told)?;
     }
     Ok(())
 }
@@ -115,14 +96,15 @@ fn push_missing(
     place: &[u8],
     items: &[Value],
     others: &[Value],
-    found: &mut Vec<Vec<u8>>,
+    told: &mut Vec<Vec<u8>>,
 ) -> Result<(), AllocError>
-    ensures { OnOk result (map (λ v. v.items) found.new.items ≡ map (λ v. v.items) found.old.items
+    ensures { OnOk result (map (λ v. v.items) told.new.items ≡ map (λ v. v.items) told.old.items
         ++ missing 0 place.now (items_view items.now) (items_view others.now)) }
 {
     for i in 0..items.len() {
         let inner = below_at(alloc, place, i)?;
-        push_unless(alloc, is_among(&items[i], others), inner.as_slice(), found)?;
+        let item = &items[i];
+        tell_unlike(alloc, is_among(item, others), inner.as_slice(), item, told)?;
     }
     Ok(())
 }
@@ -133,14 +115,14 @@ fn push_further(
     place: &[u8],
     count: usize,
     items: &[Value],
-    found: &mut Vec<Vec<u8>>,
+    told: &mut Vec<Vec<u8>>,
 ) -> Result<(), AllocError>
-    ensures { OnOk result (map (λ v. v.items) found.new.items ≡ map (λ v. v.items) found.old.items
+    ensures { OnOk result (map (λ v. v.items) told.new.items ≡ map (λ v. v.items) told.old.items
         ++ item_places count place.now no_items (items_view (drop count items.now))) }
 {
     if count < items.len() {
         let inner = below_at(alloc, place, count)?;
-        return push_unless(alloc, false, inner.as_slice(), found);
+        return tell_needless(alloc, false, inner.as_slice(), &items[count], told);
     }
     Ok(())
 }
@@ -153,15 +135,31 @@ pub(crate) fn push_places(
     place: &[u8],
     expected: &Value,
     value: &Value,
-    found: &mut Vec<Vec<u8>>,
+    told: &mut Vec<Vec<u8>>,
 ) -> Result<(), AllocError>
-    ensures { OnOk result (map (λ v. v.items) found.new.items ≡ map (λ v. v.items) found.old.items
+    ensures { OnOk result (map (λ v. v.items) told.new.items ≡ map (λ v. v.items) told.old.items
         ++ places whole place.now (view expected.now) (view value.now)) }
 {
     match expected {
-        Value::Array(items) => push_list(alloc, whole, place, items.as_slice(), value, found),
-        Value::Object(members) => push_object(alloc, whole, place, members, value, found),
-        _ => push_unless(alloc, fits(whole, expected, value), place, found),
+        Value::Array(items) => match value.as_array() {
+            Some(others) => push_list(
+                alloc,
+                whole,
+                place,
+                items.as_slice(),
+                others.as_slice(),
+                told,
+            ),
+            None => tell_another(alloc, false, place, expected, value, told),
+        },
+        Value::Object(members) => match value.as_object() {
+            Some(others) => push_object(alloc, whole, place, members, others, value, told),
+            None => tell_another(alloc, false, place, expected, value, told),
+        },
+        Value::Null | Value::Bool(_) | Value::Number(_) | Value::String(_) => {
+            let stands = fits(whole, expected, value);
+            tell_another(alloc, stands, place, expected, value, told)
+        }
     }
 }
 
@@ -172,17 +170,16 @@ fn push_list(
     whole: bool,
     place: &[u8],
     items: &[Value],
-    value: &Value,
-    found: &mut Vec<Vec<u8>>,
+    others: &[Value],
+    told: &mut Vec<Vec<u8>>,
 ) -> Result<(), AllocError>
-    ensures { OnOk result (map (λ v. v.items) found.new.items ≡ map (λ v. v.items) found.old.items
-        ++ list_places whole place.now (items_view items.now) (as_array (view value.now))) }
+    ensures { OnOk result (map (λ v. v.items) told.new.items ≡ map (λ v. v.items) told.old.items
+        ++ list_places whole place.now (items_view items.now) (items_view others.now)) }
 {
-    match value.as_array() {
-        Some(others) if whole => push_items(alloc, place, items, others.as_slice(), found),
-        Some(others) => push_missing(alloc, place, items, others.as_slice(), found),
-        None => push_unless(alloc, false, place, found),
+    if !whole {
+        return push_missing(alloc, place, items, others, told);
     }
+    push_items(alloc, place, items, others, told)
 }
 
 /// Puts the places behind others at which the members of a list aren't those that are expected.
@@ -192,19 +189,20 @@ fn push_items(
     place: &[u8],
     items: &[Value],
     others: &[Value],
-    found: &mut Vec<Vec<u8>>,
+    told: &mut Vec<Vec<u8>>,
 ) -> Result<(), AllocError>
-    ensures { OnOk result (map (λ v. v.items) found.new.items ≡ map (λ v. v.items) found.old.items
+    ensures { OnOk result (map (λ v. v.items) told.new.items ≡ map (λ v. v.items) told.old.items
         ++ item_places 0 place.now (items_view items.now) (items_view others.now)) }
 {
     for i in 0..items.len() {
         let inner = below_at(alloc, place, i)?;
+        let item = &items[i];
         if i >= others.len() {
-            return push_unless(alloc, false, inner.as_slice(), found);
+            return tell_nothing(alloc, inner.as_slice(), item, told);
         }
-        push_places(alloc, true, inner.as_slice(), &items[i], &others[i], found)?;
+        push_places(alloc, true, inner.as_slice(), item, &others[i], told)?;
     }
-    push_further(alloc, place, items.len(), others, found)
+    push_further(alloc, place, items.len(), others, told)
 }
 
 /// Puts the places of an object behind others, at which it isn't what is expected.
@@ -214,18 +212,17 @@ fn push_object(
     whole: bool,
     place: &[u8],
     members: &Map<String, Value>,
+    others: &Map<String, Value>,
     value: &Value,
-    found: &mut Vec<Vec<u8>>,
+    told: &mut Vec<Vec<u8>>,
 ) -> Result<(), AllocError>
-    ensures { OnOk result (map (λ v. v.items) found.new.items ≡ map (λ v. v.items) found.old.items
-        ++ places whole place.now (object (members_view members.now.entries)) (view value.now)) }
+    ensures { OnOk result (map (λ v. v.items) told.new.items ≡ map (λ v. v.items) told.old.items
+        ++ (member_places whole place.now (members_view members.now.entries) (view value.now)
+        ++ unexpected_if whole place.now (members_view members.now.entries) (members_view others.now.entries))) }
 {
-    let Some(others) = value.as_object() else {
-        return push_unless(alloc, false, place, found);
-    };
-    push_members(alloc, whole, place, members, value, found)?;
+    push_members(alloc, whole, place, members, value, told)?;
     if whole {
-        return push_unexpected(alloc, place, members, others, found);
+        return push_unexpected(alloc, place, members, others, told);
     }
     Ok(())
 }
@@ -238,13 +235,13 @@ fn push_members(
     place: &[u8],
     members: &Map<String, Value>,
     value: &Value,
-    found: &mut Vec<Vec<u8>>,
+    told: &mut Vec<Vec<u8>>,
 ) -> Result<(), AllocError>
-    ensures { OnOk result (map (λ v. v.items) found.new.items ≡ map (λ v. v.items) found.old.items
+    ensures { OnOk result (map (λ v. v.items) told.new.items ≡ map (λ v. v.items) told.old.items
         ++ member_places whole place.now (members_view members.now.entries) (view value.now)) }
 {
     for (key, member) in members.iter() {
-        push_member(alloc, whole, place, key.as_str(), member, value, found)?;
+        push_member(alloc, whole, place, key.as_str(), member, value, told)?;
     }
     Ok(())
 }
@@ -258,15 +255,15 @@ fn push_member(
     key: &str,
     expected: &Value,
     value: &Value,
-    found: &mut Vec<Vec<u8>>,
+    told: &mut Vec<Vec<u8>>,
 ) -> Result<(), AllocError>
-    ensures { OnOk result (map (λ v. v.items) found.new.items ≡ map (λ v. v.items) found.old.items
+    ensures { OnOk result (map (λ v. v.items) told.new.items ≡ map (λ v. v.items) told.old.items
         ++ unwrap_or (option_map (places whole (below place.now key.now) (view expected.now)) (get key.now (view value.now)))
-        (below place.now key.now ∷ [])) }
+        (nothing (below place.now key.now) (view expected.now) ∷ [])) }
 {
     let inner = below(alloc, place, key.as_bytes())?;
     match value.get(key) {
-        Some(member) => push_places(alloc, whole, inner.as_slice(), expected, member, found),
-        None => push_unless(alloc, false, inner.as_slice(), found),
+        Some(member) => push_places(alloc, whole, inner.as_slice(), expected, member, told),
+        None => tell_nothing(alloc, inner.as_slice(), expected, told),
     }
 }

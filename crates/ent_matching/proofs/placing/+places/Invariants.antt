@@ -25,15 +25,15 @@ decreases-push_object l = 4 * members_depth (members_view l.members.now.entries)
 -- the places so far, and the members from here on are left
 abbrev pub invariant-push_items-loop-i : goal.invariant-push_items-loop-i
 invariant-push_items-loop-i l = record {
-  left : map (λ v. v.items) l.found.items ++ item_places l.i l.place (items_view (drop l.i l.items)) (items_view (drop l.i l.others))
-      ≡ map (λ v. v.items) l.fn.found.items ++ item_places 0 l.place (items_view l.items) (items_view l.others);
+  left : map (λ v. v.items) l.told.items ++ item_places l.i l.place (items_view (drop l.i l.items)) (items_view (drop l.i l.others))
+      ≡ map (λ v. v.items) l.fn.told.items ++ item_places 0 l.place (items_view l.items) (items_view l.others);
   within : l.i ≤ length l.others;
 }
 
 -- the places so far, and the members at the keys from here on are left
 abbrev pub invariant-push_members-loop-key : goal.invariant-push_members-loop-key
 invariant-push_members-loop-key l = record {
-  left : map (λ v. v.items) l.found.items ++ member_places l.whole l.place (members_view l.key-iterator) (view l.value)
-      ≡ map (λ v. v.items) l.fn.found.items ++ member_places l.whole l.place (members_view l.members.entries) (view l.value);
+  left : map (λ v. v.items) l.told.items ++ member_places l.whole l.place (members_view l.key-iterator) (view l.value)
+      ≡ map (λ v. v.items) l.fn.told.items ++ member_places l.whole l.place (members_view l.members.entries) (view l.value);
   within : members_depth (members_view l.key-iterator) ≤ members_depth (members_view l.members.entries);
 }

@@ -1,0 +1,9 @@
+//! What became of tests, as JUnit XML.
+#![tactic(auto)]
+
+mod escaping;
+mod result;
+mod writing;
+
+pub use result::{Case, Suite, errors, failed};
+pub use writing::junit_of;
