@@ -1,10 +1,10 @@
-//! Tells which attributes of documents aren't declared. Standard input has one JSON value a line: a list of attributes
-//! that are declared for the lines below it, or a document. What is said of each goes to standard output.
+//! Tells what of documents and of lines isn't declared. Standard input has one JSON value a line: a list of attributes
+//! that are declared for the lines below it, a document, or a command. What is said of each goes to standard output.
 #![tactic(auto)]
 
 ghost use Rattle.std.specs.Prelude.{◌≡◌, ◌⊎◌};
 
-use ent_declared::{Attribute, read_attributes, undeclared};
+use ent_declared::{Attribute, Listed, faulty_lines, read_attributes, undeclared};
 use ent_json::{JsonTree, read_json};
 use ent_values::Items;
 use json::{Scratch, Value};
@@ -46,22 +46,40 @@ fn said_of_attributes(
     }
 }
 
+/// What is known from the lines so far.
+#[derive(Drop)]
+struct Known {
+    /// The attributes that are declared.
+    attributes: Items<Attribute>,
+    /// The names that are listed.
+    listed: Listed,
+}
+
+/// What is said of a command, whose name is listed from then on, if it lists one.
+fn said_of_command(alloc: Global, line: &[u8], known: &mut Known) -> Result<String, AllocError> {
+    known.listed.read(alloc, &[line])?;
+    let attributes = known.attributes.as_slice();
+    let faulty = faulty_lines(alloc, attributes, &known.listed, &[line])?;
+    match faulty.first() {
+        None => String::from_str(alloc, "all is declared"),
+        Some(one) => one.told(alloc, line, attributes, &known.listed),
+    }
+}
+
 /// What is said of a line.
-fn said(
-    alloc: Global,
-    line: &[u8],
-    attributes: &mut Items<Attribute>,
-) -> Result<String, AllocError> {
+fn said(alloc: Global, line: &[u8], known: &mut Known) -> Result<String, AllocError> {
     let mut scratch = Scratch::new(alloc);
     match read_json(alloc, line, &mut scratch)? {
-        None => String::from_str(alloc, ""),
+        None => said_of_command(alloc, line, known),
         Some(json) => {
-            if JsonTree::get(&json, "Policy").is_none()
+            if JsonTree::get(&json, "do").is_some() {
+                said_of_command(alloc, line, known)
+            } else if JsonTree::get(&json, "Policy").is_none()
                 && JsonTree::get(&json, "PolicySet").is_none()
             {
-                said_of_attributes(alloc, &json, attributes)
+                said_of_attributes(alloc, &json, &mut known.attributes)
             } else {
-                said_of_document(alloc, &json, attributes.as_slice())
+                said_of_document(alloc, &json, known.attributes.as_slice())
             }
         }
     }
@@ -69,7 +87,10 @@ fn said(
 
 /// Writes what is said of each line of the reader, a heading as it stands. False where that fails.
 fn tell<R: BufRead, W: Write>(alloc: Global, reader: &mut R, writer: &mut W) -> bool {
-    let mut attributes = Items::new(alloc);
+    let mut known = Known {
+        attributes: Items::new(alloc),
+        listed: Listed::new(alloc),
+    };
     let mut line = Vec::new(alloc);
     for _ in 0..u64::MAX {
         line.clear();
@@ -82,7 +103,7 @@ fn tell<R: BufRead, W: Write>(alloc: Global, reader: &mut R, writer: &mut W) -> 
             if writer.write_all(line.as_slice()).is_err() {
                 return false;
             }
-        } else if write_said(alloc, line.as_slice(), &mut attributes, writer).is_none() {
+        } else if write_said(alloc, line.trim_ascii_end(), &mut known, writer).is_none() {
             return false;
         }
     }
@@ -93,10 +114,10 @@ fn tell<R: BufRead, W: Write>(alloc: Global, reader: &mut R, writer: &mut W) -> 
 fn write_said<W: Write>(
     alloc: Global,
     line: &[u8],
-    attributes: &mut Items<Attribute>,
+    known: &mut Known,
     writer: &mut W,
 ) -> Option<()> {
-    let text = said(alloc, line, attributes).ok()?;
+    let text = said(alloc, line, known).ok()?;
     writer.write_all(text.as_bytes()).ok()?;
     writer.write_all(b"\n").ok()
 }

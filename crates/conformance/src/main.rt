@@ -43,7 +43,7 @@ fn run<R: Input + Print + AllocGlobal>(rt: &R) -> u8
         return BROKEN;
     };
     match test_from(alloc, Plan::all(), NAME, &mut reader, &mut writer) {
-        Ok(tally) => told(&mut writer, tally),
+        Ok(suite) => told(&mut writer, Tally::of(&suite)),
         Err(_) => BROKEN,
     }
 }

@@ -1,4 +1,6 @@
 mod Depths
-mod Listed
+mod Gathered
+mod Readings
+mod Names
 mod Places
 mod Walks

@@ -1,7 +1,7 @@
 -- What is found at a place and inside of it.
 use Rattle.std.proofs.Common.{◌≡◌, ◌⊎◌, inl, inr, ℕ, zero, suc, ◌<◌, ◌≤◌, ◌+◌, false, true, List, [], ◌∷◌, ◌++◌, length, get_or, take, map, Option, Some, None, codes, refl, sym, ap, ◌∙◌, subst, arith}
 use mathlib.Core.List.{append_assoc}
-use Rattle.std.specs.Prelude.{decimal}
+use Rattle.std.specs.Prelude.{decimal, is_some}
 use Rattle.std.specs.List.{All, Contains, flat_map}
 use Rattle.std.proofs.lemmas.List.{get_or_default}
 use Rattle.std.proofs.lemmas.List.Elements.{All-append, All-cons, All-contains, All-more, All-nil, All-weaker, Contains-append_left, Contains-append_right}
@@ -14,14 +14,17 @@ use Rattle.ent_places.specs.Parts.{Row, item, rows}
 use Rattle.ent_places.specs.Told.{Scope}
 use Rattle.ent_places.specs.declared.part.Part.{Part}
 use Rattle.ent_declared.specs.Asked.{asked, finds_one}
-use Rattle.ent_declared.specs.Undeclared.{Finds, FindsIn, IsAllDeclared, StandsIn, is_designator, is_undeclared, spot}
+use Rattle.ent_declared.specs.Compared.{has_stray, literals, designators}
+use Rattle.ent_declared.specs.Undeclared.{Finds, FindsHere, FindsIn, IsAllDeclared, IsDesignatorAt, IsLiteralOf, IsWrongBy, StandsIn, is_designator, is_undeclared, is_wrong, spot}
+use Rattle.ent_declared.specs.proofs_only.Found.{FindsDesignator, StraysIn}
+use Rattle.ent_values.specs.declared.value.Value.{Value}
 use Rattle.ent_declared.specs.declared.attribute.Attribute.{Attribute}
 use Rattle.ent_declared.specs.declared.designator.Undeclared.{Undeclared}
 use Rattle.ent_declared.proofs.Places.{All-flat_map, All-members, Contains-flat_map, Contains-member, fallback, length-map, listed_is, member_at, member_is}
 
 -- all are declared where it isn't one that is undeclared, and all inside are declared
-all_declared : (given : List Attribute) (s : Spot) → is_undeclared given s ≡ false → All (IsAllDeclared given) (inside s) → IsAllDeclared given s
-all_declared given s here inner zero spot is = subst (λ t. is_undeclared given t ≡ false) (sym is) here
+all_declared : (given : List Attribute) (s : Spot) → is_wrong given s ≡ false → All (IsAllDeclared given) (inside s) → IsAllDeclared given s
+all_declared given s here inner zero spot is = subst (λ t. is_wrong given t ≡ false) (sym is) here
 all_declared given s here inner (suc n) spot (t, is_in, h) = All-contains (IsAllDeclared given) (inside s) t inner is_in n spot h
 
 -- what stands in a part inside stands in the part
@@ -31,13 +34,26 @@ stands_inside given found s t is_in h = record {
   level = suc h.level;
   is_part = (t, is_in, h.is_part);
   is_there = h.is_there;
-  is_asked = h.is_asked;
-  undeclared = h.undeclared;
 }
 
 -- what stands at the place itself
-pub stands_here : (given : List Attribute) (found : Undeclared) (s : Spot) → s.pointer ≡ found.pointer → asked s.json ≡ found.asked → is_undeclared given s ≡ true → StandsIn given found s
-stands_here given found s there is undeclared = record { spot = s; level = 0; is_part = refl; is_there = there; is_asked = is; undeclared = undeclared }
+stands_here : (given : List Attribute) (found : Undeclared) (s : Spot) → IsWrongBy given found s found.value → StandsIn given found s
+stands_here given found s there = record { spot = s; level = 0; is_part = refl; is_there = there }
+
+-- a designator that is found there
+pub designator_here : (given : List Attribute) (found : Undeclared) (s : Spot) → FindsDesignator given s (Some found) → StandsIn given found s
+designator_here given found s h = stands_here given found s (subst (λ v. IsWrongBy given found s v) (sym h.0) h.1)
+
+by_literal : (given : List Attribute) (found : Undeclared) (s : Spot) (v : Option Value) → is_some v ≡ true
+    → IsLiteralOf given found (literals s.part (s.pointer, s.json)) (designators s.part (s.pointer, s.json)) → IsWrongBy given found s v
+by_literal given found s None some h = absurd cc
+by_literal given found s (Some v) some h = h
+
+-- what is found there, where no designator is
+pub literal_here : (given : List Attribute) (o : Option Undeclared) (s : Spot) → is_undeclared given s ≡ false
+    → StraysIn given (literals s.part (s.pointer, s.json)) (designators s.part (s.pointer, s.json)) o → FindsHere given s o
+literal_here given None s declared h = rw (declared, h) refl
+literal_here given (Some found) s declared h = stands_here given found s (by_literal given found s found.value h.0 h.1)
 
 -- a designator is undeclared where nothing declared is asked for
 pub undeclared_by : (given : List Attribute) (s : Spot) (o : Option Attribute) → is_designator s.part ≡ true → o ≡ asked s.json → finds_one given o ≡ false → is_undeclared given s ≡ true
@@ -50,7 +66,7 @@ found_at_keys given found o s is all =
     stands_inside given found s h.0 (Contains-append_left (at_keys s) (in_list s (item s.part)) h.0 h.1) h.2
 
 -- where nothing is found there, what is found in the list is found in the part
-pub found_in_list : (given : List Attribute) (o : Option Undeclared) (s : Spot) → is_undeclared given s ≡ false → FindsIn given (at_keys s) None → FindsIn given (in_list s (item s.part)) o → Finds given s o
+pub found_in_list : (given : List Attribute) (o : Option Undeclared) (s : Spot) → is_wrong given s ≡ false → FindsIn given (at_keys s) None → FindsIn given (in_list s (item s.part)) o → Finds given s o
 found_in_list given None s here keys h = all_declared given s here (All-append (IsAllDeclared given) (at_keys s) (in_list s (item s.part)) keys h)
 found_in_list given (Some found) s here keys h = stands_inside given found s h.0 (Contains-append_right (at_keys s) (in_list s (item s.part)) h.0 h.1) h.2
 

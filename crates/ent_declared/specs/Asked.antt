@@ -10,7 +10,7 @@ use Rattle.ent_declared.specs.declared.attribute.Attribute.{Attribute}
 -- what a designator asks for (section 5.29), unless its category, id or data type is none
 unfoldable pub asked : Data → Option Attribute
 asked d = option_and_then (λ category. option_and_then (λ id. option_map
-    (λ datatype. record { category = category; id = id; datatype = datatype; issuer = text_at (codes "Issuer") d })
+    (λ datatype. record { category = category; id = id; datatype = datatype; issuer = text_at (codes "Issuer") d; values = None })
     (option_and_then type_of (text_at (codes "DataType") d))) (text_at (codes "AttributeId") d)) (text_at (codes "Category") d)
 
 -- an issuer is the one that is wanted, if one is

@@ -6,9 +6,11 @@ use Rattle.serde_json.specs.Find.{as_array, as_str, get}
 use Rattle.ent_values.specs.Types.{type_of}
 use Rattle.ent_values.specs.declared.datatype.DataType.{DataType}
 use Rattle.ent_values.specs.declared.datatype.DataType.TheVariants as types
+use Rattle.ent_values.specs.declared.value.Value.{Value}
 use Rattle.ent_json.specs.Objects.{has_only, text_at}
 use Rattle.ent_policy.specs.Names.{name_of}
 use Rattle.ent_polform.specs.Objects.{◌>>=◌, must, need}
+use Rattle.ent_polform.specs.Values.{value_in}
 use Rattle.ent_declared.specs.declared.attribute.Attribute.{Attribute}
 use Rattle.ent_declared.specs.declared.fault.AttributeFault.{AttributeFault}
 use Rattle.ent_declared.specs.declared.fault.AttributeFault.TheVariants as fault
@@ -26,14 +28,30 @@ abbrev pub issuer_of : Option Data → Option (Option (List ℕ))
 issuer_of None = Some None
 issuer_of (Some d) = option_map Some (option_and_then name_of (as_str d))
 
--- the attribute that a declaration names, or what is wrong with it: Category, AttributeId and DataType, and maybe Issuer
+-- the values of a type, of which the first has this number, or the number of the first that is none
+abbrev pub values_from : DataType → ℕ → Items → Result (List Value) AttributeFault
+values_from datatype n json.no_items = Ok []
+values_from datatype n (json.item d ds) =
+    need (fault.Value n) (value_in datatype d) >>= λ v. values_from datatype (suc n) ds >>= λ more. Ok (v ∷ more)
+
+-- those that may be listed
+abbrev pub values_of : DataType → Option Data → Result (Option (List Value)) AttributeFault
+values_of datatype None = Ok None
+values_of datatype (Some d) = need fault.Values (as_array d) >>= λ items. values_from datatype 0 items >>= λ values. Ok (Some values)
+
+-- the keys of a declaration
+abbrev pub declared_keys : List (List ℕ)
+declared_keys = codes "AttributeId" ∷ codes "Category" ∷ codes "DataType" ∷ codes "Issuer" ∷ codes "Values" ∷ []
+
+-- the attribute that a declaration names, or what is wrong with it: Category, AttributeId and DataType, and maybe Issuer, and the values that it may have
 unfoldable pub attribute_of : Data → Result Attribute AttributeFault
-attribute_of d = must fault.Form (has_only (codes "AttributeId" ∷ codes "Category" ∷ codes "DataType" ∷ codes "Issuer" ∷ []) d) (do
+attribute_of d = must fault.Form (has_only declared_keys d) (do
   category ← need fault.Category (name_at (codes "Category") d)
   id ← need fault.AttributeId (name_at (codes "AttributeId") d)
   datatype ← need fault.DataType (option_and_then type_of (text_at (codes "DataType") d))
   issuer ← need fault.Issuer (issuer_of (get (codes "Issuer") d))
-  Ok (record { category = category; id = id; datatype = datatype; issuer = issuer }))
+  values ← values_of datatype (get (codes "Values") d)
+  Ok (record { category = category; id = id; datatype = datatype; issuer = issuer; values = values }))
 
 -- ---- a list of declarations
 
@@ -48,15 +66,15 @@ attributes_from n json.no_items = Ok []
 attributes_from n (json.item d ds) = numbered n (attribute_of d) >>= λ a. attributes_from (suc n) ds >>= λ more. Ok (a ∷ more)
 
 -- what is read, behind others
-abbrev pub behind : List Attribute → Result (List Attribute) AttributesFault → Result (List Attribute) AttributesFault
+abbrev pub behind : {A E : Type 0} → List A → Result (List A) E → Result (List A) E
 behind first (Ok more) = Ok (first ++ more)
 behind first (Err f) = Err f
 
 -- ---- those that are always declared
 
--- an attribute without an issuer
+-- an attribute without an issuer, of any values
 abbrev pub attribute : List ℕ → List ℕ → DataType → Attribute
-attribute category id datatype = record { category = category; id = id; datatype = datatype; issuer = None }
+attribute category id datatype = record { category = category; id = id; datatype = datatype; issuer = None; values = None }
 
 -- the ids of the three names of a request (appendix B.2, B.3 and B.4), and the attributes of the moment (appendix B.7)
 abbrev pub always : List Attribute
@@ -82,6 +100,8 @@ place_in fault.Category = codes "/Category"
 place_in fault.AttributeId = codes "/AttributeId"
 place_in fault.DataType = codes "/DataType"
 place_in fault.Issuer = codes "/Issuer"
+place_in fault.Values = codes "/Values"
+place_in (fault.Value n) = codes "/Values/" ++ decimal n
 
 -- the place in the file, as a JSON pointer (RFC 6901)
 abbrev pub pointer_of : AttributesFault → List ℕ

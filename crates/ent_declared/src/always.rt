@@ -32,7 +32,7 @@ const CURRENT_TIME: &str = "urn:oasis:names:tc:xacml:1.0:environment:current-tim
 
 const CURRENT_DATE_TIME: &str = "urn:oasis:names:tc:xacml:1.0:environment:current-dateTime";
 
-/// Puts an attribute that has no issuer last.
+/// Puts an attribute last that has no issuer and may have any values.
 fn put(
     alloc: Global,
     attributes: &mut Items<Attribute>,
@@ -49,6 +49,7 @@ fn put(
         id,
         datatype,
         issuer: None,
+        values: None,
     })
 }
 

@@ -4,7 +4,7 @@ ghost use Rattle.std.specs.Prelude.{◌≡◌, IfOk, option_map};
 ghost use Rattle.ent_declared.specs.Asked.{asked, finds, finds_one, is_wanted};
 
 use ent_json::{JsonTree, text_at};
-use ent_values::{DataType, Text};
+use ent_values::{DataType, Items, Text, Value};
 use std::alloc::{AllocError, Global};
 
 /// An attribute that is declared, or that a designator asks for: then without an issuer its values of any issuer and
@@ -15,6 +15,8 @@ pub struct Attribute {
     pub id: Text,
     pub datatype: DataType,
     pub issuer: Option<Text>,
+    /// The values that it may have, where they are listed; none where it is asked for.
+    pub values: Option<Items<Value>>,
 }
 
 /// A text of the allocator's, if there is one.
@@ -74,6 +76,7 @@ pub(crate) fn asked<J: JsonTree>(
         id: Text::from_str(alloc, id)?,
         datatype,
         issuer,
+        values: None,
     }))
 }
 

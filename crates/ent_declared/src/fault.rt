@@ -8,7 +8,7 @@ use std::alloc::{AllocError, Global};
 /// What is wrong with a declaration.
 #[derive(Clone, Copy, Debug, PartialEq, Eq)]
 pub enum AttributeFault {
-    /// It isn't an object, or it has another key than Category, AttributeId, DataType and Issuer.
+    /// It isn't an object, or it has another key than Category, AttributeId, DataType, Issuer and Values.
     Form,
     /// Its Category isn't a text of 1 to 256 bytes.
     Category,
@@ -18,6 +18,10 @@ pub enum AttributeFault {
     DataType,
     /// Its Issuer isn't a text of 1 to 256 bytes.
     Issuer,
+    /// Its Values isn't a list.
+    Values,
+    /// The value of that number, from 0 on, isn't one of its type.
+    Value(usize),
 }
 
 /// What is wrong with a file that declares attributes.
@@ -31,15 +35,17 @@ pub enum AttributesFault {
 
 impl AttributeFault {
     /// The key at which the fault stands, as a JSON pointer inside of the declaration.
-    fn place(self) -> &'static str
-        ensures { result.now ≡ place_in self }
+    fn place(self, alloc: Global) -> Result<String, AllocError>
+        ensures { IfOk result (λ p. string_bytes p ≡ place_in self) }
     {
         match self {
-            AttributeFault::Form => "",
-            AttributeFault::Category => "/Category",
-            AttributeFault::AttributeId => "/AttributeId",
-            AttributeFault::DataType => "/DataType",
-            AttributeFault::Issuer => "/Issuer",
+            AttributeFault::Form => Ok(String::new(alloc)),
+            AttributeFault::Category => String::from_str(alloc, "/Category"),
+            AttributeFault::AttributeId => String::from_str(alloc, "/AttributeId"),
+            AttributeFault::DataType => String::from_str(alloc, "/DataType"),
+            AttributeFault::Issuer => String::from_str(alloc, "/Issuer"),
+            AttributeFault::Values => String::from_str(alloc, "/Values"),
+            AttributeFault::Value(number) => format!(in alloc; "/Values/{number}"),
         }
     }
 }
@@ -56,7 +62,8 @@ impl AttributesFault {
         match self {
             AttributesFault::NoList => String::from_str(alloc, "/Attributes"),
             AttributesFault::Member(number, fault) => {
-                let place = fault.place();
+                let place = fault.place(alloc)?;
+                let place = place.as_str();
                 format!(in alloc; "/Attributes/{number}{place}")
             }
         }

@@ -1,18 +1,25 @@
-//! Attributes that are declared in a file, and the designators of a document that ask for none of them.
+//! Attributes that are declared in a file, and what of a document or of lines isn't declared so.
 #![tactic(auto)]
 
 mod always;
 mod attribute;
+mod compared;
 mod designator;
 mod fault;
+mod line_told;
+mod lines;
+mod listed;
 mod nearest;
 mod reading;
 mod said;
+mod stray;
 mod told;
 mod walk;
 
 pub use attribute::Attribute;
 pub use designator::Undeclared;
 pub use fault::{AttributeFault, AttributesFault};
-pub use reading::read_attributes;
+pub use lines::{FaultyLine, LineFault, faulty_lines};
+pub use listed::{Listed, Named};
+pub use reading::{DECLARED_KEYS, read_attributes};
 pub use walk::undeclared;

@@ -1,9 +1,10 @@
-//! The declared attribute that is nearest to one that isn't. Which one that is, is only tested.
+//! The declared attribute that is nearest to one that isn't, and the nearest value. Which one that is, is only tested.
 
 ghost use Rattle.std.specs.Prelude.{IfOk, IfSome};
 ghost use Rattle.std.specs.List.{Contains};
 
 use crate::attribute::Attribute;
+use ent_values::{Text, Value};
 use std::alloc::{AllocError, Global};
 use strsim::osa_distance;
 
@@ -16,7 +17,11 @@ fn last_word(id: &str) -> &str {
 }
 
 /// How many edits lead from one word to the other, if they are few: at most one for three bytes.
-fn few_edits(alloc: Global, wanted: &str, word: &str) -> Result<Option<usize>, AllocError> {
+pub(crate) fn few_edits(
+    alloc: Global,
+    wanted: &str,
+    word: &str,
+) -> Result<Option<usize>, AllocError> {
     let most = (wanted.len() / 3).max(1);
     if wanted.len().abs_diff(word.len()) > most {
         return Ok(None);
@@ -74,4 +79,45 @@ pub(crate) fn nearest<'a>(
         }
     }
     Ok(nearest)
+}
+
+/// Takes the text of the value of these that is nearest to a text, if one is nearer than the nearest so far, and has
+/// something in common with it.
+fn take_nearer(
+    alloc: Global,
+    text: &str,
+    values: &[Value],
+    nearest: &mut Option<(usize, Text)>,
+) -> Result<(), AllocError> {
+    for value in values {
+        let listed = value.text(alloc)?;
+        if let Some(edits) = few_edits(alloc, text, listed.as_str())? {
+            let is_nearer = match nearest {
+                None => true,
+                Some((least, _)) => edits < *least,
+            };
+            if is_nearer && edits < text.len() {
+                *nearest = Some((edits, listed));
+            }
+        }
+    }
+    Ok(())
+}
+
+/// The text of the value that is nearest to a text, of those that are listed for what is wanted, if one is near.
+pub(crate) fn nearest_value(
+    alloc: Global,
+    wanted: &Attribute,
+    text: &str,
+    attributes: &[Attribute],
+) -> Result<Option<Text>, AllocError> {
+    let mut nearest = None;
+    for attribute in attributes {
+        if wanted.finds(attribute) {
+            if let Some(values) = &attribute.values {
+                take_nearer(alloc, text, values.as_slice(), &mut nearest)?;
+            }
+        }
+    }
+    Ok(nearest.map(|(_, text)| text))
 }

@@ -1,4 +1,4 @@
-//! The way through a document, for a designator that isn't declared.
+//! The way through a document, for what isn't declared.
 
 ghost use Rattle.std.specs.Prelude.{◌≡◌, ◌++◌, IfOk, codes, decimal};
 ghost use Rattle.serde_json.specs.Find.{get};
@@ -6,9 +6,11 @@ ghost use Rattle.ent_places.specs.Parts.{item};
 ghost use Rattle.ent_places.specs.Places.{at_key, at_keys, in_list, whole};
 ghost use Rattle.ent_places.specs.Told.{Scope};
 ghost use Rattle.ent_declared.specs.Undeclared.{Finds, FindsHere, FindsIn, is_designator, spot};
+ghost use Rattle.ent_declared.specs.proofs_only.Found.{FindsDesignator};
 
 use crate::attribute::{Attribute, asked, finds_one};
 use crate::designator::Undeclared;
+use crate::stray::stray_in;
 use ent_json::JsonTree;
 use ent_places::Part;
 use ent_values::Text;
@@ -22,14 +24,15 @@ fn is_designator(part: Part) -> bool
 }
 
 /// What stands at a place, if it is a designator that isn't declared.
-fn here<J: JsonTree>(
+fn undeclared_here<J: JsonTree>(
     alloc: Global,
     pointer: &str,
     part: Part,
     json: &J,
     attributes: &[Attribute],
 ) -> Result<Option<Undeclared>, AllocError>
-    ensures { IfOk result (λ o. (scope : Scope) → FindsHere attributes.now (spot pointer.now part scope (J.content json.now)) o) }
+    ensures { IfOk result (λ o. (scope : Scope)
+        → FindsDesignator attributes.now (spot pointer.now part scope (J.content json.now)) o) }
 {
     if !is_designator(part) {
         return Ok(None);
@@ -39,10 +42,31 @@ fn here<J: JsonTree>(
         return Ok(None);
     }
     let pointer = Text::from_str(alloc, pointer)?;
-    Ok(Some(Undeclared { pointer, asked }))
+    Ok(Some(Undeclared {
+        pointer,
+        asked,
+        value: None,
+    }))
 }
 
-/// The first designator at a place or inside of it that isn't declared.
+/// What is wrong at a place: a designator that isn't declared, or a literal that isn't among the values of one.
+fn here<J: JsonTree>(
+    alloc: Global,
+    pointer: &str,
+    part: Part,
+    json: &J,
+    attributes: &[Attribute],
+) -> Result<Option<Undeclared>, AllocError>
+    ensures { IfOk result (λ o. (scope : Scope)
+        → FindsHere attributes.now (spot pointer.now part scope (J.content json.now)) o) }
+{
+    if let Some(found) = undeclared_here(alloc, pointer, part, json, attributes)? {
+        return Ok(Some(found));
+    }
+    stray_in(alloc, pointer, part, json, attributes)
+}
+
+/// What is first wrong at a place or inside of it.
 #[cycle(walk)]
 fn in_part<J: JsonTree>(
     alloc: Global,
@@ -147,8 +171,9 @@ fn at_number<J: JsonTree>(
     in_part(alloc, inner.as_str(), part, json, attributes)
 }
 
-/// The first designator of a document that isn't declared: one that asks for values of none of the attributes. Parts
-/// are gone through as docs/POLICIES.md has them, in the order of its sections, and lists in theirs.
+/// What is first wrong with a document by the attributes: a designator that asks for values of none of them, or a literal
+/// with which one is compared for whose attribute values are listed, and not this one. Parts are gone through as
+/// docs/POLICIES.md has them, in the order of its sections, and lists in theirs; a part before those inside of it.
 ///
 /// # Errors
 ///

@@ -1,8 +1,8 @@
 -- The tests that would run, told one after the other.
-use Rattle.std.proofs.Common.{◌≡◌, ◌<◌, ◌≤◌, ◌+◌, ◌++◌, ℕ, List, [], ◌∷◌, length, take, get_or, Bool, true, false, cond, ◌⊎◌, inl, inr, Option, Some, Ok, Err, refl, sym, ap, ◌∙◌, subst, arith, append-nil}
+use Rattle.std.proofs.Common.{◌≡◌, ◌<◌, ◌+◌, ◌++◌, ℕ, List, [], ◌∷◌, length, take, get_or, Bool, true, false, ◌⊎◌, inl, inr, Option, Err, refl, sym, ap, ◌∙◌, subst, append-nil}
 use Rattle.std.specs.List.{flat_map}
 use Rattle.std.specs.Io.KnownBytes.{Appends}
-use Rattle.std.proofs.KnownBytes.{Appends-nil, Appends-trans}
+use Rattle.std.proofs.KnownBytes.{Appends-trans}
 use Rattle.std.proofs.lemmas.List.Concat.{flat_map-append}
 use Rattle.std.proofs.lemmas.List.{length-append}
 use Rattle.ent_sessions.specs.Sessions.{sessions_of}
@@ -12,7 +12,7 @@ use Rattle.ent_sessions.specs.declared.session.Session.{Session}
 use Rattle.ent_program.specs.Listing.{AreListed, ListsAll, ListsSpelled, heading_told}
 use Rattle.ent_program.specs.Testing.{chosen, is_chosen, misplaced_line}
 use Rattle.ent_program.specs.declared.testing.Plan.{Plan}
-use Rattle.ent_program.specs.declared.testing.Tally.{Tally}
+use Rattle.ent_program.specs.declared.tally.Tally.{Tally}
 use Rattle.ent_program.proofs.Tests.{chosen_more, one_if}
 
 -- one more of those that would run is told

@@ -1,4 +1,3 @@
-pub mod CheckAsked
 pub mod Compared
 pub mod Differences
 pub mod Headings

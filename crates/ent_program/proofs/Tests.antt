@@ -1,24 +1,20 @@
 -- What a test of sessions tells and counts.
-use Rattle.std.proofs.Common.{◌≡◌, ◌≢◌, ◌<◌, ◌≤◌, ◌+◌, ◌++◌, ℕ, List, [], ◌∷◌, length, take, get_or, Bool, true, false, cond, not, codes, ◌⊎◌, inl, inr, Option, Ok, Err, refl, sym, ap, ◌∙◌, subst, arith, append-nil}
-use Rattle.std.specs.List.{count_by, filter, flat_map}
+use Rattle.std.proofs.Common.{◌≡◌, ◌≢◌, ◌<◌, ◌+◌, ◌++◌, ℕ, List, [], ◌∷◌, length, take, get_or, map, Bool, true, false, codes, Option, Some, Ok, Err, refl, sym, ap, ◌∙◌, subst, arith, append-nil}
+use Rattle.std.specs.List.{filter}
 use Rattle.std.specs.Io.KnownBytes.{Appends}
 use Rattle.std.proofs.KnownBytes.{Appends-nil, Appends-trans}
 use Rattle.std.proofs.lemmas.List.Elements.{All-push, filter-append}
 use Rattle.std.proofs.lemmas.List.{map_push, take_more}
 use Rattle.std.proofs.lemmas.List.Concat.{flat_map-append}
-use Rattle.std.proofs.lemmas.List.Sums.{sum_by_push}
-use Rattle.ent_sessions.specs.Sessions.{sessions_of}
-use Rattle.ent_sessions.specs.declared.fault.Mistake.{Mistake}
-use Rattle.ent_sessions.specs.declared.fault.SessionFault.TheVariants as unread
 use Rattle.ent_sessions.specs.declared.session.Session.{Session}
 use Rattle.ent_sessions.specs.declared.session.Step.{Step}
+use Rattle.ent_junit.specs.declared.result.Case.{Case}
 use Rattle.ent_line.specs.Lines.{ended}
 use Rattle.ent_line.specs.declared.fault.ServeFault.{ServeFault}
 use Rattle.ent_line.specs.declared.fault.ServeFault.TheVariants as fault
 use Rattle.ent_program.specs.Comparing.{behind, differences, pass, told_at}
-use Rattle.ent_program.specs.Testing.{AreRepliesTo, AreTested, Ran, Tests, TestsAll, TestsEach, TestsSpelled, asked, chosen, is_chosen, misplaced_line, passed, passes, sent_to, sure, tally_of, told_of, told_of_test, with_one}
+use Rattle.ent_program.specs.Testing.{AreRepliesTo, AreTested, Ran, Tests, TestsEach, asked, case_of, chosen, is_chosen, passes, sent_to, sure, told_of, told_of_cases, told_of_test}
 use Rattle.ent_program.specs.declared.testing.Plan.{Plan}
-use Rattle.ent_program.specs.declared.testing.Tally.{Tally}
 
 -- the lines of two lists of steps
 pub asked_both : (first second : List Step) → asked first ++ asked second ≡ asked (first ++ second)
@@ -50,44 +46,19 @@ pub refusing : (name : List ℕ) (plan : Plan) (session : Session) (replies : Li
 refusing name plan session replies before mid after a judged refused first last =
     rw (sym judged ∙ refused, append-nil (differences plan.state_name.now plan.state.now replies)) (Appends-trans before mid after _ _ first last)
 
--- a line that can't stand where it stands was told
-pub misplaced_told : (plan : Plan) (name bytes : List ℕ) (before after : Option (List ℕ)) (tally : Tally) (number : ℕ) (why : Mistake)
-    → (unread.Form number why ≡ unread.Memory) ⊎ (sessions_of bytes ≡ Err (unread.Form number why))
-    → Appends before after (misplaced_line name number why) → tally ≡ record { passed = 0; failed = 1 }
-    → TestsSpelled plan name (sessions_of bytes) before after tally
-misplaced_told plan name bytes before after tally number why (inl other) told failed = absurd cc
-misplaced_told plan name bytes before after tally number why (inr is) told failed = rw is (failed, told)
-
--- sessions that are tested, of which there is one
-pub all_tested : (plan : Plan) (name : List ℕ) (sessions : List Session) (before after : Option (List ℕ)) (tally : Tally) → (sessions ≡ [] → ⊥)
-    → TestsEach plan name sessions before after (Ok tally) → TestsAll plan name sessions before after tally
-all_tested plan name [] before after tally some tested = absurd (some refl)
-all_tested plan name (session ∷ sessions) before after tally some tested = tested
+-- what was told of one session, where nothing was before
+pub told_alone : (before after : Option (List ℕ)) (told all : List ℕ) → Appends (Some []) (Some all) told → Appends before after all → Appends before after told
+told_alone before after told all is wrote = subst (λ bytes. Appends before after bytes) is wrote
 
 -- no session is tested yet
-pub tested_none : (plan : Plan) (name : List ℕ) (before : Option (List ℕ)) (tally : Tally) → tally ≡ record { passed = 0; failed = 0 }
-    → TestsEach plan name [] before before (Ok tally)
-tested_none plan name before tally is = ([], ([], refl, λ k d lt. absurd (omega (arith, lt)), is, refl), Appends-nil before)
+pub tested_none : (plan : Plan) (name : List ℕ) (before : Option (List ℕ)) (cases : List Case) → cases ≡ []
+    → TestsEach plan name [] before before (Ok cases)
+tested_none plan name before cases is =
+    (([], refl, λ k d lt. absurd (omega (arith, lt)), is), subst (λ tests. Appends before before (told_of_cases tests)) (sym is) (Appends-nil before))
 
-counted : (p : Ran → Bool) (runs : List Ran) (run : Ran) → count_by p (runs ++ run ∷ []) ≡ count_by p runs + cond (p run) 1 0
-counted p runs run = sum_by_push (λ r. cond (p r) 1 0) runs run
-
-plus_none : (n : ℕ) → n + 0 ≡ n
-plus_none n = omega arith
-
-with_cases : (n m : ℕ) (b : Bool) → record { passed = n + cond b 1 0; failed = m + cond (not b) 1 0 } ≡ with_one (record { passed = n; failed = m }) b
-with_cases n m true = λ j. record { passed = n + 1; failed = plus_none m j }
-with_cases n m false = λ j. record { passed = plus_none n j; failed = m + 1 }
-
-tally_more : (plan : Plan) (runs : List Ran) (run : Ran) → tally_of plan (runs ++ run ∷ []) ≡ with_one (tally_of plan runs) (passed plan run)
-tally_more plan runs run =
-    (λ j. record { passed = counted (passed plan) runs run j; failed = counted (λ r. not (passed plan r)) runs run j })
-    ∙ with_cases (count_by (passed plan) runs) (count_by (λ r. not (passed plan r)) runs) (passed plan run)
-
--- one test more is counted
-pub with_counts : (tally after : Tally) (b : Bool) (n : ℕ) → after ≡ with_one tally b → tally.passed + tally.failed ≤ n → after.passed + after.failed ≤ n + 1
-with_counts tally after true n is so = let e = ap (λ t. t.passed + t.failed) is in omega (arith, so, e)
-with_counts tally after false n is so = let e = ap (λ t. t.passed + t.failed) is in omega (arith, so, e)
+told_push : (cases : List Case) (test : Case) → told_of_cases cases ++ test.told ≡ told_of_cases (cases ++ test ∷ [])
+told_push cases test =
+    ap (λ bytes. told_of_cases cases ++ bytes) (sym (append-nil test.told)) ∙ sym (flat_map-append (λ x. x.told) cases (test ∷ []))
 
 abbrev pub one_if : Bool → Session → List Session
 one_if true session = session ∷ []
@@ -106,33 +77,30 @@ chosen_more plan all i session b lt is runs =
     ∙ ap (λ more. chosen plan (take i all) ++ more) (filter_one (is_chosen plan.only) session b runs)
 
 -- a session that doesn't run
-pub tested_same : (plan : Plan) (name : List ℕ) (all : List Session) (i : ℕ) (session : Session) (before now : Option (List ℕ)) (tally : Tally)
+pub tested_same : (plan : Plan) (name : List ℕ) (all : List Session) (i : ℕ) (session : Session) (before now : Option (List ℕ)) (cases : List Case)
     → i < length all → session ≡ get_or all i session → is_chosen plan.only session ≡ false
-    → TestsEach plan name (take i all) before now (Ok tally) → TestsEach plan name (take (i + 1) all) before now (Ok tally)
-tested_same plan name all i session before now tally lt is runs (told, tested, wrote) =
+    → TestsEach plan name (take i all) before now (Ok cases) → TestsEach plan name (take (i + 1) all) before now (Ok cases)
+tested_same plan name all i session before now cases lt is runs (tested, wrote) =
     let same = chosen_more plan all i session false lt is runs ∙ append-nil (chosen plan (take i all)) in
-    (told, subst (λ sessions. AreTested plan name sessions tally told) (sym same) tested, wrote)
+    (subst (λ sessions. AreTested plan name sessions cases) (sym same) tested, wrote)
 
 -- one more session is tested
-pub tested_more : (plan : Plan) (name : List ℕ) (all : List Session) (i : ℕ) (session : Session) (replies : List ℕ)
-    (before now next : Option (List ℕ)) (tally after : Tally) (b : Bool)
-    → i < length all → session ≡ get_or all i session → is_chosen plan.only session ≡ true
-    → AreRepliesTo session.modules (sent_to plan.state.now session) replies → sure plan (session, replies) ≡ true → b ≡ passed plan (session, replies) → after ≡ with_one tally b
-    → Appends now next (told_of name plan (session, replies)) → TestsEach plan name (take i all) before now (Ok tally)
+pub tested_more : (plan : Plan) (name : List ℕ) (all : List Session) (i : ℕ) (session : Session) (before now next : Option (List ℕ))
+    (cases after : List Case) (test : Case) → i < length all → session ≡ get_or all i session → is_chosen plan.only session ≡ true
+    → (replies : List ℕ) × AreRepliesTo session.modules (sent_to plan.state.now session) replies × (sure plan (session, replies) ≡ true)
+    × (test ≡ case_of name plan (session, replies))
+    → Appends now next test.told → after ≡ cases ++ test ∷ [] → TestsEach plan name (take i all) before now (Ok cases)
     → TestsEach plan name (take (i + 1) all) before next (Ok after)
-tested_more plan name all i session replies before now next tally after b lt is chosen_so replied certain judged counts more (told, (runs, ran, each, tallied, telling), wrote) =
+tested_more plan name all i session before now next cases after test lt is chosen_so (replies, replied, certain, became) more grown ((runs, ran, each, gave), wrote) =
     let run : Ran = (session, replies) in (
-      told ++ told_of name plan run,
       (
         runs ++ run ∷ [],
         map_push (λ r. r.0) runs run ∙ ap (λ sessions. sessions ++ session ∷ []) ran ∙ sym (chosen_more plan all i session true lt is chosen_so),
         All-push (λ r. AreRepliesTo r.0.modules (sent_to plan.state.now r.0) r.1 × (sure plan r ≡ true)) runs run each (replied, certain),
-        counts ∙ ap (λ t. with_one t b) tallied ∙ ap (with_one (tally_of plan runs)) judged ∙ sym (tally_more plan runs run),
-        ap (λ bytes. bytes ++ told_of name plan run) telling
-            ∙ ap (λ bytes. flat_map (told_of name plan) runs ++ bytes) (sym (append-nil (told_of name plan run)))
-            ∙ sym (flat_map-append (told_of name plan) runs (run ∷ [])),
+        grown ∙ ap (λ tests. tests ++ test ∷ []) gave ∙ ap (λ x. map (case_of name plan) runs ++ x ∷ []) became ∙ sym (map_push (case_of name plan) runs run),
       ),
-      Appends-trans before now next told (told_of name plan run) wrote more,
+      subst (λ bytes. Appends before next bytes) (told_push cases test ∙ ap told_of_cases (sym grown))
+          (Appends-trans before now next (told_of_cases cases) test.told wrote more),
     )
 
 -- the reader failed, or memory was wanting before anything was written

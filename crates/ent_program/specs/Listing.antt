@@ -1,5 +1,5 @@
 -- The tests of a file that would run: where each begins, and what it is called.
-use Rattle.std.specs.Prelude.{◌≡◌, ◌≢◌, ℕ, List, [], ◌∷◌, length, Option, IfSome, Result, Ok, Err, ⊤, codes}
+use Rattle.std.specs.Prelude.{◌≡◌, ◌≢◌, ℕ, List, [], ◌∷◌, length, Option, Result, Ok, Err, codes}
 use Rattle.std.specs.Io.KnownBytes.{Appends}
 use Rattle.std.specs.List.{flat_map}
 use Rattle.ent_sessions.specs.Sessions.{sessions_of}
@@ -9,13 +9,17 @@ use Rattle.ent_sessions.specs.declared.session.Session.{Session}
 use Rattle.ent_line.specs.declared.fault.ServeFault.{ServeFault}
 use Rattle.ent_line.specs.declared.fault.ServeFault.TheVariants as fault
 use Rattle.ent_program.specs.Comparing.{told_at}
-use Rattle.ent_program.specs.Testing.{Fails, chosen, misplaced_line}
+use Rattle.ent_program.specs.Testing.{chosen, misplaced_line}
 use Rattle.ent_program.specs.declared.testing.Plan.{Plan}
-use Rattle.ent_program.specs.declared.testing.Tally.{Tally}
+use Rattle.ent_program.specs.declared.tally.Tally.{Tally}
 
 -- the line on a test
 abbrev pub heading_told : List ℕ → Session → List ℕ
 heading_told name session = told_at name session.number (codes ": ") session.name
+
+-- a test that failed, with a line on it
+abbrev pub Fails : Option (List ℕ) → Option (List ℕ) → Tally → List ℕ → Type 0
+Fails before after tally line = (tally ≡ record { passed = 0; failed = 1 }) × Appends before after line
 
 -- those of these sessions that would run are told, and counted
 abbrev pub AreListed : Plan → List ℕ → List Session → Option (List ℕ) → Option (List ℕ) → Tally → Type 0

@@ -1,15 +1,16 @@
 -- What the command line asks for, by what is found in its words.
-use Rattle.std.specs.Prelude.{◌≡◌, ◌≢◌, ◌⊎◌, ⊤, ℕ, Bool, false, List, [], ◌∷◌, length, Option, Some, None, bytes_eq, codes, map, option_map, unwrap_or, if◌then◌else◌}
+use Rattle.std.specs.Prelude.{◌≡◌, ⊤, ℕ, Bool, false, List, [], Option, Some, None, bytes_eq, codes, map, option_map, unwrap_or, if◌then◌else◌}
 use Rattle.std.specs.Str.Parse.{IsNumeral, digits_value, without_leading_plus}
 use Rattle.clap.specs.Walk.{Row, all_of, first_of, one_of}
 use Rattle.ent_program.specs.Sources.{path_named, path_of}
 use Rattle.ent_program.specs.Starting.{IsFew}
+use Rattle.ent_program.specs.declared.asked_check.AskedCheck.{AskedCheck}
 use Rattle.ent_program.specs.declared.asked_states.AskedStates.{AskedStates}
 use Rattle.ent_program.specs.declared.asked_tests.AskedTests.{AskedTests}
 use Rattle.ent_program.specs.declared.differing.Form.{Form}
 use Rattle.ent_program.specs.declared.differing.Form.TheVariants.{Json, Table}
 use Rattle.ent_program.specs.declared.options.Task.{Task}
-use Rattle.ent_program.specs.declared.options.Task.TheVariants.{Serve, Check, Together, Compare, Lines, Test}
+use Rattle.ent_program.specs.declared.options.Task.TheVariants.{Serve, Check, Compare, Lines, Test}
 use Rattle.ent_program.specs.declared.options.Modules.{Modules}
 
 -- where the text of an option writes a number from 1 to 4 in decimal digits, that is the count
@@ -26,17 +27,19 @@ pub record AreModules (options : List Row) (modules : Modules) : Type 0 where
   pub attributes : IsWritten (one_of (codes "attribute-modules") options) modules.attributes
   pub policies : IsWritten (one_of (codes "policy-modules") options) modules.policies
 
--- what `check` is asked for, by the texts of its files and of its options: one document by itself; several, or any with those of a state, together
-pub record IsCheckOf (texts : List (List ℕ)) (attributes stored : Option (List ℕ)) (task : Option Task) : Type 0 where
-  pub alone : (text : List ℕ) → texts ≡ text ∷ [] → stored ≡ None → (source declared : _) × (task ≡ Some (Check source declared)) × (path_of source ≡ path_named text)
-      × (option_map path_of declared ≡ option_map path_named attributes)
-  pub together : (length texts ≢ 1) ⊎ (stored ≢ None) → (words declared state : _) × (task ≡ Some (Together words declared state)) × (map (λ w. w.now) words.now ≡ texts)
-      × (option_map path_of declared ≡ option_map path_named attributes) × (option_map path_of state ≡ option_map path_named stored)
-
 -- an option without a value is given, by its text
 abbrev pub is_given : Option (List ℕ) → Bool
 is_given None = false
 is_given (Some text) = bytes_eq text (codes "true")
+
+-- what is checked: the documents of the files that are named, by the attributes of another file, with the state and the lines of others, each if the option for it is given; whether all faults are told, and whether a warning is one
+pub record IsCheckOf (options : List Row) (check : AskedCheck) : Type 0 where
+  pub files : (texts : List (List ℕ)) → all_of (codes "FILE") options ≡ Some texts → map (λ w. w.now) check.files.now ≡ texts
+  pub attributes : option_map path_of check.attributes ≡ option_map path_named (first_of (codes "attributes") options)
+  pub stored : option_map path_of check.stored ≡ option_map path_named (first_of (codes "stored") options)
+  pub lines : option_map path_of check.lines ≡ option_map path_named (first_of (codes "lines") options)
+  pub is_all : check.is_all ≡ is_given (first_of (codes "all") options)
+  pub is_strict : check.is_strict ≡ is_given (first_of (codes "strict") options)
 
 -- how what differs is written: as a table where the option for it is given, else as JSON
 abbrev pub form_of : Option (List ℕ) → Form
@@ -49,18 +52,18 @@ pub record AreStates (options : List Row) (states : AskedStates) : Type 0 where
   pub form : states.form ≡ form_of (first_of (codes "text") options)
 
 -- the tests of the files that are named, behind the lines of a file if the option for it is given, and those of a name if one is given; they are
--- listed if the option for that is given
+-- listed if the option for that is given, and what becomes of them is written to a file if that is named
 pub record AreAsked (options : List Row) (tests : AskedTests) : Type 0 where
   pub files : (texts : List (List ℕ)) → all_of (codes "FILE") options ≡ Some texts → map (λ w. w.now) tests.files.now ≡ texts
   pub state : option_map path_of tests.state ≡ option_map path_named (first_of (codes "state") options)
   pub only : option_map (λ n. n.now) tests.only ≡ first_of (codes "run") options
   pub listed : tests.listed ≡ is_given (first_of (codes "list") options)
+  pub junit : option_map (λ n. n.now) tests.junit ≡ first_of (codes "junit") options
 
 -- what is asked for, by the subcommand that was found, with its options and arguments
 pub record IsTaskOf (found : Option (List ℕ × List Row)) (task : Option Task) : Type 0 where
   pub serve : (options : List Row) → found ≡ Some (codes "serve", options) → (modules : Modules) × (task ≡ Some (Serve modules)) × AreModules options modules
-  pub check : (options : List Row) → found ≡ Some (codes "check", options) → (texts : List (List ℕ)) → all_of (codes "FILE") options ≡ Some texts
-      → IsCheckOf texts (first_of (codes "attributes") options) (first_of (codes "stored") options) task
+  pub check : (options : List Row) → found ≡ Some (codes "check", options) → (texts : List (List ℕ)) → all_of (codes "FILE") options ≡ Some texts → (check : _) × (task ≡ Some (Check check)) × IsCheckOf options check
   pub compare : (options : List Row) → found ≡ Some (codes "compare", options) → (states : _) × (task ≡ Some (Compare states)) × AreStates options states
   pub lines : (options : List Row) → found ≡ Some (codes "lines", options) → task ≡ Some Lines
   pub test : (options : List Row) → found ≡ Some (codes "test", options) → (texts : List (List ℕ)) → all_of (codes "FILE") options ≡ Some texts → (tests : _) × (task ≡ Some (Test tests)) × AreAsked options tests

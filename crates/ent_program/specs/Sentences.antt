@@ -49,9 +49,17 @@ file_sentence TooLong = codes "review: the file has more than 1048576 bytes"
 file_sentence NotJson = codes "review: the file isn't JSON"
 file_sentence (Document e) = document_sentence e
 
--- of a document that asks for an attribute which isn't declared
+-- of a document that asks for an attribute, or compares with a value, which isn't declared
 abbrev pub undeclared_sentence : List ℕ
-undeclared_sentence = codes "review: the document asks for an attribute that isn't declared"
+undeclared_sentence = codes "review: the document asks for an attribute, or compares with a value, that isn't declared"
+
+-- of lines that set what isn't declared
+abbrev pub line_sentence : List ℕ
+line_sentence = codes "review: a line sets values that aren't declared"
+
+-- where lines are named, and no attributes
+abbrev pub lines_alone_sentence : List ℕ
+lines_alone_sentence = codes "review: --lines compares with the attributes of --attributes"
 
 -- of a file of declared attributes that can't be used
 abbrev pub declared_sentence : DeclaredFault → List ℕ
@@ -62,6 +70,10 @@ declared_sentence (declared.Attributes e) = codes "review: the file of attribute
 -- of a file of a state that can't be used
 abbrev pub state_sentence : List ℕ
 state_sentence = codes "review: the file of the state hasn't the lines of a dump"
+
+-- where the folders that are named have no documents
+abbrev pub no_files_sentence : List ℕ
+no_files_sentence = codes "review: no file there ends in .json"
 
 -- to somebody who serves lines that are typed at a terminal
 abbrev pub terminal_sentence : List ℕ

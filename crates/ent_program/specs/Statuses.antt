@@ -1,5 +1,5 @@
 -- The exit statuses of the program.
-use Rattle.std.specs.Prelude.{ℕ, ◌==◌, ◌&&◌, nat_lt, Bool, true, false, Result, Ok, Err, ⊤, if◌then◌else◌}
+use Rattle.std.specs.Prelude.{ℕ, ◌==◌, ◌&&◌, ◌||◌, nat_lt, Bool, true, false, not, Result, Ok, Err, ⊤, if◌then◌else◌}
 use Rattle.clap.specs.declared.error.kind.ErrorKind.{ErrorKind}
 use Rattle.clap.specs.declared.error.kind.ErrorKind.TheVariants.{DisplayHelp, DisplayVersion, OutOfMemory}
 use Rattle.ent_dump.specs.declared.fault.LinesFault.{LinesFault}
@@ -8,7 +8,7 @@ use Rattle.ent_line.specs.declared.fault.ServeFault.{ServeFault}
 use Rattle.ent_line.specs.declared.fault.ServeFault.TheVariants as fault
 use Rattle.ent_program.specs.declared.differing.Ending.{Ending}
 use Rattle.ent_program.specs.declared.differing.Ending.TheVariants as compared
-use Rattle.ent_program.specs.declared.testing.Tally.{Tally}
+use Rattle.ent_program.specs.declared.tally.Tally.{Tally}
 use Rattle.ent_program.specs.declared.words.WordsFault.{WordsFault}
 use Rattle.ent_program.specs.declared.words.WordsFault.TheVariants as words
 
@@ -22,6 +22,10 @@ fault_status fault.Memory = 3
 abbrev pub serve_status : Result ℕ ServeFault → ℕ
 serve_status (Ok lines) = 0
 serve_status (Err e) = fault_status e
+
+-- what was found gives 0 where it is no fault, and no warning where these count, and else 1
+abbrev pub found_status : ℕ → ℕ → Bool → ℕ
+found_status faults warnings is_strict = if faults == 0 && (warnings == 0 || not is_strict) then 0 else 1
 
 -- a document that may be stored gives 0, a refusal 1, and a fault its own status
 abbrev pub check_status : Result Bool ServeFault → ℕ

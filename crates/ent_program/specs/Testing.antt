@@ -1,8 +1,8 @@
 -- Tests of policies: sessions, and whether a service replies to them as they expect.
-use Rattle.std.specs.Prelude.{◌≡◌, ◌≢◌, ℕ, ◌+◌, ◌&&◌, ◌||◌, Bool, true, false, not, nat_le, List, [], ◌∷◌, ◌++◌, map, Option, Some, None, IfSome, Result, Ok, Err, ⊤, bytes_eq, codes, decimal, if◌then◌else◌}
+use Rattle.std.specs.Prelude.{◌≡◌, ◌≢◌, ℕ, ◌+◌, ◌-◌, ◌&&◌, ◌||◌, Bool, true, not, nat_le, List, [], ◌∷◌, ◌++◌, length, map, Option, Some, None, IfSome, Result, Ok, Err, ⊤, bytes_eq, codes, decimal, if◌then◌else◌}
 use Rattle.std.specs.Borrow.{Bor}
 use Rattle.std.specs.Io.KnownBytes.{Appends}
-use Rattle.std.specs.List.{All, count_by, filter, flat_map, list_any}
+use Rattle.std.specs.List.{All, filter, flat_map, list_any}
 use Rattle.std.specs.Option.{is_some}
 use Rattle.ent_sessions.specs.Sessions.{sessions_of}
 use Rattle.ent_sessions.specs.declared.fault.Mistake.{Mistake}
@@ -11,6 +11,9 @@ use Rattle.ent_sessions.specs.declared.fault.SessionFault.{SessionFault}
 use Rattle.ent_sessions.specs.declared.fault.SessionFault.TheVariants as unread
 use Rattle.ent_sessions.specs.declared.session.Session.{Session}
 use Rattle.ent_sessions.specs.declared.session.Step.{Step}
+use Rattle.ent_junit.specs.Junit.{errors, failed}
+use Rattle.ent_junit.specs.declared.result.Case.{Case}
+use Rattle.ent_junit.specs.declared.result.Suite.{Suite}
 use Rattle.ent_line.specs.Headline.{Headline}
 use Rattle.ent_line.specs.Lines.{ended}
 use Rattle.ent_line.specs.Work.{Counted}
@@ -19,7 +22,7 @@ use Rattle.ent_line.specs.declared.fault.ServeFault.TheVariants as fault
 use Rattle.ent_program.specs.Comparing.{are_sure, behind, differences, pass, told_at}
 use Rattle.ent_program.specs.Starting.{start_of}
 use Rattle.ent_program.specs.declared.testing.Plan.{Plan}
-use Rattle.ent_program.specs.declared.testing.Tally.{Tally}
+use Rattle.ent_program.specs.declared.tally.Tally.{Tally}
 
 -- what is sent in these steps: the line of each, with a newline
 abbrev pub asked : List Step → List ℕ
@@ -72,15 +75,6 @@ passed plan run = accepted plan run && passes run.0.steps (own_replies plan run)
 abbrev pub sure : Plan → Ran → Bool
 sure plan run = are_sure plan.state.now run.1 && (not (accepted plan run) || are_sure run.0.steps (own_replies plan run))
 
--- how many of these passed, and how many failed
-abbrev pub tally_of : Plan → List Ran → Tally
-tally_of plan runs = record { passed = count_by (passed plan) runs; failed = count_by (λ run. not (passed plan run)) runs }
-
--- a tally and one more test, which passed or failed
-abbrev pub with_one : Tally → Bool → Tally
-with_one tally true = record { passed = tally.passed + 1; failed = tally.failed }
-with_one tally false = record { passed = tally.passed; failed = tally.failed + 1 }
-
 -- what is told where no reply is expected
 abbrev pub unexpecting : List ℕ → Session → List ℕ
 unexpecting name session = if has_expected session.steps then [] else told_at name session.number (codes ": ") (codes "no reply is expected")
@@ -106,16 +100,24 @@ is_chosen (Some name) session = bytes_eq session.name name.now
 abbrev pub chosen : Plan → List Session → List Session
 chosen plan sessions = filter (is_chosen plan.only) sessions
 
--- these sessions were run one after the other, each over a new service and behind the lines of the state; so many passed, of none that didn't
--- memory was wanting, and this is told of their replies
-abbrev pub AreTested : Plan → List ℕ → List Session → Tally → List ℕ → Type 0
-AreTested plan name sessions tally told = (runs : List Ran) × (map (λ run. run.0) runs ≡ sessions)
-    × All (λ run. AreRepliesTo run.0.modules (sent_to plan.state.now run.0) run.1 × (sure plan run ≡ true)) runs
-    × (tally ≡ tally_of plan runs) × (told ≡ flat_map (told_of name plan) runs)
+-- what became of a session that was run
+abbrev pub case_of : List ℕ → Plan → Ran → Case
+case_of name plan run = record { name = run.0.name; number = run.0.number; passed = passed plan run; told = told_of name plan run }
 
--- what a test of those of the sessions that are chosen writes and gives; it reads nothing, so no reader fails
-abbrev pub TestsEach : Plan → List ℕ → List Session → Option (List ℕ) → Option (List ℕ) → Result Tally ServeFault → Type 0
-TestsEach plan name sessions before after (Ok tally) = (told : List ℕ) × AreTested plan name (chosen plan sessions) tally told × Appends before after told
+-- these sessions were run one after the other, each over a new service and behind the lines of the state; of none that didn't pass memory was
+-- wanting, and this became of them
+abbrev pub AreTested : Plan → List ℕ → List Session → List Case → Type 0
+AreTested plan name sessions cases = (runs : List Ran) × (map (λ run. run.0) runs ≡ sessions)
+    × All (λ run. AreRepliesTo run.0.modules (sent_to plan.state.now run.0) run.1 × (sure plan run ≡ true)) runs
+    × (cases ≡ map (case_of name plan) runs)
+
+-- what is told of tests, one after the other
+abbrev pub told_of_cases : List Case → List ℕ
+told_of_cases cases = flat_map (λ test. test.told) cases
+
+-- what a test of those of the sessions that are chosen gives, and that it writes what is told of them; it reads nothing, so no reader fails
+abbrev pub TestsEach : Plan → List ℕ → List Session → Option (List ℕ) → Option (List ℕ) → Result (List Case) ServeFault → Type 0
+TestsEach plan name sessions before after (Ok cases) = AreTested plan name (chosen plan sessions) cases × Appends before after (told_of_cases cases)
 TestsEach plan name sessions before after (Err e) = e ≢ fault.Read
 
 -- why a line can't stand where it stands
@@ -130,32 +132,36 @@ mistake_text mistake.NoMark = codes "a line begins with # > < = ~ * and a space,
 abbrev pub misplaced_line : List ℕ → ℕ → Mistake → List ℕ
 misplaced_line name number why = told_at name number (codes ": this line can't stand here: ") (mistake_text why)
 
--- a test that failed, with a line on it
-abbrev pub Fails : Option (List ℕ) → Option (List ℕ) → Tally → List ℕ → Type 0
-Fails before after tally line = (tally ≡ record { passed = 0; failed = 1 }) × Appends before after line
+-- no test ran, and a line was written on why
+abbrev pub Untested : Option (List ℕ) → Option (List ℕ) → Suite → List ℕ → Type 0
+Untested before after suite line = (suite.cases ≡ []) × (suite.error ≡ Some line) × Appends before after line
 
--- what a test of sessions writes and gives: of none, that there are none, which is a test that failed
-abbrev pub TestsAll : Plan → List ℕ → List Session → Option (List ℕ) → Option (List ℕ) → Tally → Type 0
-TestsAll plan name [] before after tally = Fails before after tally (told_at name 1 (codes ": ") (codes "no test begins here"))
-TestsAll plan name (session ∷ sessions) before after tally = TestsEach plan name (session ∷ sessions) before after (Ok tally)
+-- what a test of sessions gives and writes: of none, that there are none
+abbrev pub TestsAll : Plan → List ℕ → List Session → Option (List ℕ) → Option (List ℕ) → Suite → Type 0
+TestsAll plan name [] before after suite = Untested before after suite (told_at name 1 (codes ": ") (codes "no test begins here"))
+TestsAll plan name (session ∷ sessions) before after suite = (suite.error ≡ None) × TestsEach plan name (session ∷ sessions) before after (Ok suite.cases)
 
--- what a test of what a file spells writes and gives: its sessions are tested, and a file that spells none counts as a test that failed
-abbrev pub TestsSpelled : Plan → List ℕ → Result (List Session) SessionFault → Option (List ℕ) → Option (List ℕ) → Tally → Type 0
-TestsSpelled plan name (Ok sessions) before after tally = TestsAll plan name sessions before after tally
-TestsSpelled plan name (Err (unread.Form number why)) before after tally = Fails before after tally (misplaced_line name number why)
-TestsSpelled plan name (Err unread.Memory) before after tally = ⊥
+-- what a test of what a file spells gives and writes: its sessions are tested, if it spells any
+abbrev pub TestsSpelled : Plan → List ℕ → Result (List Session) SessionFault → Option (List ℕ) → Option (List ℕ) → Suite → Type 0
+TestsSpelled plan name (Ok sessions) before after suite = TestsAll plan name sessions before after suite
+TestsSpelled plan name (Err (unread.Form number why)) before after suite = Untested before after suite (misplaced_line name number why)
+TestsSpelled plan name (Err unread.Memory) before after suite = ⊥
 
--- what a test of the bytes of a file writes and gives
-abbrev pub TestsBytes : Plan → List ℕ → List ℕ → Option (List ℕ) → Option (List ℕ) → Result Tally ServeFault → Type 0
-TestsBytes plan name bytes before after (Ok tally) = TestsSpelled plan name (sessions_of bytes) before after tally
+-- what a test of the bytes of a file gives and writes
+abbrev pub TestsBytes : Plan → List ℕ → List ℕ → Option (List ℕ) → Option (List ℕ) → Result Suite ServeFault → Type 0
+TestsBytes plan name bytes before after (Ok suite) = (suite.name.now ≡ name) × TestsSpelled plan name (sessions_of bytes) before after suite
 TestsBytes plan name bytes before after (Err e) = e ≢ fault.Read
 
 -- the same of all that the reader has, where that is known; where it fails, nothing is written
-abbrev pub Tests : Plan → List ℕ → Option (List ℕ) → Option (List ℕ) → Option (List ℕ) → Result Tally ServeFault → Type 0
-Tests plan name unread before after (Ok tally) = IfSome unread (λ all. TestsBytes plan name all before after (Ok tally))
+abbrev pub Tests : Plan → List ℕ → Option (List ℕ) → Option (List ℕ) → Option (List ℕ) → Result Suite ServeFault → Type 0
+Tests plan name unread before after (Ok suite) = IfSome unread (λ all. TestsBytes plan name all before after (Ok suite))
 Tests plan name unread before after (Err fault.Read) = Appends before after []
 Tests plan name unread before after (Err fault.Write) = ⊤
 Tests plan name unread before after (Err fault.Memory) = ⊤
+
+-- how many of the tests of a file passed, and how many failed; a file whose tests couldn't run counts as one that failed
+abbrev pub tally_of : Suite → Tally
+tally_of suite = record { passed = length suite.cases - failed suite.cases; failed = failed suite.cases + errors suite.error }
 
 -- the line of a tally, its newline included
 abbrev pub tally_line : Tally → List ℕ

@@ -5,17 +5,15 @@ ghost use Rattle.clap.specs.Values.{kind_of};
 ghost use Rattle.ent_program.specs.Starting.{IsFew};
 ghost use Rattle.ent_program.specs.Statuses.{usage_status};
 
-use crate::checking::{FILE_LIMIT, Judged, Verdict, check, is_fine, read_fault};
-use crate::declaring::{Declared, check_declared, declared_in};
+use crate::checking::{FILE_LIMIT, read_fault};
+use crate::declaring::{Declared, declared_in};
+use crate::documents::check_documents;
 use crate::options::{Modules, Task, task_of};
 use crate::running::serve_from;
-use crate::sentences::{declared_sentence, file_sentence, terminal_sentence, undeclared_sentence};
-use crate::sources::Source;
-use crate::status::{
-    REFUSED, check_status, lines_status, serve_status, status_of, usage_status, words_status,
-};
+use crate::sentences::{declared_sentence, terminal_sentence};
+use crate::sources::{Shown, Source};
+use crate::status::{REFUSED, lines_status, serve_status, status_of, usage_status, words_status};
 use crate::tabling::compare_states;
-use crate::together::check_together;
 use crate::trying::run_tests;
 use crate::watching::Watched;
 use crate::words::{command, given_words};
@@ -32,12 +30,12 @@ use std::rt::{Env, Files};
 /// Says on standard error which source can't be read, and why, if that is known.
 fn tell_cause(rt: &impl Eprint, source: Source<'_>, cause: Option<io::Error>) {
     if let Some(cause) = cause {
-        let _ = eprintln!(rt; "{}: {cause}", source.name());
+        let _ = eprintln!(rt; "{}: {cause}", Shown(source.name()));
     }
 }
 
 /// Says on standard error that a source can't be read, and why, and gives the exit status for it.
-fn tell_unread(rt: &impl Eprint, source: Source<'_>, cause: io::Error) -> u8 {
+pub(crate) fn tell_unread(rt: &impl Eprint, source: Source<'_>, cause: io::Error) -> u8 {
     let status = status_of(rt, read_fault(&cause));
     tell_cause(rt, source, Some(cause));
     status
@@ -115,30 +113,7 @@ pub(crate) fn read_source<R: Files + Input + Eprint + AllocGlobal>(
 /// Says on standard error where in a source what is wrong, if that can be said.
 pub(crate) fn tell_place(rt: &impl Eprint, source: Source<'_>, told: &Option<String>) {
     if let Some(told) = told {
-        let _ = eprintln!(rt; "{}: {told}", source.name());
-    }
-}
-
-/// Says on standard error what is wrong with a file, if anything is, and where in it.
-pub(crate) fn tell_refused(rt: &impl Eprint, source: Source<'_>, judged: &Judged) {
-    if !is_fine(judged) {
-        let sentence = match judged.verdict {
-            Verdict::Passed(_, _, _) => undeclared_sentence(),
-            Verdict::Refused(fault) => file_sentence(fault),
-        };
-        let _ = rt.eprintln(sentence);
-    }
-    tell_place(rt, source, &judged.told);
-}
-
-/// The exit status of a check of that source. Why it is refused, if it is, is told on standard error.
-fn checked_status(rt: &impl Eprint, source: Source<'_>, checked: Result<Judged, ServeFault>) -> u8 {
-    match checked {
-        Ok(judged) => {
-            tell_refused(rt, source, &judged);
-            check_status(rt, Ok(is_fine(&judged)))
-        }
-        Err(fault) => check_status(rt, Err(fault)),
+        let _ = eprintln!(rt; "{}: {told}", Shown(source.name()));
     }
 }
 
@@ -156,50 +131,6 @@ pub(crate) fn read_declared<R: Files + Input + Eprint + AllocGlobal>(
             Err(REFUSED)
         }
         Err(_) => Err(status_of(rt, ServeFault::Memory)),
-    }
-}
-
-/// Writes to standard output what is said of the document of that source, and gives the exit status.
-fn check_any<R: Files + Input + Print + Eprint + AllocGlobal>(
-    rt: &R,
-    source: Source<'_>,
-) -> Result<u8, u8> {
-    let bytes = read_source(rt, source, FILE_LIMIT as u64 + 1)?;
-    let checked = check(rt.alloc(), bytes.as_slice(), &mut io::writer(rt));
-    Ok(checked_status(rt, source, checked))
-}
-
-/// Does the same where the other source declares the attributes that the document may ask for.
-fn check_by<R: Files + Input + Print + Eprint + AllocGlobal>(
-    rt: &R,
-    source: Source<'_>,
-    declared: Source<'_>,
-) -> Result<u8, u8> {
-    let attributes = read_declared(rt, declared)?;
-    let bytes = read_source(rt, source, FILE_LIMIT as u64 + 1)?;
-    let checked = check_declared(
-        rt.alloc(),
-        bytes.as_slice(),
-        attributes.as_slice(),
-        &mut io::writer(rt),
-    );
-    Ok(checked_status(rt, source, checked))
-}
-
-/// Checks the document of that source, by the attributes that the other declares, if there is one, and gives the exit
-/// status.
-fn check_source<R: Files + Input + Print + Eprint + AllocGlobal>(
-    rt: &R,
-    source: Source<'_>,
-    declared: Option<Source<'_>>,
-) -> u8 {
-    let checked = match declared {
-        None => check_any(rt, source),
-        Some(declared) => check_by(rt, source, declared),
-    };
-    match checked {
-        Ok(status) => status,
-        Err(status) => status,
     }
 }
 
@@ -222,10 +153,7 @@ fn act<R: Files + Input + Print + Eprint + AllocGlobal>(
 ) -> u8 {
     match task_of(matches) {
         Some(Task::Serve(modules)) => serve_input(rt, modules, is_terminal),
-        Some(Task::Check(source, declared)) => check_source(rt, source, declared),
-        Some(Task::Together(words, declared, stored)) => {
-            check_together(rt, words, declared, stored)
-        }
+        Some(Task::Check(asked)) => check_documents(rt, asked),
         Some(Task::Lines) => write_lines(rt),
         Some(Task::Compare(states)) => compare_states(rt, states),
         Some(Task::Test(tests)) => run_tests(rt, tests),

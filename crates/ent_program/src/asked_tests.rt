@@ -7,7 +7,7 @@ ghost use Rattle.ent_program.specs.Options.{AreAsked, is_given};
 ghost use Rattle.ent_program.specs.Sources.{path_named, path_of};
 
 use crate::sources::Source;
-use crate::words::{FILE, LIST, RUN, STATE};
+use crate::words::{FILE, JUNIT, LIST, RUN, STATE};
 use clap::ArgMatches;
 
 /// Which tests are asked for.
@@ -21,6 +21,8 @@ pub struct AskedTests<'m, 'a> {
     pub only: Option<&'a str>,
     /// Whether they are listed, and none runs.
     pub listed: bool,
+    /// The path of the file to which what becomes of them is written as JUnit XML, if there is one.
+    pub junit: Option<&'a str>,
 }
 
 /// Whether an option without a value is given.
@@ -44,11 +46,11 @@ fn state_of<'a>(options: &ArgMatches<'a>) -> Option<Source<'a>>
     }
 }
 
-/// What the tests are called that are to run, where that is said.
-fn only_of<'a>(options: &ArgMatches<'a>) -> Option<&'a str>
-    ensures { option_map (λ n. n.now) result ≡ first_of (codes "run") (rows_of (found_of options.now)) }
+/// The word that an option gives, if it is given.
+fn word_of<'a>(options: &ArgMatches<'a>, option: &str) -> Option<&'a str>
+    ensures { option_map (λ n. n.now) result ≡ first_of option.now (rows_of (found_of options.now)) }
 {
-    options.get_str(RUN)
+    options.get_str(option)
 }
 
 /// The tests that the options of `test` ask for; none where no file is named.
@@ -61,8 +63,9 @@ pub(crate) fn asked_tests<'m, 'a: 'm>(options: &'m ArgMatches<'a>) -> Option<Ask
         Some(files) => Some(AskedTests {
             files,
             state: state_of(options),
-            only: only_of(options),
+            only: word_of(options, RUN),
             listed: is_given(options, LIST),
+            junit: word_of(options, JUNIT),
         }),
         None => None,
     }

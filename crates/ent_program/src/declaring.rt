@@ -7,12 +7,14 @@ ghost use Rattle.ent_program.specs.Checking.{Judges, is_passed, verdict_in, verd
 ghost use Rattle.ent_program.specs.Declaring.{AsksDeclared, TellsUndeclared, declared_of, seen};
 
 use crate::checking::{FILE_LIMIT, Judged, is_passed, judge, write_verdict};
-use ent_declared::{Attribute, AttributesFault, read_attributes, undeclared};
+use ent_declared::{
+    Attribute, AttributeFault, AttributesFault, DECLARED_KEYS, read_attributes, undeclared,
+};
 use ent_explain::{explain_text, line_and_column};
 use ent_json::read_json;
 use ent_line::ServeFault;
 use ent_values::Items;
-use json::Scratch;
+use json::{Scratch, Value};
 use std::alloc::{AllocError, Global};
 use std::io::Write;
 
@@ -36,12 +38,51 @@ pub(crate) enum Declared {
     Refused(DeclaredFault, Option<String>),
 }
 
+/// The first key of an object that isn't one of these.
+fn other_key<'v>(json: &'v Value<'_>, keys: &[&str]) -> Option<&'v str> {
+    let Value::Object(members) = json else {
+        return None;
+    };
+    for member in members {
+        if !keys.iter().any(|key| *key == member.0) {
+            return Some(member.0);
+        }
+    }
+    None
+}
+
+/// The key by which a file of declared attributes has this fault, if it has it by a key that it may not have.
+fn foreign_key<'v>(json: &'v Value<'_>, fault: AttributesFault) -> Option<&'v str> {
+    match fault {
+        AttributesFault::NoList => other_key(json, &["Attributes"]),
+        AttributesFault::Member(number, AttributeFault::Form) => {
+            other_key(json.get("Attributes")?.at(number)?, &DECLARED_KEYS)
+        }
+        AttributesFault::Member(_, _) => None,
+    }
+}
+
+/// The place of such a key, as far as it can be followed.
+fn key_pointer(alloc: Global, fault: AttributesFault, key: &str) -> Result<String, AllocError> {
+    match fault {
+        AttributesFault::NoList => format!(in alloc; "/{key}"),
+        AttributesFault::Member(number, _) => format!(in alloc; "/Attributes/{number}/{key}"),
+    }
+}
+
 /// Where in a file of declared attributes which fault stands.
 fn told_fault(
     alloc: Global,
     bytes: &[u8],
+    json: &Value<'_>,
     fault: AttributesFault,
 ) -> Result<Option<String>, AllocError> {
+    if let Some(key) = foreign_key(json, fault) {
+        let pointer = key_pointer(alloc, fault, key)?;
+        let position = line_and_column(alloc, bytes, pointer.as_str())?;
+        let position = Some((position.line, position.column));
+        return Ok(Some(fault.told_of_key(alloc, key, position)?));
+    }
     let pointer = fault.pointer(alloc)?;
     let position = line_and_column(alloc, bytes, pointer.as_str())?;
     let told = fault.told(alloc, Some((position.line, position.column)))?;
@@ -64,7 +105,7 @@ pub(crate) fn declared_in(alloc: Global, bytes: &[u8]) -> Result<Declared, Alloc
     match read_attributes(alloc, &json)? {
         Ok(attributes) => Ok(Declared::Attributes(attributes)),
         Err(fault) => {
-            let told = told_fault(alloc, bytes, fault)?;
+            let told = told_fault(alloc, bytes, &json, fault)?;
             Ok(Declared::Refused(DeclaredFault::Attributes(fault), told))
         }
     }

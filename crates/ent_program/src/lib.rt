@@ -3,42 +3,53 @@
 #![tactic(auto)]
 
 mod acting;
+mod asked_check;
 mod asked_states;
 mod asked_tests;
 mod checking;
 mod comparing;
 mod declaring;
 mod differing;
+mod documents;
+mod folders;
+mod junit;
 mod listing;
 mod options;
 mod running;
 mod sentences;
+mod set_lines;
+mod sizes;
 mod sources;
 mod status;
 mod tabling;
+mod tally;
 mod testing;
-mod together;
 mod trying;
+mod untested;
 mod watching;
 mod words;
 
 pub use acting::run;
+pub use asked_check::AskedCheck;
 pub use asked_states::AskedStates;
 pub use asked_tests::AskedTests;
 pub use checking::{FILE_LIMIT, FileFault, check_from};
 pub use declaring::DeclaredFault;
 pub use differing::{Ending, Form, Lines, compare_from};
+pub use junit::send_junit;
 pub use listing::list_tests;
 pub use options::{Modules, Task, task_of};
 pub use running::serve_from;
 pub use sentences::{
-    declared_sentence, document_sentence, fault_sentence, file_sentence, lines_sentence,
-    state_sentence, terminal_sentence, undeclared_sentence, words_sentence,
+    declared_sentence, document_sentence, fault_sentence, file_sentence, line_sentence,
+    lines_alone_sentence, lines_sentence, no_files_sentence, state_sentence, terminal_sentence,
+    undeclared_sentence, words_sentence,
 };
 pub use sources::Source;
 pub use status::{
     check_status, compare_status, lines_status, serve_status, status_of, test_status, usage_status,
     words_status,
 };
-pub use testing::{Plan, Tally, send_tally, test_from};
+pub use tally::{Tally, send_tally};
+pub use testing::{Plan, test_from};
 pub use words::{WordsFault, command, given_words};

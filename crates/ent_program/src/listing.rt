@@ -8,7 +8,9 @@ ghost use Rattle.ent_program.specs.Listing.{Lists, heading_told};
 ghost use Rattle.ent_program.specs.Testing.{chosen};
 
 use crate::comparing::tell;
-use crate::testing::{NO_TEST, Plan, Tally, is_chosen, tell_mistake};
+use crate::tally::Tally;
+use crate::testing::{Plan, is_chosen};
+use crate::untested::{NO_TEST, tell_mistake};
 use ent_line::ServeFault;
 use ent_sessions::{Session, SessionFault, read_sessions};
 use std::alloc::Global;

@@ -3,7 +3,7 @@
 ghost use Rattle.std.specs.Prelude.{◌≡◌};
 ghost use Rattle.ent_program.specs.Sentences.{declared_sentence, document_sentence, fault_sentence, file_sentence};
 ghost use Rattle.ent_program.specs.Sentences.{lines_sentence, state_sentence, terminal_sentence, undeclared_sentence};
-ghost use Rattle.ent_program.specs.Sentences.{words_sentence};
+ghost use Rattle.ent_program.specs.Sentences.{line_sentence, lines_alone_sentence, no_files_sentence, words_sentence};
 
 use crate::checking::{FILE_LIMIT, FileFault};
 use crate::declaring::DeclaredFault;
@@ -85,11 +85,11 @@ pub fn file_sentence(fault: FileFault) -> &'static str
     }
 }
 
-/// What is said of a document that asks for an attribute which isn't declared.
+/// What is said of a document that asks for an attribute, or compares with a value, which isn't declared.
 pub fn undeclared_sentence() -> &'static str
     ensures { result.now ≡ undeclared_sentence }
 {
-    "review: the document asks for an attribute that isn't declared"
+    "review: the document asks for an attribute, or compares with a value, that isn't declared"
 }
 
 /// What is said of a file of declared attributes that can't be used.
@@ -108,6 +108,27 @@ pub fn state_sentence() -> &'static str
     ensures { result.now ≡ state_sentence }
 {
     "review: the file of the state hasn't the lines of a dump"
+}
+
+/// What is said of lines that set what isn't declared.
+pub fn line_sentence() -> &'static str
+    ensures { result.now ≡ line_sentence }
+{
+    "review: a line sets values that aren't declared"
+}
+
+/// What is said where lines are named, and no attributes.
+pub fn lines_alone_sentence() -> &'static str
+    ensures { result.now ≡ lines_alone_sentence }
+{
+    "review: --lines compares with the attributes of --attributes"
+}
+
+/// What is said where the folders that are named have no documents.
+pub fn no_files_sentence() -> &'static str
+    ensures { result.now ≡ no_files_sentence }
+{
+    "review: no file there ends in .json"
 }
 
 /// What somebody is told who serves lines that are typed at a terminal.

@@ -3,6 +3,9 @@
 ghost use Rattle.std.specs.Prelude.{◌≡◌};
 ghost use Rattle.ent_program.specs.Sources.{name_of, path_named, path_of};
 
+use std::fmt;
+use std::fmt::{Display, Formatter, Write};
+
 /// The word that stands for standard input where a file is wanted.
 const STANDARD_INPUT: &str = "-";
 
@@ -36,4 +39,28 @@ impl<'a> Source<'a> {
             Source::File(path) => path,
         }
     }
+}
+
+/// A text as it is shown on one line: control characters, and those that change lines or their direction, as JSON
+/// escapes them.
+#[derive(Clone, Copy)]
+pub(crate) struct Shown<'a>(pub(crate) &'a str);
+
+impl Display for Shown<'_> {
+    fn fmt<W: Write>(&self, f: &mut Formatter<W>) -> fmt::Result {
+        for character in self.0.chars() {
+            if is_hidden(character) {
+                write!(f, "\\u{:04x}", character as u32)?;
+            } else {
+                f.write_char(character)?;
+            }
+        }
+        Ok(())
+    }
+}
+
+/// Whether a character isn't to be printed as it is.
+fn is_hidden(character: char) -> bool {
+    character.is_control()
+        || matches!(character, '\u{2028}'..='\u{202E}' | '\u{2066}'..='\u{2069}' | '\u{FEFF}')
 }

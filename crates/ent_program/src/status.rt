@@ -2,12 +2,13 @@
 
 ghost use Rattle.std.specs.Prelude.{◌≡◌};
 ghost use Rattle.clap.specs.Values.{kind_of};
-ghost use Rattle.ent_program.specs.Statuses.{check_status, compare_status, fault_status, lines_fault_status, lines_status, serve_status};
+ghost use Rattle.ent_program.specs.Statuses.{check_status, compare_status, fault_status, found_status};
+ghost use Rattle.ent_program.specs.Statuses.{lines_fault_status, lines_status, serve_status};
 ghost use Rattle.ent_program.specs.Statuses.{test_status, usage_status, words_status};
 
 use crate::differing::Ending;
 use crate::sentences::{fault_sentence, lines_sentence, words_sentence};
-use crate::testing::Tally;
+use crate::tally::Tally;
 use crate::words::WordsFault;
 use clap::error::ErrorKind;
 use ent_line::{LinesFault, ServeFault};
@@ -53,6 +54,17 @@ pub fn check_status(rt: &impl Eprint, checked: Result<bool, ServeFault>) -> u8
         Ok(true) => OKAY,
         Ok(false) => REFUSED,
         Err(fault) => status_of(rt, fault),
+    }
+}
+
+/// The exit status of a check by what was found: a warning counts where that is asked for.
+pub(crate) fn found_status(faults: usize, warnings: usize, is_strict: bool) -> u8
+    ensures { result ≡ found_status faults warnings is_strict }
+{
+    if faults == 0 && (warnings == 0 || !is_strict) {
+        OKAY
+    } else {
+        REFUSED
     }
 }
 

@@ -1,30 +1,27 @@
 //! `review test`: sessions of a file, and whether a service replies to them as they expect.
 
-ghost use Rattle.std.specs.Prelude.{◌≡◌, ◌≢◌, ◌+◌, ◌-◌, ◌++◌, ◌^◌, ◌<◌, [], None, true, Result, min};
+ghost use Rattle.std.specs.Prelude.{◌≡◌, ◌≢◌, ◌++◌, ℕ, List, [], None, true};
 ghost use Rattle.std.specs.Prelude.{IfErr, IfOk, IfSome, OnOk};
 ghost use Rattle.std.specs.Io.KnownBytes.{Appends};
-ghost use Rattle.ent_line.specs.Pieces.{Sends};
 ghost use Rattle.ent_line.specs.declared.fault.ServeFault.TheVariants.{Memory, Read};
 ghost use Rattle.ent_program.specs.Starting.{IsFew};
-ghost use Rattle.ent_program.specs.Testing.{AreRepliesTo, Tests, TestsBytes, TestsEach, asked, few, has_expected};
-ghost use Rattle.ent_program.specs.Testing.{is_chosen, misplaced_line, mistake_text, passed, passes, sent_to, sure, tally_line};
-ghost use Rattle.ent_program.specs.Testing.{told_of, told_of_test, with_one};
+ghost use Rattle.ent_program.specs.Testing.{AreRepliesTo, Tests, TestsBytes, TestsEach, asked, case_of, few};
+ghost use Rattle.ent_program.specs.Testing.{has_expected, is_chosen, passed, passes, sent_to, sure, told_of, told_of_test};
 ghost use Rattle.ent_program.specs.Comparing.{are_sure};
 
 use crate::comparing::{compare, tell};
 use crate::options::Modules;
 use crate::running::serve_from;
+use crate::untested::{NO_TEST, line_on, misplaced_line, untested};
+use ent_junit::{Case, Suite};
 use ent_line::{ServeFault, send_all};
-use ent_sessions::{Mistake, Session, SessionFault, Step, read_sessions};
-use itoa::Buffer;
+use ent_sessions::{Session, SessionFault, Step, read_sessions};
+use ent_values::Items;
 use std::alloc::{AllocError, Global};
 use std::io::{ErrorKind, Read, Write};
 
 /// What is told of a test that says of no reply what it is to be.
 const NOTHING_EXPECTED: &[u8] = b"no reply is expected";
-
-/// What is told of a file without tests.
-pub(crate) const NO_TEST: &[u8] = b"no test begins here";
 
 /// From what each test of a file begins, and which of them run.
 #[derive(Clone, Copy)]
@@ -47,67 +44,6 @@ impl Plan<'_> {
             state_name: "",
             state: &[],
             only: None,
-        }
-    }
-}
-
-/// How many tests passed, and how many failed.
-#[derive(Clone, Copy, Debug, PartialEq, Eq)]
-pub struct Tally {
-    /// The tests whose replies were all as expected.
-    pub passed: u64,
-    /// The other tests, and the files that can't be read as tests.
-    pub failed: u64,
-}
-
-impl Tally {
-    /// No test.
-    pub fn none() -> Tally
-        ensures passed { result.passed ≡ 0 }
-        ensures failed { result.failed ≡ 0 }
-    {
-        Tally {
-            passed: 0,
-            failed: 0,
-        }
-    }
-
-    /// One test, which failed.
-    pub fn one_failed() -> Tally
-        ensures { result ≡ record { passed = 0; failed = 1 } }
-    {
-        Tally {
-            passed: 0,
-            failed: 1,
-        }
-    }
-
-    /// These and one more test, which passed or failed.
-    fn with(self, passed: bool) -> Tally
-        requires { self.passed + self.failed < 2 ^ 64 - 1 }
-        ensures { result ≡ with_one self passed }
-    {
-        if passed {
-            Tally {
-                passed: self.passed + 1,
-                failed: self.failed,
-            }
-        } else {
-            Tally {
-                passed: self.passed,
-                failed: self.failed + 1,
-            }
-        }
-    }
-
-    /// The tests of both, each number at most `u64::MAX`.
-    pub fn and(self, other: Tally) -> Tally
-        ensures passed { result.passed ≡ min (self.passed + other.passed) (2 ^ 64 - 1) }
-        ensures failed { result.failed ≡ min (self.failed + other.failed) (2 ^ 64 - 1) }
-    {
-        Tally {
-            passed: self.passed.saturating_add(other.passed),
-            failed: self.failed.saturating_add(other.failed),
         }
     }
 }
@@ -252,118 +188,136 @@ pub(crate) fn is_chosen(only: Option<&str>, session: &Session) -> bool
     }
 }
 
-/// Runs those of the sessions that are chosen, each over a service of its own, and writes of each what isn't as it is
-/// to be.
+/// What became of a session that passed or failed, of which that was told.
+fn case_of(
+    alloc: Global,
+    session: &Session,
+    passed: bool,
+    told: Vec<u8>,
+) -> Result<Case, AllocError>
+    ensures { IfOk result (λ test. test ≡ record {
+      name = session.now.name;
+      number = session.now.number;
+      passed = passed;
+      told = told.items;
+    }) }
+{
+    let name = Vec::from_slice(alloc, session.name.as_slice())?;
+    Ok(Case {
+        name: Items::from_vec(name),
+        number: session.number,
+        passed,
+        told: Items::from_vec(told),
+    })
+}
+
+/// Runs a session over a service of its own, writes what isn't as it is to be, and says what became of it.
+#[tactic(auto, using(crate::proofs::Tests::told_alone))]
+fn run_one<W: Write>(
+    alloc: Global,
+    plan: Plan<'_>,
+    name: &str,
+    session: &Session,
+    writer: &mut W,
+) -> Result<Case, ServeFault>
+    ensures ran { IfOk result (λ test. (replies : List ℕ)
+        × AreRepliesTo session.now.modules (sent_to plan.entry.state.now session.now) replies
+        × (sure plan.entry (session.now, replies) ≡ true) × (test ≡ case_of name.now plan.entry (session.now, replies))) }
+    ensures told { IfOk result (λ test. Appends (W.contents writer.old) (W.contents writer.new) test.told) }
+    ensures fault { IfErr result (λ e. e ≢ Read) }
+{
+    let lines = sent_to(alloc, plan.state, session)?;
+    let replies = replies_to(alloc, session.modules, lines.as_slice())?;
+    let mut told = Vec::new(alloc);
+    let judged = judge(alloc, plan, name, session, replies.as_slice(), &mut told);
+    send_all(writer, &[told.as_slice()])?;
+    match judged {
+        Ok(passed) => Ok(case_of(alloc, session, passed, told)?),
+        // A list takes what is told as long as there is memory.
+        Err(_) => Err(ServeFault::Memory),
+    }
+}
+
+/// Runs those of the sessions that are chosen, each over a service of its own, writes of each what isn't as it is to
+/// be, and says what became of them.
 fn test_each<W: Write>(
     alloc: Global,
     plan: Plan<'_>,
     name: &str,
     sessions: &[Session],
     writer: &mut W,
-) -> Result<Tally, ServeFault>
+) -> Result<Items<Case>, ServeFault>
     ensures { TestsEach plan.entry name.now sessions.now (W.contents writer.old) (W.contents writer.new) result }
 {
-    let mut tally = Tally::none();
+    let mut cases = Items::new(alloc);
     for session in sessions {
         if is_chosen(plan.only, session) {
-            let lines = sent_to(alloc, plan.state, session)?;
-            let replies = replies_to(alloc, session.modules, lines.as_slice())?;
-            let passed = judge(alloc, plan, name, session, replies.as_slice(), writer)?;
-            tally = tally.with(passed);
+            let case = run_one(alloc, plan, name, session, writer)?;
+            cases.push(case)?;
         }
     }
-    Ok(tally)
+    Ok(cases)
 }
 
-/// What is told of a line that can't stand where it stands.
-fn mistake_text(mistake: Mistake) -> &'static str
-    ensures { result.now ≡ mistake_text mistake }
-{
-    match mistake {
-        Mistake::NoHeading => "a test begins with # NAME",
-        Mistake::NoLine => "a reply stands right below the line that is sent",
-        Mistake::Repeated => "what comes many times ends with an empty line",
-        Mistake::Modules => "a test has from 1 to 4 modules of each sort",
-        Mistake::NoMark => "a line begins with # > < = ~ * and a space, or with --",
-    }
-}
-
-/// Writes which line of a file can't stand where it stands, and why.
-pub(crate) fn tell_mistake<W: Write>(
-    name: &str,
-    number: u64,
-    mistake: Mistake,
-    writer: &mut W,
-) -> Result<(), ServeFault>
-    ensures { Sends (W.contents writer.old) (W.contents writer.new) (misplaced_line name.now number mistake) result }
-{
-    let said = mistake_text(mistake).as_bytes();
-    tell(name, number, ": this line can't stand here: ", said, writer)
-}
-
-/// Runs the sessions of a file that are chosen, each over a service of its own, and writes what isn't as it is to be.
-fn test_bytes<W: Write>(
+/// Runs the sessions of a file that are chosen, each over a service of its own, writes what isn't as it is to be, and
+/// says what became of them.
+fn test_bytes<'n, W: Write>(
     alloc: Global,
     plan: Plan<'_>,
-    name: &str,
+    name: &'n str,
     bytes: &[u8],
     writer: &mut W,
-) -> Result<Tally, ServeFault>
+) -> Result<Suite<'n>, ServeFault>
     ensures { TestsBytes plan.entry name.now bytes.now (W.contents writer.old) (W.contents writer.new) result }
 {
     match read_sessions(alloc, bytes) {
         Ok(sessions) if sessions.is_empty() => {
-            tell(name, 1, ": ", NO_TEST, writer)?;
-            Ok(Tally::one_failed())
+            let line = line_on(alloc, name, 1, ": ", NO_TEST)?;
+            untested(alloc, name, line, writer)
         }
-        Ok(sessions) => test_each(alloc, plan, name, sessions.as_slice(), writer),
+        Ok(sessions) => {
+            let cases = test_each(alloc, plan, name, sessions.as_slice(), writer)?;
+            Ok(Suite {
+                name,
+                cases,
+                error: None,
+            })
+        }
         Err(SessionFault::Memory) => Err(ServeFault::Memory),
         Err(SessionFault::Form(number, mistake)) => {
-            tell_mistake(name, number, mistake, writer)?;
-            Ok(Tally::one_failed())
+            let line = misplaced_line(alloc, name, number, mistake)?;
+            untested(alloc, name, line, writer)
         }
     }
 }
 
-/// Runs the sessions of a file of that name, each over a service of its own, and says how many passed: those in which
-/// each reply is as it is expected, and none that nothing is said of is a refusal. Each begins with the lines of the
-/// plan's state, all of which have to be accepted, and has to expect a reply.
+/// Runs the sessions of a file of that name, each over a service of its own, and says what became of them: those passed
+/// in which each reply is as it is expected, and none that nothing is said of is a refusal. Each begins with the lines
+/// of the plan's state, all of which have to be accepted, and has to expect a reply.
 ///
 /// A reply that isn't as expected is written as two lines, `NAME:LINE: expected REPLY` and `NAME:LINE: replied REPLY`
 /// with the number of the line that was sent, and the mark `=` or `~` where it isn't compared byte by byte; `no
-/// refusal` is expected where the file says nothing. Below them stands `NAME:LINE: differs at PLACE` for each place at
-/// which a reply that is compared as JSON isn't as expected ([`places`](ent_matching::places)). Behind those of a session
-/// stands `NAME:LINE: failed SESSION`, with the line of its heading. A file that hasn't the form of sessions ([`read_sessions`]) counts as one test that failed, and
-/// `NAME:LINE: this line can't stand here: WHY` is written; so does one that has no session. The writer is flushed at
-/// the end. Faults: the reader's, after which nothing was written, the writer's, which may have taken a front of what is
-/// written, and want of memory, also of a service that replies so where that isn't expected.
-pub fn test_from<R: Read, W: Write>(
+/// refusal` is expected where the file says nothing. Below them stands `NAME:LINE: differs at PLACE: ..` for each place
+/// at which a reply that is compared as JSON isn't as expected, with both values ([`places`](ent_matching::places)).
+/// Behind those of a session stands `NAME:LINE: failed SESSION`, with the line of its heading. None of the tests of a
+/// file runs that hasn't the form of sessions ([`read_sessions`]), and `NAME:LINE: this line can't stand here: WHY` is
+/// written; nor of one that has no session. The writer is flushed at the end. Faults: the reader's, after which nothing
+/// was written, the writer's, which may have taken a front of what is written, and want of memory, also of a service
+/// that replies so where that isn't expected.
+pub fn test_from<'n, R: Read, W: Write>(
     alloc: Global,
     plan: Plan<'_>,
-    name: &str,
+    name: &'n str,
     reader: &mut R,
     writer: &mut W,
-) -> Result<Tally, ServeFault>
+) -> Result<Suite<'n>, ServeFault>
     ensures { Tests plan.entry name.now (R.remaining reader.old)
         (W.contents writer.old) (W.contents writer.new) result }
 {
     let bytes = read_whole(alloc, reader)?;
-    let tally = test_bytes(alloc, plan, name, bytes.as_slice(), writer)?;
+    let suite = test_bytes(alloc, plan, name, bytes.as_slice(), writer)?;
     match writer.flush() {
-        Ok(()) => Ok(tally),
+        Ok(()) => Ok(suite),
         Err(_) => Err(ServeFault::Write),
     }
-}
-
-/// Writes how many tests passed and how many failed, as `N passed, M failed` with a newline.
-pub fn send_tally<W: Write>(writer: &mut W, tally: Tally) -> Result<(), ServeFault>
-    ensures { Sends (W.contents writer.old) (W.contents writer.new) (tally_line tally) result }
-{
-    let mut first = Buffer::new();
-    let mut second = Buffer::new();
-    let passed = first.format(tally.passed).as_bytes();
-    let middle = " passed, ".as_bytes();
-    let failed = second.format(tally.failed).as_bytes();
-    let end = " failed\n".as_bytes();
-    send_all(writer, &[passed, middle, failed, end])
 }

@@ -4,10 +4,13 @@ ghost use Rattle.std.specs.Prelude.{◌≡◌, IfOk};
 
 use crate::acting::read_source;
 use crate::asked_tests::AskedTests;
+use crate::junit::{broken_off, write_junit};
 use crate::listing::list_tests;
 use crate::sources::Source;
 use crate::status::{status_of, test_status};
-use crate::testing::{Plan, Tally, send_tally, test_from};
+use crate::tally::{Tally, send_tally};
+use crate::testing::{Plan, test_from};
+use ent_junit::Suite;
 use ent_line::ServeFault;
 use ent_sessions::{Step, read_lines};
 use ent_values::Items;
@@ -51,14 +54,14 @@ pub(crate) fn read_state<R: Files + Input + Eprint + AllocGlobal>(
     }
 }
 
-/// Runs the tests of a source, and writes what isn't as it is to be. Gives how many passed, or the exit status of a
+/// Runs the tests of a source, and writes what isn't as it is to be. Gives what became of them, or the exit status of a
 /// fault, which is told on standard error.
-fn test_source<R: Files + Input + Eprint + AllocGlobal, W: Write>(
+fn run_source<'a, R: Files + Input + Eprint + AllocGlobal, W: Write>(
     rt: &R,
     plan: Plan<'_>,
-    source: Source<'_>,
+    source: Source<'a>,
     writer: &mut W,
-) -> Result<Tally, u8> {
+) -> Result<Suite<'a>, u8> {
     let bytes = read_source(rt, source, u64::MAX)?;
     match test_from(
         rt.alloc(),
@@ -67,13 +70,38 @@ fn test_source<R: Files + Input + Eprint + AllocGlobal, W: Write>(
         &mut bytes.as_slice(),
         writer,
     ) {
-        Ok(tally) => Ok(tally),
+        Ok(suite) => Ok(suite),
         Err(fault) => Err(status_of(rt, fault)),
     }
 }
 
-/// Lists the tests of a source that would run. Gives how many there are, or the exit status of a fault, which is told on
-/// standard error.
+/// Runs the tests of a source, writes what isn't as it is to be, and puts what became of them last. Gives how many
+/// passed, or the exit status of a fault, which is told on standard error.
+fn test_source<'a, R: Files + Input + Eprint + AllocGlobal, W: Write>(
+    rt: &R,
+    plan: Plan<'_>,
+    source: Source<'a>,
+    writer: &mut W,
+    suites: &mut Vec<Suite<'a>>,
+) -> Result<Tally, u8> {
+    let (suite, tested) = match run_source(rt, plan, source, writer) {
+        Ok(suite) => {
+            let tally = Tally::of(&suite);
+            (suite, Ok(tally))
+        }
+        Err(status) => match broken_off(rt.alloc(), source.name()) {
+            Ok(suite) => (suite, Err(status)),
+            Err(_) => return Err(status_of(rt, ServeFault::Memory)),
+        },
+    };
+    match suites.push(suite) {
+        Ok(()) => tested,
+        Err(_) => Err(status_of(rt, ServeFault::Memory)),
+    }
+}
+
+/// Lists the tests of a source that would run. Gives how many there are, or the exit status of a fault, which is told
+/// on standard error.
 fn list_source<R: Files + Input + Eprint + AllocGlobal, W: Write>(
     rt: &R,
     plan: Plan<'_>,
@@ -126,19 +154,22 @@ fn list_by<R: Files + Input + Print + Eprint + AllocGlobal>(
     }
 }
 
-/// Runs the tests of each source that the words name, in turn; one that can't be read doesn't keep the others from it.
-fn test_each<R: Files + Input + Eprint + AllocGlobal, W: Write>(
+/// Runs the tests of each source that the words name, in turn, and puts what became of them last; one that can't be
+/// read doesn't keep the others from it.
+fn test_each<'a, R: Files + Input + Eprint + AllocGlobal, W: Write>(
     rt: &R,
     plan: Plan<'_>,
-    words: &[&str],
+    words: &[&'a str],
     writer: &mut W,
+    suites: &mut Vec<Suite<'a>>,
 ) -> Ended {
     let mut ended = Ended {
         tally: Tally::none(),
         fault: None,
     };
     for &word in words {
-        ended = ended.with(test_source(rt, plan, Source::named(word), writer));
+        let tested = test_source(rt, plan, Source::named(word), writer, suites);
+        ended = ended.with(tested);
     }
     ended
 }
@@ -155,25 +186,31 @@ fn write_tally<W: Write>(writer: &mut W, tally: Tally) -> Result<Tally, ServeFau
 }
 
 /// Runs the tests of the files by a plan, writes to standard output what isn't as it is to be and how many tests
-/// passed, and gives the exit status.
+/// passed, and to the file of that path, if there is one, what became of them as JUnit XML. Gives the exit status.
 fn test_by<R: Files + Input + Print + Eprint + AllocGlobal>(
     rt: &R,
     plan: Plan<'_>,
     words: &[&str],
+    junit: Option<&str>,
 ) -> u8 {
     let Ok(mut writer) = BufWriter::new(rt.alloc(), io::writer(rt)) else {
         return status_of(rt, ServeFault::Memory);
     };
-    let ended = test_each(rt, plan, words, &mut writer);
+    let mut suites = Vec::new(rt.alloc());
+    let ended = test_each(rt, plan, words, &mut writer, &mut suites);
     let status = test_status(rt, write_tally(&mut writer, ended.tally));
-    match ended.fault {
-        Some(fault) => fault,
+    let status = ended.fault.unwrap_or(status);
+    match junit {
+        Some(path) => match write_junit(rt, path, suites.as_slice()) {
+            Ok(()) => status,
+            Err(fault) => fault,
+        },
         None => status,
     }
 }
 
-/// Runs the tests that are asked for, or lists them, and gives the exit status: that of the last fault, if there was one, 1 where a
-/// test failed or none ran, and 0 where all passed.
+/// Runs the tests that are asked for, or lists them, and gives the exit status: that of the last fault, if there was
+/// one, 1 where a test failed or none ran, and 0 where all passed.
 pub(crate) fn run_tests<R: Files + Input + Print + Eprint + AllocGlobal>(
     rt: &R,
     tests: AskedTests<'_, '_>,
@@ -186,7 +223,7 @@ pub(crate) fn run_tests<R: Files + Input + Print + Eprint + AllocGlobal>(
         return list_by(rt, plan, tests.files);
     }
     let Some(source) = tests.state else {
-        return test_by(rt, plan, tests.files);
+        return test_by(rt, plan, tests.files, tests.junit);
     };
     match read_state(rt, source) {
         Ok(state) => {
@@ -195,7 +232,7 @@ pub(crate) fn run_tests<R: Files + Input + Print + Eprint + AllocGlobal>(
                 state: state.as_slice(),
                 only: tests.only,
             };
-            test_by(rt, plan, tests.files)
+            test_by(rt, plan, tests.files, tests.junit)
         }
         Err(status) => status,
     }

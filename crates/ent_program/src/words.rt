@@ -47,6 +47,9 @@ pub const RUN: &str = "run";
 /// The option of `test` that asks for a list of the tests.
 pub const LIST: &str = "list";
 
+/// The option of `test` that names the file to which what becomes of the tests is written as JUnit XML.
+pub const JUNIT: &str = "junit";
+
 /// The argument of `compare` that names the lines of a state.
 pub const FIRST_STATE: &str = "STATE";
 
@@ -61,6 +64,15 @@ pub const ATTRIBUTES: &str = "attributes";
 
 /// The option of `check` that names a file with the lines of a state.
 pub const STORED: &str = "stored";
+
+/// The option of `check` that names a file with lines that set values.
+pub const LINES: &str = "lines";
+
+/// The option of `check` by which a document is judged on behind its first fault.
+pub const ALL: &str = "all";
+
+/// The option of `check` by which a warning counts as a fault.
+pub const STRICT: &str = "strict";
 
 /// The option of `serve` that says how many modules hold values of attributes.
 pub const ATTRIBUTE_MODULES: &str = "attribute-modules";
@@ -107,15 +119,29 @@ fn check<'a>(alloc: Global) -> Result<Command<'a>, AllocError> {
     let attributes = Arg::new(alloc, ATTRIBUTES)
         .long(ATTRIBUTES)
         .value_name("DECLARED")
-        .help("The attributes that the policies may ask for, in JSON");
+        .help("The attributes that the policies may ask for, and their values, in JSON");
     let stored = Arg::new(alloc, STORED)
         .long(STORED)
         .value_name("STATE")
         .help("The lines of a dump, with whose policies the references are looked up");
+    let lines = Arg::new(alloc, LINES).long(LINES).value_name("LINES").help(
+        "Lines that set values, to be compared with the attributes",
+    );
+    let all = Arg::new(alloc, ALL)
+        .long(ALL)
+        .help("Tell what is wrong behind the first fault of a policy too")
+        .action(ArgAction::SetTrue);
+    let strict = Arg::new(alloc, STRICT)
+        .long(STRICT)
+        .help("Count a warning as a fault")
+        .action(ArgAction::SetTrue);
     Command::new(alloc, "check")
         .about("Says whether the policies in files may be stored, or why not")
         .arg(attributes)?
         .arg(stored)?
+        .arg(lines)?
+        .arg(all)?
+        .arg(strict)?
         .arg(file)
 }
 
@@ -143,11 +169,15 @@ fn test<'a>(alloc: Global) -> Result<Command<'a>, AllocError> {
         .long(LIST)
         .action(ArgAction::SetTrue)
         .help("Say where each test begins and what it is called, and run none");
+    let junit = Arg::new(alloc, JUNIT).long(JUNIT).value_name("OUT").help(
+        "Write what became of the tests to this file, as JUnit XML",
+    );
     Command::new(alloc, "test")
         .about("Runs the tests in files, and says which replies are not as expected")
         .arg(state)?
         .arg(run)?
         .arg(list)?
+        .arg(junit)?
         .arg(files)
 }
 

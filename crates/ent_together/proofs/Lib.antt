@@ -1,4 +1,5 @@
 pub mod Counting
+pub mod Followed
 pub mod Endless
 pub mod Flags
 pub mod Levels

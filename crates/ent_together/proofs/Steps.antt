@@ -62,3 +62,10 @@ module _ {A B : Type 0} (f : A → B) (p : B → Bool) (xs : List A) (i : ℕ) (
   pub kept_same : (so_far : List B) → so_far ≡ filter p (map f (take i xs)) → p (f x) ≡ false → so_far ≡ filter p (map f (take (i + 1) xs))
   kept_same so_far before fails =
       before ∙ sym (append-nil (filter p (map f (take i xs)))) ∙ ap (λ b. filter p (map f (take i xs)) ++ cond b (f x ∷ []) []) (sym fails) ∙ sym kept
+
+-- a filtered list with one element more
+pub filter_more : {A : Type 0} (p : A → Bool) (xs : List A) (i : ℕ) (x : A) (so_far next : List A) → i < length xs → x ≡ get_or xs i x
+    → so_far ≡ filter p (take i xs) → next ≡ so_far ++ filter p (x ∷ []) → next ≡ filter p (take (i + 1) xs)
+filter_more p xs i x so_far next within is before after =
+    after ∙ ap (λ ys. ys ++ filter p (x ∷ [])) before
+    ∙ sym (ap (filter p) (take_more xs i x within ∙ ap (λ y. take i xs ++ y ∷ []) (sym is)) ∙ filter-append p (take i xs) (x ∷ []))

@@ -1,4 +1,5 @@
 pub mod Law
 pub mod References
+pub mod Root
 pub mod Together
 pub mod proofs_only

@@ -1,11 +1,13 @@
 //! What documents come to that are stored together: references that find none of them, and where references lead.
 #![tactic(auto)]
 
+mod counts;
 mod held;
 mod law;
 mod links;
 mod missing;
 mod placed;
+mod root;
 mod sentences;
 mod state;
 mod together;
@@ -14,5 +16,6 @@ pub use held::Held;
 pub use law::{endless_is_without_end, unfound_references_find_none};
 pub use missing::unfound;
 pub use placed::{PlacedReference, references_of};
+pub use root::unreached;
 pub use state::{State, StateFault};
-pub use together::Together;
+pub use together::{Together, Told};

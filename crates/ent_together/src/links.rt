@@ -1,14 +1,16 @@
 //! Where the references of documents lead.
 
-ghost use Rattle.std.specs.Prelude.{◌≡◌, ◌++◌, IfOk, OnOk, Some, false, get_or, map, true};
+ghost use Rattle.std.specs.Prelude.{◌≡◌, ◌++◌, ◌-◌, ◌^◌, IfOk, OnOk, Some, false, get_or, map, min, true};
 ghost use Rattle.std.specs.FinMap.{entries};
 ghost use Rattle.std.specs.Option.{option_map, option_to_list};
 ghost use Rattle.ent_finder.specs.Finding.{most_recent, names};
 ghost use Rattle.ent_finder.specs.Slots.{held};
+ghost use Rattle.ent_together.specs.Root.{followed};
 ghost use Rattle.ent_together.specs.Together.{has_chain, is_endless};
 ghost use Rattle.ent_together.specs.proofs_only.Rows.{IsRow, entry_of, flags_after, is_one_set, leads, numbered};
 ghost use Rattle.ent_together.specs.proofs_only.Rows.{rows_lead};
 
+use crate::counts::counts_after;
 use crate::held::{Held, held_in};
 use crate::placed::references_of;
 use ent_finder::{MapDocs, PolicyFinderModule};
@@ -25,7 +27,12 @@ pub struct Links {
     pub long: Vec<bool>,
     /// Whether its references lead on without end, since they lead into a circle.
     pub endless: Vec<bool>,
+    /// How many documents may be followed from it over at most so many references as was asked for.
+    pub followed: Vec<u64>,
 }
+
+/// So many references are followed one after the other, from the document of the root on.
+pub const MOST_HOPS: usize = 6;
 
 /// Whether a reference names a document.
 fn is_named(one: &Held<'_>, reference: &Reference) -> bool
@@ -152,27 +159,32 @@ fn flags_after(alloc: Global, rows: &[Vec<usize>], hops: usize) -> Result<Vec<bo
 }
 
 impl Links {
-    /// Where the references of the documents of a module lead; `long` tells of chains of that many references.
+    /// Where the references of the documents of a module lead; `long` tells of chains of so many references, and
+    /// `followed` counts what may be followed in that many steps.
     ///
     /// # Errors
     ///
     /// `AllocError` if memory runs out.
-    pub fn of(alloc: Global, docs: &MapDocs, hops: usize) -> Result<Links, AllocError>
+    pub fn of(alloc: Global, docs: &MapDocs, hops: usize, steps: usize) -> Result<Links, AllocError>
         ensures rows { IfOk result (λ l.
             rows_lead (held docs.now) (map (λ row. row.items) l.rows.items) ≡ leads (held docs.now)) }
         ensures long { IfOk result (λ l.
             l.long.items ≡ map (λ e. has_chain (held docs.now) hops e.1) (entries (held docs.now))) }
         ensures endless { IfOk result (λ l.
             l.endless.items ≡ map (λ e. is_endless (held docs.now) e.1) (entries (held docs.now))) }
+        ensures followed { IfOk result (λ l.
+            l.followed.items ≡ map (λ e. min (followed (held docs.now) steps e.1) (2 ^ 64 - 1)) (entries (held docs.now))) }
     {
         let all = held_in(alloc, docs)?;
         let rows = rows(alloc, docs, all.as_slice())?;
         let long = flags_after(alloc, rows.as_slice(), hops)?;
         let endless = flags_after(alloc, rows.as_slice(), rows.len())?;
+        let followed = counts_after(alloc, rows.as_slice(), steps)?;
         Ok(Links {
             rows,
             long,
             endless,
+            followed,
         })
     }
 }

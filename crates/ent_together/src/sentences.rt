@@ -6,7 +6,7 @@ use crate::missing::{namesakes, turned};
 use ent_policy::{DocKey, Kind, Reference, VersionConstraints, VersionMatch};
 use std::alloc::{AllocError, Global};
 
-/// So many versions of a document are named at most.
+/// So many versions of a document, or documents, are named at most.
 const MOST_VERSIONS: usize = 8;
 
 /// So many documents on a way are named at most.
@@ -174,4 +174,25 @@ pub fn endless_sentence(
     let way = way(alloc, all, links, links.endless.as_slice(), from)?;
     let way = way.as_str();
     format!(in alloc; "its references lead into a circle: {way}")
+}
+
+/// That the root doesn't lead to some of the documents that are stored, at most eight by their names.
+///
+/// # Errors
+///
+/// `AllocError` if memory runs out.
+pub fn unreached_sentence(alloc: Global, keys: &[&DocKey]) -> Result<String, AllocError> {
+    let mut text = String::new(alloc);
+    for key in keys.iter().take(MOST_VERSIONS) {
+        let name = named(alloc, key)?;
+        if !text.is_empty() {
+            text.push_str(", ")?;
+        }
+        text.push_str(name.as_str())?;
+    }
+    if keys.len() > MOST_VERSIONS {
+        text.push_str(", ..")?;
+    }
+    let (count, text) = (keys.len(), text.as_str());
+    format!(in alloc; "the root doesn't lead to {count} of the stored documents: {text}")
 }

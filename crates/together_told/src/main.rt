@@ -57,10 +57,14 @@ fn tell_state<W: Write>(
         }
     }
     let told = together.told()?;
-    for line in &told {
+    for line in &told.faults {
         send(writer, line.as_str())?;
     }
-    if is_fine && told.is_empty() {
+    for warning in &told.warnings {
+        let line = format!(in alloc; "warning: {warning}")?;
+        send(writer, line.as_str())?;
+    }
+    if is_fine && told.faults.is_empty() && told.warnings.is_empty() {
         send(writer, "nothing")?;
     }
     Ok(())

@@ -38,8 +38,11 @@ Arguments:
   <FILE>...  Policies and policy sets in JSON, each of at most 1048576 bytes; - is standard input
 
 Options:
-      --attributes <DECLARED>  The attributes that the policies may ask for, in JSON
+      --attributes <DECLARED>  The attributes that the policies may ask for, and their values, in JSON
       --stored <STATE>         The lines of a dump, with whose policies the references are looked up
+      --lines <LINES>          Lines that set values, to be compared with the attributes
+      --all                    Tell what is wrong behind the first fault of a policy too
+      --strict                 Count a warning as a fault
   -h, --help                   Print help
 ";
 
@@ -64,6 +67,7 @@ Options:
       --state <STATE>  Lines with which each test begins, as those of a dump; all have to be accepted
       --run <NAME>     Run the tests of that name alone
       --list           Say where each test begins and what it is called, and run none
+      --junit <OUT>    Write what became of the tests to this file, as JUnit XML
   -h, --help           Print help
 ";
 

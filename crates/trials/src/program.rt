@@ -138,7 +138,7 @@ const CHECKED: &[(&[&str], &str, &str, &str, &str, u8)] = &[
         NONE_DECLARED,
         ASKING,
         "ok Policy p 1\n",
-        "review: the document asks for an attribute that isn't declared\nstandard input: ",
+        "review: the document asks for an attribute, or compares with a value, that isn't declared\nstandard input: ",
         1,
     ),
     (
@@ -291,10 +291,10 @@ const AS_JSON: &str = "\
 const AS_JSON_TOLD: &str = "\
 whole:2: expected = {\"serial\":2,\"changes\":0}
 whole:2: replied {\"changes\":0,\"serial\":1}
-whole:2: differs at /serial
+whole:2: differs at /serial: expected 2, replied 1
 whole:4: expected ~ {\"table\":[{}]}
 whole:4: replied {\"table\":[]}
-whole:4: differs at /table/0
+whole:4: differs at /table/0: expected {}, no member has it
 whole:1: failed as_json
 0 passed, 1 failed
 ";
@@ -365,6 +365,20 @@ const TESTED: &[(&[&str], &str, &str, &str, u8)] = &[
         "0 passed, 0 failed\n",
         "",
         1,
+    ),
+    (
+        &["review", "test", "--junit", "none", "whole"],
+        TESTS,
+        DIFFERENCE,
+        "review: write fault\nnone: No such file or directory (os error 2)\n",
+        2,
+    ),
+    (
+        &["review", "test", "--junit", "whole", "whole"],
+        TESTS,
+        DIFFERENCE,
+        "review: write fault\nwhole: not written to its end\n",
+        2,
     ),
     (
         &["review", "test", "whole", "none"],

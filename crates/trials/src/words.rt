@@ -73,34 +73,54 @@ const TAKEN: &[(&[&str], &str)] = &[
         &["serve", "--policy-modules=4", "--attribute-modules", "3"],
         "Serve(Modules { attributes: 3, policies: 4 })",
     ),
-    (&["check", "serve"], "Check(File(\"serve\"), None)"),
-    (&["check", "-"], "Check(Input, None)"),
-    (&["check", "--", "-"], "Check(Input, None)"),
+    (
+        &["check", "serve"],
+        "Check(AskedCheck { files: [\"serve\"], attributes: None, stored: None, lines: None, is_all: false, is_strict: false })",
+    ),
+    (
+        &["check", "-"],
+        "Check(AskedCheck { files: [\"-\"], attributes: None, stored: None, lines: None, is_all: false, is_strict: false })",
+    ),
+    (
+        &["check", "--", "-"],
+        "Check(AskedCheck { files: [\"-\"], attributes: None, stored: None, lines: None, is_all: false, is_strict: false })",
+    ),
     (
         &["check", "--attributes", "-", "a"],
-        "Check(File(\"a\"), Some(Input))",
+        "Check(AskedCheck { files: [\"a\"], attributes: Some(Input), stored: None, lines: None, is_all: false, is_strict: false })",
     ),
-    (&["check", "a", "-"], "Together([\"a\", \"-\"], None, None)"),
+    (
+        &["check", "a", "-"],
+        "Check(AskedCheck { files: [\"a\", \"-\"], attributes: None, stored: None, lines: None, is_all: false, is_strict: false })",
+    ),
     (
         &["check", "--stored", "s", "a"],
-        "Together([\"a\"], None, Some(File(\"s\")))",
+        "Check(AskedCheck { files: [\"a\"], attributes: None, stored: Some(File(\"s\")), lines: None, is_all: false, is_strict: false })",
     ),
     (
         &["check", "--attributes", "d", "--stored", "-", "a", "b"],
-        "Together([\"a\", \"b\"], Some(File(\"d\")), Some(Input))",
+        "Check(AskedCheck { files: [\"a\", \"b\"], attributes: Some(File(\"d\")), stored: Some(Input), lines: None, is_all: false, is_strict: false })",
+    ),
+    (
+        &["check", "--lines", "l", "--strict", "--all", "a"],
+        "Check(AskedCheck { files: [\"a\"], attributes: None, stored: None, lines: Some(File(\"l\")), is_all: true, is_strict: true })",
     ),
     (&["lines"], "Lines"),
     (
         &["test", "a", "-", "b"],
-        "Test(AskedTests { files: [\"a\", \"-\", \"b\"], state: None, only: None, listed: false })",
+        "Test(AskedTests { files: [\"a\", \"-\", \"b\"], state: None, only: None, listed: false, junit: None })",
     ),
     (
         &["test", "--state", "s", "--run", "n", "a"],
-        "Test(AskedTests { files: [\"a\"], state: Some(File(\"s\")), only: Some(\"n\"), listed: false })",
+        "Test(AskedTests { files: [\"a\"], state: Some(File(\"s\")), only: Some(\"n\"), listed: false, junit: None })",
+    ),
+    (
+        &["test", "--junit", "x", "a"],
+        "Test(AskedTests { files: [\"a\"], state: None, only: None, listed: false, junit: Some(\"x\") })",
     ),
     (
         &["test", "--list", "a"],
-        "Test(AskedTests { files: [\"a\"], state: None, only: None, listed: true })",
+        "Test(AskedTests { files: [\"a\"], state: None, only: None, listed: true, junit: None })",
     ),
     (
         &["compare", "a", "-"],

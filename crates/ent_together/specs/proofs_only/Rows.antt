@@ -1,7 +1,7 @@
 -- Documents by their numbers, in the order of their keys.
-use Rattle.std.specs.Prelude.{◌≡◌, ℕ, zero, suc, List, Bool, true, false, Option, Some, get_or, map, slice_get}
+use Rattle.std.specs.Prelude.{◌≡◌, ℕ, zero, suc, List, Bool, true, false, Option, Some, get_or, map, min, slice_get}
 use Rattle.std.specs.FinMap.{entries}
-use Rattle.std.specs.List.{list_any}
+use Rattle.std.specs.List.{list_any, sum_by}
 use Rattle.std.specs.Option.{option_map}
 use Rattle.ent_policy.specs.declared.document.Tree.{Tree}
 use Rattle.ent_policy.specs.declared.key.DocKey.{DocKey}
@@ -36,3 +36,12 @@ is_one_set flags row = list_any (λ number. get_or flags number false) row
 abbrev pub flags_after : List (List ℕ) → ℕ → List Bool
 flags_after rows zero = map (λ _. true) rows
 flags_after rows (suc hops) = map (is_one_set (flags_after rows hops)) rows
+
+-- a sum of numbers that each count one more, as far as that number
+abbrev pub counted_row : ℕ → List ℕ → List ℕ → ℕ
+counted_row most counts row = min (sum_by (λ number. suc (get_or counts number 0)) row) most
+
+-- a number for each document: how many may be followed from it over at most that many references, as far as that number
+abbrev pub counts_after : ℕ → List (List ℕ) → ℕ → List ℕ
+counts_after most rows zero = map (λ _. 0) rows
+counts_after most rows (suc hops) = map (counted_row most (counts_after most rows hops)) rows

@@ -1,7 +1,7 @@
 use Rattle.std.proofs.Common.{◌≡◌, map}
 use Rattle.serde_json.specs.View.{items_of}
 use Rattle.ent_declared.specs.Attributes.{always, attributes_from, behind}
-use Rattle.ent_declared.proofs.Listed.{read_from}
+use Rattle.ent_declared.proofs.Readings.{read_from}
 use Rattle.ent_declared.proofs.reading.attributes.Given as goal
 
 -- what is left is read behind those that were read

@@ -8,8 +8,9 @@ pub returns-in-Some-clause-asked : goal.returns-in-Some-clause-asked
 returns-in-Some-clause-asked c = record {
   files = λ texts is. arguments_found c.in-Some.files c.get_strs.result (found_of c.args.options.now) (codes "FILE") (rows_of (found_of c.args.options.now)) texts c.in-Some.is c.get_strs.ensures refl is;
   state = c.state_of.ensures;
-  only = c.only_of.ensures;
+  only = c.word_of.ensures;
   listed = c.is_given.ensures;
+  junit = c.word_of-in-Some.ensures;
 }
 
 pub returns-in-None-clause-none : goal.returns-in-None-clause-none

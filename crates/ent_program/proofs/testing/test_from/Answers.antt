@@ -7,9 +7,9 @@ returns-in_err-bytes g c =
     let p = err_from_is_err_and c.from_residual.result c.from_residual.ensures.1 in
     rw (p.1, p.2) (nothing_told c.args.plan c.args.name.now (g.R.Read.remaining c.args.reader.now) (g.W.Write.contents c.args.writer.now) c.in_err-bytes.field-0.0)
 
-pub returns-in_err-tally : goal.returns-in_err-tally
-returns-in_err-tally g c =
-    let p = err_from_is_err_and c.from_residual-in_err-tally.result c.from_residual-in_err-tally.ensures.1 in
+pub returns-in_err-suite : goal.returns-in_err-suite
+returns-in_err-suite g c =
+    let p = err_from_is_err_and c.from_residual-in_err-suite.result c.from_residual-in_err-suite.ensures.1 in
     rw (p.1, p.2)
     (broken_off c.args.plan c.args.name.now (g.R.Read.remaining c.args.reader.now) (g.W.Write.contents c.args.writer.now) (g.W.Write.contents c.test_bytes.new.writer)
-    c.in_err-tally.field-0.0 c.in_err-tally.ensures)
+    c.in_err-suite.field-0.0 c.in_err-suite.ensures)
