@@ -105,7 +105,8 @@ def table_in_the_log():
 
 
 def evaluations():
-    yield from found(r'\.evaluate\(|Pdp::evaluate', but=['ent_eval/', 'ent_cells/src/evaluate.rt', 'ent_table/src/explain.rt'] + TRIALS)
+    yield from found(r'\.evaluate(?:_listed)?\(|Pdp::evaluate', but=['ent_eval/', 'ent_cells/src/evaluate.rt'] + TRIALS)
+    yield from found(r'pdp\.explain\(|Pdp::explain', but=['ent_eval/', 'ent_table/src/explain.rt'] + TRIALS)
     yield from found(r'pdp\.answer\(|Pdp::answer', but=['ent_eval/', 'ent_table/src/ask.rt'] + TRIALS)
 
 
@@ -116,8 +117,9 @@ def unchecked_documents():
 
 
 def boxed_modules():
-    yield from found(r'\bBox::new\b', but=['ent_program/src/running.rt'] + TRIALS)
-    yield from found(r'\bdyn\b', but=['ent_program/src/running.rt', 'ent_finder/'] + TRIALS)
+    makers = ['ent_program/src/running.rt', 'ent_together/src/root.rt']
+    yield from found(r'\bBox::new\b', but=makers + TRIALS)
+    yield from found(r'\bdyn\b', but=makers + ['ent_finder/'] + TRIALS)
 
 
 def files_and_streams():
@@ -165,7 +167,8 @@ CHECKS = {
     'places of faults in the service': places_in_the_service,
     'any other crate, and memory, in `ent_combine`': around_combining,
     'commands below `ent_dump` and `ent_line`':
-        lambda: found(COMMANDS, but=['ent_dump/', 'ent_line/', 'ent_together/src/state.rt'] + TRIALS),
+        lambda: found(COMMANDS, but=['ent_dump/', 'ent_line/', 'ent_together/src/state.rt',
+                                     'ent_declared/src/lines.rt', 'ent_declared/src/listed.rt'] + TRIALS),
     'sessions and marks in a review': lambda: found(r'(?i)session', BELOW_LINES, ('src', 'specs')),
     'the table in the log and in the index': table_in_the_log,
     'finders and modules in the evaluator':
