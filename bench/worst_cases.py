@@ -43,7 +43,7 @@ def root():
 
 
 def words(count, first='a'):
-    """Texts of four letters, no two the same."""
+    """Texts of three letters behind the first, no two the same."""
     letters = 'abcdefghijklmnopqrstuvwxyz0123456789'
     return [first + letters[i // 1296 % 36] + letters[i // 36 % 36] + letters[i % 36] for i in range(count)]
 
@@ -134,23 +134,27 @@ def cell_strings(share):
 
 
 def full_table(share):
-    """A rule that compares groups of 256 people, 256 values each, with those of 256 resources: 65,536 cells."""
+    """A rule that compares groups of 256 people, 256 values each, with those of 256 resources: 65,536 cells, of which no
+    two find the same."""
     count = int(256 * share)
     lines = [line('action.add', name='read')]
     for i in range(256):
-        lines += [line('person.add', name=f'p{i}'), row(f'p{i}', 'groups', words(count, 'a'))]
-        lines += [line('resource.add', name=f'r{i}'), row(f'r{i}', 'groups', words(count, 'b'), 'Resource')]
+        lines += [line('person.add', name=f'p{i}'), row(f'p{i}', 'groups', words(count, f'a{i}-'))]
+        lines += [line('resource.add', name=f'r{i}'), row(f'r{i}', 'groups', words(count, f'b{i}-'), 'Resource')]
     groups = [designator(category, 'groups', 'string') for category in (SUBJECT, RESOURCE)]
     return [*lines, added([rule(apply('string-at-least-one-member-of', *groups))])], root()
 
 
 def many_nodes(share):
-    """A document of 64,500 expression nodes, over 1,024 cells."""
+    """A document of 64,500 expression nodes, over 1,024 cells, of which no two find the same."""
     definitions = [definition('v', apply('and', *[value(True)] * 254))]
     rules = [rule(apply('not', apply('not', variable('v'))), f'r{i}') for i in range(int(250 * share))]
     lines = [line('action.add', name='read')]
-    lines += [line(f'{kind}.add', name=f'{kind}-{i}') for i in range(32) for kind in ('person', 'resource')]
-    return [*lines, added(rules, definitions)], root()
+    for i in range(32):
+        lines += [line('person.add', name=f'p{i}'), row(f'p{i}', 'mark', [f'p{i}'])]
+        lines += [line('resource.add', name=f'r{i}'), row(f'r{i}', 'mark', [f'r{i}'], 'Resource')]
+    marks = [apply('string-is-in', value('x'), designator(category, 'mark', 'string')) for category in (SUBJECT, RESOURCE)]
+    return [*lines, added([rule(apply('or', *marks), 'marked'), *rules], definitions)], root()
 
 
 def text_parts(share):
