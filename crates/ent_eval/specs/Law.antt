@@ -1,9 +1,6 @@
 -- An answer rests on what is asked for it, so on the look-ups that are recorded for it: those that are made, each once.
-use Rattle.std.specs.Prelude.{◌≡◌, ◌≢◌, ◌↔◌, List, ◌∷◌, ◌++◌, map}
+use Rattle.std.specs.Prelude.{◌≡◌, ◌≢◌, ◌↔◌, List, ◌∷◌, ◌++◌}
 use Rattle.std.specs.List.{All, Contains}
-use Rattle.ent_combine.specs.declared.outcome.IndKind.{IndKind}
-use Rattle.ent_combine.specs.declared.outcome.Outcome.TheVariants.{Ind}
-use Rattle.ent_eval.specs.declared.cause.Cause.{Cause}
 use Rattle.ent_eval.specs.declared.key.ReadKey.{ReadKey}
 use Rattle.ent_eval.specs.declared.key.ReadKey.TheVariants.{Root, Ref, Attr, CurrentDate, CurrentTime, CurrentDateTime}
 use Rattle.ent_eval.specs.declared.request.Request.{Request}
@@ -46,9 +43,3 @@ EachKeyIsRecordedOnce = (looks : Looks) (request : Request) (before between afte
 -- a key is recorded for an answer exactly where it is looked up for it
 abbrev pub WhatIsLookedUpIsRecorded : Type 0
 WhatIsLookedUpIsRecorded = (looks : Looks) (request : Request) (key : ReadKey) → Contains (recorded looks request) key ↔ Contains (looked_up looks request) key
-
--- an answer is Indeterminate only where there is a cause, and its status is that of one of the causes
-abbrev pub IndeterminateHasItsCause : Type 0
-IndeterminateHasItsCause = (looks : Looks) (request : Request) (kind : IndKind)
-    → (answer looks request).decision ≡ Ind kind
-    → Contains (map (λ (cause : Cause). cause.status) (causes looks request)) (answer looks request).status

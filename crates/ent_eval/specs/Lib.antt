@@ -13,6 +13,7 @@ pub mod Listed
 pub mod Looks
 pub mod LooksOf
 pub mod Memory
+pub mod Named
 pub mod Node
 pub mod Note
 pub mod Noted

@@ -1,8 +1,8 @@
 //! Laws of what answers rest on.
 
 ghost use Rattle.ent_eval.specs.Law.{EachKeyIsRecordedOnce, EqualFindingsGiveEqualAnswers};
-ghost use Rattle.ent_eval.specs.Law.{EqualLookUpsGiveEqualAnswers, IndeterminateHasItsCause};
-ghost use Rattle.ent_eval.specs.Law.{WhatIsLookedUpIsRecorded};
+ghost use Rattle.ent_eval.specs.Law.{EqualLookUpsGiveEqualAnswers, WhatIsLookedUpIsRecorded};
+ghost use Rattle.ent_eval.specs.Named.{IndeterminateHasItsCause};
 
 /// Law: where each question that is asked for an answer finds the same for another request, over what is held then, the
 /// answer is the same, and so are what is asked and the causes.
@@ -26,7 +26,8 @@ pub fn what_is_looked_up_is_recorded()
     ensures { WhatIsLookedUpIsRecorded }
 {}
 
-/// Law: an answer is Indeterminate only where there is a cause, and its status is that of one of the causes.
+/// Law: an answer is Indeterminate only where there is a cause, and its status is that of the cause that is named of
+/// it: its target's, or else that of its first Indeterminate child, or of what it gives (section 5.55).
 pub fn an_indeterminate_answer_has_its_cause()
     ensures { IndeterminateHasItsCause }
 {}
