@@ -1,6 +1,6 @@
 -- Whether a request finds the same as a case, and which case an evaluation makes.
 use Rattle.std.proofs.Common.{◌≡◌, ◌≢◌, inl, inr, ℕ, ◌+◌, ◌<◌, ◌≤◌, Bool, true, false, List, [], ◌∷◌, ◌++◌, Option, Some, None, Result, Ok, Err, length, take, slice_get, get_or, refl, sym, ap, subst, ◌∙◌, arith}
-use Rattle.std.specs.Prelude.{◌||◌, IfNone, IfOk, if◌then◌else◌}
+use Rattle.std.specs.Prelude.{◌||◌, IfOk, if◌then◌else◌}
 use Rattle.std.specs.Bool.{OnFalse, OnTrue}
 use Rattle.std.specs.List.{AllByRecursion}
 use Rattle.std.proofs.lemmas.List.{length-append, length-set, map-append, take_all, take_more}
@@ -24,56 +24,60 @@ use Rattle.ent_eval.specs.Looks.{Looks}
 use Rattle.ent_eval.specs.Causes.{are_any}
 use Rattle.ent_eval.specs.Memory.{AreFindings, FindsBag, Fits, Gives, HasCase, IsCase, IsFinding, IsKnown, Remembers, bag_for, most_cases, place_of}
 use Rattle.ent_eval.specs.Questions.{AreNumbers, asked_once, at_numbers, is_asked, keys_at, same_question, with_question}
-use Rattle.ent_eval.specs.proofs_only.Remembered.{AreAt, Begins, FindsAll, IsAbout, NoneFits, NotesFinding, PutsCase, TellsAll, request_of}
+use Rattle.ent_eval.specs.proofs_only.Remembered.{AreReady, Begins, FindsAll, IsAbout, KeepsReady, NoneFits, NotesFinding, PutsCase, TellsAll, TellsPlace, request_of}
 use Rattle.ent_eval.proofs.AnswersRest.{findings-rest}
 use Rattle.ent_eval.proofs.Growing.{all_append, all_first, all_later, all_set, all_take, at_end, get_set, one_place, some_same, starts_get, starts_itself, starts_then, take_shorter}
 use Rattle.ent_eval.proofs.ListedBags.{bags_same, none_same}
 use Rattle.ent_eval.proofs.Numbered.{recorded_by}
 use Rattle.ent_eval.proofs.Numbering.{all_at}
 use Rattle.ent_eval.proofs.Recorded.{from_recursion}
-use Rattle.ent_eval.proofs.Remembering.{all_back, all_more, are_more, cases_more}
+use Rattle.ent_eval.proofs.Remembering.{all_back, all_more, are_more, cases_more, none_more}
 use Rattle.ent_eval.proofs.Sames.{question-Decides}
 
 -- the items before a place, and the one there
 pub taken : {A : Type 0} (xs : List A) (i : ℕ) (x : A) → slice_get xs i ≡ Some x → take (i + 1) xs ≡ take i xs ++ x ∷ []
 taken xs i x at = take_more xs i x (slice_get_within xs i x at) ∙ ap (λ y. take i xs ++ y ∷ []) (get_or_from_slice_get xs i x x at)
 
+-- ---- findings that stay ready
+
+pub keeps_itself : {L : Type 0} (looks : Looks) (scene : Scene L) (findings : Findings) → AreReady looks scene findings → KeepsReady looks scene findings findings
+keeps_itself looks scene findings ready = record { ready = ready; begins = starts_itself findings.bags findings.bags refl }
+
+pub keeps_then : {L : Type 0} (looks : Looks) (scene : Scene L) (old mid new : Findings) → KeepsReady looks scene old mid → KeepsReady looks scene mid new → KeepsReady looks scene old new
+keeps_then looks scene old mid new first second = record { ready = second.ready; begins = starts_then old.bags mid.bags new.bags first.begins second.begins }
+
 -- ---- the loop over what a case found
 
 -- a request finds what stands before the next one
 pub record IsFitting {L : Type 0} (looks : Looks) (scene : Scene L) (old new : Findings) (found : List Finding) (i : ℕ) : Type 0 where
-  pub findings : AreFindings looks scene.questions.now new
-  pub at : AreAt scene new
-  pub begins : Begins new.bags old.bags
+  pub keeps : KeepsReady looks scene old new
   pub so_far : FindsAll looks scene.questions.now new.bags (request_of scene) (take i found)
 
 module _ {L : Type 0} (looks : Looks) (scene : Scene L) (old mid new : Findings) (found : List Finding) (i : ℕ) (f : Finding) (n : ℕ) (there : slice_get found i ≡ Some f) where
   pub fitting_next : IsFitting looks scene old mid found i → FindsBag looks scene.questions.now new.bags (request_of scene) f.question n → n ≡ f.bag
-      → AreFindings looks scene.questions.now new → AreAt scene new → Begins new.bags mid.bags → IsFitting looks scene old new found (i + 1)
-  fitting_next so_far finds same findings at begins = record {
-    findings = findings;
-    at = at;
-    begins = starts_then old.bags mid.bags new.bags so_far.begins begins;
+      → KeepsReady looks scene mid new → IsFitting looks scene old new found (i + 1)
+  fitting_next so_far finds same keeps = record {
+    keeps = keeps_then looks scene old mid new so_far.keeps keeps;
     so_far =
         let questions = scene.questions.now in
         let request = request_of scene in
         let P : Finding → Type 0 = λ x. FindsBag looks questions new.bags request x.question x.bag in
         let this : P f = subst (λ k. FindsBag looks questions new.bags request f.question k) same finds in
-        let before : FindsAll looks questions new.bags request (take i found) = all_more looks questions questions mid.bags new.bags (starts_itself questions questions refl) begins request (take i found) so_far.so_far in
+        let before : FindsAll looks questions new.bags request (take i found) = all_more looks questions questions mid.bags new.bags (starts_itself questions questions refl) keeps.begins request (take i found) so_far.so_far in
         subst (AllByRecursion P) (sym (taken found i f there)) (all_append P (take i found) (f ∷ []) before (this, tt));
   }
 
   -- it doesn't fit where it finds another bag
   pub fitting_fails : IsFitting looks scene old mid found i → FindsBag looks scene.questions.now new.bags (request_of scene) f.question n → n ≢ f.bag
-      → AreFindings looks scene.questions.now new → Begins new.bags mid.bags → FindsAll looks scene.questions.now old.bags (request_of scene) found → ⊥
-  fitting_fails so_far finds differ findings begins all =
+      → KeepsReady looks scene mid new → FindsAll looks scene.questions.now old.bags (request_of scene) found → ⊥
+  fitting_fails so_far finds differ keeps all =
       let questions = scene.questions.now in
       let request = request_of scene in
       let before : FindsBag looks questions old.bags request f.question f.bag = all_at (λ x. FindsBag looks questions old.bags request x.question x.bag) found i f all there in
       let same : before.0 ≡ finds.0 = some_same before.0 finds.0 (sym before.1.0 ∙ finds.1.0) in
       let bag : slice_get new.bags f.bag ≡ Some (bag_for looks request finds.0) =
-      starts_get old.bags new.bags f.bag (bag_for looks request before.0) (starts_then old.bags mid.bags new.bags so_far.begins begins) before.1.1 ∙ ap (λ x. Some (bag_for looks request x)) same in
-      differ (one_place new.bags n f.bag (bag_for looks request finds.0) findings.distinct finds.1.1 bag)
+      starts_get old.bags new.bags f.bag (bag_for looks request before.0) (starts_then old.bags mid.bags new.bags so_far.keeps.begins keeps.begins) before.1.1 ∙ ap (λ x. Some (bag_for looks request x)) same in
+      differ (one_place new.bags n f.bag (bag_for looks request finds.0) keeps.ready.are.distinct finds.1.1 bag)
 
 pub fitting_all : {L : Type 0} (looks : Looks) (scene : Scene L) (old new : Findings) (found : List Finding) (i : ℕ) → length found ≤ i → IsFitting looks scene old new found i
     → FindsAll looks scene.questions.now new.bags (request_of scene) found
@@ -83,23 +87,18 @@ fitting_all looks scene old new found i past so_far = subst (FindsAll looks scen
 
 -- a request fits none of those before the next one
 pub record IsScanning {L : Type 0} (looks : Looks) (scene : Scene L) (old new : Findings) (cases : List Case) (i : ℕ) : Type 0 where
-  pub findings : AreFindings looks scene.questions.now new
-  pub at : AreAt scene new
-  pub begins : Begins new.bags old.bags
+  pub keeps : KeepsReady looks scene old new
   pub none : NoneFits looks scene.questions.now old.bags (request_of scene) (take i cases)
 
 pub scanning_next : {L : Type 0} (looks : Looks) (scene : Scene L) (old mid new : Findings) (cases : List Case) (i : ℕ) (c : Case) → slice_get cases i ≡ Some c → IsScanning looks scene old mid cases i
-    → (FindsAll looks scene.questions.now mid.bags (request_of scene) c.found → ⊥) → AreFindings looks scene.questions.now new → AreAt scene new → Begins new.bags mid.bags
-    → IsScanning looks scene old new cases (i + 1)
-scanning_next looks scene old mid new cases i c there so_far differs findings at begins = record {
-  findings = findings;
-  at = at;
-  begins = starts_then old.bags mid.bags new.bags so_far.begins begins;
+    → (FindsAll looks scene.questions.now mid.bags (request_of scene) c.found → ⊥) → KeepsReady looks scene mid new → IsScanning looks scene old new cases (i + 1)
+scanning_next looks scene old mid new cases i c there so_far differs keeps = record {
+  keeps = keeps_then looks scene old mid new so_far.keeps keeps;
   none =
       let questions = scene.questions.now in
       let request = request_of scene in
       let P : Case → Type 0 = λ x. Fits looks questions old.bags request x → ⊥ in
-      let this : P c = λ fits. differs (all_more looks questions questions old.bags mid.bags (starts_itself questions questions refl) so_far.begins request c.found fits) in
+      let this : P c = λ fits. differs (all_more looks questions questions old.bags mid.bags (starts_itself questions questions refl) so_far.keeps.begins request c.found fits) in
       subst (AllByRecursion P) (sym (taken cases i c there)) (all_append P (take i cases) (c ∷ []) so_far.none (this, tt));
 }
 
@@ -111,9 +110,7 @@ scanning_all looks scene old new cases i past so_far = subst (NoneFits looks sce
 
 -- what was found for the questions before the next one tells what they find
 pub record IsFound {L : Type 0} (looks : Looks) (scene : Scene L) (old new : Findings) (numbers : List ℕ) (i : ℕ) (found : List Finding) : Type 0 where
-  pub findings : AreFindings looks scene.questions.now new
-  pub at : AreAt scene new
-  pub begins : Begins new.bags old.bags
+  pub keeps : KeepsReady looks scene old new
   pub are : AllByRecursion (IsFinding scene.questions.now new.bags) found
   pub finds : FindsAll looks scene.questions.now new.bags (request_of scene) found
   pub tells : TellsAll looks scene.questions.now new.bags (request_of scene) (take i numbers) found
@@ -139,14 +136,13 @@ module _ {L : Type 0} (looks : Looks) (scene : Scene L) (old : Findings) (number
       ap (at_numbers questions) (taken numbers i n there) ∙ map-append (λ m. get_or questions m Root) (take i numbers) (n ∷ []) in
       subst (AllByRecursion P) (sym same) (all_append P (at_numbers questions (take i numbers)) (this ∷ []) before (now, tt))
 
-  pub found_skip : (mid new : Findings) (found : List Finding) → ((x : Question) → slice_get questions n ≡ Some x → place_of x ≡ None) → AreFindings looks questions new → AreAt scene new
-      → Begins new.bags mid.bags → IsFound looks scene old mid numbers i found → IsFound looks scene old new numbers (i + 1) found
-  found_skip mid new found none findings at begins so_far =
+  pub found_skip : (mid new : Findings) (found : List Finding) → ((x : Question) → slice_get questions n ≡ Some x → place_of x ≡ None) → KeepsReady looks scene mid new
+      → IsFound looks scene old mid numbers i found → IsFound looks scene old new numbers (i + 1) found
+  found_skip mid new found none keeps so_far =
+      let begins = keeps.begins in
       let same : Begins questions questions = starts_itself questions questions refl in
       record {
-        findings = findings;
-        at = at;
-        begins = starts_then old.bags mid.bags new.bags so_far.begins begins;
+        keeps = keeps_then looks scene old mid new so_far.keeps keeps;
         are = are_more looks questions questions mid.bags new.bags same begins found so_far.are;
         finds = all_more looks questions questions mid.bags new.bags same begins request found so_far.finds;
         tells = λ person action resource all.
@@ -156,15 +152,14 @@ module _ {L : Type 0} (looks : Looks) (scene : Scene L) (old : Findings) (number
       }
 
   pub found_put : (mid new : Findings) (found more : List Finding) (place : Place) (k : ℕ) → IsAbout questions n place → FindsBag looks questions new.bags request n k
-      → AreFindings looks questions new → AreAt scene new → Begins new.bags mid.bags → more ≡ found ++ record { question = n; place = place; bag = k } ∷ []
+      → KeepsReady looks scene mid new → more ≡ found ++ record { question = n; place = place; bag = k } ∷ []
       → IsFound looks scene old mid numbers i found → IsFound looks scene old new numbers (i + 1) more
-  found_put mid new found more place k about bag findings at begins pushed so_far =
+  found_put mid new found more place k about bag keeps pushed so_far =
+      let begins = keeps.begins in
       let f : Finding = record { question = n; place = place; bag = k } in
       let same : Begins questions questions = starts_itself questions questions refl in
       subst (IsFound looks scene old new numbers (i + 1)) (sym pushed) (record {
-        findings = findings;
-        at = at;
-        begins = starts_then old.bags mid.bags new.bags so_far.begins begins;
+        keeps = keeps_then looks scene old mid new so_far.keeps keeps;
         are = all_append (IsFinding questions new.bags) found (f ∷ []) (are_more looks questions questions mid.bags new.bags same begins found so_far.are)
             ((slice_get_within new.bags k (bag_for looks request bag.0) bag.1.1, about), tt);
         finds = all_append (λ x. FindsBag looks questions new.bags request x.question x.bag) found (f ∷ []) (all_more looks questions questions mid.bags new.bags same begins request found so_far.finds) (bag, tt);
@@ -183,14 +178,14 @@ module _ {L : Type 0} (looks : Looks) (scene : Scene L) (old : Findings) (number
       })
 
 pub found_next : {L : Type 0} (looks : Looks) (scene : Scene L) (old mid new : Findings) (numbers : List ℕ) (i : ℕ) (found more : List Finding) → AreNumbers scene.questions.now numbers → i < length numbers
-    → NotesFinding looks scene.questions.now new.bags (request_of scene) (get_or numbers i 0) found more → AreFindings looks scene.questions.now new → AreAt scene new → Begins new.bags mid.bags
+    → NotesFinding looks scene.questions.now new.bags (request_of scene) (get_or numbers i 0) found more → KeepsReady looks scene mid new
     → IsFound looks scene old mid numbers i found → IsFound looks scene old new numbers (i + 1) more
-found_next looks scene old mid new numbers i found more within below notes findings at begins so_far =
+found_next looks scene old mid new numbers i found more within below notes keeps so_far =
     let n = get_or numbers i 0 in
     let there : slice_get numbers i ≡ Some n = slice_get-get_or numbers i 0 below in
     elim notes [
-      | inl p ↦ subst (IsFound looks scene old new numbers (i + 1)) (sym p.0) (found_skip looks scene old numbers within i n there mid new found p.1 findings at begins so_far)
-      | inr p ↦ found_put looks scene old numbers within i n there mid new found more p.0 p.1.0 p.1.1.0 p.1.1.1.0 findings at begins p.1.1.1.1 so_far
+      | inl p ↦ subst (IsFound looks scene old new numbers (i + 1)) (sym p.0) (found_skip looks scene old numbers within i n there mid new found p.1 keeps so_far)
+      | inr p ↦ found_put looks scene old numbers within i n there mid new found more p.0 p.1.0 p.1.1.0 p.1.1.1.0 keeps p.1.1.1.1 so_far
     ]
 
 pub found_all : {L : Type 0} (looks : Looks) (scene : Scene L) (old new : Findings) (numbers : List ℕ) (i : ℕ) (found : List Finding) → length numbers ≤ i → IsFound looks scene old new numbers i found
@@ -286,10 +281,16 @@ keeps looks questions old cases c has is puts = record {
 }
 
 -- no case fits over fewer bags
-pub if_none : {E : Type 0} (r : Result (Option ℕ) E) (P Q : Type 0) → (P → Q) → IfOk r (λ o. IfNone o P) → IfOk r (λ o. IfNone o Q)
-if_none (Err e) P Q weaker h = tt
-if_none (Ok None) P Q weaker h = weaker h
-if_none (Ok (Some i)) P Q weaker h = tt
+pub tells_then : {E : Type 0} (r : Result (Option ℕ) E) (looks : Looks) (questions : List Question) (old mid new : List Contents) (request : Request) (cases : List Case) → Begins mid old
+    → IfOk r (TellsPlace looks questions mid new request cases) → IfOk r (TellsPlace looks questions old new request cases)
+tells_then (Err e) _ _ _ _ _ _ _ _ _ = tt
+tells_then (Ok None) looks numbered old mid _ asking cases begins none = none_more looks numbered numbered old mid (starts_itself numbered numbered refl) begins asking cases none
+tells_then (Ok (Some i)) _ _ _ _ _ _ _ _ fits = fits
+
+-- what an evaluation has for one thing it has for another
+pub if_ok : {A E : Type 0} (r : Result A E) (P Q : A → Type 0) → ((x : A) → P x → Q x) → IfOk r P → IfOk r Q
+if_ok (Err e) P Q weaker h = tt
+if_ok (Ok x) P Q weaker h = weaker x h
 
 -- ---- what a case that fits says
 

@@ -1,10 +1,10 @@
 //! The cases that are remembered.
 
-ghost use Rattle.std.specs.Prelude.{◌≡◌, ◌<◌, ◌≤◌, [], IfNone, IfOk, IfSome, OnErr, OnOk, Some, length, slice_get};
+ghost use Rattle.std.specs.Prelude.{◌≡◌, ◌<◌, ◌≤◌, [], IfOk, OnErr, OnOk, Some, length, slice_get};
 ghost use Rattle.std.specs.Bool.{OnFalse, OnTrue};
 ghost use Rattle.std.specs.List.{AllByRecursion};
-ghost use Rattle.ent_eval.specs.Memory.{AreFindings, Gives, IsCase, IsFinding, most_cases};
-ghost use Rattle.ent_eval.specs.proofs_only.Remembered.{AreAt, Begins, FindsAll, FitsAt, NoneFits, PutsCase};
+ghost use Rattle.ent_eval.specs.Memory.{Gives, IsCase, IsFinding, most_cases};
+ghost use Rattle.ent_eval.specs.proofs_only.Remembered.{AreReady, FindsAll, FitsAt, KeepsReady, PutsCase, TellsPlace};
 ghost use Rattle.ent_eval.specs.proofs_only.Remembered.{in_scene, request_of};
 ghost use Rattle.ent_eval.specs.declared.case.Case.{Case};
 
@@ -103,16 +103,11 @@ pub(crate) fn fitting<L: LookUps>(
     findings: &mut Findings,
     cases: &Cases,
 ) -> Result<Option<usize>, AllocError>
-    requires findings { in_scene L.looks scene.now AreFindings findings.old }
-    requires at { AreAt scene.now findings.old }
+    requires ready { AreReady (L.looks scene.now.held.now) scene.now findings.old }
     requires cases { AllByRecursion (in_scene L.looks scene.now IsCase findings.old.bags) cases.now.cases.items }
-    ensures some { IfOk result (λ o. IfSome o
-        (in_scene L.looks scene.now FitsAt findings.new.bags (request_of scene.now) cases.now.cases.items)) }
-    ensures none { IfOk result (λ o. IfNone o
-        (in_scene L.looks scene.now NoneFits findings.old.bags (request_of scene.now) cases.now.cases.items)) }
-    ensures findings { in_scene L.looks scene.now AreFindings findings.new }
-    ensures at { AreAt scene.now findings.new }
-    ensures begins { Begins findings.new.bags findings.old.bags }
+    ensures tells { IfOk result (in_scene L.looks scene.now TellsPlace
+        findings.old.bags findings.new.bags (request_of scene.now) cases.now.cases.items) }
+    ensures keeps { KeepsReady (L.looks scene.now.held.now) scene.now findings.old findings.new }
 {
     if fits_at(scene, findings, &cases.cases, cases.taken)? {
         return Ok(Some(cases.taken));
@@ -126,16 +121,11 @@ fn fitting_other<L: LookUps>(
     findings: &mut Findings,
     cases: &Cases,
 ) -> Result<Option<usize>, AllocError>
-    requires findings { in_scene L.looks scene.now AreFindings findings.old }
-    requires at { AreAt scene.now findings.old }
+    requires ready { AreReady (L.looks scene.now.held.now) scene.now findings.old }
     requires cases { AllByRecursion (in_scene L.looks scene.now IsCase findings.old.bags) cases.now.cases.items }
-    ensures some { IfOk result (λ o. IfSome o
-        (in_scene L.looks scene.now FitsAt findings.new.bags (request_of scene.now) cases.now.cases.items)) }
-    ensures none { IfOk result (λ o. IfNone o
-        (in_scene L.looks scene.now NoneFits findings.old.bags (request_of scene.now) cases.now.cases.items)) }
-    ensures findings { in_scene L.looks scene.now AreFindings findings.new }
-    ensures at { AreAt scene.now findings.new }
-    ensures begins { Begins findings.new.bags findings.old.bags }
+    ensures tells { IfOk result (in_scene L.looks scene.now TellsPlace
+        findings.old.bags findings.new.bags (request_of scene.now) cases.now.cases.items) }
+    ensures keeps { KeepsReady (L.looks scene.now.held.now) scene.now findings.old findings.new }
 {
     let behind = cases.taken.saturating_add(1);
     if fits_at(scene, findings, &cases.cases, behind)? {
@@ -151,14 +141,11 @@ fn fits_at<L: LookUps>(
     cases: &[Case],
     place: usize,
 ) -> Result<bool, AllocError>
-    requires findings { in_scene L.looks scene.now AreFindings findings.old }
-    requires at { AreAt scene.now findings.old }
+    requires ready { AreReady (L.looks scene.now.held.now) scene.now findings.old }
     requires cases { AllByRecursion (in_scene L.looks scene.now IsCase findings.old.bags) cases.now }
     ensures fits { IfOk result (λ b. OnTrue b
         (in_scene L.looks scene.now FitsAt findings.new.bags (request_of scene.now) cases.now place)) }
-    ensures findings { in_scene L.looks scene.now AreFindings findings.new }
-    ensures at { AreAt scene.now findings.new }
-    ensures begins { Begins findings.new.bags findings.old.bags }
+    ensures keeps { KeepsReady (L.looks scene.now.held.now) scene.now findings.old findings.new }
 {
     match cases.get(place) {
         Some(case) => fits(scene, findings, case.found.as_slice()),
@@ -172,16 +159,11 @@ fn first_fitting<L: LookUps>(
     findings: &mut Findings,
     cases: &[Case],
 ) -> Result<Option<usize>, AllocError>
-    requires findings { in_scene L.looks scene.now AreFindings findings.old }
-    requires at { AreAt scene.now findings.old }
+    requires ready { AreReady (L.looks scene.now.held.now) scene.now findings.old }
     requires cases { AllByRecursion (in_scene L.looks scene.now IsCase findings.old.bags) cases.now }
-    ensures some { IfOk result (λ o. IfSome o
-        (in_scene L.looks scene.now FitsAt findings.new.bags (request_of scene.now) cases.now)) }
-    ensures none { IfOk result (λ o. IfNone o
-        (in_scene L.looks scene.now NoneFits findings.old.bags (request_of scene.now) cases.now)) }
-    ensures findings { in_scene L.looks scene.now AreFindings findings.new }
-    ensures at { AreAt scene.now findings.new }
-    ensures begins { Begins findings.new.bags findings.old.bags }
+    ensures tells { IfOk result (in_scene L.looks scene.now TellsPlace
+        findings.old.bags findings.new.bags (request_of scene.now) cases.now) }
+    ensures keeps { KeepsReady (L.looks scene.now.held.now) scene.now findings.old findings.new }
 {
     for place in 0..cases.len() {
         if fits(scene, findings, cases[place].found.as_slice())? {
@@ -197,16 +179,13 @@ fn fits<L: LookUps>(
     findings: &mut Findings,
     found: &[Finding],
 ) -> Result<bool, AllocError>
-    requires findings { in_scene L.looks scene.now AreFindings findings.old }
-    requires at { AreAt scene.now findings.old }
+    requires ready { AreReady (L.looks scene.now.held.now) scene.now findings.old }
     requires found { AllByRecursion (IsFinding scene.now.questions.now findings.old.bags) found.now }
     ensures fits { IfOk result (λ b. OnTrue b
         (in_scene L.looks scene.now FindsAll findings.new.bags (request_of scene.now) found.now)) }
     ensures differs { IfOk result (λ b. OnFalse b
         (in_scene L.looks scene.now FindsAll findings.old.bags (request_of scene.now) found.now → ⊥)) }
-    ensures findings { in_scene L.looks scene.now AreFindings findings.new }
-    ensures at { AreAt scene.now findings.new }
-    ensures begins { Begins findings.new.bags findings.old.bags }
+    ensures keeps { KeepsReady (L.looks scene.now.held.now) scene.now findings.old findings.new }
 {
     for finding in found {
         if findings.bag_of(scene, finding.question, finding.place)? != finding.bag {

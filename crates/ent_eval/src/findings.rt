@@ -6,7 +6,8 @@ ghost use Rattle.ent_values.specs.Same.{same_bag};
 ghost use Rattle.ent_eval.specs.Looks.{Looks};
 ghost use Rattle.ent_eval.specs.Memory.{AreFindings, FindsBag};
 ghost use Rattle.ent_eval.specs.Memory as memory;
-ghost use Rattle.ent_eval.specs.proofs_only.Remembered.{AreAt, AreRows, Begins, FindsForName, IsAbout, IsAt, bag_in};
+ghost use Rattle.ent_eval.specs.proofs_only.Remembered.{AreAt, AreReady, AreRows, Begins, FindsForName};
+ghost use Rattle.ent_eval.specs.proofs_only.Remembered.{IsAbout, IsAt, KeepsReady, bag_in};
 ghost use Rattle.ent_eval.specs.proofs_only.Remembered.{in_scene, request_of};
 ghost use Rattle.ent_eval.specs.declared.question.Question.{Question};
 
@@ -62,14 +63,11 @@ impl Findings {
         question: u32,
         place: Place,
     ) -> Result<u32, AllocError>
-        requires findings { in_scene L.looks scene.now AreFindings self.old }
-        requires at { AreAt scene.now self.old }
+        requires ready { AreReady (L.looks scene.now.held.now) scene.now self.old }
         requires about { IsAbout scene.now.questions.now question place }
         ensures found { IfOk result
             (in_scene L.looks scene.now FindsBag self.new.bags (request_of scene.now) question) }
-        ensures findings { in_scene L.looks scene.now AreFindings self.new }
-        ensures at { AreAt scene.now self.new }
-        ensures begins { Begins self.new.bags self.old.bags }
+        ensures keeps { KeepsReady (L.looks scene.now.held.now) scene.now self.old self.new }
     {
         let bags = &mut self.bags;
         match place {

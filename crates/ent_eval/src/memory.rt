@@ -1,13 +1,12 @@
 //! What is remembered over evaluations of listed requests.
 
-ghost use Rattle.std.specs.Prelude.{◌≡◌, List, [], IfNone, IfOk, IfSome, OnOk};
+ghost use Rattle.std.specs.Prelude.{◌≡◌, List, IfNone, IfOk, IfSome, OnOk};
 ghost use Rattle.std.specs.List.{AllByRecursion};
-ghost use Rattle.ent_eval.specs.Answer.{answer, asked, has_cause};
 ghost use Rattle.ent_eval.specs.Looks.{Looks};
-ghost use Rattle.ent_eval.specs.Memory.{AreFindings, Gives, HasCase, IsFinding, Remembers};
-ghost use Rattle.ent_eval.specs.Questions.{AreNumbers, asked_once, at_numbers};
-ghost use Rattle.ent_eval.specs.proofs_only.Remembered.{AreAt, Begins, FindsAll, NoneFits, NotesFinding};
-ghost use Rattle.ent_eval.specs.proofs_only.Remembered.{TellsAll};
+ghost use Rattle.ent_eval.specs.Memory.{Gives, HasCase, IsFinding, Remembers};
+ghost use Rattle.ent_eval.specs.Questions.{AreNumbers};
+ghost use Rattle.ent_eval.specs.proofs_only.Remembered.{AreReady, FindsAll, IsEvaluated, KeepsReady, NoneFits};
+ghost use Rattle.ent_eval.specs.proofs_only.Remembered.{NotesFinding, TellsAll};
 ghost use Rattle.ent_eval.specs.proofs_only.Remembered.{in_scene, request_of};
 ghost use Rattle.ent_eval.specs.declared.question.Question.{Question};
 
@@ -66,11 +65,7 @@ impl Memory {
         evaluation: &ListedEvaluation,
     ) -> Result<(), AllocError>
         requires remembers { in_scene L.looks scene.now Remembers self.old }
-        requires answer { evaluation.now.answer ≡ answer (L.looks scene.now.held.now) (request_of scene.now) }
-        requires failed { evaluation.now.failed ≡ has_cause (L.looks scene.now.held.now) (request_of scene.now) }
-        requires within { AreNumbers scene.now.questions.now evaluation.now.asked }
-        requires asked { at_numbers scene.now.questions.now evaluation.now.asked
-            ≡ asked_once [] (asked (L.looks scene.now.held.now) (request_of scene.now)) }
+        requires evaluated { in_scene L.looks scene.now IsEvaluated (request_of scene.now) evaluation.now }
         ensures remembers { in_scene L.looks scene.now Remembers self.new }
         ensures kept { OnOk result (in_scene L.looks scene.now HasCase self.new (request_of scene.now)
             (Gives evaluation.now)) }
@@ -95,15 +90,13 @@ fn findings_of<L: LookUps>(
     findings: &mut Findings,
     asked: &[u32],
 ) -> Result<Items<Finding>, AllocError>
-    requires findings { in_scene L.looks scene.now AreFindings findings.old }
-    requires at { AreAt scene.now findings.old }
+    requires ready { AreReady (L.looks scene.now.held.now) scene.now findings.old }
     requires within { AreNumbers scene.now.questions.now asked.now }
     ensures are { IfOk result (AllByRecursion (IsFinding scene.now.questions.now findings.new.bags)) }
     ensures found { IfOk result (in_scene L.looks scene.now FindsAll findings.new.bags (request_of scene.now)) }
     ensures tells { IfOk result
         (in_scene L.looks scene.now TellsAll findings.new.bags (request_of scene.now) asked.now) }
-    ensures findings { in_scene L.looks scene.now AreFindings findings.new }
-    ensures begins { Begins findings.new.bags findings.old.bags }
+    ensures keeps { KeepsReady (L.looks scene.now.held.now) scene.now findings.old findings.new }
 {
     let mut found = Items::new(scene.alloc);
     for number in asked {
@@ -119,13 +112,10 @@ fn note_finding<L: LookUps>(
     number: u32,
     found: &mut Items<Finding>,
 ) -> Result<(), AllocError>
-    requires findings { in_scene L.looks scene.now AreFindings findings.old }
-    requires at { AreAt scene.now findings.old }
+    requires ready { AreReady (L.looks scene.now.held.now) scene.now findings.old }
     ensures notes { OnOk result
         (in_scene L.looks scene.now NotesFinding findings.new.bags (request_of scene.now) number found.old found.new) }
-    ensures findings { in_scene L.looks scene.now AreFindings findings.new }
-    ensures at { AreAt scene.now findings.new }
-    ensures begins { Begins findings.new.bags findings.old.bags }
+    ensures keeps { KeepsReady (L.looks scene.now.held.now) scene.now findings.old findings.new }
 {
     match place_of(scene.questions, number) {
         None => Ok(()),

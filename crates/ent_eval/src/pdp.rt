@@ -9,7 +9,7 @@ ghost use Rattle.ent_eval.specs.LooksOf.{looks_of};
 ghost use Rattle.ent_eval.specs.Memory.{Gives, HasCase, IsKnown, Remembers};
 ghost use Rattle.ent_eval.specs.Questions.{AreNumbers, BeginsWith, asked_once, at_numbers, keys_at};
 ghost use Rattle.ent_eval.specs.proofs_only.Noted.{noting};
-ghost use Rattle.ent_eval.specs.proofs_only.Remembered.{NoneFits};
+ghost use Rattle.ent_eval.specs.proofs_only.Remembered.{IsEvaluated, NoneFits};
 ghost use Rattle.ent_eval.specs.declared.environment.Environment.TheVariants.{Empty};
 
 use crate::answer::Answer;
@@ -249,13 +249,8 @@ impl<A: Attributes, P: Policies> Pdp<A, P> {
         resource: &Text,
     ) -> Result<ListedEvaluation, AllocError>
         requires remembers { Remembers (looks_of A.sources P.slots self.old) questions.old memory.old }
-        ensures answer { IfOk result (λ e. e.answer
-            ≡ answer (looks_of A.sources P.slots self.old) (listed person.now action.now resource.now)) }
-        ensures asked { IfOk result (λ e. at_numbers questions.new e.asked
-            ≡ asked_once [] (asked (looks_of A.sources P.slots self.old) (listed person.now action.now resource.now))) }
-        ensures failed { IfOk result (λ e. e.failed
-            ≡ has_cause (looks_of A.sources P.slots self.old) (listed person.now action.now resource.now)) }
-        ensures within { IfOk result (λ e. AreNumbers questions.new e.asked) }
+        ensures evaluated { IfOk result (IsEvaluated (looks_of A.sources P.slots self.old) questions.new
+            (listed person.now action.now resource.now)) }
         ensures numbers { BeginsWith questions.new questions.old }
         ensures remembers { Remembers (looks_of A.sources P.slots self.old) questions.new memory.new }
         ensures kept { IfOk result (λ e. HasCase (looks_of A.sources P.slots self.old) questions.new memory.new
@@ -286,13 +281,8 @@ impl<A: Attributes, P: Policies> Pdp<A, P> {
         action: &Text,
         resource: &Text,
     ) -> Result<ListedEvaluation, AllocError>
-        ensures answer { IfOk result (λ e. e.answer
-            ≡ answer (looks_of A.sources P.slots self.old) (listed person.now action.now resource.now)) }
-        ensures asked { IfOk result (λ e. at_numbers questions.new e.asked
-            ≡ asked_once [] (asked (looks_of A.sources P.slots self.old) (listed person.now action.now resource.now))) }
-        ensures failed { IfOk result (λ e. e.failed
-            ≡ has_cause (looks_of A.sources P.slots self.old) (listed person.now action.now resource.now)) }
-        ensures within { IfOk result (λ e. AreNumbers questions.new e.asked) }
+        ensures evaluated { IfOk result (IsEvaluated (looks_of A.sources P.slots self.old) questions.new
+            (listed person.now action.now resource.now)) }
         ensures numbers { BeginsWith questions.new questions.old }
         ensures counted { self.new.evaluations ≡ min (self.old.evaluations + 1) (2 ^ 128 - 1) }
         ensures rest { self.new ≡ record self.old { evaluations = self.new.evaluations } }
@@ -318,12 +308,8 @@ impl<A: Attributes, P: Policies> Pdp<A, P> {
         questions: &mut Questions,
         request: &Request,
     ) -> Result<ListedEvaluation, AllocError>
-        ensures answer { IfOk result (λ e. e.answer ≡ answer (looks_of A.sources P.slots self.old) request.now) }
-        ensures asked { IfOk result (λ e. at_numbers questions.new e.asked
-            ≡ asked_once [] (asked (looks_of A.sources P.slots self.old) request.now)) }
-        ensures within { IfOk result (λ e. AreNumbers questions.new e.asked) }
-        ensures failed { IfOk result (λ e. e.failed
-            ≡ has_cause (looks_of A.sources P.slots self.old) request.now) }
+        ensures evaluated { IfOk result
+            (IsEvaluated (looks_of A.sources P.slots self.old) questions.new request.now) }
         ensures numbers { BeginsWith questions.new questions.old }
         ensures counted { self.new.evaluations ≡ min (self.old.evaluations + 1) (2 ^ 128 - 1) }
         ensures rest { self.new ≡ record self.old { evaluations = self.new.evaluations } }

@@ -1,5 +1,5 @@
 -- What is found for names, by number: words of the code's own contracts.
-use Rattle.std.specs.Prelude.{◌≡◌, ◌<◌, ◌++◌, ◌⊎◌, ℕ, List, [], ◌∷◌, Some, None, if◌then◌else◌, length, slice_get, slice_set, take}
+use Rattle.std.specs.Prelude.{◌≡◌, ◌<◌, ◌++◌, ◌⊎◌, ℕ, List, [], ◌∷◌, Option, Some, None, if◌then◌else◌, length, slice_get, slice_set, take}
 use Rattle.std.specs.Hash as fed
 use Rattle.std.specs.List.{AllByRecursion, flat_map}
 use Rattle.ent_values.specs.Bags.{Contents}
@@ -11,16 +11,18 @@ use Rattle.ent_eval.specs.declared.case.Finding.{Finding}
 use Rattle.ent_eval.specs.declared.findings.Findings.{Findings}
 use Rattle.ent_eval.specs.declared.names.Names.{Names}
 use Rattle.ent_eval.specs.declared.names.Row.{Row}
+use Rattle.ent_eval.specs.declared.pdp.ListedEvaluation.{ListedEvaluation}
 use Rattle.ent_eval.specs.declared.question.Asked.{Asked}
 use Rattle.ent_eval.specs.declared.question.Question.{Question}
 use Rattle.ent_eval.specs.declared.readers.Place.{Place}
 use Rattle.ent_eval.specs.declared.request.Request.{Request}
 use Rattle.ent_eval.specs.declared.scene.Scene.{Scene}
+use Rattle.ent_eval.specs.Answer.{answer, asked, has_cause}
 use Rattle.ent_eval.specs.Law.{FindsSame}
 use Rattle.ent_eval.specs.Listed.{listed}
 use Rattle.ent_eval.specs.Looks.{Looks}
-use Rattle.ent_eval.specs.Memory.{FindsBag, Fits, IsRow, most_cases, place_of}
-use Rattle.ent_eval.specs.Questions.{at_numbers}
+use Rattle.ent_eval.specs.Memory.{AreFindings, FindsBag, Fits, IsRow, most_cases, place_of}
+use Rattle.ent_eval.specs.Questions.{AreNumbers, asked_once, at_numbers}
 use Rattle.ent_eval.specs.Readers.{is_own, name_at}
 use Rattle.ent_eval.specs.Sources.{designator_for, key_for}
 
@@ -78,6 +80,16 @@ pub record AreAt {L : Type 0} (scene : Scene L) (findings : Findings) : Type 0 w
   pub person : IsAt findings.people scene.person.now
   pub action : IsAt findings.actions scene.action.now
   pub resource : IsAt findings.resources scene.resource.now
+
+-- what was found is so over what is held in a scene, and each list of names is at that of the scene
+pub record AreReady {L : Type 0} (looks : Looks) (scene : Scene L) (findings : Findings) : Type 0 where
+  pub are : AreFindings looks scene.questions.now findings
+  pub at : AreAt scene findings
+
+-- findings are ready that may have more bags behind the old ones
+pub record KeepsReady {L : Type 0} (looks : Looks) (scene : Scene L) (old new : Findings) : Type 0 where
+  pub ready : AreReady looks scene new
+  pub begins : Begins new.bags old.bags
 
 -- rows were added for which nothing is known
 abbrev pub AddsRows : List Row → List Row → Type 0
@@ -137,6 +149,13 @@ abbrev pub TellsAll : Looks → List Question → List Contents → Request → 
 TellsAll looks questions bags request numbers found = (person action resource : List ℕ) → FindsAll looks questions bags (listed person action resource) found
     → AllByRecursion (FindsSame looks request looks (listed person action resource)) (at_numbers questions numbers)
 
+-- an evaluation has the answer to a request, the numbers of the questions that are asked for it, and whether a part of it failed
+pub record IsEvaluated (looks : Looks) (questions : List Question) (request : Request) (e : ListedEvaluation) : Type 0 where
+  pub answer : e.answer ≡ answer looks request
+  pub asked : at_numbers questions e.asked ≡ asked_once [] (asked looks request)
+  pub within : AreNumbers questions e.asked
+  pub failed : e.failed ≡ has_cause looks request
+
 -- the case at a place fits a request
 abbrev pub FitsAt : Looks → List Question → List Contents → Request → List Case → ℕ → Type 0
 FitsAt looks questions bags request cases i = (c : Case) × ((slice_get cases i ≡ Some c) × Fits looks questions bags request c)
@@ -144,6 +163,11 @@ FitsAt looks questions bags request cases i = (c : Case) × ((slice_get cases i 
 -- none of these cases fits a request
 abbrev pub NoneFits : Looks → List Question → List Contents → Request → List Case → Type 0
 NoneFits looks questions bags request cases = AllByRecursion (λ c. Fits looks questions bags request c → ⊥) cases
+
+-- the case at this place fits a request; where there is no place, none fits over the bags that were there before
+abbrev pub TellsPlace : Looks → List Question → List Contents → List Contents → Request → List Case → Option ℕ → Type 0
+TellsPlace looks questions old new request cases (Some place) = FitsAt looks questions new request cases place
+TellsPlace looks questions old new request cases None = NoneFits looks questions old request cases
 
 -- a case was put behind the others, or in the place of one of the first of them, of which none is left behind these
 abbrev pub PutsCase : List Case → List Case → Case → Type 0

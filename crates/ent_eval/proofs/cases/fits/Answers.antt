@@ -12,7 +12,7 @@ returns-then-branch-finding-clause-differs g c =
     let none : Finding = record { question = 0; place = Person; bag = 0 } in
     let there : slice_get found i ≡ Some (get_or found i none) = slice_get-get_or found i none c.loop-finding-test.true in
     fitting_fails (g.L.LookUps.looks c.args.scene.now.held.now) c.args.scene.now c.args.findings.now c.loop-finding.findings c.bag_of.new.self found i (get_or found i none) c.in_ok-bag_of.field-0 there
-    c.loop-finding.invariant c.in_ok-bag_of.ensures.found c.if-branch-finding.true c.in_ok-bag_of.ensures.findings c.in_ok-bag_of.ensures.begins
+    c.loop-finding.invariant c.in_ok-bag_of.ensures.found c.if-branch-finding.true c.in_ok-bag_of.ensures.keeps
 
 pub loop-finding-preserved : goal.loop-finding-preserved
 loop-finding-preserved g c =
@@ -21,4 +21,4 @@ loop-finding-preserved g c =
     let none : Finding = record { question = 0; place = Person; bag = 0 } in
     let there : slice_get found i ≡ Some (get_or found i none) = slice_get-get_or found i none c.loop-finding-test.true in
     fitting_next (g.L.LookUps.looks c.args.scene.now.held.now) c.args.scene.now c.args.findings.now c.loop-finding.findings c.bag_of.new.self found i (get_or found i none) c.in_ok-bag_of.field-0 there
-    c.loop-finding.invariant c.in_ok-bag_of.ensures.found c.if-branch-finding.false c.in_ok-bag_of.ensures.findings c.in_ok-bag_of.ensures.at c.in_ok-bag_of.ensures.begins
+    c.loop-finding.invariant c.in_ok-bag_of.ensures.found c.if-branch-finding.false c.in_ok-bag_of.ensures.keeps

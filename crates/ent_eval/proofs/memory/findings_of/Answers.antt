@@ -6,7 +6,7 @@ pub loop-number-preserved : goal.loop-number-preserved
 loop-number-preserved g c =
     found_next (g.L.LookUps.looks c.args.scene.now.held.now) c.args.scene.now c.args.findings.now c.loop-number.findings c.note_finding.new.findings c.args.asked.now c.loop-number.number-index
     c.loop-number.found c.note_finding.new.found c.requires.within c.loop-number-test.true c.in_ok-note_finding.ensures.notes
-    c.in_ok-note_finding.ensures.findings c.in_ok-note_finding.ensures.at c.in_ok-note_finding.ensures.begins c.loop-number.invariant
+    c.in_ok-note_finding.ensures.keeps c.loop-number.invariant
 
 pub returns-clause-tells : goal.returns-clause-tells
 returns-clause-tells g c =

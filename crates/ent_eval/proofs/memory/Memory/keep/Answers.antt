@@ -15,32 +15,35 @@ returns-in_err-turn_to-clause-remembers g c =
     recalls looks questions c.args.self.now c.turn_to.new.self c.args.self.now.cases c.requires.remembers (c.in_err-turn_to.ensures.kept looks questions c.requires.remembers.findings)
     (starts_itself c.args.self.now.findings.bags c.turn_to.new.self.bags c.in_err-turn_to.ensures.bags) refl
 
-pub findings_of-requires-clause-findings : goal.findings_of-requires-clause-findings
-findings_of-requires-clause-findings g c = c.in_ok-turn_to.ensures.kept (g.L.LookUps.looks c.args.scene.now.held.now) c.args.scene.now.questions.now c.requires.remembers.findings
+pub findings_of-requires-clause-ready : goal.findings_of-requires-clause-ready
+findings_of-requires-clause-ready g c = record {
+  are = c.in_ok-turn_to.ensures.kept (g.L.LookUps.looks c.args.scene.now.held.now) c.args.scene.now.questions.now c.requires.remembers.findings;
+  at = c.in_ok-turn_to.ensures.at;
+}
 
 pub returns-in_err-found-clause-remembers : goal.returns-in_err-found-clause-remembers
 returns-in_err-found-clause-remembers g c =
     let begins : Begins c.findings_of.new.findings.bags c.args.self.now.findings.bags = starts_then c.args.self.now.findings.bags c.turn_to.new.self.bags c.findings_of.new.findings.bags
-    (starts_itself c.args.self.now.findings.bags c.turn_to.new.self.bags c.in_ok-turn_to.ensures.bags) c.in_err-found.ensures.begins in
-    recalls (g.L.LookUps.looks c.args.scene.now.held.now) c.args.scene.now.questions.now c.args.self.now c.findings_of.new.findings c.args.self.now.cases c.requires.remembers c.in_err-found.ensures.findings begins refl
+    (starts_itself c.args.self.now.findings.bags c.turn_to.new.self.bags c.in_ok-turn_to.ensures.bags) c.in_err-found.ensures.keeps.begins in
+    recalls (g.L.LookUps.looks c.args.scene.now.held.now) c.args.scene.now.questions.now c.args.self.now c.findings_of.new.findings c.args.self.now.cases c.requires.remembers c.in_err-found.ensures.keeps.ready.are begins refl
 
 pub returns-in_err-copy-clause-remembers : goal.returns-in_err-copy-clause-remembers
 returns-in_err-copy-clause-remembers g c =
     let begins : Begins c.findings_of.new.findings.bags c.args.self.now.findings.bags = starts_then c.args.self.now.findings.bags c.turn_to.new.self.bags c.findings_of.new.findings.bags
-    (starts_itself c.args.self.now.findings.bags c.turn_to.new.self.bags c.in_ok-turn_to.ensures.bags) c.in_ok-found.ensures.begins in
-    recalls (g.L.LookUps.looks c.args.scene.now.held.now) c.args.scene.now.questions.now c.args.self.now c.findings_of.new.findings c.args.self.now.cases c.requires.remembers c.in_ok-found.ensures.findings begins refl
+    (starts_itself c.args.self.now.findings.bags c.turn_to.new.self.bags c.in_ok-turn_to.ensures.bags) c.in_ok-found.ensures.keeps.begins in
+    recalls (g.L.LookUps.looks c.args.scene.now.held.now) c.args.scene.now.questions.now c.args.self.now c.findings_of.new.findings c.args.self.now.cases c.requires.remembers c.in_ok-found.ensures.keeps.ready.are begins refl
 
 pub returns-in_err-copy-2-clause-remembers : goal.returns-in_err-copy-2-clause-remembers
 returns-in_err-copy-2-clause-remembers g c =
     let begins : Begins c.findings_of.new.findings.bags c.args.self.now.findings.bags = starts_then c.args.self.now.findings.bags c.turn_to.new.self.bags c.findings_of.new.findings.bags
-    (starts_itself c.args.self.now.findings.bags c.turn_to.new.self.bags c.in_ok-turn_to.ensures.bags) c.in_ok-found.ensures.begins in
-    recalls (g.L.LookUps.looks c.args.scene.now.held.now) c.args.scene.now.questions.now c.args.self.now c.findings_of.new.findings c.args.self.now.cases c.requires.remembers c.in_ok-found.ensures.findings begins refl
+    (starts_itself c.args.self.now.findings.bags c.turn_to.new.self.bags c.in_ok-turn_to.ensures.bags) c.in_ok-found.ensures.keeps.begins in
+    recalls (g.L.LookUps.looks c.args.scene.now.held.now) c.args.scene.now.questions.now c.args.self.now c.findings_of.new.findings c.args.self.now.cases c.requires.remembers c.in_ok-found.ensures.keeps.ready.are begins refl
 
 pub returns-in_err-put-clause-remembers : goal.returns-in_err-put-clause-remembers
 returns-in_err-put-clause-remembers g c =
     let begins : Begins c.findings_of.new.findings.bags c.args.self.now.findings.bags = starts_then c.args.self.now.findings.bags c.turn_to.new.self.bags c.findings_of.new.findings.bags
-    (starts_itself c.args.self.now.findings.bags c.turn_to.new.self.bags c.in_ok-turn_to.ensures.bags) c.in_ok-found.ensures.begins in
-    recalls (g.L.LookUps.looks c.args.scene.now.held.now) c.args.scene.now.questions.now c.args.self.now c.findings_of.new.findings c.put.new.self c.requires.remembers c.in_ok-found.ensures.findings begins c.in_err-put.ensures.err
+    (starts_itself c.args.self.now.findings.bags c.turn_to.new.self.bags c.in_ok-turn_to.ensures.bags) c.in_ok-found.ensures.keeps.begins in
+    recalls (g.L.LookUps.looks c.args.scene.now.held.now) c.args.scene.now.questions.now c.args.self.now c.findings_of.new.findings c.put.new.self c.requires.remembers c.in_ok-found.ensures.keeps.ready.are begins c.in_err-put.ensures.err
 
 pub returns-clause-remembers : goal.returns-clause-remembers
 returns-clause-remembers g c =
@@ -49,15 +52,15 @@ returns-clause-remembers g c =
     let scene = c.args.scene.now in
     let bags = c.findings_of.new.findings.bags in
     let begins : Begins bags c.args.self.now.findings.bags = starts_then c.args.self.now.findings.bags c.turn_to.new.self.bags bags
-    (starts_itself c.args.self.now.findings.bags c.turn_to.new.self.bags c.in_ok-turn_to.ensures.bags) c.in_ok-found.ensures.begins in
+    (starts_itself c.args.self.now.findings.bags c.turn_to.new.self.bags c.in_ok-turn_to.ensures.bags) c.in_ok-found.ensures.keeps.begins in
     let mid : Memory = record { findings = c.findings_of.new.findings; cases = c.args.self.now.cases } in
-    let before : Remembers looks questions mid = recalls looks questions c.args.self.now c.findings_of.new.findings c.args.self.now.cases c.requires.remembers c.in_ok-found.ensures.findings begins refl in
+    let before : Remembers looks questions mid = recalls looks questions c.args.self.now c.findings_of.new.findings c.args.self.now.cases c.requires.remembers c.in_ok-found.ensures.keeps.ready.are begins refl in
     let case : Case = record { found = c.in_ok-found.found; asked = c.in_ok-copy.field-0; answer = c.in_ok-copy-2.field-0; failed = c.args.evaluation.now.failed } in
     let tells : TellsAll looks questions bags (request_of scene) case.asked case.found =
     subst (λ ns. TellsAll looks questions bags (request_of scene) ns case.found) (c.as_slice-asked.ensures ∙ c.get.ensures ∙ sym c.in_ok-copy.ensures) c.in_ok-found.ensures.tells in
     let is : IsCase looks questions bags case =
-    is_case looks scene bags case c.in_ok-found.ensures.are (subst (AreNumbers questions) (sym c.in_ok-copy.ensures) c.requires.within) (c.in_ok-copy-2.ensures ∙ c.requires.answer)
-    (ap (at_numbers questions) c.in_ok-copy.ensures ∙ c.requires.asked) c.requires.failed tells in
+    is_case looks scene bags case c.in_ok-found.ensures.are (subst (AreNumbers questions) (sym c.in_ok-copy.ensures) c.requires.evaluated.within) (c.in_ok-copy-2.ensures ∙ c.requires.evaluated.answer)
+    (ap (at_numbers questions) c.in_ok-copy.ensures ∙ c.requires.evaluated.asked) c.requires.evaluated.failed tells in
     keeps looks questions mid c.put.new.self case before is c.in_ok-put.ensures.ok
 
 pub returns-clause-kept : goal.returns-clause-kept

@@ -1,13 +1,13 @@
-use Rattle.std.proofs.Common.{◌≡◌, ◌∙◌, ap, sym, subst}
+use Rattle.std.proofs.Common.{◌≡◌, ◌∙◌, [], ap, sym, subst}
 use Rattle.std.specs.Prelude.{IfNone, IfSome}
-use Rattle.ent_eval.specs.Answer.{recorded}
+use Rattle.ent_eval.specs.Answer.{answer, asked, has_cause, recorded}
 use Rattle.ent_eval.specs.Listed.{listed}
 use Rattle.ent_eval.specs.LooksOf.{looks_of}
 use Rattle.ent_eval.specs.Memory.{Gives, HasCase}
-use Rattle.ent_eval.specs.Questions.{at_numbers, keys_at}
+use Rattle.ent_eval.specs.Questions.{AreNumbers, asked_once, at_numbers, keys_at}
 use Rattle.ent_eval.specs.declared.pdp.ListedEvaluation.{ListedEvaluation}
-use Rattle.ent_eval.specs.proofs_only.Remembered.{NoneFits}
-use Rattle.ent_eval.proofs.Fitting.{case_failed, case_reads, none_known, reads_by}
+use Rattle.ent_eval.specs.proofs_only.Remembered.{IsEvaluated, NoneFits}
+use Rattle.ent_eval.proofs.Fitting.{case_failed, case_reads, if_ok, none_known, reads_by}
 use Rattle.ent_eval.proofs.pdp.Pdp.evaluate_listed.Goals as goal
 
 pub returns-in-Ok-Some-clause-reads : goal.returns-in-Ok-Some-clause-reads
@@ -26,9 +26,41 @@ returns-in-Ok-Some-clause-failed g c =
     ap (λ (e : ListedEvaluation). e.failed) c.counting.ensures.evaluation
     ∙ case_failed looks c.args.questions.now c.recalled.new.memory c.args.person.now c.args.action.now c.args.resource.now c.in-Ok-Some.evaluation c.in-Ok-Some.ensures.remembers found
 
+pub returns-in-Ok-None-clause-answer : goal.returns-in-Ok-None-clause-answer
+returns-in-Ok-None-clause-answer g c =
+    let looks = looks_of (g.A.Attributes.sources) (g.P.Policies.slots) c.args.self.now in
+    let request = listed c.args.person.now c.args.action.now c.args.resource.now in
+    let questions = c.evaluate_anew.new.questions in
+    if_ok c.evaluate_anew.result (IsEvaluated looks questions request) (λ (e : ListedEvaluation). e.answer ≡ answer looks request) (λ e is. is.answer) c.evaluate_anew.ensures.evaluated
+
+pub returns-in-Ok-None-clause-asked : goal.returns-in-Ok-None-clause-asked
+returns-in-Ok-None-clause-asked g c =
+    let looks = looks_of (g.A.Attributes.sources) (g.P.Policies.slots) c.args.self.now in
+    let request = listed c.args.person.now c.args.action.now c.args.resource.now in
+    let questions = c.evaluate_anew.new.questions in
+    if_ok c.evaluate_anew.result (IsEvaluated looks questions request) (λ (e : ListedEvaluation). at_numbers questions e.asked ≡ asked_once [] (asked looks request)) (λ e is. is.asked) c.evaluate_anew.ensures.evaluated
+
+pub returns-in-Ok-None-clause-within : goal.returns-in-Ok-None-clause-within
+returns-in-Ok-None-clause-within g c =
+    let looks = looks_of (g.A.Attributes.sources) (g.P.Policies.slots) c.args.self.now in
+    let request = listed c.args.person.now c.args.action.now c.args.resource.now in
+    let questions = c.evaluate_anew.new.questions in
+    if_ok c.evaluate_anew.result (IsEvaluated looks questions request) (λ (e : ListedEvaluation). AreNumbers questions e.asked) (λ e is. is.within) c.evaluate_anew.ensures.evaluated
+
+pub returns-in-Ok-None-clause-failed : goal.returns-in-Ok-None-clause-failed
+returns-in-Ok-None-clause-failed g c =
+    let looks = looks_of (g.A.Attributes.sources) (g.P.Policies.slots) c.args.self.now in
+    let request = listed c.args.person.now c.args.action.now c.args.resource.now in
+    let questions = c.evaluate_anew.new.questions in
+    if_ok c.evaluate_anew.result (IsEvaluated looks questions request) (λ (e : ListedEvaluation). e.failed ≡ has_cause looks request) (λ e is. is.failed) c.evaluate_anew.ensures.evaluated
+
 pub returns-in-Ok-None-clause-reads : goal.returns-in-Ok-None-clause-reads
 returns-in-Ok-None-clause-reads g c =
-    reads_by c.evaluate_anew.result (looks_of (g.A.Attributes.sources) (g.P.Policies.slots) c.args.self.now) (listed c.args.person.now c.args.action.now c.args.resource.now) c.evaluate_anew.new.questions c.evaluate_anew.ensures.asked
+    let looks = looks_of (g.A.Attributes.sources) (g.P.Policies.slots) c.args.self.now in
+    let request = listed c.args.person.now c.args.action.now c.args.resource.now in
+    let questions = c.evaluate_anew.new.questions in
+    reads_by c.evaluate_anew.result looks request questions
+    (if_ok c.evaluate_anew.result (IsEvaluated looks questions request) (λ (e : ListedEvaluation). at_numbers questions e.asked ≡ asked_once [] (asked looks request)) (λ e is. is.asked) c.evaluate_anew.ensures.evaluated)
 
 pub returns-in-Ok-None-clause-again : goal.returns-in-Ok-None-clause-again
 returns-in-Ok-None-clause-again g c =
