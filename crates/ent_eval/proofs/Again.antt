@@ -55,7 +55,7 @@ looked_added looks request (Err e) more before after o has added = tt
 
 module _ {L : Type 0} (looks : L → Looks) (before after : Walk L) (notes : Notes) (o : Option Looked) (keeps : Keeps before after) where
   same_looked : in_walk looks after AreLooked notes o ≡ in_walk looks before AreLooked notes o
-  same_looked = ap (λ held. AreLooked (looks held.now) after.request notes o) keeps.held ∙ ap (λ request. AreLooked (looks before.held.now) request notes o) keeps.request
+  same_looked = ap (λ held. AreLooked (looks held) after.lender.request notes o) keeps.held ∙ ap (λ request. AreLooked (looks before.lender.held) request notes o) keeps.request
 
   -- what is at hand of a walk is at hand of one that keeps it, and the other way round
   pub looked_kept : in_walk looks before AreLooked notes o → in_walk looks after AreLooked notes o

@@ -1,16 +1,18 @@
 pub mod Again
+pub mod AnyBag
 pub mod Alone
 pub mod AnswersRest
 pub mod Apart
 pub mod Arguments
 pub mod AtEnd
 pub mod BagsNumbered
-pub mod Blaming
 pub mod Booleans
 pub mod Changes
 pub mod Children
 pub mod Choices
 pub mod Finds
+pub mod FirstCauses
+pub mod FirstGiven
 pub mod Fit
 pub mod Fitting
 pub mod Gathered
@@ -24,6 +26,8 @@ pub mod KeysAsked
 pub mod Left
 pub mod ListedBags
 pub mod Literals
+pub mod NamedCauses
+pub mod NamedNodes
 pub mod Noting
 pub mod Numbered
 pub mod Numbering
@@ -41,5 +45,6 @@ pub mod Shallow
 pub mod Sourced
 pub mod Targets
 pub mod Typing
+pub mod Unfailed
 pub mod Variables
 pub mod Within

@@ -4,17 +4,19 @@ use Rattle.std.specs.Prelude.{IsSome, option_and_then, if◌then◌else◌}
 use Rattle.std.specs.Cmp.Lexicographic.{pointwise}
 use Rattle.std.proofs.lemmas.List.{append-nil}
 use Rattle.ent_values.specs.Same.{same_value}
+use Rattle.ent_values.specs.declared.datatype.DataType.{DataType}
 use Rattle.ent_values.specs.declared.value.Value.{Value}
 use Rattle.ent_values.specs.declared.value.Value.TheVariants as value
 use Rattle.ent_functions.specs.Applied.{applied, first_order}
 use Rattle.ent_functions.specs.Sets.{is_among}
-use Rattle.ent_functions.specs.Types.{bag_of as bag_type, boolean, first_order_type, result_type_of, same_type, value_of}
+use Rattle.ent_functions.specs.Types.{bag_of as bag_type, boolean, element_type, first_order_type, result_type_of, same_type, value_of}
 use Rattle.ent_functions.specs.declared.arg.Arg.TheVariants.{Many, One}
 use Rattle.ent_functions.specs.declared.function.Element.{Element}
 use Rattle.ent_functions.specs.declared.function.Function.{Function}
 use Rattle.ent_functions.specs.declared.function.Function.TheVariants as functions
 use Rattle.ent_functions.specs.declared.types.ArgType.{ArgType}
-use Rattle.ent_policy.specs.Typing.{type_step, variable_type}
+use Rattle.ent_functions.specs.declared.types.ArgType.TheVariants as arg_types
+use Rattle.ent_policy.specs.Typing.{all_typed, type_step, variable_type}
 use Rattle.ent_policy.specs.declared.document.Designator.{Designator}
 use Rattle.ent_policy.specs.declared.expression.Expression.{Expression}
 use Rattle.ent_policy.specs.declared.expression.Expression.TheVariants as expressions
@@ -31,12 +33,13 @@ use Rattle.ent_eval.specs.Expression.{application, bag_of, decides, designated, 
 use Rattle.ent_eval.specs.Looks.{Looks}
 use Rattle.ent_eval.specs.Own.{is_empty, own_values}
 use Rattle.ent_eval.specs.Part.{Part, after_look, and_fails, and_then, mapped, notes_of, seen_parts, without_look}
-use Rattle.ent_eval.specs.Sources.{asked_of, demanded, missing, source_values}
+use Rattle.ent_eval.specs.Sources.{asked_of, demanded, designated_values, missing, source_values}
 use Rattle.ent_eval.specs.proofs_only.Typed.{HasType, apply_type, type_of}
-use Rattle.ent_eval.specs.proofs_only.Uncopied.{member}
+use Rattle.ent_eval.specs.proofs_only.Uncopied.{IsOfItsType, member, only_part}
+use Rattle.ent_functions.proofs.Taking.{exactly_types}
 
 -- a value is no result of a function that no boolean decides
-goes-on : (f : Function) (v : Value) → ((b : Bool) → decides f b ≡ false) → is_result f (Known (One v)) ≡ false
+pub goes-on : (f : Function) (v : Value) → ((b : Bool) → decides f b ≡ false) → is_result f (Known (One v)) ≡ false
 goes-on f (value.Text t) none = refl
 goes-on f (value.Boolean b) none = none b
 goes-on f (value.Integer t) none = refl
@@ -79,7 +82,7 @@ no_fault_in e v d [] = at d.must_be_present where
 no_fault_in e v d (w ∷ ws) = rw (goes-on (functions.IsIn e) v (λ b. refl)) refl
 
 -- what is noted of two arguments and of a function that doesn't fail
-two_noted : (stop : Evaluated → Bool) (p q : Part Evaluated) (failures : List Note) → stop p.value ≡ false → failures ≡ [] → notes_of (seen_parts stop (p ∷ q ∷ [])) ++ failures ≡ p.notes ++ q.notes
+pub two_noted : (stop : Evaluated → Bool) (p q : Part Evaluated) (failures : List Note) → stop p.value ≡ false → failures ≡ [] → notes_of (seen_parts stop (p ∷ q ∷ [])) ++ failures ≡ p.notes ++ q.notes
 two_noted stop p q failures goes none = ap (λ ns. notes_of (seen_parts stop (p ∷ q ∷ [])) ++ ns) none ∙ append-nil (notes_of (seen_parts stop (p ∷ q ∷ []))) ∙ two_asked stop p q goes
 
 -- a value for which this is noted
@@ -109,10 +112,6 @@ of_two e v w first second = ap₂ (λ value asked. record { value = value; notes
     (two_noted (is_result (functions.Equal e)) (known v first) (known w second) (faults (functions.Equal e) (Known (One v) ∷ Known (One w) ∷ []))
     (goes-on (functions.Equal e) v (λ b. refl)) (no_fault_equal e v w))
 
-none_missing : (d : Designator) (vs : List Value) → is_empty vs ≡ false → missing d vs ≡ []
-none_missing d [] some = absurd (cc)
-none_missing d (v ∷ vs) some = refl
-
 module _ (looks : Looks) (request : Request) (definitions : List VariableDefinition) (n : ℕ) where
   rolled : (f : Function) (given : List Expression)
       → meaning looks request definitions n (expressions.Apply f given) ≡ application f (map (meaning looks request definitions n) given)
@@ -129,11 +128,13 @@ module _ (looks : Looks) (request : Request) (definitions : List VariableDefinit
   unfolding Rattle.ent_policy.specs.declared.expression.Expression.TheViews.roll-Expression denote.Hole.Carrier.roll
   designator-part d = fold-roll-Expression (Part Evaluated) (meaning_step looks request (variable_part looks request definitions n)) (Expression-F.Designator d)
 
-  -- a designator for which the request has values of its own
-  own-part : (d : Designator) → is_empty (own_values d request) ≡ false → designated looks request d ≡ record { value = bag_of d (own_values d request); notes = asks (Of (asked_of d)) ∷ [] }
-  own-part d some =
-      ap (λ b. mapped (bag_of d) (and_fails (after_look (Of (asked_of d)) (without_look (if b then source_values looks request d else own_values d request))) (missing d))) some
-      ∙ ap (λ ns. record { value = bag_of d (own_values d request); notes = asks (Of (asked_of d)) ∷ ns }) (none_missing d (own_values d request) some)
+  -- a designator with one value
+  found-part : (d : Designator) (v : Value) → designated_values looks request d ≡ v ∷ [] → designated looks request d ≡ record { value = bag_of d (v ∷ []); notes = asks (Of (asked_of d)) ∷ [] }
+  found-part d v found = ap (λ vs. mapped (bag_of d) (and_fails (after_look (Of (asked_of d)) (without_look vs)) (missing d))) found
+
+  -- the request's own are its values, if there are any
+  own-found : (d : Designator) (v : Value) → own_values d request ≡ v ∷ [] → designated_values looks request d ≡ v ∷ []
+  own-found d v own = ap (λ vs. if is_empty vs then source_values looks request d else vs) own
 
   one : (e : Element) (d : Designator) (v : Value) (question : Note)
       → application (functions.OneAndOnly e) (record { value = bag_of d (v ∷ []); notes = question ∷ [] } ∷ []) ≡ known v (question ∷ [])
@@ -141,14 +142,18 @@ module _ (looks : Looks) (request : Request) (definitions : List VariableDefinit
   one e d v question = refl
 
   -- one-and-only of a designator with one value
+  pub only-found : (f : Function) (e : Element) (d : Designator) (v : Value) (given : List Expression) → f ≡ functions.OneAndOnly e → given ≡ expressions.Designator d ∷ []
+      → designated_values looks request d ≡ v ∷ [] → application f (map (meaning looks request definitions n) given) ≡ only_part d v
+  only-found f e d v given f-is is found =
+      ap (λ h. application h (map (meaning looks request definitions n) given)) f-is
+      ∙ ap (application (functions.OneAndOnly e)) (ap (map (meaning looks request definitions n)) is ∙ ap (λ p. p ∷ []) (designator-part d ∙ found-part d v found))
+      ∙ one e d v (asks (Of (asked_of d)))
+
+  -- the same, where the value is the request's own
   pub only : (f : Function) (e : Element) (d : Designator) (v : Value) (given : List Expression) (questions : List Note) → f ≡ functions.OneAndOnly e → given ≡ expressions.Designator d ∷ []
       → own_values d request ≡ v ∷ [] → questions ≡ asks (Of (asked_of d)) ∷ []
       → application f (map (meaning looks request definitions n) given) ≡ known v questions
-  only f e d v given questions f-is is own asked-is =
-      ap (λ h. application h (map (meaning looks request definitions n) given)) f-is
-      ∙ ap (application (functions.OneAndOnly e)) (ap (map (meaning looks request definitions n)) is ∙ ap (λ p. p ∷ []) (designator-part d ∙ own-part d (ap is_empty own)))
-      ∙ ap (λ vs. application (functions.OneAndOnly e) (record { value = bag_of d vs; notes = asks (Of (asked_of d)) ∷ [] } ∷ [])) own
-      ∙ one e d v (asks (Of (asked_of d))) ∙ ap (known v) (sym asked-is)
+  only f e d v given questions f-is is own asked-is = only-found f e d v given f-is is (own-found d v own) ∙ ap (known v) (sym asked-is)
 
   -- is-in of a value and a designator
   pub is-in-part : (f : Function) (e : Element) (given : List Expression) (x y : Expression) (v : Value) (questions : List Note) (d : Designator) → f ≡ functions.IsIn e → given ≡ x ∷ y ∷ []
@@ -180,7 +185,7 @@ unfolding Rattle.ent_policy.specs.declared.expression.Expression.TheViews.roll-E
 application-type definitions n x f given seen is given-is =
     ap (type_of definitions n) is ∙ fold-roll-Expression (Option ArgType) (type_step (variable_type definitions n)) (Expression-F.Apply f given) ∙ ap (apply_type definitions n f) (sym given-is)
 
-some_if : (b : Bool) (t : ArgType) → IsSome (if b then Some t else None) → (if b then Some t else None) ≡ Some t
+pub some_if : (b : Bool) (t : ArgType) → IsSome (if b then Some t else None) → (if b then Some t else None) ≡ Some t
 some_if true t some = refl
 some_if false t some = absurd (cc)
 
@@ -201,3 +206,22 @@ equal_typed e (Some ts) some = some_if (pointwise same_type ts (value_of e ∷ v
 -- and that of equal
 pub has_type_of_equal : (e : Element) (types : Option (List ArgType)) (v : Evaluated) → IsSome (option_and_then (result_type_of (functions.Equal e)) types) → HasType (Some boolean) v → HasType (option_and_then (result_type_of (functions.Equal e)) types) v
 has_type_of_equal e types v some has = subst (λ type. HasType type v) (sym (equal_typed e types some)) has
+
+pub designator-type : (definitions : List VariableDefinition) (n : ℕ) (d : Designator) → type_of definitions n (expressions.Designator d) ≡ Some (arg_types.Many d.datatype)
+unfolding Rattle.ent_policy.specs.declared.expression.Expression.TheViews.roll-Expression denote.Hole.Carrier.roll
+designator-type definitions n d = fold-roll-Expression (Option ArgType) (type_step (variable_type definitions n)) (Expression-F.Designator d)
+
+only_typed : (e : Element) (t : DataType) → IsSome (result_type_of (functions.OneAndOnly e) (arg_types.Many t ∷ [])) → result_type_of (functions.OneAndOnly e) (arg_types.Many t ∷ []) ≡ Some (arg_types.One t)
+unfolding result_type_of first_order_type
+only_typed e t some =
+    let taken : arg_types.Many t ∷ [] ≡ bag_type e ∷ [] = exactly_types (bag_type e ∷ []) (value_of e) (arg_types.Many t ∷ []) refl some in
+    let same : t ≡ element_type e = cc in
+    some_if (pointwise same_type (arg_types.Many t ∷ []) (bag_type e ∷ [])) (value_of e) some ∙ ap (λ u. Some (arg_types.One u)) (sym same)
+
+-- what has the type of a designator's values has that of one-and-only
+pub has_type_of_only : (f : Function) (e : Element) (d : Designator) (given : List Expression) → f ≡ functions.OneAndOnly e → given ≡ expressions.Designator d ∷ [] → IsOfItsType f given d
+has_type_of_only f e d given f-is is v v-is definitions n some =
+    let type-is : apply_type definitions n f given ≡ result_type_of (functions.OneAndOnly e) (arg_types.Many d.datatype ∷ []) =
+    ap (λ g. apply_type definitions n g given) f-is ∙ ap (apply_type definitions n (functions.OneAndOnly e)) is
+    ∙ ap (λ t. option_and_then (result_type_of (functions.OneAndOnly e)) (all_typed (t ∷ []))) (designator-type definitions n d) in
+    type-is ∙ only_typed e d.datatype (subst IsSome type-is some) ∙ ap (λ t. Some (arg_types.One t)) (sym v-is)

@@ -19,7 +19,7 @@ keeps_on before between after first second = record { held = second.held ∙ fir
 module _ {L : Type 0} (looks : L → Looks) where
   -- what is said of a walk is said of one that keeps what it runs over
   pub kept : {A : Type 0} (meaning : Looks → Request → A) (before after : Walk L) → Keeps before after → in_walk looks after meaning ≡ in_walk looks before meaning
-  kept meaning before after keeps = ap (λ held. meaning (looks held.now) after.request) keeps.held ∙ ap (meaning (looks before.held.now)) keeps.request
+  kept meaning before after keeps = ap (λ held. meaning (looks held) after.lender.request) keeps.held ∙ ap (meaning (looks before.lender.held)) keeps.request
 
   pub came_from : {A : Type 0} (meaning : Looks → Request → Part A) (start before after : Walk L) (came : A) → Keeps start before
       → Comes (in_walk looks before meaning) before after came → Comes (in_walk looks start meaning) before after came
@@ -62,9 +62,9 @@ comes_behind meaning (Ok a) p q question before between after added whole came =
 comes_behind meaning (Err e) p q question before between after added whole came = tt
 
 -- what a walk comes to and notes, by what it runs over
-module _ {A L : Type 0} (looks : L → Looks) (meaning : Looks → Request → Part A) (held : L) (request : Request) (notes : Notes) (walk : Walk L) (held-is : walk.held.now ≡ held) (request-is : walk.request ≡ request) where
+module _ {A L : Type 0} (looks : L → Looks) (meaning : Looks → Request → Part A) (held : L) (request : Request) (notes : Notes) (walk : Walk L) (held-is : walk.lender.held ≡ held) (request-is : walk.lender.request ≡ request) where
   part_is : in_walk looks walk meaning ≡ meaning (looks held) request
-  part_is = ap (λ h. meaning (looks h) walk.request) held-is ∙ ap (meaning (looks held)) request-is
+  part_is = ap (λ h. meaning (looks h) walk.lender.request) held-is ∙ ap (meaning (looks held)) request-is
 
   pub value_came : {E : Type 0} (r : Result A E) (after : Walk L) → IfOk r (Comes (in_walk looks walk meaning) walk after) → IfOk r (λ a. a ≡ (meaning (looks held) request).value)
   value_came (Ok a) after came = came.value ∙ ap (λ (p : Part A). p.value) part_is

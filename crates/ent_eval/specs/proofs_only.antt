@@ -1,3 +1,4 @@
+pub mod Basis
 pub mod Comes
 pub mod Expression
 pub mod Fed
@@ -5,7 +6,7 @@ pub mod Gathered
 pub mod Given
 pub mod Hops
 pub mod Judged
-pub mod Latest
+pub mod Lender
 pub mod Looked
 pub mod Node
 pub mod Noted

@@ -13,8 +13,8 @@ pub(crate) struct Finding {
 }
 
 /// An answer, the numbers of the questions that were asked for it, what those among them found that are about the names
-/// of the request, and whether a part of the evaluation failed by itself. Over the same look-ups all others find the same
-/// for each listed request.
+/// of the request, and whether a part of the evaluation failed by itself. Over the same look-ups all others find the
+/// same for each listed request.
 #[derive(Drop)]
 pub(crate) struct Case {
     pub(crate) found: Items<Finding>,

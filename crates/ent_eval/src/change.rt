@@ -1,6 +1,7 @@
 //! Laws of the look-ups that one change of what is held may change.
 
-ghost use Rattle.ent_eval.specs.Change.{DocumentLeavesOthers, EnvironmentLeavesOthers, RootLeavesOthers, ValuesLeaveOthers};
+ghost use Rattle.ent_eval.specs.Change.{DocumentLeavesOthers, EnvironmentLeavesOthers, RootLeavesOthers};
+ghost use Rattle.ent_eval.specs.Change.{ValuesLeaveOthers};
 
 /// Law: with another root every look-up gives the same but that of the root.
 pub fn root_leaves_others()

@@ -1,29 +1,34 @@
 //! What expressions come to.
 
-ghost use Rattle.std.specs.Prelude.{◌≡◌, IfOk, IsSome, MatchResult, OnOk, Some, map, true, false};
+ghost use Rattle.std.specs.Prelude.{◌≡◌, ◌∷◌, IfOk, IsSome, MatchResult, OnOk, Some, map, true, false};
 ghost use Rattle.std.specs.Option.{option_copied};
 ghost use Rattle.ent_functions.specs.Applied.{applied};
 ghost use Rattle.ent_functions.specs.Arguments.{type_of_arg};
 ghost use Rattle.ent_functions.specs.Types.{boolean, result_type_of};
+ghost use Rattle.ent_functions.specs.declared.arg.Arg.TheVariants.{One};
 ghost use Rattle.ent_functions.specs.declared.types.ArgType.TheVariants.{Many};
 ghost use Rattle.ent_policy.specs.Typing.{variable_type};
 ghost use Rattle.ent_policy.specs.Variables.{definition_of};
 ghost use Rattle.ent_eval.specs.proofs_only.Comes.{Adds, Comes, in_walk};
 ghost use Rattle.ent_eval.specs.Expression.{designated, evaluated_of, fault_in, is_result, meaning, settles};
-ghost use Rattle.ent_eval.specs.Sources.{missing};
+ghost use Rattle.ent_eval.specs.Note.{asks};
+ghost use Rattle.ent_eval.specs.Sources.{asked_of, missing};
+ghost use Rattle.ent_eval.specs.declared.question.Question.TheVariants.{Of};
 ghost use Rattle.ent_eval.specs.proofs_only.Expression.{apply_part};
 ghost use Rattle.ent_eval.specs.Expression.{variable_part};
 ghost use Rattle.ent_eval.specs.declared.evaluated.Evaluated.TheVariants.{Known};
-ghost use Rattle.ent_eval.specs.proofs_only.Typed.{HasType, apply_type, type_of};
+ghost use Rattle.ent_eval.specs.proofs_only.Typed.{HasType, Tests, apply_type, type_of};
 ghost use Rattle.ent_eval.specs.proofs_only.Noted.{asked_by};
-ghost use Rattle.ent_eval.specs.proofs_only.Uncopied.{equal_part, member, member_part};
+ghost use Rattle.ent_eval.specs.proofs_only.Uncopied.{any, equal_part, member, member_part, only_part};
 
 use crate::answer::Status;
 use crate::cause::Reason;
 use crate::evaluated::Evaluated;
 use crate::look_ups::LookUps;
 use crate::own_bag::{is_empty, is_own};
-use crate::uncopied::{Sole, compared, equal, is_found, member, membership};
+use crate::uncopied::{
+    Sole, any, any_of, compared, equal, is_found, member, membership, one_and_only,
+};
 use crate::walk::Walk;
 use ent_functions::{Arg, Fault, Function, apply};
 use ent_policy::{Designator, Expression, VariableDefinition};
@@ -98,12 +103,22 @@ impl<L: LookUps> Walk<'_, L> {
             self.old self.new) }
         ensures typed { IfOk result (λ v. HasType (apply_type definitions.now references function arguments.now) v) }
     {
-        let request = self.request.request();
+        let request = self.lender.request();
         if let Some((sole, designator)) = membership(request, function, arguments) {
             return self.is_in(&sole, designator);
         }
         if let Some((first, second)) = equal(request, function, arguments) {
             return self.are_equal(&first, &second);
+        }
+        if let Some(designator) = one_and_only(function, arguments) {
+            if let Some(only) = self.lender.sole(self.alloc, designator)? {
+                return self.is_only(designator, only);
+            }
+        }
+        if let Some((test, literal, designator)) = any_of(function, arguments) {
+            if let Some(bag) = self.lender.lent(designator)? {
+                return self.is_any(test, literal, designator, bag.get());
+            }
         }
         let mut evaluated = Items::new(self.alloc);
         for argument in arguments {
@@ -116,6 +131,35 @@ impl<L: LookUps> Walk<'_, L> {
         self.applied_to(function, evaluated.as_slice())
     }
 
+    // The only value of a designator.
+    fn is_only(&mut self, designator: &Designator, value: Value) -> Result<Evaluated, AllocError>
+        ensures value { IfOk result (λ v. v ≡ Known (One value)) }
+        ensures comes { IfOk result (Comes (only_part designator.now value) self.old self.new) }
+    {
+        self.notes.note_values(self.alloc, designator)?;
+        Ok(Evaluated::Known(Arg::One(value)))
+    }
+
+    // Whether a function is True of a literal and one of the values of a designator.
+    fn is_any(
+        &mut self,
+        function: Function,
+        literal: &Value,
+        designator: &Designator,
+        bag: &Bag,
+    ) -> Result<Evaluated, AllocError>
+        requires { Tests function literal.now bag.now.datatype }
+        ensures value { IfOk result (λ v. v ≡ any function literal.now designator.now bag.now.values) }
+        ensures typed { IfOk result (λ v. HasType (Some boolean) v) }
+        ensures notes { OnOk result (Adds
+            (asks (Of (asked_of designator.now)) ∷ missing designator.now bag.now.values)
+            self.old self.new) }
+    {
+        self.notes.note_values(self.alloc, designator)?;
+        self.demand(designator, bag)?;
+        any(self.alloc, function, literal, designator, bag.values())
+    }
+
     // Is-in of a value and a designator, of whose values the request's own aren't copied.
     #[tactic(auto, using(crate::proofs::Going::noting_then))]
     fn is_in(&mut self, sole: &Sole<'_>, designator: &Designator) -> Result<Evaluated, AllocError>
@@ -125,11 +169,14 @@ impl<L: LookUps> Walk<'_, L> {
     {
         self.note_sole(sole)?;
         self.notes.note_values(self.alloc, designator)?;
-        if let Some(found) = is_own(self.request.request(), designator, sole.value) {
+        if let Some(bag) = self.lender.lent(designator)? {
+            return self.member_of(sole, designator, bag.get());
+        }
+        if let Some(found) = is_own(self.lender.request(), designator, sole.value) {
             return Ok(is_found(found));
         }
-        let bag = self.source(designator)?;
-        self.member_of(sole, designator, &bag)
+        let bag = self.lender.lend(self.alloc, designator)?;
+        self.member_of(sole, designator, bag.get())
     }
 
     // Is-in of a value and of the values of a designator.
@@ -175,10 +222,10 @@ impl<L: LookUps> Walk<'_, L> {
         ensures typed { IfOk result (λ v. HasType (Some (Many designator.now.datatype)) v) }
     {
         let bag = self.demanded(designator)?;
-        if designator.must_be_present && is_empty(&bag) {
+        if designator.must_be_present && is_empty(bag.get()) {
             return Ok(Evaluated::Indeterminate(Status::MissingAttribute));
         }
-        Ok(Evaluated::Known(Arg::Many(bag)))
+        Ok(Evaluated::Known(Arg::Many(bag.get().copy(self.alloc)?)))
     }
 
     // The value of a function of arguments that it takes. A fault is a processing error.

@@ -20,8 +20,21 @@ pub(crate) fn holds_in(alloc: Global, test: &Match, values: &[Value]) -> Result<
     requires { TestsEach test.now.function test.now.literal values.now }
     ensures { IfOk result (λ b. b ≡ list_any (is_true test.now.function test.now.literal) values.now) }
 {
+    holds_of_one(alloc, test.function, &test.literal, values)
+}
+
+// Whether a function is True of a literal and one of the values.
+pub(crate) fn holds_of_one(
+    alloc: Global,
+    function: Function,
+    literal: &Value,
+    values: &[Value],
+) -> Result<bool, AllocError>
+    requires { TestsEach function literal.now values.now }
+    ensures { IfOk result (λ b. b ≡ list_any (is_true function literal.now) values.now) }
+{
     for value in values {
-        if is_true(alloc, test.function, &test.literal, value)? {
+        if is_true(alloc, function, literal, value)? {
             return Ok(true);
         }
     }

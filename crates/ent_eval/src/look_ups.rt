@@ -25,7 +25,10 @@ pub trait LookUps {
     fn values(&self, key: &AttrKey, bag: &mut Bag) -> Result<(), AllocError>
         requires datatype { bag.old.datatype ≡ key.now.datatype }
         requires empty { bag.old.values ≡ [] }
-        ensures ok { OnOk result (bag.new ≡ record { datatype = key.now.datatype; values = (looks self.now).values key.now }) }
+        ensures ok { OnOk result (bag.new ≡ record {
+          datatype = key.now.datatype;
+          values = (looks self.now).values key.now;
+        }) }
         ensures err { OnErr result (bag.new ≡ bag.old) };
 
     /// The date, if it is known.

@@ -9,19 +9,19 @@ ghost use Rattle.ent_eval.specs.proofs_only.Typed.{HasType, type_of};
 ghost use Rattle.ent_eval.specs.proofs_only.Uncopied.{member_part};
 
 use crate::evaluated::Evaluated;
-use crate::latest::seeks_same;
+use crate::lender::seeks_same;
 use crate::look_ups::LookUps;
 use crate::uncopied::{Sole, membership};
 use crate::walk::Walk;
 use ent_policy::{Designator, Expression, VariableDefinition};
-use ent_values::Bag;
+use ent_values::{Bag, Shared};
 use std::alloc::AllocError;
 
 // The values of a designator: conditions that follow each other mostly ask for the same.
 #[derive(Drop)]
 pub(crate) struct Looked<'a> {
     pub(crate) designator: &'a Designator,
-    pub(crate) bag: Bag,
+    pub(crate) bag: Shared<Bag>,
 }
 
 impl<'a, L: LookUps> Walk<'a, L> {
@@ -43,7 +43,7 @@ impl<'a, L: LookUps> Walk<'a, L> {
         ensures looked { OnOk result (in_walk L.looks self.old AreLooked self.new.notes looked.new) }
     {
         if let Expression::Apply(function, arguments) = expression {
-            let request = self.request.request();
+            let request = self.lender.request();
             let arguments = arguments.as_slice();
             if let Some((sole, designator)) = membership(request, *function, arguments) {
                 return self.is_among_looked(looked, &sole, designator);
@@ -70,11 +70,11 @@ impl<'a, L: LookUps> Walk<'a, L> {
         self.note_sole(sole)?;
         if let Some(latest) = &*looked {
             if seeks_same(latest.designator, designator) {
-                return self.member_of(sole, designator, &latest.bag);
+                return self.member_of(sole, designator, latest.bag.get());
             }
         }
         let bag = self.values(designator)?;
-        let found = self.member_of(sole, designator, &bag)?;
+        let found = self.member_of(sole, designator, bag.get())?;
         *looked = Some(Looked { designator, bag });
         Ok(found)
     }

@@ -80,7 +80,8 @@ impl Notes {
         alloc: Global,
         questions: &mut Questions,
     ) -> Result<Items<u32>, AllocError>
-        ensures asked { IfOk result (λ numbers. IfSome self.old.questions (λ asked. at_numbers questions.new numbers ≡ asked)) }
+        ensures asked { IfOk result (λ numbers.
+            IfSome self.old.questions (λ asked. at_numbers questions.new numbers ≡ asked)) }
         ensures within { IfOk result (AreNumbers questions.new) }
         ensures begins { BeginsWith questions.new questions.old }
     {

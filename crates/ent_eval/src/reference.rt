@@ -59,11 +59,11 @@ impl<'a, L: LookUps> Walk<'a, L> {
         &mut self,
         reference: &Reference,
     ) -> Result<Option<&'a Document>, AllocError>
-        ensures found { IfOk result (λ d. option_copied d ≡ (L.looks self.old.held.now).document reference.now) }
+        ensures found { IfOk result (λ d. option_copied d ≡ (L.looks self.old.lender.held).document reference.now) }
         ensures notes { OnOk result (Adds (asks (Ref reference.now) ∷ []) self.old self.new) }
     {
         self.notes.note_reference(self.alloc, reference)?;
-        let held = self.held;
+        let held = self.lender.held();
         Ok(held.document(reference))
     }
 }

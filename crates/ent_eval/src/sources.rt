@@ -6,7 +6,7 @@ ghost use Rattle.ent_values.specs.Types.{datatype_of};
 ghost use Rattle.ent_values.specs.declared.datatype.DataType.TheVariants as types;
 ghost use Rattle.ent_values.specs.declared.value.Value.TheVariants as values;
 ghost use Rattle.ent_eval.specs.Sources.{asks_for, entity_of, id_attribute, key_for, known_values, only_text};
-ghost use Rattle.ent_eval.specs.Sources.{demanded, missing, source_values, text_of, values_part};
+ghost use Rattle.ent_eval.specs.Sources.{demanded, designated_values, missing, source_values, text_of, values_part};
 ghost use Rattle.ent_eval.specs.proofs_only.Comes.{Adds, Comes, bag_part, in_walk};
 ghost use Rattle.ent_eval.specs.proofs_only.Sought.{designator_of};
 
@@ -23,33 +23,32 @@ use crate::uris::{
 use crate::walk::Walk;
 use ent_finder::AttrKey;
 use ent_policy::Designator;
-use ent_values::{Bag, DataType, Text, Value};
+use ent_values::{Bag, DataType, Shared, Text, Value};
 use std::alloc::{AllocError, Global};
 
 impl<L: LookUps> Walk<'_, L> {
     // The values of a designator: the request's own, or else those of its source. The question is noted.
-    pub(crate) fn values(&mut self, designator: &Designator) -> Result<Bag, AllocError>
+    pub(crate) fn values(&mut self, designator: &Designator) -> Result<Shared<Bag>, AllocError>
         ensures comes { IfOk result (Comes
             (bag_part designator.now.datatype (in_walk L.looks self.old values_part designator.now))
             self.old self.new) }
     {
         self.notes.note_values(self.alloc, designator)?;
-        let own = own_bag(self.alloc, self.request.request(), designator)?;
-        if !is_empty(&own) {
-            return Ok(own);
+        match self.lender.lent(designator)? {
+            Some(bag) => Ok(bag),
+            None => self.lender.lend(self.alloc, designator),
         }
-        self.source(designator)
     }
 
     // The same, of which there must be one where the designator says so.
     #[tactic(auto, using(crate::proofs::Going::noting_both))]
-    pub(crate) fn demanded(&mut self, designator: &Designator) -> Result<Bag, AllocError>
+    pub(crate) fn demanded(&mut self, designator: &Designator) -> Result<Shared<Bag>, AllocError>
         ensures comes { IfOk result (Comes
             (bag_part designator.now.datatype (in_walk L.looks self.old demanded designator.now))
             self.old self.new) }
     {
         let bag = self.values(designator)?;
-        self.demand(designator, &bag)?;
+        self.demand(designator, bag.get())?;
         Ok(bag)
     }
 
@@ -62,75 +61,102 @@ impl<L: LookUps> Walk<'_, L> {
         }
         Ok(())
     }
+}
 
-    // The values of a designator for which the request has none.
-    pub(crate) fn source(&self, designator: &Designator) -> Result<Bag, AllocError>
-        ensures { IfOk result (λ b. b ≡ record {
-          datatype = designator.now.datatype;
-          values = in_walk L.looks self.now source_values designator.now;
-        }) }
-    {
-        let sought = Sought::of(designator);
-        if asks_for(&sought, CURRENT_DATE, DataType::Date) {
-            return self.dates();
-        }
-        if asks_for(&sought, CURRENT_TIME, DataType::Time) {
-            return self.times();
-        }
-        if asks_for(&sought, CURRENT_DATE_TIME, DataType::DateTime) {
-            return self.date_times();
-        }
-        match entity_of(self.request.request(), designator.category.as_str()) {
-            None => Ok(Bag::new(self.alloc, designator.datatype)),
-            Some(entity) => self.values_of(designator, entity),
-        }
+// The values of a designator: the request's own, or else those of its source.
+pub(crate) fn designated<L: LookUps>(
+    alloc: Global,
+    held: &L,
+    request: &Request,
+    designator: &Designator,
+) -> Result<Bag, AllocError>
+    ensures { IfOk result (λ b. b ≡ record {
+      datatype = designator.now.datatype;
+      values = designated_values (L.looks held.now) request.now designator.now;
+    }) }
+{
+    let own = own_bag(alloc, request, designator)?;
+    if !is_empty(&own) {
+        return Ok(own);
     }
+    source(alloc, held, request, designator)
+}
 
-    // The date, if it is known.
-    fn dates(&self) -> Result<Bag, AllocError>
-        ensures { IfOk result (λ b. b ≡ record {
-          datatype = types.Date;
-          values = known_values values.Date (L.looks self.now.held.now).date;
-        }) }
-    {
-        let date = self.held.date().map(Value::Date);
-        known(self.alloc, DataType::Date, date)
+// The values of a designator for which the request has none.
+fn source<L: LookUps>(
+    alloc: Global,
+    held: &L,
+    request: &Request,
+    designator: &Designator,
+) -> Result<Bag, AllocError>
+    ensures { IfOk result (λ b. b ≡ record {
+      datatype = designator.now.datatype;
+      values = source_values (L.looks held.now) request.now designator.now;
+    }) }
+{
+    let sought = Sought::of(designator);
+    if asks_for(&sought, CURRENT_DATE, DataType::Date) {
+        return dates(alloc, held);
     }
+    if asks_for(&sought, CURRENT_TIME, DataType::Time) {
+        return times(alloc, held);
+    }
+    if asks_for(&sought, CURRENT_DATE_TIME, DataType::DateTime) {
+        return date_times(alloc, held);
+    }
+    match entity_of(request, designator.category.as_str()) {
+        None => Ok(Bag::new(alloc, designator.datatype)),
+        Some(entity) => values_of(alloc, held, designator, entity),
+    }
+}
 
-    // The time of day, if it is known.
-    fn times(&self) -> Result<Bag, AllocError>
-        ensures { IfOk result (λ b. b ≡ record {
-          datatype = types.Time;
-          values = known_values values.Time (L.looks self.now.held.now).time;
-        }) }
-    {
-        let time = self.held.time().map(Value::Time);
-        known(self.alloc, DataType::Time, time)
-    }
+// The date, if it is known.
+fn dates<L: LookUps>(alloc: Global, held: &L) -> Result<Bag, AllocError>
+    ensures { IfOk result (λ b. b ≡ record {
+      datatype = types.Date;
+      values = known_values values.Date (L.looks held.now).date;
+    }) }
+{
+    known(alloc, DataType::Date, held.date().map(Value::Date))
+}
 
-    // The date and time, if both are known.
-    fn date_times(&self) -> Result<Bag, AllocError>
-        ensures { IfOk result (λ b. b ≡ record {
-          datatype = types.DateTime;
-          values = known_values values.DateTime (L.looks self.now.held.now).date_time;
-        }) }
-    {
-        let date_time = self.held.date_time().map(Value::DateTime);
-        known(self.alloc, DataType::DateTime, date_time)
-    }
+// The time of day, if it is known.
+fn times<L: LookUps>(alloc: Global, held: &L) -> Result<Bag, AllocError>
+    ensures { IfOk result (λ b. b ≡ record {
+      datatype = types.Time;
+      values = known_values values.Time (L.looks held.now).time;
+    }) }
+{
+    known(alloc, DataType::Time, held.time().map(Value::Time))
+}
 
-    // The values of an entity.
-    fn values_of(&self, designator: &Designator, entity: &Text) -> Result<Bag, AllocError>
-        ensures { IfOk result (λ b. b ≡ record {
-          datatype = designator.now.datatype;
-          values = (L.looks self.now.held.now).values (key_for designator.now entity.now);
-        }) }
-    {
-        let key = key_for(self.alloc, designator, entity)?;
-        let mut bag = Bag::new(self.alloc, designator.datatype);
-        self.held.values(&key, &mut bag)?;
-        Ok(bag)
-    }
+// The date and time, if both are known.
+fn date_times<L: LookUps>(alloc: Global, held: &L) -> Result<Bag, AllocError>
+    ensures { IfOk result (λ b. b ≡ record {
+      datatype = types.DateTime;
+      values = known_values values.DateTime (L.looks held.now).date_time;
+    }) }
+{
+    let date_time = held.date_time().map(Value::DateTime);
+    known(alloc, DataType::DateTime, date_time)
+}
+
+// The values of an entity.
+fn values_of<L: LookUps>(
+    alloc: Global,
+    held: &L,
+    designator: &Designator,
+    entity: &Text,
+) -> Result<Bag, AllocError>
+    ensures { IfOk result (λ b. b ≡ record {
+      datatype = designator.now.datatype;
+      values = (L.looks held.now).values (key_for designator.now entity.now);
+    }) }
+{
+    let key = key_for(alloc, designator, entity)?;
+    let mut bag = Bag::new(alloc, designator.datatype);
+    held.values(&key, &mut bag)?;
+    Ok(bag)
 }
 
 // The value of what is asked of the environment, or none.

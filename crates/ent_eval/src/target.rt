@@ -1,19 +1,20 @@
 //! Whether targets match.
 
-ghost use Rattle.std.specs.Prelude.{◌≡◌, IfOk, if◌then◌else◌, map, true};
+ghost use Rattle.std.specs.Prelude.{◌≡◌, IfOk, OnOk, if◌then◌else◌, map, true};
 ghost use Rattle.std.specs.List.{list_all};
 ghost use Rattle.ent_policy.specs.Typing.{all_of_is_typed, any_of_is_typed, match_is_typed, target_is_typed};
-ghost use Rattle.ent_eval.specs.proofs_only.Comes.{Comes, in_walk};
+ghost use Rattle.ent_eval.specs.proofs_only.Comes.{Adds, Comes, in_walk};
 ghost use Rattle.ent_eval.specs.proofs_only.Typed.{Tests};
 ghost use Rattle.ent_eval.specs.Own.{own_values};
 ghost use Rattle.ent_eval.specs.Part.{whole};
+ghost use Rattle.ent_eval.specs.Sources.{missing};
 ghost use Rattle.ent_eval.specs.Target.{all_match, all_of_part, any_of_part, is_match, is_no_match, match_part};
 ghost use Rattle.ent_eval.specs.Target.{matched, one_matches, target_part};
 ghost use Rattle.ent_eval.specs.proofs_only.Target.{own_match, unless_indeterminate};
 
 use crate::answer::Status;
 use crate::holds::{holds_in, holds_of};
-use crate::latest::Latest;
+use crate::lender::Lender;
 use crate::look_ups::LookUps;
 use crate::own_bag::is_empty;
 use crate::walk::Walk;
@@ -101,29 +102,41 @@ impl<'a, L: LookUps> Walk<'a, L> {
             (in_walk L.looks self.old match_part test.now) self.old self.new) }
     {
         self.notes.note_values(self.alloc, &test.designator)?;
-        if let Some(targeted) = own_match(self.alloc, &mut self.request, test)? {
+        if let Some(bag) = self.lender.lent(&test.designator)? {
+            return self.found_match(test, bag.get());
+        }
+        if let Some(targeted) = own_match(self.alloc, &mut self.lender, test)? {
             return Ok(targeted);
         }
-        let bag = self.source(&test.designator)?;
-        self.demand(&test.designator, &bag)?;
-        matched(self.alloc, test, &bag)
+        let bag = self.lender.lend(self.alloc, &test.designator)?;
+        self.found_match(test, bag.get())
+    }
+
+    // A match of the values that were found.
+    fn found_match(&mut self, test: &Match, bag: &Bag) -> Result<Targeted, AllocError>
+        requires { Tests test.now.function test.now.literal bag.now.datatype }
+        ensures value { IfOk result (λ t. t ≡ matched test.now bag.now.values) }
+        ensures notes { OnOk result (Adds (missing test.now.designator bag.now.values) self.old self.new) }
+    {
+        self.demand(&test.designator, bag)?;
+        matched(self.alloc, test, bag)
     }
 }
 
 // A match of the request's own values, if it has any.
-fn own_match<'a>(
+fn own_match<'a, L: LookUps>(
     alloc: Global,
-    own: &mut Latest<'a>,
+    lender: &mut Lender<'a, L>,
     test: &'a Match,
 ) -> Result<Option<Targeted>, AllocError>
     requires { Tests test.now.function test.now.literal test.now.designator.datatype }
-    ensures value { IfOk result (λ t. t ≡ own_match test.now (own_values test.now.designator own.old)) }
-    ensures own { own.new ≡ own.old }
+    ensures value { IfOk result (λ t. t ≡ own_match test.now (own_values test.now.designator lender.old.request)) }
+    ensures lender { lender.new ≡ lender.old }
 {
-    match own.values(&test.designator) {
+    match lender.own(&test.designator) {
         Some([]) => Ok(None),
         Some(values) => Ok(Some(told(holds_in(alloc, test, values)?))),
-        None => Ok(Some(told(holds_of(alloc, test, own.request())?))),
+        None => Ok(Some(told(holds_of(alloc, test, lender.request())?))),
     }
 }
 

@@ -1,21 +1,23 @@
 //! What functions come to that need no copy of their arguments.
 
-ghost use Rattle.std.specs.Prelude.{◌≡◌, [], ◌∷◌, IfSome, Some};
+ghost use Rattle.std.specs.Prelude.{◌≡◌, [], ◌∷◌, IfOk, IfSome, Some};
 ghost use Rattle.ent_values.specs.Same.{same_value};
 ghost use Rattle.ent_functions.specs.Types.{boolean};
-ghost use Rattle.ent_eval.specs.proofs_only.Typed.{HasType};
+ghost use Rattle.ent_eval.specs.proofs_only.Typed.{HasType, TestsEach};
 ghost use Rattle.ent_eval.specs.proofs_only.Uncopied.{ComesTo, IsBoolean, IsEqual, IsMembership, IsOnly, IsSole};
-ghost use Rattle.ent_eval.specs.proofs_only.Uncopied.{member};
+ghost use Rattle.ent_eval.specs.proofs_only.Uncopied.{AreTested, GivesOnly, IsAnyOf, IsOfItsType, any, member};
 ghost use Rattle.ent_eval.specs.declared.evaluated.Evaluated.TheVariants.{Known};
 
 use crate::answer::Status;
 use crate::evaluated::Evaluated;
+use crate::holds::holds_of_one;
 use crate::own::Sought;
 use crate::own_bag::{is_among, only_own};
 use crate::request::Request;
 use ent_functions::{Arg, Function};
 use ent_policy::{Designator, Expression};
 use ent_values::Value;
+use std::alloc::{AllocError, Global};
 
 // A value that an expression comes to as it stands: a literal, or the only one of the request's own for a designator,
 // which is asked for it.
@@ -57,6 +59,48 @@ pub(crate) fn membership<'a>(
         (Function::IsIn(_), Expression::Designator(designator)) => {
             Some((seen(request, first)?, designator))
         }
+        _ => None,
+    }
+}
+
+// The designator of whose values a function gives the only one.
+pub(crate) fn one_and_only(function: Function, arguments: &[Expression]) -> Option<&Designator>
+    ensures value { IfSome result (λ d. GivesOnly function arguments.now d.now) }
+    ensures typed { IfSome result (λ d. IsOfItsType function arguments.now d.now) }
+{
+    match function {
+        Function::OneAndOnly(_) => one_designator(arguments),
+        _ => None,
+    }
+}
+
+// The function, the literal and the designator of which any-of tells whether the function is True of the literal and
+// one of the designator's values.
+pub(crate) fn any_of(
+    function: Function,
+    arguments: &[Expression],
+) -> Option<(Function, &Value, &Designator)>
+    ensures value { IfSome result (λ a. IsAnyOf function arguments.now a.0 a.1.now a.2.now) }
+    ensures typed { IfSome result (λ a. IsBoolean function arguments.now) }
+    ensures tests { IfSome result (λ a. AreTested function arguments.now a.0 a.1.now a.2.now.datatype) }
+{
+    match function {
+        Function::AnyOf => tested(arguments),
+        _ => None,
+    }
+}
+
+// A function, a literal and a designator, if these are the arguments.
+fn tested(arguments: &[Expression]) -> Option<(Function, &Value, &Designator)>
+    ensures { IfSome result (λ a. arguments.now
+        ≡ Expression.Function a.0 ∷ Expression.Value a.1.now ∷ Expression.Designator a.2.now ∷ []) }
+{
+    match arguments {
+        [
+            Expression::Function(function),
+            Expression::Value(literal),
+            Expression::Designator(designator),
+        ] => Some((*function, literal, designator)),
         _ => None,
     }
 }
@@ -136,6 +180,24 @@ pub(crate) fn member(value: &Value, designator: &Designator, values: &[Value]) -
         return Evaluated::Indeterminate(Status::MissingAttribute);
     }
     is_found(is_among(value, values))
+}
+
+// Whether a function is True of a literal and one of the values of a designator.
+pub(crate) fn any(
+    alloc: Global,
+    function: Function,
+    literal: &Value,
+    designator: &Designator,
+    values: &[Value],
+) -> Result<Evaluated, AllocError>
+    requires { TestsEach function literal.now values.now }
+    ensures value { IfOk result (λ v. v ≡ any function literal.now designator.now values.now) }
+    ensures typed { IfOk result (λ v. HasType (Some boolean) v) }
+{
+    if values.is_empty() && designator.must_be_present {
+        return Ok(Evaluated::Indeterminate(Status::MissingAttribute));
+    }
+    Ok(is_found(holds_of_one(alloc, function, literal, values)?))
 }
 
 // Whether a value is found.

@@ -10,7 +10,7 @@ ghost use Rattle.ent_eval.specs.proofs_only.Reason.{what_of};
 
 use crate::answer::Answer;
 use crate::cause::Reason;
-use crate::latest::Latest;
+use crate::lender::Lender;
 use crate::look_ups::LookUps;
 use crate::notes::Notes;
 use crate::path::Path;
@@ -24,10 +24,9 @@ const MOST_HOPS: usize = 6;
 
 // An evaluation of a request over what is held, with what it noted so far.
 #[derive(Drop)]
-pub(crate) struct Walk<'a, L> {
+pub(crate) struct Walk<'a, L: LookUps> {
     pub(crate) alloc: Global,
-    pub(crate) held: &'a L,
-    pub(crate) request: Latest<'a>,
+    pub(crate) lender: Lender<'a, L>,
     pub(crate) notes: Notes,
 }
 
@@ -39,14 +38,13 @@ impl<'a, L: LookUps> Walk<'a, L> {
         request: &'a Request,
         notes: Notes,
     ) -> Walk<'a, L>
-        ensures held { result.held.now ≡ held.now }
-        ensures request { result.request ≡ request.now }
+        ensures held { result.lender.held ≡ held.now }
+        ensures request { result.lender.request ≡ request.now }
         ensures notes { result.notes ≡ notes }
     {
         Walk {
             alloc,
-            held,
-            request: Latest::of(request),
+            lender: Lender::over(alloc, held, request),
             notes,
         }
     }
@@ -107,7 +105,7 @@ impl<'a, L: LookUps> Walk<'a, L> {
             (in_walk L.looks self.old answer_part) self.old self.new) }
     {
         self.notes.note_root(self.alloc)?;
-        let held = self.held;
+        let held = self.lender.held();
         match held.root() {
             None => Ok(Answer::not_applicable(self.alloc)),
             Some(reference) => self.followed(MOST_HOPS, reference),

@@ -12,12 +12,12 @@ use Rattle.ent_eval.specs.Part.{Part, mapped}
 
 -- what is said of look-ups and a request, of those of a walk
 abbrev pub in_walk {ℓ} : {L : Type 0} {A : Type ℓ} → (L → Looks) → Walk L → (Looks → Request → A) → A
-in_walk looks walk meaning = meaning (looks walk.held.now) walk.request
+in_walk looks walk meaning = meaning (looks walk.lender.held) walk.lender.request
 
 -- a walk stays one over what is held, for the same request
 pub record Keeps {L : Type 0} (before after : Walk L) : Type 0 where
-  pub held : after.held ≡ before.held
-  pub request : after.request ≡ before.request
+  pub held : after.lender.held ≡ before.lender.held
+  pub request : after.lender.request ≡ before.lender.request
 
 -- a walk noted these, and stays what it is otherwise
 pub record Adds {L : Type 0} (more : List Note) (before after : Walk L) : Type 0 where

@@ -1,6 +1,9 @@
 -- What functions come to that need no copy of their arguments, whatever is held and whatever the definitions are.
 use Rattle.std.specs.Prelude.{◌≡◌, ℕ, List, [], ◌∷◌, ◌++◌, false, if◌then◌else◌, IsSome, Some, option_copied}
+use Rattle.std.specs.List.{list_any}
 use Rattle.ent_values.specs.Same.{same_value}
+use Rattle.ent_values.specs.declared.datatype.DataType.{DataType}
+use Rattle.ent_values.specs.Types.{datatype_of}
 use Rattle.ent_values.specs.declared.value.Value.{Value}
 use Rattle.ent_values.specs.declared.value.Value.TheVariants.{Boolean}
 use Rattle.ent_functions.specs.declared.arg.Arg.TheVariants.{One}
@@ -13,16 +16,19 @@ use Rattle.ent_policy.specs.declared.expression.VariableDefinition.{VariableDefi
 use Rattle.ent_eval.specs.declared.answer.Status.TheVariants.{MissingAttribute}
 use Rattle.ent_eval.specs.declared.evaluated.Evaluated.{Evaluated}
 use Rattle.ent_eval.specs.declared.evaluated.Evaluated.TheVariants.{Indeterminate, Known}
+use Rattle.ent_eval.specs.declared.question.Question.TheVariants.{Of}
 use Rattle.ent_eval.specs.declared.request.Request.{Request}
 use Rattle.ent_eval.specs.declared.uncopied.Sole.{Sole}
 use Rattle.ent_eval.specs.Expression.{meaning}
 use Rattle.ent_eval.specs.Looks.{Looks}
+use Rattle.ent_eval.specs.Note.{asks}
 use Rattle.ent_eval.specs.Own.{own_values}
 use Rattle.ent_eval.specs.Part.{Part, and_then, mapped}
-use Rattle.ent_eval.specs.Sources.{demanded}
+use Rattle.ent_eval.specs.Sources.{asked_of, demanded, designated_values}
 use Rattle.ent_eval.specs.proofs_only.Expression.{apply_part}
 use Rattle.ent_eval.specs.proofs_only.Noted.{asked_by}
-use Rattle.ent_eval.specs.proofs_only.Typed.{HasType, apply_type}
+use Rattle.ent_eval.specs.proofs_only.Typed.{HasType, Tests, apply_type}
+use Rattle.ent_eval.specs.Target.{is_true}
 
 -- a value, and what is asked for it
 abbrev pub sole_part : Sole → Part Evaluated
@@ -41,6 +47,15 @@ ComesTo request function arguments s = (looks : Looks) (definitions : List Varia
 -- the request has that value alone for a designator, which is asked for it
 abbrev pub IsOnly : Request → Designator → Sole → Type 0
 IsOnly request d s = (own_values d request ≡ s.value.now ∷ []) × (option_copied s.asked ≡ Some d)
+
+-- the only one of a designator's values, which are asked for
+abbrev pub only_part : Designator → Value → Part Evaluated
+only_part d v = record { value = Known (One v); notes = asks (Of (asked_of d)) ∷ [] }
+
+-- a function of arguments comes to it, where a designator has that value alone
+abbrev pub GivesOnly : Function → List Expression → Designator → Type 0
+GivesOnly function arguments d = (looks : Looks) (request : Request) (definitions : List VariableDefinition) (references : ℕ) (v : Value)
+    → designated_values looks request d ≡ v ∷ [] → apply_part looks request definitions references function arguments ≡ only_part d v
 
 -- whether two values are equal
 abbrev pub equal_part : Sole → Sole → Part Evaluated
@@ -69,6 +84,21 @@ abbrev pub IsMembership : Request → Function → List Expression → Sole → 
 IsMembership request function arguments s d = (looks : Looks) (definitions : List VariableDefinition) (references : ℕ)
     → apply_part looks request definitions references function arguments ≡ member_part looks request s d
 
+-- any-of of a function, a literal and the values of a designator: as is-in for no value (appendix A.3.12)
+abbrev pub any : Function → Value → Designator → List Value → Evaluated
+any f v d [] = if d.must_be_present then Indeterminate MissingAttribute else Known (One (Boolean false))
+any f v d (w ∷ ws) = Known (One (Boolean (list_any (is_true f v) (w ∷ ws))))
+
+-- a function of arguments is that
+abbrev pub IsAnyOf : Function → List Expression → Function → Value → Designator → Type 0
+IsAnyOf function arguments f v d = (looks : Looks) (request : Request) (definitions : List VariableDefinition) (references : ℕ)
+    → apply_part looks request definitions references function arguments ≡ mapped (any f v d) (demanded looks request d)
+
+-- where the function takes the arguments, one gives a boolean for a literal and values of that type
+abbrev pub AreTested : Function → List Expression → Function → Value → DataType → Type 0
+AreTested function arguments f v datatype = (definitions : List VariableDefinition) (references : ℕ)
+    → IsSome (apply_type definitions references function arguments) → Tests f v datatype
+
 -- what it comes to has the type of the function, where it takes the arguments
 abbrev pub HasItsType : Function → List Expression → Evaluated → Type 0
 HasItsType function arguments v = (definitions : List VariableDefinition) (references : ℕ)
@@ -77,3 +107,7 @@ HasItsType function arguments v = (definitions : List VariableDefinition) (refer
 -- a boolean has the type of the function, where it takes the arguments
 abbrev pub IsBoolean : Function → List Expression → Type 0
 IsBoolean function arguments = (v : Evaluated) → HasType (Some boolean) v → HasItsType function arguments v
+
+-- a value of the designator's type has the type of the function, where it takes the arguments
+abbrev pub IsOfItsType : Function → List Expression → Designator → Type 0
+IsOfItsType function arguments d = (v : Value) → datatype_of v ≡ d.datatype → HasItsType function arguments (Known (One v))

@@ -20,13 +20,13 @@ children-returns-in-Stop g t c =
     let same = kept g.L.LookUps.looks (λ looks request. child_part looks request c.args.hops (keys_of c.args.path.now) c.child-item.result) c.args.self.now c.loop-child.self c.loop-child.invariant.keeps in
     let keeps = keeps_on c.args.self.now c.loop-child.self c.next_child.new.self c.loop-child.invariant.keeps c.in_ok-progress.ensures.notes.keeps in
     record {
-      comes = comes or_nothing c.finish.result (children_combined (g.L.LookUps.looks c.args.self.now.held.now) c.args.self.now.request c.args.hops (keys_of c.args.path.now) c.args.algorithm c.args.children.now) c.args.self.now _
-          (IfOk-weaker c.finish.result _ _ (λ a is. last_child (keys_of c.args.path.now) c.args.algorithm (child_part (g.L.LookUps.looks c.args.self.now.held.now) c.args.self.now.request c.args.hops (keys_of c.args.path.now)) c.args.children.now c.loop-child.child-index c.child-item.result _ c.in_ok-progress.progress
+      comes = comes or_nothing c.finish.result (children_combined (g.L.LookUps.looks c.args.self.now.lender.held) c.args.self.now.lender.request c.args.hops (keys_of c.args.path.now) c.args.algorithm c.args.children.now) c.args.self.now _
+          (IfOk-weaker c.finish.result _ _ (λ a is. last_child (keys_of c.args.path.now) c.args.algorithm (child_part (g.L.LookUps.looks c.args.self.now.lender.held) c.args.self.now.lender.request c.args.hops (keys_of c.args.path.now)) c.args.children.now c.loop-child.child-index c.child-item.result _ c.in_ok-progress.progress
           c.loop-child.gathering c.next_child.new.gathering c.args.self.now.notes c.loop-child.self.notes c.next_child.new.self.notes
           c.loop-child-test.true c.child-item.is c.loop-child.invariant.going c.loop-child.invariant.gathered (ap (λ p. p.value) same) (c.in_ok-progress.ensures.notes.notes ∙ ap (λ p. noting c.loop-child.self.notes p.notes) same)
           c.in_ok-progress.ensures.gathered c.in_ok-progress.ensures.progress c.in-Stop.is (or_nothing a) is) c.finish.ensures.value)
           (on_ok c.finish.result _ (record {
-            notes = c.finish.ensures.notes ∙ last_notes (keys_of c.args.path.now) c.args.algorithm (child_part (g.L.LookUps.looks c.args.self.now.held.now) c.args.self.now.request c.args.hops (keys_of c.args.path.now)) c.args.children.now c.loop-child.child-index c.child-item.result _ c.in_ok-progress.progress
+            notes = c.finish.ensures.notes ∙ last_notes (keys_of c.args.path.now) c.args.algorithm (child_part (g.L.LookUps.looks c.args.self.now.lender.held) c.args.self.now.lender.request c.args.hops (keys_of c.args.path.now)) c.args.children.now c.loop-child.child-index c.child-item.result _ c.in_ok-progress.progress
                 c.loop-child.gathering c.next_child.new.gathering c.args.self.now.notes c.loop-child.self.notes c.next_child.new.self.notes
                 c.loop-child-test.true c.child-item.is c.loop-child.invariant.going c.loop-child.invariant.gathered (ap (λ p. p.value) same) (c.in_ok-progress.ensures.notes.notes ∙ ap (λ p. noting c.loop-child.self.notes p.notes) same)
                 c.in_ok-progress.ensures.gathered c.in_ok-progress.ensures.progress c.in-Stop.is;
@@ -38,7 +38,7 @@ pub children-loop-child-preserved : goal.children-loop-child-preserved
 children-loop-child-preserved g t c =
     let same = kept g.L.LookUps.looks (λ looks request. child_part looks request c.args.hops (keys_of c.args.path.now) c.child-item.result) c.args.self.now c.loop-child.self c.loop-child.invariant.keeps in
     let keeps = keeps_on c.args.self.now c.loop-child.self c.next_child.new.self c.loop-child.invariant.keeps c.in_ok-progress.ensures.notes.keeps in
-    let next = next_child c.args.algorithm (child_part (g.L.LookUps.looks c.args.self.now.held.now) c.args.self.now.request c.args.hops (keys_of c.args.path.now)) c.args.children.now c.loop-child.child-index c.child-item.result _ c.in_ok-progress.progress
+    let next = next_child c.args.algorithm (child_part (g.L.LookUps.looks c.args.self.now.lender.held) c.args.self.now.lender.request c.args.hops (keys_of c.args.path.now)) c.args.children.now c.loop-child.child-index c.child-item.result _ c.in_ok-progress.progress
     c.loop-child.gathering c.next_child.new.gathering c.args.self.now.notes c.loop-child.self.notes c.next_child.new.self.notes
     c.loop-child-test.true c.child-item.is c.loop-child.invariant.going c.loop-child.invariant.gathered (ap (λ p. p.value) same) (c.in_ok-progress.ensures.notes.notes ∙ ap (λ p. noting c.loop-child.self.notes p.notes) same)
     c.in_ok-progress.ensures.gathered c.in_ok-progress.ensures.progress c.in_default.is in
@@ -47,11 +47,11 @@ children-loop-child-preserved g t c =
 pub children-returns : goal.children-returns
 children-returns g t c =
     record {
-      comes = comes or_nothing c.finish-2.result (children_combined (g.L.LookUps.looks c.args.self.now.held.now) c.args.self.now.request c.args.hops (keys_of c.args.path.now) c.args.algorithm c.args.children.now) c.args.self.now _
-          (IfOk-weaker c.finish-2.result _ _ (λ a is. all_children c.args.algorithm (child_part (g.L.LookUps.looks c.args.self.now.held.now) c.args.self.now.request c.args.hops (keys_of c.args.path.now)) c.args.children.now c.loop-child.child-index c.args.self.now.notes c.loop-child.self.notes c.loop-child.invariant.going
+      comes = comes or_nothing c.finish-2.result (children_combined (g.L.LookUps.looks c.args.self.now.lender.held) c.args.self.now.lender.request c.args.hops (keys_of c.args.path.now) c.args.algorithm c.args.children.now) c.args.self.now _
+          (IfOk-weaker c.finish-2.result _ _ (λ a is. all_children c.args.algorithm (child_part (g.L.LookUps.looks c.args.self.now.lender.held) c.args.self.now.lender.request c.args.hops (keys_of c.args.path.now)) c.args.children.now c.loop-child.child-index c.args.self.now.notes c.loop-child.self.notes c.loop-child.invariant.going
           (omega (arith, c.loop-child-test.false)) (keys_of c.args.path.now) c.loop-child.gathering (or_nothing a) c.loop-child.invariant.gathered is) c.finish-2.ensures.value)
           (on_ok c.finish-2.result _ (record {
-            notes = c.finish-2.ensures.notes ∙ all_notes c.args.algorithm (child_part (g.L.LookUps.looks c.args.self.now.held.now) c.args.self.now.request c.args.hops (keys_of c.args.path.now)) c.args.children.now c.loop-child.child-index c.args.self.now.notes c.loop-child.self.notes c.loop-child.invariant.going
+            notes = c.finish-2.ensures.notes ∙ all_notes c.args.algorithm (child_part (g.L.LookUps.looks c.args.self.now.lender.held) c.args.self.now.lender.request c.args.hops (keys_of c.args.path.now)) c.args.children.now c.loop-child.child-index c.args.self.now.notes c.loop-child.self.notes c.loop-child.invariant.going
                 (omega (arith, c.loop-child-test.false));
             keeps = record { held = c.loop-child.invariant.keeps.held; request = c.loop-child.invariant.keeps.request };
           }));
@@ -60,14 +60,14 @@ children-returns g t c =
 pub children_under-returns-in-Shared : goal.children_under-returns-in-Shared
 children_under-returns-in-Shared g t c =
     record {
-      comes = comes_equal or_nothing c.children.result c.args.self.now c.children.new.self _ _ (shared-part (g.L.LookUps.looks c.args.self.now.held.now) c.args.self.now.request c.args.hops (keys_of c.args.path.now) c.args.set.now c.in-Shared.algorithm _
+      comes = comes_equal or_nothing c.children.result c.args.self.now c.children.new.self _ _ (shared-part (g.L.LookUps.looks c.args.self.now.lender.held) c.args.self.now.lender.request c.args.hops (keys_of c.args.path.now) c.args.set.now c.in-Shared.algorithm _
           c.as_slice.result.now c.in-Shared.is (keys_of_below _ _ _ _) c.as_slice.ensures) c.children.ensures.comes;
     }
 
 pub children_under-returns-in-OnlyOne : goal.children_under-returns-in-OnlyOne
 children_under-returns-in-OnlyOne g t c =
     record {
-      comes = comes_equal or_nothing c.only_one.result c.args.self.now c.only_one.new.self _ _ (only-part (g.L.LookUps.looks c.args.self.now.held.now) c.args.self.now.request c.args.hops (keys_of c.args.path.now) c.args.set.now _
+      comes = comes_equal or_nothing c.only_one.result c.args.self.now c.only_one.new.self _ _ (only-part (g.L.LookUps.looks c.args.self.now.lender.held) c.args.self.now.lender.request c.args.hops (keys_of c.args.path.now) c.args.set.now _
           c.as_slice-in-OnlyOne.result.now c.in-OnlyOne.is (keys_of_below _ _ _ _) c.as_slice-in-OnlyOne.ensures) c.only_one.ensures.comes;
     }
 
@@ -87,17 +87,17 @@ child-returns g t c =
 
 pub next_child-returns-in-Passed-clause-gathered : goal.next_child-returns-in-Passed-clause-gathered
 next_child-returns-in-Passed-clause-gathered g t c =
-    let left = left_part (g.L.LookUps.looks c.args.self.now.held.now) c.args.self.now.request (keys_of c.args.path.now) in
+    let left = left_part (g.L.LookUps.looks c.args.self.now.lender.held) c.args.self.now.lender.request (keys_of c.args.path.now) in
     subst (Gathers c.args.gathering.now c.pass.new.self) (ap (λ o. (left o).value) (sym c.in-Passed.is) ∙ (c.in_ok-opened.ensures.left (keys_of c.args.path.now)).0) c.pass.ensures.gathered
 
 pub next_child-returns-in-Passed-clause-progress : goal.next_child-returns-in-Passed-clause-progress
 next_child-returns-in-Passed-clause-progress g t c =
-    let left = left_part (g.L.LookUps.looks c.args.self.now.held.now) c.args.self.now.request (keys_of c.args.path.now) in
+    let left = left_part (g.L.LookUps.looks c.args.self.now.lender.held) c.args.self.now.lender.request (keys_of c.args.path.now) in
     subst (λ j. Tells c.args.gathering.now j c.pass.result) (ap (λ o. (left o).value) (sym c.in-Passed.is) ∙ (c.in_ok-opened.ensures.left (keys_of c.args.path.now)).0) c.pass.ensures.progress
 
 pub next_child-returns-in-Passed-clause-notes : goal.next_child-returns-in-Passed-clause-notes
 next_child-returns-in-Passed-clause-notes g t c =
-    let left = left_part (g.L.LookUps.looks c.args.self.now.held.now) c.args.self.now.request (keys_of c.args.path.now) in
+    let left = left_part (g.L.LookUps.looks c.args.self.now.lender.held) c.args.self.now.lender.request (keys_of c.args.path.now) in
     record {
       notes = ap (λ o. noting c.open.new.self.notes (left o).notes) (sym c.in-Passed.is) ∙ (c.in_ok-opened.ensures.left (keys_of c.args.path.now)).1;
       keeps = c.in_ok-opened.ensures.keeps;
@@ -132,7 +132,7 @@ next_left-returns-clause-notes g t c = on_ok c.take.result _ (record { notes = c
 
 pub judge-returns-in-Set : goal.judge-returns-in-Set
 judge-returns-in-Set g t c =
-    record { comes = comes_equal or_nothing c.set_after.result c.args.self.now c.set_after.new.self _ _ (ap (left_part (g.L.LookUps.looks c.args.self.now.held.now) c.args.self.now.request (keys_of c.args.path.now)) (sym c.in-Set.is)) c.set_after.ensures.comes }
+    record { comes = comes_equal or_nothing c.set_after.result c.args.self.now c.set_after.new.self _ _ (ap (left_part (g.L.LookUps.looks c.args.self.now.lender.held) c.args.self.now.lender.request (keys_of c.args.path.now)) (sym c.in-Set.is)) c.set_after.ensures.comes }
 
 pub set_after-returns : goal.set_after-returns
 set_after-returns g t c =

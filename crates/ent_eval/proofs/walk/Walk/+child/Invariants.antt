@@ -40,7 +40,7 @@ decreases-chosen_child g l = l.hops * worth_of_hop + 8 * goal.size-chosen_child 
 
 abbrev pub invariant-children-loop-child : goal.invariant-children-loop-child
 invariant-children-loop-child g l = record {
-  going : IsGoing (stops l.fn.algorithm) (child_part (g.L.LookUps.looks l.initial.self.held.now) l.initial.self.request l.fn.hops (keys_of l.path)) l.children l.child-index l.initial.self.notes l.self.notes;
-  gathered : HasGathered l.fn.algorithm l.gathering (values_to (child_part (g.L.LookUps.looks l.initial.self.held.now) l.initial.self.request l.fn.hops (keys_of l.path)) l.children l.child-index);
+  going : IsGoing (stops l.fn.algorithm) (child_part (g.L.LookUps.looks l.initial.self.lender.held) l.initial.self.lender.request l.fn.hops (keys_of l.path)) l.children l.child-index l.initial.self.notes l.self.notes;
+  gathered : HasGathered l.fn.algorithm l.gathering (values_to (child_part (g.L.LookUps.looks l.initial.self.lender.held) l.initial.self.lender.request l.fn.hops (keys_of l.path)) l.children l.child-index);
   keeps : Keeps l.initial.self l.self;
 }

@@ -16,7 +16,7 @@ decreases-variable g l = l.references * worth l.definitions.now
 
 abbrev pub invariant-application-loop-argument : goal.invariant-application-loop-argument
 invariant-application-loop-argument g l = record {
-  evaluated : AreEvaluated l.function (meaning (g.L.LookUps.looks l.initial.self.held.now) l.initial.self.request l.definitions l.references) (type_of l.definitions l.references) l.arguments l.argument-index l.evaluated
+  evaluated : AreEvaluated l.function (meaning (g.L.LookUps.looks l.initial.self.lender.held) l.initial.self.lender.request l.definitions l.references) (type_of l.definitions l.references) l.arguments l.argument-index l.evaluated
       l.initial.self.notes l.self.notes;
   keeps : Keeps l.initial.self l.self;
 }

@@ -15,7 +15,7 @@ pub loop-any_of-preserved : goal.loop-any_of-preserved
 loop-any_of-preserved g c =
     let came = came_from g.L.LookUps.looks (λ looks request. whole is_match one_matches (map (all_of_part looks request) c.as_slice.result.now)) c.args.self.now c.loop-any_of.self c.one_all_of.new.self c.in_ok-targeted.targeted c.loop-any_of.invariant.keeps c.in_ok-targeted.ensures.comes in
     record {
-      so_far = next_inner is_no_match is.Match (λ ms. whole is_match one_matches (map (all_of_part (g.L.LookUps.looks c.args.self.now.held.now) c.args.self.now.request) ms)) (λ (a : AnyOf). a.all_of) c.args.all.now other_than_no_match refl
+      so_far = next_inner is_no_match is.Match (λ ms. whole is_match one_matches (map (all_of_part (g.L.LookUps.looks c.args.self.now.lender.held) c.args.self.now.lender.request) ms)) (λ (a : AnyOf). a.all_of) c.args.all.now other_than_no_match refl
           c.loop-any_of.any_of-index c.any_of-item.result c.as_slice.result.now c.loop-any_of.so_far c.in_ok-targeted.targeted c.first_of-so_far.result c.args.self.now.notes c.loop-any_of.self.notes c.one_all_of.new.self.notes
           c.loop-any_of-test.true c.any_of-item.is c.loop-any_of.invariant.so_far c.as_slice.ensures came.value came.notes (isn't_no_match c.in_ok-targeted.targeted c.in_default.not-NoMatch)
           c.first_of-so_far.ensures;

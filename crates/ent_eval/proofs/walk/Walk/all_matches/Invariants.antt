@@ -6,6 +6,6 @@ use Rattle.ent_eval.proofs.walk.Walk.all_matches.Given as goal
 
 abbrev pub invariant-loop-test : goal.invariant-loop-test
 invariant-loop-test g l = record {
-  so_far : IsSoFar is_no_match is.Match (match_part (g.L.LookUps.looks l.initial.self.held.now) l.initial.self.request) l.matches l.test-index l.so_far l.initial.self.notes l.self.notes;
+  so_far : IsSoFar is_no_match is.Match (match_part (g.L.LookUps.looks l.initial.self.lender.held) l.initial.self.lender.request) l.matches l.test-index l.so_far l.initial.self.notes l.self.notes;
   keeps : Keeps l.initial.self l.self;
 }

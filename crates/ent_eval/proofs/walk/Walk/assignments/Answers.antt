@@ -11,7 +11,7 @@ use Rattle.ent_eval.proofs.walk.Walk.assignments.Goals as goal
 
 pub loop-expression-init : goal.loop-expression-init
 loop-expression-init g c =
-    record { giving = starts (assignment_part (g.L.LookUps.looks c.args.self.now.held.now) c.args.self.now.request c.args.definitions.now) c.args.expressions.now c.in_ok-assignments.assignments c.args.self.now.notes c.in_ok-assignments.ensures; keeps = record { held = refl; request = refl } }
+    record { giving = starts (assignment_part (g.L.LookUps.looks c.args.self.now.lender.held) c.args.self.now.lender.request c.args.definitions.now) c.args.expressions.now c.in_ok-assignments.assignments c.args.self.now.notes c.in_ok-assignments.ensures; keeps = record { held = refl; request = refl } }
 
 pub loop-expression-preserved : goal.loop-expression-preserved
 loop-expression-preserved g c =
@@ -20,7 +20,7 @@ loop-expression-preserved g c =
     let keeps = keeps_on c.args.self.now c.loop-expression.self c.assign.new.self c.loop-expression.invariant.keeps c.in_ok-stopped.ensures.notes.keeps in
     record {
       keeps = keeps;
-      giving = gives_on (assignment_part (g.L.LookUps.looks c.args.self.now.held.now) c.args.self.now.request c.args.definitions.now) c.args.expressions.now c.loop-expression.expression-index c.loop-expression.assignments
+      giving = gives_on (assignment_part (g.L.LookUps.looks c.args.self.now.lender.held) c.args.self.now.lender.request c.args.definitions.now) c.args.expressions.now c.loop-expression.expression-index c.loop-expression.assignments
           c.args.self.now.notes c.loop-expression.self.notes c.loop-expression.invariant.giving c.expression-item.result c.assign.new.assignments c.assign.new.self.notes c.loop-expression-test.true c.expression-item.is
           (ap (added c.assign.new.assignments) (sym c.in_default.is) ∙ c.in_ok-stopped.ensures.value ∙ ap (joined_with c.loop-expression.assignments) same) (c.in_ok-stopped.ensures.notes.notes ∙ ap (λ p. noting c.loop-expression.self.notes p.notes) same);
     }
@@ -32,11 +32,11 @@ returns-in-Some g c =
     let keeps = keeps_on c.args.self.now c.loop-expression.self c.assign.new.self c.loop-expression.invariant.keeps c.in_ok-stopped.ensures.notes.keeps in
     record {
       comes = record {
-        value = stopped-value (assignment_part (g.L.LookUps.looks c.args.self.now.held.now) c.args.self.now.request c.args.definitions.now) c.args.expressions.now c.loop-expression.expression-index c.loop-expression.assignments
+        value = stopped-value (assignment_part (g.L.LookUps.looks c.args.self.now.lender.held) c.args.self.now.lender.request c.args.definitions.now) c.args.expressions.now c.loop-expression.expression-index c.loop-expression.assignments
             c.args.self.now.notes c.loop-expression.self.notes c.loop-expression.invariant.giving c.expression-item.result c.in-Some.status c.loop-expression-test.true c.expression-item.is
             (ap (added c.assign.new.assignments) (sym c.in-Some.is) ∙ c.in_ok-stopped.ensures.value ∙ ap (joined_with c.loop-expression.assignments) same);
         keeps = keeps;
-        notes = stopped-notes (assignment_part (g.L.LookUps.looks c.args.self.now.held.now) c.args.self.now.request c.args.definitions.now) c.args.expressions.now c.loop-expression.expression-index c.loop-expression.assignments
+        notes = stopped-notes (assignment_part (g.L.LookUps.looks c.args.self.now.lender.held) c.args.self.now.lender.request c.args.definitions.now) c.args.expressions.now c.loop-expression.expression-index c.loop-expression.assignments
             c.args.self.now.notes c.loop-expression.self.notes c.loop-expression.invariant.giving c.expression-item.result c.in-Some.status c.assign.new.self.notes c.loop-expression-test.true c.expression-item.is
             (ap (added c.assign.new.assignments) (sym c.in-Some.is) ∙ c.in_ok-stopped.ensures.value ∙ ap (joined_with c.loop-expression.assignments) same) (c.in_ok-stopped.ensures.notes.notes ∙ ap (λ p. noting c.loop-expression.self.notes p.notes) same);
       };
@@ -46,10 +46,10 @@ pub returns : goal.returns
 returns g c =
     record {
       comes = record {
-        value = whole-value (assignment_part (g.L.LookUps.looks c.args.self.now.held.now) c.args.self.now.request c.args.definitions.now) c.args.expressions.now c.loop-expression.expression-index c.loop-expression.assignments
+        value = whole-value (assignment_part (g.L.LookUps.looks c.args.self.now.lender.held) c.args.self.now.lender.request c.args.definitions.now) c.args.expressions.now c.loop-expression.expression-index c.loop-expression.assignments
             c.args.self.now.notes c.loop-expression.self.notes c.loop-expression.invariant.giving (omega (arith, c.loop-expression-test.false));
         keeps = c.loop-expression.invariant.keeps;
-        notes = whole-notes (assignment_part (g.L.LookUps.looks c.args.self.now.held.now) c.args.self.now.request c.args.definitions.now) c.args.expressions.now c.loop-expression.expression-index c.loop-expression.assignments
+        notes = whole-notes (assignment_part (g.L.LookUps.looks c.args.self.now.lender.held) c.args.self.now.lender.request c.args.definitions.now) c.args.expressions.now c.loop-expression.expression-index c.loop-expression.assignments
             c.args.self.now.notes c.loop-expression.self.notes c.loop-expression.invariant.giving (omega (arith, c.loop-expression-test.false));
       };
     }

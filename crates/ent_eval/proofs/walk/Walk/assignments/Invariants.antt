@@ -5,6 +5,6 @@ use Rattle.ent_eval.proofs.walk.Walk.assignments.Given as goal
 
 abbrev pub invariant-loop-expression : goal.invariant-loop-expression
 invariant-loop-expression g l = record {
-  giving : IsGiving (assignment_part (g.L.LookUps.looks l.initial.self.held.now) l.initial.self.request l.definitions) l.expressions l.expression-index l.assignments l.initial.self.notes l.self.notes;
+  giving : IsGiving (assignment_part (g.L.LookUps.looks l.initial.self.lender.held) l.initial.self.lender.request l.definitions) l.expressions l.expression-index l.assignments l.initial.self.notes l.self.notes;
   keeps : Keeps l.initial.self l.self;
 }

@@ -5,6 +5,6 @@ use Rattle.ent_eval.proofs.walk.Walk.choose.Given as goal
 
 abbrev pub invariant-loop-child : goal.invariant-loop-child
 invariant-loop-child g l = record {
-  choosing : IsChoosing (child_target (g.L.LookUps.looks l.initial.self.held.now) l.initial.self.request l.fn.hops) l.children l.child-index l.chooser l.initial.self.notes l.self.notes;
+  choosing : IsChoosing (child_target (g.L.LookUps.looks l.initial.self.lender.held) l.initial.self.lender.request l.fn.hops) l.children l.child-index l.chooser l.initial.self.notes l.self.notes;
   keeps : Keeps l.initial.self l.self;
 }

@@ -21,8 +21,8 @@ returns g c =
     let given : c.unwrap_or.result ≡ or_nothing c.in_ok-answer.answer = search rules in
     record {
       comes = record {
-        value = given ∙ came.value ∙ left.0 ∙ ap (λ (path : List DocKey). (followed_part (looks start.held.now) start.request c.args.hops path c.args.reference.now).value) keys_of_root;
-        notes = came.notes ∙ left.1 ∙ ap (λ (path : List DocKey). noting start.notes (followed_part (looks start.held.now) start.request c.args.hops path c.args.reference.now).notes) keys_of_root;
+        value = given ∙ came.value ∙ left.0 ∙ ap (λ (path : List DocKey). (followed_part (looks start.lender.held) start.lender.request c.args.hops path c.args.reference.now).value) keys_of_root;
+        notes = came.notes ∙ left.1 ∙ ap (λ (path : List DocKey). noting start.notes (followed_part (looks start.lender.held) start.lender.request c.args.hops path c.args.reference.now).notes) keys_of_root;
         keeps = keeps_on start between after c.in_ok-opened.ensures.keeps came.keeps;
       };
     }

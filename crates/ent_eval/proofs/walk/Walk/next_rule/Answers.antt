@@ -10,8 +10,8 @@ use Rattle.ent_eval.proofs.walk.Walk.next_rule.Goals as goal
 
 pub in_rule-requires-clause-looked : goal.in_rule-requires-clause-looked
 in_rule-requires-clause-looked g c =
-    let looks = g.L.LookUps.looks c.args.self.now.held.now in
-    let has = looked_same looks c.args.self.now.request c.args.self.now.notes c.enter_rule.new.self.notes c.args.looked.now (ap (λ n. n.questions) c.in_ok-outer.ensures.notes) c.requires.looked in
+    let looks = g.L.LookUps.looks c.args.self.now.lender.held in
+    let has = looked_same looks c.args.self.now.lender.request c.args.self.now.notes c.enter_rule.new.self.notes c.args.looked.now (ap (λ n. n.questions) c.in_ok-outer.ensures.notes) c.requires.looked in
     looked_kept g.L.LookUps.looks c.args.self.now c.enter_rule.new.self c.enter_rule.new.self.notes c.args.looked.now c.in_ok-outer.ensures.keeps has
 
 pub returns-clause-gathered : goal.returns-clause-gathered
@@ -33,6 +33,6 @@ returns-clause-notes g c =
 
 pub returns-clause-looked : goal.returns-clause-looked
 returns-clause-looked g c =
-    let looks = g.L.LookUps.looks c.args.self.now.held.now in
+    let looks = g.L.LookUps.looks c.args.self.now.lender.held in
     let has = looked_back g.L.LookUps.looks c.args.self.now c.enter_rule.new.self c.in_rule.new.self.notes c.in_rule.new.looked c.in_ok-outer.ensures.keeps c.in_ok-progress.ensures.looked in
-    looked_same looks c.args.self.now.request c.in_rule.new.self.notes c.leave_rule.new.self.notes c.in_rule.new.looked (ap (λ n. n.questions) c.leave_rule.ensures.notes) has
+    looked_same looks c.args.self.now.lender.request c.in_rule.new.self.notes c.leave_rule.new.self.notes c.in_rule.new.looked (ap (λ n. n.questions) c.leave_rule.ensures.notes) has

@@ -15,7 +15,7 @@ pub loop-all_of-preserved : goal.loop-all_of-preserved
 loop-all_of-preserved g c =
     let came = came_from g.L.LookUps.looks (λ looks request. whole is_no_match all_match (map (match_part looks request) c.as_slice.result.now)) c.args.self.now c.loop-all_of.self c.all_matches.new.self c.in_ok-targeted.targeted c.loop-all_of.invariant.keeps c.in_ok-targeted.ensures.comes in
     record {
-      so_far = next_inner is_match is.NoMatch (λ ms. whole is_no_match all_match (map (match_part (g.L.LookUps.looks c.args.self.now.held.now) c.args.self.now.request) ms)) (λ (a : AllOf). a.matches) c.args.alternatives.now other_than_match refl
+      so_far = next_inner is_match is.NoMatch (λ ms. whole is_no_match all_match (map (match_part (g.L.LookUps.looks c.args.self.now.lender.held) c.args.self.now.lender.request) ms)) (λ (a : AllOf). a.matches) c.args.alternatives.now other_than_match refl
           c.loop-all_of.all_of-index c.all_of-item.result c.as_slice.result.now c.loop-all_of.so_far c.in_ok-targeted.targeted c.first_of-so_far.result c.args.self.now.notes c.loop-all_of.self.notes c.all_matches.new.self.notes
           c.loop-all_of-test.true c.all_of-item.is c.loop-all_of.invariant.so_far c.as_slice.ensures came.value came.notes (isn't_match c.in_ok-targeted.targeted c.in_default.not-Match)
           c.first_of-so_far.ensures;

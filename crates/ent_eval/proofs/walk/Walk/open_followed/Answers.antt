@@ -19,8 +19,8 @@ open_tree-requires-clause-shallow g c = shallow_tree c.tree.result.now c.tree.en
 
 pub returns-in-Some-clause-left : goal.returns-in-Some-clause-left
 returns-in-Some-clause-left g c =
-    let looks = g.L.LookUps.looks c.args.self.now.held.now in
-    let request = c.args.self.now.request in
+    let looks = g.L.LookUps.looks c.args.self.now.lender.held in
+    let request = c.args.self.now.lender.request in
     let hops = c.args.hops in
     let tree = c.tree.result.now in
     let reference = c.args.reference.now in

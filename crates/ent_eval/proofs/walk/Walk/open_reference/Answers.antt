@@ -7,7 +7,7 @@ use Rattle.ent_eval.proofs.walk.Walk.open_reference.Goals as goal
 
 pub returns-clause-left : goal.returns-clause-left
 returns-clause-left g c =
-    let looks = g.L.LookUps.looks c.args.self.now.held.now in
-    let request = c.args.self.now.request in
+    let looks = g.L.LookUps.looks c.args.self.now.lender.held in
+    let request = c.args.self.now.lender.request in
     IfOk-weaker c.open_followed.result _ _ (λ o left path. left_of_equal _ _ (left_part looks request path o) c.args.self.now.notes c.open_followed.new.self.notes
     (answer_followed looks request c.args.hops c.args.reference.now (omega (arith, c.if-hops-eq0.false)) path) (left path)) c.open_followed.ensures.left

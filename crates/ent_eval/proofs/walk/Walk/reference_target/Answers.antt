@@ -13,8 +13,8 @@ tree_target-requires g c = sound_fit c.tree.result.now c.tree.ensures.sound c.tr
 
 pub returns-in-Some : goal.returns-in-Some
 returns-in-Some g c =
-    let looks = g.L.LookUps.looks c.args.self.now.held.now in
-    let request = c.args.self.now.request in
+    let looks = g.L.LookUps.looks c.args.self.now.lender.held in
+    let request = c.args.self.now.lender.request in
     let hops = c.args.hops in
     let tree = c.tree.result.now in
     let reference = c.args.reference.now in

@@ -9,8 +9,8 @@ use Rattle.ent_eval.proofs.walk.Walk.rules.Given as goal
 
 abbrev pub invariant-loop-rule : goal.invariant-loop-rule
 invariant-loop-rule g l = record {
-  going : IsGoing (stops l.fn.algorithm) (rule_part (g.L.LookUps.looks l.initial.self.held.now) l.initial.self.request l.fn.within.definitions.now (keys_of l.fn.within.path.now)) l.rules l.rule-index l.initial.self.notes l.self.notes;
-  gathered : HasGathered l.fn.algorithm l.gathering (values_to (rule_part (g.L.LookUps.looks l.initial.self.held.now) l.initial.self.request l.fn.within.definitions.now (keys_of l.fn.within.path.now)) l.rules l.rule-index);
+  going : IsGoing (stops l.fn.algorithm) (rule_part (g.L.LookUps.looks l.initial.self.lender.held) l.initial.self.lender.request l.fn.within.definitions.now (keys_of l.fn.within.path.now)) l.rules l.rule-index l.initial.self.notes l.self.notes;
+  gathered : HasGathered l.fn.algorithm l.gathering (values_to (rule_part (g.L.LookUps.looks l.initial.self.lender.held) l.initial.self.lender.request l.fn.within.definitions.now (keys_of l.fn.within.path.now)) l.rules l.rule-index);
   keeps : Keeps l.initial.self l.self;
-  looked : AreLooked (g.L.LookUps.looks l.initial.self.held.now) l.initial.self.request l.self.notes l.looked;
+  looked : AreLooked (g.L.LookUps.looks l.initial.self.lender.held) l.initial.self.lender.request l.self.notes l.looked;
 }

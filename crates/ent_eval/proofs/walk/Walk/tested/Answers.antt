@@ -12,8 +12,8 @@ use Rattle.ent_eval.proofs.walk.Walk.tested.Goals as goal
 
 pub returns-in-Some-clause-comes : goal.returns-in-Some-clause-comes
 returns-in-Some-clause-comes g c =
-    let looks = g.L.LookUps.looks c.args.self.now.held.now in
-    let request = c.args.self.now.request in
+    let looks = g.L.LookUps.looks c.args.self.now.lender.held in
+    let request = c.args.self.now.lender.request in
     let same = application-part looks request c.args.definitions.now c.args.references c.args.expression.now c.in-Apply.function c.in-Apply.arguments c.as_slice-arguments.result.now c.in-Apply.is c.as_slice-arguments.ensures in
     let told = subst (λ q. apply_part looks q c.args.definitions.now c.args.references c.in-Apply.function c.as_slice-arguments.result.now ≡ member_part looks q c.in-Some.sole c.in-Some.designator.now) c.request-request.ensures
     (c.in-Some.ensures.value looks c.args.definitions.now c.args.references) in
@@ -26,7 +26,7 @@ returns-in-Some-clause-typed g c =
 
 pub returns-clause-looked : goal.returns-clause-looked
 returns-clause-looked g c =
-    let looks = g.L.LookUps.looks c.args.self.now.held.now in
-    let request = c.args.self.now.request in
+    let looks = g.L.LookUps.looks c.args.self.now.lender.held in
+    let request = c.args.self.now.lender.request in
     looked_behind looks request (λ v. v) c.expression.result (meaning looks request c.args.definitions.now c.args.references c.args.expression.now) c.args.self.now c.expression.new.self
     c.args.looked.now c.requires.looked c.expression.ensures.comes

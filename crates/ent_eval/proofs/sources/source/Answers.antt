@@ -4,9 +4,9 @@ use Rattle.ent_values.specs.declared.datatype.DataType.TheVariants as types
 use Rattle.ent_eval.specs.Sources.{asks_for}
 use Rattle.ent_eval.specs.Uris as uris
 use Rattle.ent_eval.proofs.Sourced.{dated}
-use Rattle.ent_eval.proofs.walk.Walk.source.Goals as goal
+use Rattle.ent_eval.proofs.sources.source.Goals as goal
 
 pub returns-then-asks_for : goal.returns-then-asks_for
 returns-then-asks_for g c =
     let asks : asks_for uris.current_date types.Date c.args.designator.now ≡ true = search rules in
-    IfOk-weaker c.dates.result _ _ (λ b is. is ∙ dated (g.L.LookUps.looks c.args.self.now.held.now) c.args.self.now.request c.args.designator.now asks) c.dates.ensures
+    IfOk-weaker c.dates.result _ _ (λ b is. is ∙ dated (g.L.LookUps.looks c.args.held.now) c.args.request.now c.args.designator.now asks) c.dates.ensures
