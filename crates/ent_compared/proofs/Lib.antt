@@ -1,0 +1,17 @@
+pub mod Alike
+pub mod Cells
+pub mod Compared
+pub mod Differences
+pub mod GoodAnswers
+pub mod GoodExpressions
+pub mod GoodFunctions
+pub mod GoodHeld
+pub mod GoodParts
+pub mod GoodTargets
+pub mod GoodTold
+pub mod Laws
+pub mod Names
+pub mod Rows
+pub mod Tables
+pub mod Tests
+pub mod Told

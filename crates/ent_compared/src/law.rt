@@ -1,0 +1,16 @@
+//! Laws of what is told of two tables, with nothing to run.
+
+ghost use Rattle.ent_compared.specs.Laws.{DifferencesAreTold, NothingIsToldOfTheSame};
+
+/// A law, with nothing to run: whatever was asked of two services that held nothing at their start, of what they reply
+/// to `table` the difference of their tables is told: each request whose decision is another, or that one of them alone
+/// has, and then each whose decision is the same and anything else of its cell another, each with both cells.
+pub fn differences_are_told()
+    ensures { DifferencesAreTold }
+{}
+
+/// A law, with nothing to run: no change is told of the replies to `table` of two such services exactly where both
+/// tables have the same cells at the same requests.
+pub fn nothing_is_told_of_the_same()
+    ensures { NothingIsToldOfTheSame }
+{}
