@@ -108,6 +108,22 @@ fn push_line(
     Ok(())
 }
 
+/// Puts a line on a place behind others: what value is expected there, a word, and what stands there.
+fn push_expected(
+    alloc: Global,
+    place: &[u8],
+    expected: &Value,
+    word: &[u8],
+    found: &[u8],
+    told: &mut Vec<Vec<u8>>,
+) -> Result<(), AllocError>
+    ensures { OnOk result (map (λ v. v.items) told.new.items ≡ map (λ v. v.items) told.old.items
+        ++ told_of place.now (shown (view expected.now)) word.now found.now ∷ []) }
+{
+    let wanted = shown(alloc, expected)?;
+    push_line(alloc, place, wanted.as_slice(), word, found, told)
+}
+
 /// Tells that another value stands at a place than is expected, unless the one that is expected does.
 pub(crate) fn tell_another(
     alloc: Global,
@@ -123,12 +139,11 @@ pub(crate) fn tell_another(
     if stands {
         return Ok(());
     }
-    let wanted = shown(alloc, expected)?;
     let replied = shown(alloc, value)?;
-    push_line(
+    push_expected(
         alloc,
         place,
-        wanted.as_slice(),
+        expected,
         b", replied ",
         replied.as_slice(),
         told,
@@ -145,15 +160,7 @@ pub(crate) fn tell_nothing(
     ensures { OnOk result (map (λ v. v.items) told.new.items ≡ map (λ v. v.items) told.old.items
         ++ nothing place.now (view expected.now) ∷ []) }
 {
-    let wanted = shown(alloc, expected)?;
-    push_line(
-        alloc,
-        place,
-        wanted.as_slice(),
-        b", nothing there",
-        b"",
-        told,
-    )
+    push_expected(alloc, place, expected, b", nothing there", b"", told)
 }
 
 /// Tells that a value stands at a place, unless one is expected there.
@@ -195,13 +202,5 @@ pub(crate) fn tell_unlike(
     if is_there {
         return Ok(());
     }
-    let wanted = shown(alloc, expected)?;
-    push_line(
-        alloc,
-        place,
-        wanted.as_slice(),
-        b", no member has it",
-        b"",
-        told,
-    )
+    push_expected(alloc, place, expected, b", no member has it", b"", told)
 }
