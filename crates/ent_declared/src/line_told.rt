@@ -111,8 +111,8 @@ impl FaultyLine {
         }
     }
 
-    /// One line without its end: the number of the line, and what is wrong with it. The text of the line, the attributes
-    /// and the names are to be those by which it was found.
+    /// One line without its end: the number of the line, and what is wrong with it. The text of the line, the
+    /// attributes and the names are to be those by which it was found.
     ///
     /// # Errors
     ///

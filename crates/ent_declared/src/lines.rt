@@ -5,7 +5,8 @@ ghost use Rattle.std.specs.List.{list_any};
 ghost use Rattle.serde_json.specs.Find.{as_array, get};
 ghost use Rattle.serde_json.specs.View.{items_of};
 ghost use Rattle.ent_declared.specs.Lines.{bad_value_from, category_of, fault_of, fault_of_data};
-ghost use Rattle.ent_declared.specs.Lines.{fault_of_setting, faulty_from, is_bad_value, is_set_as, is_setting, setting_of};
+ghost use Rattle.ent_declared.specs.Lines.{fault_of_setting, faulty_from, is_bad_value, is_set_as, is_setting};
+ghost use Rattle.ent_declared.specs.Lines.{setting_of};
 ghost use Rattle.ent_declared.specs.proofs_only.Settings.{setting_view};
 
 use crate::always::{ACCESS_SUBJECT, ACTION, RESOURCE};

@@ -127,7 +127,8 @@ impl Listed {
     /// `AllocError` if memory runs out: then some may have been added.
     pub fn read(&mut self, alloc: Global, lines: &[&[u8]]) -> Result<(), AllocError>
         ensures { OnOk result ((name : Named)
-            → has_name name self.new ≡ (has_name name self.old || has_name name (names_in (map (λ l. l.now) lines.now)))) }
+            → has_name name self.new
+            ≡ (has_name name self.old || has_name name (names_in (map (λ l. l.now) lines.now)))) }
     {
         add_all(alloc, &mut self.names, lines)
     }

@@ -4,7 +4,8 @@ ghost use Rattle.std.specs.Prelude.{◌≡◌, ◌++◌, IfOk, codes, map, optio
 ghost use Rattle.serde_json.specs.Find.{get};
 ghost use Rattle.serde_json.specs.View.{items_of};
 ghost use Rattle.ent_policy.specs.Names.{name_of};
-ghost use Rattle.ent_declared.specs.Attributes.{always, attribute_of, attributes_from, attributes_of, behind, issuer_of};
+ghost use Rattle.ent_declared.specs.Attributes.{always, attribute_of, attributes_from, attributes_of, behind};
+ghost use Rattle.ent_declared.specs.Attributes.{issuer_of};
 ghost use Rattle.ent_declared.specs.Attributes.{name_at, values_from, values_of};
 
 use crate::always::always;

@@ -86,8 +86,8 @@ impl Undeclared {
     }
 
     /// One line without its end: the place of the designator or of the literal, as a JSON pointer, the line and the
-    /// column if they are known, which attribute isn't declared or which value isn't listed, and the nearest that is, if
-    /// one is near.
+    /// column if they are known, which attribute isn't declared or which value isn't listed, and the nearest that is,
+    /// if one is near.
     ///
     /// # Errors
     ///

@@ -75,7 +75,8 @@ fn in_part<J: JsonTree>(
     json: &J,
     attributes: &[Attribute],
 ) -> Result<Option<Undeclared>, AllocError>
-    ensures { IfOk result (λ o. (scope : Scope) → Finds attributes.now (spot pointer.now part scope (J.content json.now)) o) }
+    ensures { IfOk result (λ o. (scope : Scope)
+        → Finds attributes.now (spot pointer.now part scope (J.content json.now)) o) }
 {
     if let Some(found) = here(alloc, pointer, part, json, attributes)? {
         return Ok(Some(found));
@@ -95,7 +96,8 @@ fn at_keys<J: JsonTree>(
     json: &J,
     attributes: &[Attribute],
 ) -> Result<Option<Undeclared>, AllocError>
-    ensures { IfOk result (λ o. (scope : Scope) → FindsIn attributes.now (at_keys (spot pointer.now part scope (J.content json.now))) o) }
+    ensures { IfOk result (λ o. (scope : Scope)
+        → FindsIn attributes.now (at_keys (spot pointer.now part scope (J.content json.now))) o) }
 {
     for row in part.rows() {
         if let Some(found) = at_key(alloc, pointer, *row, part, json, attributes)? {
@@ -116,7 +118,8 @@ fn at_key<J: JsonTree>(
     attributes: &[Attribute],
 ) -> Result<Option<Undeclared>, AllocError>
     ensures { IfOk result (λ o. (scope : Scope) → FindsIn attributes.now
-        (at_key (spot pointer.now part scope (J.content json.now)) (row.entry.0.now, row.entry.1) (get row.entry.0.now (J.content json.now))) o) }
+        (at_key (spot pointer.now part scope (J.content json.now)) (row.entry.0.now, row.entry.1)
+        (get row.entry.0.now (J.content json.now))) o) }
 {
     let key = row.0;
     match json.get(key) {
@@ -171,8 +174,8 @@ fn at_number<J: JsonTree>(
     in_part(alloc, inner.as_str(), part, json, attributes)
 }
 
-/// What is first wrong with a document by the attributes: a designator that asks for values of none of them, or a literal
-/// with which one is compared for whose attribute values are listed, and not this one. Parts are gone through as
+/// What is first wrong with a document by the attributes: a designator that asks for values of none of them, or a
+/// literal with which one is compared for whose attribute values are listed, and not this one. Parts are gone through as
 /// docs/POLICIES.md has them, in the order of its sections, and lists in theirs; a part before those inside of it.
 ///
 /// # Errors

@@ -141,8 +141,8 @@ fn push_suites(alloc: Global, suites: &[Suite<'_>], text: &mut Vec<u8>) -> Resul
     Ok(())
 }
 
-/// What became of the tests of files, as JUnit XML: a suite for each file, and in it a case for each test, with what was
-/// told of it where it failed. What was told of a file whose tests couldn't run is an error of its suite.
+/// What became of the tests of files, as JUnit XML: a suite for each file, and in it a case for each test, with what
+/// was told of it where it failed. What was told of a file whose tests couldn't run is an error of its suite.
 ///
 /// # Errors
 ///

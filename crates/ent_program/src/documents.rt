@@ -78,8 +78,8 @@ fn tell_each<R: Eprint + AllocGlobal>(
     Ok(explained.lines.len())
 }
 
-/// Says on standard error what is wrong with a file, if anything is, and where in it: all of it, or what is first. Gives
-/// how much was told.
+/// Says on standard error what is wrong with a file, if anything is, and where in it: all of it, or what is first.
+/// Gives how much was told.
 fn tell_refused<R: Eprint + AllocGlobal>(
     rt: &R,
     source: Source<'_>,

@@ -75,8 +75,8 @@ fn told_lines<R: Eprint + AllocGlobal>(
     Ok(faulty.len())
 }
 
-/// Compares the lines of a source with the attributes that are declared, says on standard error what is wrong with them,
-/// and gives how many are wrong; or the exit status where that can't be said.
+/// Compares the lines of a source with the attributes that are declared, says on standard error what is wrong with
+/// them, and gives how many are wrong; or the exit status where that can't be said.
 pub(crate) fn check_lines<R: Files + Input + Eprint + AllocGlobal>(
     rt: &R,
     source: Source<'_>,

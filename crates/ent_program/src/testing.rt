@@ -6,7 +6,8 @@ ghost use Rattle.std.specs.Io.KnownBytes.{Appends};
 ghost use Rattle.ent_line.specs.declared.fault.ServeFault.TheVariants.{Memory, Read};
 ghost use Rattle.ent_program.specs.Starting.{IsFew};
 ghost use Rattle.ent_program.specs.Testing.{AreRepliesTo, Tests, TestsBytes, TestsEach, asked, case_of, few};
-ghost use Rattle.ent_program.specs.Testing.{has_expected, is_chosen, passed, passes, sent_to, sure, told_of, told_of_test};
+ghost use Rattle.ent_program.specs.Testing.{has_expected, is_chosen, passed, passes, sent_to, sure, told_of};
+ghost use Rattle.ent_program.specs.Testing.{told_of_test};
 ghost use Rattle.ent_program.specs.Comparing.{are_sure};
 
 use crate::comparing::{compare, tell};
@@ -222,7 +223,8 @@ fn run_one<W: Write>(
 ) -> Result<Case, ServeFault>
     ensures ran { IfOk result (λ test. (replies : List ℕ)
         × AreRepliesTo session.now.modules (sent_to plan.entry.state.now session.now) replies
-        × (sure plan.entry (session.now, replies) ≡ true) × (test ≡ case_of name.now plan.entry (session.now, replies))) }
+        × (sure plan.entry (session.now, replies) ≡ true)
+        × (test ≡ case_of name.now plan.entry (session.now, replies))) }
     ensures told { IfOk result (λ test. Appends (W.contents writer.old) (W.contents writer.new) test.told) }
     ensures fault { IfErr result (λ e. e ≢ Read) }
 {

@@ -142,9 +142,9 @@ impl<A: Attributes, P: Policies> Desk<A, P> {
         self.review.ask(request)
     }
 
-    /// The answer to any request, listed or not, with the look-ups that it rests on, each once, and its causes: the parts
-    /// that came to Indeterminate by themselves, in the order of evaluation. The answer is that of `ask`, and the call
-    /// counts as that does.
+    /// The answer to any request, listed or not, with the look-ups that it rests on, each once, and its causes: the
+    /// parts that came to Indeterminate by themselves, in the order of evaluation. The answer is that of `ask`, and the
+    /// call counts as that does.
     ///
     /// # Errors
     ///

@@ -12,9 +12,9 @@ use ent_finder::{Attributes, Policies};
 use std::alloc::AllocError;
 
 impl<A: Attributes, P: Policies> Review<A, P> {
-    /// The answer to any request, listed or not, with the look-ups that it rests on, each once, and its causes: the parts
-    /// that came to Indeterminate by themselves, in the order of evaluation. The answer is that of [`Review::ask`], and
-    /// the call counts as that does.
+    /// The answer to any request, listed or not, with the look-ups that it rests on, each once, and its causes: the
+    /// parts that came to Indeterminate by themselves, in the order of evaluation. The answer is that of
+    /// [`Review::ask`], and the call counts as that does.
     ///
     /// # Errors
     ///

@@ -173,7 +173,8 @@ impl Links {
         ensures endless { IfOk result (λ l.
             l.endless.items ≡ map (λ e. is_endless (held docs.now) e.1) (entries (held docs.now))) }
         ensures followed { IfOk result (λ l.
-            l.followed.items ≡ map (λ e. min (followed (held docs.now) steps e.1) (2 ^ 64 - 1)) (entries (held docs.now))) }
+            l.followed.items
+            ≡ map (λ e. min (followed (held docs.now) steps e.1) (2 ^ 64 - 1)) (entries (held docs.now))) }
     {
         let all = held_in(alloc, docs)?;
         let rows = rows(alloc, docs, all.as_slice())?;

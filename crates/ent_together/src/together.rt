@@ -268,7 +268,8 @@ impl<'a> Together<'a> {
     /// `AllocError` if memory runs out.
     pub fn told(self) -> Result<Told, AllocError>
         ensures { IfOk result (λ told. vec_len told.faults
-            ≡ faults_together (held self.entry.state.docs) + root_faults (held self.entry.state.docs) self.entry.state.root) }
+            ≡ faults_together (held self.entry.state.docs)
+            + root_faults (held self.entry.state.docs) self.entry.state.root) }
     {
         let alloc = self.alloc;
         let links = Links::of(alloc, &self.state.docs, MOST_HOPS + 1, MOST_HOPS)?;

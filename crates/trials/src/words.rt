@@ -75,35 +75,43 @@ const TAKEN: &[(&[&str], &str)] = &[
     ),
     (
         &["check", "serve"],
-        "Check(AskedCheck { files: [\"serve\"], attributes: None, stored: None, lines: None, is_all: false, is_strict: false })",
+        "Check(AskedCheck { files: [\"serve\"], attributes: None, \
+         stored: None, lines: None, is_all: false, is_strict: false })",
     ),
     (
         &["check", "-"],
-        "Check(AskedCheck { files: [\"-\"], attributes: None, stored: None, lines: None, is_all: false, is_strict: false })",
+        "Check(AskedCheck { files: [\"-\"], attributes: None, \
+         stored: None, lines: None, is_all: false, is_strict: false })",
     ),
     (
         &["check", "--", "-"],
-        "Check(AskedCheck { files: [\"-\"], attributes: None, stored: None, lines: None, is_all: false, is_strict: false })",
+        "Check(AskedCheck { files: [\"-\"], attributes: None, \
+         stored: None, lines: None, is_all: false, is_strict: false })",
     ),
     (
         &["check", "--attributes", "-", "a"],
-        "Check(AskedCheck { files: [\"a\"], attributes: Some(Input), stored: None, lines: None, is_all: false, is_strict: false })",
+        "Check(AskedCheck { files: [\"a\"], attributes: Some(Input), \
+         stored: None, lines: None, is_all: false, is_strict: false })",
     ),
     (
         &["check", "a", "-"],
-        "Check(AskedCheck { files: [\"a\", \"-\"], attributes: None, stored: None, lines: None, is_all: false, is_strict: false })",
+        "Check(AskedCheck { files: [\"a\", \"-\"], attributes: None, \
+         stored: None, lines: None, is_all: false, is_strict: false })",
     ),
     (
         &["check", "--stored", "s", "a"],
-        "Check(AskedCheck { files: [\"a\"], attributes: None, stored: Some(File(\"s\")), lines: None, is_all: false, is_strict: false })",
+        "Check(AskedCheck { files: [\"a\"], attributes: None, \
+         stored: Some(File(\"s\")), lines: None, is_all: false, is_strict: false })",
     ),
     (
         &["check", "--attributes", "d", "--stored", "-", "a", "b"],
-        "Check(AskedCheck { files: [\"a\", \"b\"], attributes: Some(File(\"d\")), stored: Some(Input), lines: None, is_all: false, is_strict: false })",
+        "Check(AskedCheck { files: [\"a\", \"b\"], attributes: Some(File(\"d\")), \
+         stored: Some(Input), lines: None, is_all: false, is_strict: false })",
     ),
     (
         &["check", "--lines", "l", "--strict", "--all", "a"],
-        "Check(AskedCheck { files: [\"a\"], attributes: None, stored: None, lines: Some(File(\"l\")), is_all: true, is_strict: true })",
+        "Check(AskedCheck { files: [\"a\"], attributes: None, \
+         stored: None, lines: Some(File(\"l\")), is_all: true, is_strict: true })",
     ),
     (&["lines"], "Lines"),
     (
