@@ -134,8 +134,8 @@ def cell_strings(share):
 
 
 def full_table(share):
-    """A rule that compares groups of 256 people, 256 values each, with those of 256 resources: 65,536 cells, of which no
-    two find the same."""
+    """A rule that compares groups of 256 people, 256 values each, with those of 256 resources: 65,536 cells, of which
+    no two find the same."""
     count = int(256 * share)
     lines = [line('action.add', name='read')]
     for i in range(256):
@@ -153,7 +153,8 @@ def many_nodes(share):
     for i in range(32):
         lines += [line('person.add', name=f'p{i}'), row(f'p{i}', 'mark', [f'p{i}'])]
         lines += [line('resource.add', name=f'r{i}'), row(f'r{i}', 'mark', [f'r{i}'], 'Resource')]
-    marks = [apply('string-is-in', value('x'), designator(category, 'mark', 'string')) for category in (SUBJECT, RESOURCE)]
+    asked = [designator(category, 'mark', 'string') for category in (SUBJECT, RESOURCE)]
+    marks = [apply('string-is-in', value('x'), found) for found in asked]
     return [*lines, added([rule(apply('or', *marks), 'marked'), *rules], definitions)], root()
 
 

@@ -175,8 +175,8 @@ fn at_number<J: JsonTree>(
 }
 
 /// What is first wrong with a document by the attributes: a designator that asks for values of none of them, or a
-/// literal with which one is compared for whose attribute values are listed, and not this one. Parts are gone through as
-/// docs/POLICIES.md has them, in the order of its sections, and lists in theirs; a part before those inside of it.
+/// literal with which one is compared for whose attribute values are listed, and not this one. Parts are gone through
+/// as docs/POLICIES.md has them, in the order of its sections, and lists in theirs; a part before those inside of it.
 ///
 /// # Errors
 ///
