@@ -1,0 +1,111 @@
+#!/usr/bin/env python3
+"""Runs the gate and tells where its processor time goes.
+
+    gate_time.py [--write] [-- COMMAND ..]      the command is `bash .ci/run` unless one is named
+
+Every two seconds it looks at the processes below the command, and adds up the time of each by crate and by what it
+does: proofs, tests (a crate once more with its tests), wrong bodies. At the end it prints a row a crate in processor
+minutes, and with --write puts it into CONTRIBUTING.md. What begins and ends between two looks is missed: a percent or
+two. The lines that say how many passed are kept in out/gate.txt, for what says of a package what was proved of it
+(tools/release.sh). It ends as the command does."""
+import collections
+import os
+import pathlib
+import re
+import subprocess
+import sys
+import threading
+import time
+
+TOP = pathlib.Path(__file__).resolve().parents[1]
+PAGE = TOP / 'CONTRIBUTING.md'
+TABLE = re.compile(r'(<!-- gate -->\n).*?(<!-- end of gate -->)', re.S)
+TICKS = os.sysconf('SC_CLK_TCK')
+KINDS = ['proofs', 'tests', 'wrong', 'other']
+KEPT = TOP / 'out' / 'gate.txt'
+PASSED = re.compile(rb'.*\d+ passed, \d+ failed')
+
+
+def processes_below(root):
+    """Each process below one: its number and its own time in ticks."""
+    children = collections.defaultdict(list)
+    for folder in pathlib.Path('/proc').iterdir():
+        if folder.name.isdigit():
+            try:
+                fields = (folder / 'stat').read_text(errors='replace').rsplit(')', 1)[1].split()
+            except OSError:
+                continue
+            children[int(fields[1])].append((int(folder.name), int(fields[11]) + int(fields[12])))
+    found, todo = [], [root]
+    while todo:
+        below = children.get(todo.pop(), [])
+        found += below
+        todo += [number for number, _ in below]
+    return found
+
+
+def work_of(number):
+    """The crate that a process works on and what it does there; '-' and 'other' where it is no check of a crate."""
+    try:
+        words = pathlib.Path(f'/proc/{number}/cmdline').read_text(errors='replace').split('\0')
+        folder = os.readlink(f'/proc/{number}/cwd')
+    except OSError:
+        return '-', 'other'
+    if '--crate-name' not in words[:-1]:
+        return '-', 'other'
+    crate = words[words.index('--crate-name') + 1]
+    if '/wrong-' in folder:
+        return crate, 'wrong'
+    return crate, 'tests' if '--test' in words else 'proofs'
+
+
+def table(spent, seconds):
+    """The rows of what was spent, most first."""
+    total = collections.Counter()
+    for (crate, _), ticks in spent.items():
+        total[crate] += ticks
+    lines = [f'    {"crate":20}' + ''.join(f'{kind:>9}' for kind in KINDS) + f'{"sum":>9}']
+    for crate in [*sorted(total, key=lambda crate: -total[crate]), 'sum']:
+        own = {work: ticks for work, ticks in spent.items() if crate in (work[0], 'sum')}
+        row = [sum(ticks for (_, does), ticks in own.items() if does == kind) for kind in KINDS]
+        lines.append(f'    {crate:20}' + ''.join(f'{ticks / TICKS / 60:9.1f}' for ticks in [*row, sum(row)]))
+    processors = len(os.sched_getaffinity(0))
+    lines.append(f'\nIn processor minutes; {seconds / 60:.0f} minutes by the clock on {processors} processors.')
+    return '\n'.join(lines) + '\n'
+
+
+def passed_on(source, kept):
+    """Passes on what is said, and keeps the lines that say how many passed."""
+    for line in source:
+        sys.stdout.buffer.write(line)
+        sys.stdout.buffer.flush()
+        if PASSED.match(line):
+            kept.append(line)
+
+
+def main():
+    words = sys.argv[1:]
+    writes = words[:1] == ['--write']
+    command = words[words.index('--') + 1:] if '--' in words else ['bash', '.ci/run']
+    began, spent, last = time.time(), collections.Counter(), {}
+    process, kept = subprocess.Popen(command, cwd=TOP, stdout=subprocess.PIPE), []
+    passing = threading.Thread(target=passed_on, args=(process.stdout, kept))
+    passing.start()
+    while process.poll() is None:
+        for number, ticks in processes_below(process.pid):
+            spent[work_of(number)] += max(0, ticks - last.get(number, 0))
+            last[number] = ticks
+        time.sleep(2)
+    passing.join()
+    KEPT.parent.mkdir(exist_ok=True)
+    KEPT.write_bytes(b''.join(kept))
+    text = table(spent, time.time() - began)
+    print(text)
+    if writes and process.returncode == 0:
+        page = PAGE.read_text(encoding='utf-8')
+        PAGE.write_text(TABLE.sub(lambda found: f'{found[1]}\n{text}\n{found[2]}', page), encoding='utf-8')
+    return process.returncode
+
+
+if __name__ == '__main__':
+    sys.exit(main())
