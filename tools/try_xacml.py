@@ -1,14 +1,18 @@
 #!/usr/bin/python3
 """Tries xacml.py with the review program.
 
-    try_xacml.py PROGRAM [--documents N]
+    try_xacml.py PROGRAM [--documents N] [--mutants N]
 
-It brings in the three policies of xacml_form/examples and asks them what was reckoned; compares each rewriting with a direct
-reading of the standard's function; takes documents with each function, those of the repository's sessions and N random ones
-(1,000) to XML and back; takes requests and responses over; and gives it files that are made to hurt. The status is 0 where all is
-as it should be, 1 where something isn't, and 3 where lxml (python3-lxml of Debian) isn't there."""
+It brings in the three policies of xacml_form/examples and asks them what was reckoned, and the forty, of which the page
+says what becomes; gives it files that are no XACML 3.0, and N that are nearly as these, the forty and random policies
+(3,000; no more than in a minute), where what isn't told has to decide as an evaluator of the XML does; compares each
+rewriting with a direct reading of the standard's function; takes documents with each function, those of the
+repository's sessions and N random ones (1,000) to XML and back; takes requests and responses over; and gives it files
+that are made to hurt. The status is 0 where all is as it should be, 1 where something isn't, and 3 where lxml
+(python3-lxml of Debian) isn't there."""
 import argparse
 import json
+import os
 import pathlib
 import subprocess
 import sys
@@ -19,17 +23,32 @@ try:
 except ImportError:
     print('tools/xacml.py was not tried: there is no lxml (python3-lxml of Debian)')
     sys.exit(3)
-from xacml_form import driver, names, try_documents, try_hostile, try_rewriting
+from xacml_form import (
+    driver,
+    names,
+    try_documents,
+    try_forty,
+    try_grammar,
+    try_hostile,
+    try_mutants,
+    try_rewriting,
+    try_told,
+)
 
 HERE = pathlib.Path(__file__).resolve().parent
 TOOL, SCHEMA, EXAMPLES = HERE / 'xacml.py', HERE / 'xacml_form' / 'xacml.rng', HERE / 'xacml_form' / 'examples'
 SUBJECT, RESOURCE, ENVIRONMENT = (names.CATEGORIES[key] for key in ('AccessSubject', 'Resource', 'Environment'))
 NOW = 'urn:oasis:names:tc:xacml:1.0:environment:current-'
+MOST_SECONDS = 60
 RESOURCE_ID = 'urn:oasis:names:tc:xacml:1.0:resource:resource-id'
 
 # What is told of each policy: how often each weight; and what its mended form answers: attributes and the decision.
 RECORD = (RESOURCE, 'kind', 'string', ['record'])
-TOLD = {'records': {'rewritten': 5}, 'market': {'by hand': 4}, 'night': {'rewritten': 3, 'by hand': 2}}
+TOLD = {
+    'records': {'rewritten': 5, 'times': 1, 'not looked at': 1},
+    'market': {'by hand': 4, 'not looked at': 1},
+    'night': {'rewritten': 3, 'by hand': 2, 'times': 1, 'not looked at': 1},
+}
 ANSWERS = {
     'records': [
         ([], 'NotApplicable'),
@@ -127,14 +146,12 @@ def examples(program):
         first = ran('policy', str(EXAMPLES / f'{stem}.xml'))
         told = {}
         for line in first.stderr.splitlines():
-            weight = line.split(': ')[1]
+            weight = line.split(': ')[1] if not line.startswith('xacml.py: ') else 'not looked at'
             told[weight] = told.get(weight, 0) + 1
         page = (HERE.parent / 'docs' / 'MIGRATING.md').read_text()
-        wrong += [
-            f'MIGRATING.md does not tell: {line}'
-            for line in first.stderr.splitlines()
-            if stem != 'night' and line.rpartition('/examples/')[2] not in page
-        ]
+        told_here = {line.rpartition('/examples/')[2] for line in first.stderr.splitlines()}
+        of_page = {line for line in page.splitlines() if line.startswith(f'{stem}.xml:')}
+        wrong += [f'MIGRATING.md tells: {line}' for line in of_page - told_here]
         if told != TOLD[stem] or first.returncode != ('by hand' in told) or bool(first.stdout) == ('by hand' in told):
             wrong.append(f'{stem}: told {told}, status {first.returncode}')
         mended = EXAMPLES / f'{stem}-mended.xml'
@@ -153,13 +170,16 @@ def examples(program):
     return count, wrong
 
 
+STRING, INTEGER = (f'<AttributeValue DataType="{names.XML_SCHEMA}{kind}">' for kind in ('string', 'integer'))
 REQUEST = f'''<Request xmlns="{names.NAMESPACE}" ReturnPolicyIdList="false" CombinedDecision="false">
   <Attributes Category="{SUBJECT}">
-    <Attribute AttributeId="urn:oasis:names:tc:xacml:1.0:subject:subject-id" IncludeInResult="true"><AttributeValue DataType="{names.XML_SCHEMA}string">ann</AttributeValue></Attribute>
-    <Attribute AttributeId="mixed" Issuer="i &amp; j" IncludeInResult="true"><AttributeValue DataType="{names.XML_SCHEMA}integer"> 1 </AttributeValue><AttributeValue
-      DataType="{names.XML_SCHEMA}integer">2</AttributeValue><AttributeValue DataType="{names.XML_SCHEMA}string"> 3 </AttributeValue></Attribute>
+    <Attribute AttributeId="urn:oasis:names:tc:xacml:1.0:subject:subject-id" IncludeInResult="true">
+      {STRING}ann</AttributeValue></Attribute>
+    <Attribute AttributeId="mixed" Issuer="i &amp; j" IncludeInResult="true">{INTEGER} 1 </AttributeValue>
+      {INTEGER}2</AttributeValue>{STRING} 3 </AttributeValue></Attribute>
   </Attributes>
-  <Attributes Category="{RESOURCE}"><Attribute AttributeId="kind" IncludeInResult="false"><AttributeValue DataType="{names.XML_SCHEMA}string">record</AttributeValue></Attribute></Attributes>
+  <Attributes Category="{RESOURCE}"><Attribute AttributeId="kind" IncludeInResult="false">
+      {STRING}record</AttributeValue></Attribute></Attributes>
 </Request>'''
 REFUSED = [
     ('<MultiRequests/></Request>', '</Request>'),
@@ -209,8 +229,10 @@ def asked(program):
 
 def main():
     parser = argparse.ArgumentParser(description=__doc__, formatter_class=argparse.RawDescriptionHelpFormatter)
-    parser.add_argument('program', metavar='PROGRAM')
+    # Some parts run it in a folder of their own.
+    parser.add_argument('program', metavar='PROGRAM', type=os.path.abspath)
     parser.add_argument('--documents', type=int, default=1000, metavar='N')
+    parser.add_argument('--mutants', type=int, default=3000, metavar='N')
     options = parser.parse_args()
     files = sorted((HERE.parent / 'crates' / 'conformance' / 'sessions').glob('*')) + sorted(
         (HERE.parent / 'examples').glob('*/*.jsonl')
@@ -218,6 +240,17 @@ def main():
     files += [HERE.parent / 'crates' / 'conformance' / 'stdin']
     number, wrong = examples(options.program)
     wrong += migrated(options.program)
+    violations, told = try_grammar.run(SCHEMA)
+    wrong += told
+    warned, told = try_told.run(TOOL, options.program)
+    wrong += told
+    over, told = try_forty.run(TOOL, options.program, EXAMPLES / 'forty', HERE.parent / 'docs' / 'MIGRATING.md')
+    wrong += told
+    valid = [EXAMPLES / f'{stem}.xml' for stem in ('records', 'market-mended', 'night-mended')] + over
+    seconds = MOST_SECONDS if options.mutants <= 3000 else float('inf')
+    request = EXAMPLES / 'records-request.xml'
+    mutants, told = try_mutants.run(options.program, SCHEMA, valid, request, options.mutants, seconds)
+    wrong += told
     service = driver.Service(options.program)
     compared, told = try_rewriting.run(service)
     service.close()
@@ -230,7 +263,11 @@ def main():
     wrong += told
     print('\n'.join(wrong[:20]))
     print(
-        f'tools/xacml.py: 3 policies brought in and asked {number} requests, {compared} decisions of what is rewritten compared, to XML and back {", ".join(counts)}, {taken} requests, {tried} hostile files: {len(wrong)} wrong'
+        f'tools/xacml.py: 3 policies brought in and asked {number} requests, {len(over)} of forty came over,'
+        f' {violations} files and elements beside the schema, {warned} with faults and warnings,'
+        f' {try_mutants.said(mutants)},'
+        f' {compared} decisions of what is rewritten compared, to XML and back {", ".join(counts)}, {taken} requests,'
+        f' {tried} hostile files: {len(wrong)} wrong'
     )
     return 1 if wrong else 0
 

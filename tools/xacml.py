@@ -1,16 +1,23 @@
 #!/usr/bin/python3
 """Policies, requests and responses of XACML 3.0 in XML, to and from the JSON of the service.
 
-    xacml.py policy FILE.xml .. [-o FOLDER] [--lines] [--root ID]
+    xacml.py policy FILE.xml .. [-o FOLDER] [--lines] [--root ID] [--program REVIEW [--stored STATE]]
+                    [--attributes DECLARED] [--strict] [--as-modern] [--keep-going]
     xacml.py request FILE.xml
     xacml.py response [FILE.json]
     xacml.py back FILE.json
 
-policy    Each file's policy as a document of the service: FOLDER/FILE.json with -o, else on standard output; with --lines as
-          lines for `review serve` that store them, and with --root one more that makes the policy of that id the root.
-          What of a file isn't here is told on standard error, all of it at once, each with line and column, how often it
-          stands there, and what can be done. Of a file with such a thing no document is written, unless --keep-going; what
-          was rewritten with the same meaning is told too. --as-modern takes the legacy combining algorithms as the newer ones.
+policy    Each file's policy as a document of the service: FOLDER/FILE.json with -o, else on standard output; with
+          --lines as lines for `review serve` that store them, and with --root one more that makes the policy of that
+          id the root.
+          All of it is told on standard error, each thing with line and column and how often it stands there. First
+          what is no XACML 3.0: nothing is written of such a file. Then what isn't here, and what can be done: no
+          document is written either, unless --keep-going. What was rewritten with the same meaning is told too, and as
+          a warning what may not do what was meant; --strict gives status 1 for a warning. --as-modern takes legacy
+          combining algorithms as the newer ones. --attributes compares attributes and values with a list of declared
+          ones.
+          With --program the documents go through `review check`, alone and together, and with --stored together with
+          the lines of a dump; its faults and warnings are told at the lines of the XML.
 request   The request as JSON that `ask` takes; --line writes the whole line.
 response  The JSON of a response as XML.
 back      A document as XML.
@@ -27,7 +34,7 @@ try:
     from lxml import etree
 except ImportError:
     sys.exit('xacml.py: it needs lxml (python3-lxml of Debian)')
-from xacml_form import back, places, policies, requests
+from xacml_form import back, bringing, cautions, checked, places, requests
 
 SCHEMA = pathlib.Path(__file__).resolve().parent / 'xacml_form' / 'xacml.rng'
 MOST_OF_A_LINE = 1048576
@@ -67,15 +74,10 @@ def written(root):
     return etree.tostring(root, xml_declaration=True, encoding='UTF-8').decode() + '\n'
 
 
-def document_of(file, options):
-    """The document of a file; None where it has none, or has what isn't here."""
-    read = read_xml(file)
-    if read is None:
-        return None
-    root, where, told = read
-    document = policies.Policies(told, where, options.as_modern).document(root)
-    say(*told.lines())
-    return document if document is not None and (not told.stops() or options.keep_going) else None
+def declared_in(file):
+    """The list of declared attributes of a file."""
+    with open(file, encoding='utf-8') as source:
+        return cautions.Declared(json.load(source)['Attributes'])
 
 
 def reference_to(found, documents):
@@ -84,34 +86,57 @@ def reference_to(found, documents):
     return {f'{kinds[-1]}IdReference': {'Id': found}} if kinds else None
 
 
+def indented(document):
+    """A document as it stands in a file."""
+    return json.dumps(document, ensure_ascii=False, indent=2) + '\n'
+
+
 def policy(options):
-    found = [document_of(file, options) for file in options.files]
-    documents = [document for document in found if document is not None]
+    stems = [pathlib.Path(file).stem for file in options.files]
+    if options.folder and len(set(stems)) < len(stems):
+        say('xacml.py: two files would be written under one name')
+        return 2
+    try:
+        declared = declared_in(options.attributes) if options.attributes else None
+    except (ValueError, KeyError, TypeError, AttributeError):
+        say(f'{options.attributes}: no list of declared attributes')
+        return 1
+    found = [bringing.brought(file, bytes_of(file), options.as_modern) for file in options.files]
+    try:
+        beside = bringing.judge(found, options, declared, shown if options.lines else indented)
+    except checked.NoAnswer as fault:
+        say(f'xacml.py: {fault}')
+        return 2
+    say(*(line for each in found for line in each.told.lines()), *beside)
+    kept = [each for each in found if each.document is not None and (options.keep_going or not each.told.stops())]
+    is_whole = write(options, kept)
+    say(*(f'xacml.py: {line}' for line in bringing.unseen(found, options)))
+    warnings = [line for line in beside if line.startswith(places.WARNING)]
+    is_warned = options.strict and (warnings or any(each.told.holds(places.WARNING) for each in found))
+    return 0 if is_whole and len(kept) == len(found) and len(warnings) == len(beside) and not is_warned else 1
+
+
+def write(options, kept):
+    """Writes documents: as files, one below the other, or as lines. Whether what was asked for is there."""
+    documents = [each.document for each in kept]
     if options.folder:
         os.makedirs(options.folder, exist_ok=True)
-        stems = [pathlib.Path(file).stem for file in options.files]
-        if len(set(stems)) < len(stems):
-            say('xacml.py: two files would be written under one name')
-            return 2
-        for stem, document in zip(stems, found):
-            if document is not None:
-                (pathlib.Path(options.folder) / f'{stem}.json').write_text(
-                    json.dumps(document, ensure_ascii=False, indent=2) + '\n', encoding='utf-8'
-                )
+        for each in kept:
+            file = pathlib.Path(options.folder) / f'{pathlib.Path(each.file).stem}.json'
+            file.write_text(indented(each.document), encoding='utf-8')
     elif not options.lines:
         for document in documents:
-            print(json.dumps(document, ensure_ascii=False, indent=2))
-    lines = [{'do': 'policy.add', 'document': document} for document in documents]
-    missing = options.root and reference_to(options.root, documents) is None
-    if missing:
+            print(indented(document), end='')
+    root = options.root and reference_to(options.root, documents)
+    if options.root and root is None:
         say(f'xacml.py: no file has a policy or a set with the id {options.root}')
-    elif options.root:
-        lines.append({'do': 'root.set', 'reference': reference_to(options.root, documents)})
+    lines = [{'do': 'policy.add', 'document': document} for document in documents]
+    lines += [{'do': 'root.set', 'reference': root}] if root else []
     for line in lines if options.lines else []:
         print(shown(line))
         if len(shown(line).encode()) > MOST_OF_A_LINE:
             say(f'xacml.py: a line of more than {MOST_OF_A_LINE} bytes, which the service refuses')
-    return 1 if missing or len(documents) < len(options.files) else 0
+    return root is not None if options.root else True
 
 
 def request(options):
@@ -150,6 +175,10 @@ def main():
     one.add_argument('-o', dest='folder', metavar='FOLDER', help='write each document as a file into this folder')
     one.add_argument('--lines', action='store_true', help='write lines for `review serve`')
     one.add_argument('--root', metavar='ID', help='with --lines: make the policy of this id the root')
+    one.add_argument('--program', metavar='REVIEW', help='see by `review check` whether the documents can be used')
+    one.add_argument('--stored', metavar='STATE', help='with --program: together with the lines of a dump')
+    one.add_argument('--attributes', metavar='DECLARED', help='compare with a list of declared attributes')
+    one.add_argument('--strict', action='store_true', help='status 1 for a warning too')
     one.add_argument('--as-modern', action='store_true', help='take legacy combining algorithms as the newer ones')
     one.add_argument('--keep-going', action='store_true', help='write documents also where something isn\'t here')
     one.set_defaults(run=policy)
@@ -164,6 +193,8 @@ def main():
     one.add_argument('file', metavar='FILE.json')
     one.set_defaults(run=lambda options: from_json(options, back.document))
     options = parser.parse_args()
+    if options.command == 'policy' and options.stored and not options.program:
+        parser.error('--stored needs --program')
     try:
         return options.run(options)
     except OSError as fault:

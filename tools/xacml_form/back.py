@@ -1,6 +1,6 @@
 """Documents of the service, from JSON to XML whose elements stand in the order of the standard's schema."""
-from . import literals, names
-from .requests import Unwritten, element
+from . import literals, names, requests, schema
+from .requests import Unwritten
 
 
 class NoDocument(Exception):
@@ -8,12 +8,23 @@ class NoDocument(Exception):
 
 
 def document(json):
-    """The Policy or PolicySet element of a document; a document that `review check` passes always has one, unless a text of it stands in no XML."""
+    """The Policy or PolicySet element of a document; a document that `review check` passes always has one, unless a
+    text of it stands in no XML, or in no URI there."""
     return _child(None, json, '')
 
 
+def element(parent, name, text=None, **attributes):
+    """A new element; a URI, as the id of a policy, has no white space at its ends and none that is doubled."""
+    for key, value in attributes.items():
+        known = schema.ELEMENTS[name].attributes[key]
+        if known.form == 'uri' and value is not None and schema.value(known, value) != value:
+            raise Unwritten(f'{name}: the white space of {value[:40]!r} stands in no URI')
+    return requests.element(parent, name, text, **attributes)
+
+
 def normal(json):
-    """A document as the service writes it: types in full, MustBePresent always, booleans and integers as JSON, no empty lists."""
+    """A document as the service writes it: types in full, MustBePresent always, booleans and integers as JSON, no empty
+    lists."""
     if isinstance(json, list):
         return [normal(each) for each in json]
     if not isinstance(json, dict):
@@ -73,13 +84,12 @@ def _child(parent, json, pointer):
     )
     inner = f'{pointer}/{name}'
     if name.endswith('IdReference'):
-        made = element(
-            parent,
-            name,
-            _part(body, 'Id', inner),
-            **{key: body.get(key) for key in ('Version', 'EarliestVersion', 'LatestVersion')},
+        found = _part(body, 'Id', inner)
+        if schema.collapsed(found) != found:
+            raise Unwritten(f'{name}: the white space of {found[:40]!r} stands in no URI')
+        return element(
+            parent, name, found, **{key: body.get(key) for key in ('Version', 'EarliestVersion', 'LatestVersion')}
         )
-        return made
     algorithm = 'RuleCombiningAlgId' if name == 'Policy' else 'PolicyCombiningAlgId'
     made = element(parent, name, **{key: _part(body, key, inner) for key in (f'{name}Id', 'Version', algorithm)})
     _description(made, body, inner)

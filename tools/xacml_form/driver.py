@@ -74,7 +74,8 @@ def request_of(attributes):
 def policy(condition, identifier='p', version='1'):
     """A policy in XML that permits where a condition is true."""
     return (
-        f'<Policy xmlns="{names.NAMESPACE}" PolicyId="{identifier}" Version="{version}" RuleCombiningAlgId="urn:oasis:names:tc:xacml:3.0:rule-combining-algorithm:deny-overrides">'
+        f'<Policy xmlns="{names.NAMESPACE}" PolicyId="{identifier}" Version="{version}"'
+        ' RuleCombiningAlgId="urn:oasis:names:tc:xacml:3.0:rule-combining-algorithm:deny-overrides">'
         f'<Target/><Rule RuleId="r" Effect="Permit"><Condition>{condition}</Condition></Rule></Policy>'
     ).encode()
 

@@ -2,8 +2,8 @@
 from . import literals, names, rewriting
 from .places import IMPOSSIBLE, REWRITTEN
 
-FORMS = ['AttributeValue', 'AttributeDesignator', 'AttributeSelector', 'VariableReference', 'Apply', 'Function']
 BAG_RESULTS = ('-bag', '-intersection', '-union')
+PASSING = (*BAG_RESULTS, '-one-and-only', '-yearMonthDuration')
 NO_SELECTOR = 'there is no XPath; store what it finds as an attribute, and use an AttributeDesignator'
 
 
@@ -13,45 +13,34 @@ class Expressions:
     def __init__(self, elements, definitions):
         self.elements, self.told, self.definitions = elements, elements.told, definitions
 
-    def only(self, element, is_compared=False):
+    def only(self, element, use=None):
         """The one expression in an element."""
-        found = [each for name, each in self.elements.children(element, FORMS)]
-        if len(found) != 1:
-            self.told.tell(
-                IMPOSSIBLE,
-                self.elements.place(element),
-                f'{element.tag.rpartition("}")[2]} with {len(found)} expressions',
-                'just one stands there',
-            )
-            return {}
-        return self.expression(found[0], is_compared)
+        [(_, child)] = self.elements.children(element)
+        return self.expression(child, use)
 
-    def expression(self, element, is_compared=False):
+    def expression(self, element, use=None):
         name = self.elements.name(element)
-        if name == 'AttributeValue':
-            return {name: self.value(element, is_compared)}
-        if name in ('AttributeDesignator', 'AttributeSelector'):
-            return {name: getattr(self, 'designator' if name == 'AttributeDesignator' else 'selector')(element)}
-        if name == 'VariableReference':
-            return {name: self.elements.attributes(element, ['VariableId'])}
-        if name == 'Function':
-            return {name: {'FunctionId': self.function(element)}}
-        return self.apply(element, is_compared)
+        if name == 'Apply':
+            return self.apply(element, use)
+        read = {
+            'AttributeValue': lambda: self.value(element, use),
+            'AttributeDesignator': lambda: self.designator(element),
+            'AttributeSelector': lambda: self.selector(element),
+            'VariableReference': lambda: self.elements.attributes(element),
+            'Function': lambda: {'FunctionId': self.function(element)},
+        }
+        return {name: self.elements.placed(element, read[name]())}
 
-    def value(self, element, is_compared=False):
+    def value(self, element, use=None):
         """A literal: its type in full, and its value."""
         place = self.elements.place(element)
-        found = self.elements.attributes(element, ['DataType'], ['XPathCategory'])
-        uri = literals.data_type(found['DataType'], place, self.told)
-        return {
-            'DataType': uri,
-            'Value': literals.value(uri, self.elements.text(element), place, self.told, is_compared),
-        }
+        uri = literals.data_type(self.elements.attributes(element)['DataType'], place, self.told)
+        text = self.elements.text(element)
+        return {'DataType': uri, 'Value': literals.value(uri, text, place, self.told, use)}
 
     def designator(self, element):
-        found = self.elements.attributes(element, ['Category', 'AttributeId', 'DataType', 'MustBePresent'], ['Issuer'])
+        found = self.elements.attributes(element)
         found['DataType'] = literals.data_type(found['DataType'], self.elements.place(element), self.told)
-        found['MustBePresent'] = self.elements.flag(element, found, 'MustBePresent', False)
         return found
 
     def selector(self, element):
@@ -59,8 +48,9 @@ class Expressions:
         return {}
 
     def function(self, element, is_applied=False):
-        """The identifier of a function: an older name of one that is here by its newer one, else as it stands. One that isn't here is told, unless it may be rewritten."""
-        given = self.elements.attributes(element, ['FunctionId'])['FunctionId']
+        """The identifier of a function: an older name of one that is here by its newer one, else as it stands. One that
+        isn't here is told, unless it may be rewritten."""
+        given = self.elements.attributes(element)['FunctionId']
         found = names.OLD_FUNCTIONS.get(given, given)
         if found != given:
             self.told.tell(
@@ -80,22 +70,21 @@ class Expressions:
             rest or how,
         )
 
-    def apply(self, element, is_compared):
+    def apply(self, element, use):
         function = self.function(element, is_applied=True)
-        inside = list(self.elements.children(element, ['Description', *FORMS]))
-        for name, child in inside:
+        children = []
+        for name, child in self.elements.children(element):
             if name == 'Description':
-                self.told.tell(
-                    REWRITTEN,
-                    self.elements.place(child),
-                    'the Description of an Apply',
-                    'left out: an Apply has none here',
-                )
-        children = [child for name, child in inside if name != 'Description']
-        compares = (
-            self.compares(function, children) or is_compared and function.endswith(BAG_RESULTS + ('-one-and-only',))
-        )
-        arguments = [self.expression(child, compares) for child in children]
+                how = 'left out: an Apply has none here'
+                self.told.tell(REWRITTEN, self.elements.place(child), 'the Description of an Apply', how)
+            else:
+                children.append(child)
+        inner = literals.COMPARED if self.compares(function, children) else use if function.endswith(PASSING) else None
+        arguments = [self.expression(child, inner) for child in children]
+        return self.elements.placed(element, self.applied(element, function, arguments))
+
+    def applied(self, element, function, arguments):
+        """An application, or what says the same where it is rewritten."""
         if function not in rewriting.REWRITINGS:
             return rewriting.apply(function, *arguments)
         try:
@@ -107,11 +96,11 @@ class Expressions:
         return rewritten
 
     def compares(self, function, children):
-        """Whether a function compares values of dateTime, or applies one that does."""
+        """Whether a function compares dates or times, or applies one that does."""
         if function in names.HIGHER_ORDER:
             first = children[0].get('FunctionId') if children else None
-            return first in names.MOMENTS_COMPARED
-        return function in names.MOMENTS_COMPARED
+            return first in names.TIMES_COMPARED
+        return function in names.TIMES_COMPARED
 
     def is_bag(self, expression, within=()):
         """Whether an expression gives a bag."""

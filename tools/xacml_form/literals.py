@@ -6,12 +6,14 @@ from . import names
 from .places import BY_HAND, IMPOSSIBLE, REWRITTEN
 
 XS = names.XML_SCHEMA
+# What becomes of a value, where that is known: it is compared, or given back in obligations, advice or a response.
+COMPARED, GIVEN = 'compared', 'given'
 SPACE = ' \t\r\n'
-DATE = re.compile(r'(-?\d{4,})-(\d\d)-(\d\d)(Z|[+-]\d\d:\d\d)?')
-TIME = re.compile(r'(\d\d):(\d\d):(\d\d)(\.\d+)?(Z|[+-]\d\d:\d\d)?')
-MOMENT = re.compile(r'(-?\d{4,}-\d\d-\d\d)T(\d\d:\d\d:\d\d)(\.\d+)?(Z|[+-]\d\d:\d\d)?')
-DURATION = re.compile(r'-?P(\d{1,9}Y)?(\d{1,9}M)?')
-INTEGER = re.compile(r'[+-]?\d+')
+DATE = re.compile(r'(-?\d{4,})-(\d\d)-(\d\d)(Z|[+-]\d\d:\d\d)?', re.ASCII)
+TIME = re.compile(r'(\d\d):(\d\d):(\d\d)(\.\d+)?(Z|[+-]\d\d:\d\d)?', re.ASCII)
+MOMENT = re.compile(r'(-?\d{4,}-\d\d-\d\d)T(\d\d:\d\d:\d\d)(\.\d+)?(Z|[+-]\d\d:\d\d)?', re.ASCII)
+DURATION = re.compile(r'-?P(\d{1,9}Y)?(\d{1,9}M)?', re.ASCII)
+INTEGER = re.compile(r'[+-]?\d+', re.ASCII)
 NO_OFFSETS = 'by hand: there are no time zones here; say the time in one zone, the same in which attributes are stored'
 NO_FRACTIONS = 'by hand: times are whole seconds here'
 
@@ -35,14 +37,20 @@ def data_type(uri, place, told):
     return uri
 
 
-def value(uri, text, place, told, is_compared=False):
-    """The value in JSON that a text of a type is: a boolean, a whole number, or else the text, trimmed unless it is a string. What can't be read here is told."""
+def value(uri, text, place, told, use=None):
+    """The value in JSON that a text of a type is: a boolean, a whole number, or else the text, trimmed unless it is a
+    string. What can't be read here is told."""
     kind = names.HERE_TYPES.get(uri)
     if kind == 'string' or kind is None:
         return text
     text = text.strip(SPACE)
+    if kind in ('date', 'time', 'dateTime'):
+        if use != GIVEN:
+            told.times.append((place, text))
+        elif text.endswith('Z'):
+            told.tell(REWRITTEN, place, f'the {kind} {text[:60]}', 'a Z means nothing here: it is given back without')
     why = _READERS.get(kind, lambda _: None)(text)
-    if kind == 'dateTime' and why == NO_OFFSETS and is_compared:
+    if kind == 'dateTime' and why == NO_OFFSETS and use == COMPARED:
         moment = in_utc(text)
         if moment is not None:
             told.tell(
@@ -69,7 +77,8 @@ def text_of(uri, json_value):
 
 
 def in_utc(text):
-    """A dateTime with an offset as the same moment with Z; None where it has a fraction or leaves the years 1 to 9999."""
+    """A dateTime with an offset as the same moment with Z; None where it has a fraction or leaves the years 1 to
+    9999."""
     found = MOMENT.fullmatch(text)
     if not found or found[3] or not re.fullmatch(r'[+-](0\d|1[0-4]):[0-5]\d', found[4] or ''):
         return None

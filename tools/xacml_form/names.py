@@ -1,4 +1,4 @@
-"""The identifiers of XACML 3.0: those that the service has, those that it hasn't with what can be done, and older ones."""
+"""The identifiers of XACML 3.0: those that are here, those that aren't with what can be done, and older ones."""
 
 NAMESPACE = 'urn:oasis:names:tc:xacml:3.0:core:schema:wd-17'
 OLDER = {
@@ -28,7 +28,8 @@ MISSING_TYPES = {
     XML_SCHEMA + 'base64Binary': 'as string, in one spelling (no white space)',
     DATA_TYPE.format(
         '1.0', 'rfc822Name'
-    ): 'as string: the whole name with its domain in lower case; the domain as an attribute of its own where policies ask for it',
+    ): 'as string: the whole name with its domain in lower case; the domain as an attribute of its own where policies'
+    ' ask for it',
     DATA_TYPE.format(
         '1.0', 'x500Name'
     ): 'as string, in one spelling; each part that policies ask for as an attribute of its own',
@@ -83,9 +84,12 @@ def _functions_here():
 
 HERE_FUNCTIONS = _functions_here()
 EQUALITIES = {FUNCTION.format('1.0', f'{one}-equal'): one for one in BAGGED}
-# What compares two values of dateTime, or looks for one among others: a literal with an offset may stand there as the same moment with Z.
-MOMENTS_COMPARED = {
-    FUNCTION.format('1.0', f'dateTime-{one}')
+# What compares dates and times, or looks for one among others: a dateTime with an offset may stand there as the same
+# moment with Z.
+TIME_IN_RANGE = FUNCTION.format('2.0', 'time-in-range')
+TIMES_COMPARED = {TIME_IN_RANGE} | {
+    FUNCTION.format('1.0', f'{kind}-{one}')
+    for kind in ['date', 'time', 'dateTime']
     for one in ['equal', *ORDERS, 'is-in', 'at-least-one-member-of', 'subset', 'set-equals']
 }
 
@@ -112,7 +116,6 @@ HIGHER_ORDER = {
     *(FUNCTION.format('3.0', one) for one in ['any-of-all', 'all-of-all', 'map']),
     FUNCTION.format('1.0', 'map'),
 }
-TIME_IN_RANGE = FUNCTION.format('2.0', 'time-in-range')
 N_OF = FUNCTION.format('1.0', 'n-of')
 
 IMPOSSIBLE = 'impossible here'
@@ -120,37 +123,44 @@ _HOW = [
     # (end of the name, what to do)
     (
         '-regexp-match',
-        'by hand: string-starts-with for ^x, string-ends-with for x$, string-contains for x, string-equal or is-in for a list of words; what more it tests as an attribute of its own',
+        'by hand: string-starts-with for ^x, string-ends-with for x$, string-contains for x, string-equal or is-in for'
+        ' a list of words; what more it tests as an attribute of its own',
     ),
     ('string-equal-ignore-case', 'by hand: store values in lower case, and compare with a literal in lower case'),
     ('string-normalize-space', 'by hand: store values without white space around them'),
     ('string-normalize-to-lower-case', 'by hand: store values in lower case'),
     (
         'rfc822Name-match',
-        'by hand: the name as string with its domain in lower case; string-equal for a whole name, string-ends-with for @domain (or .domain)',
+        'by hand: the name as string with its domain in lower case; string-equal for a whole name, string-ends-with for'
+        ' @domain (or .domain)',
     ),
     ('x500Name-match', 'by hand: the part that is matched as an attribute of its own, compared by string-equal'),
     ('any-of-all', 'by hand: of one bag that has few values write `or` of all-of, one for each value'),
     (
         'all-of-all',
-        'by hand: with an equality, bags that are both empty or hold one value: say what is meant by set-equals or bag-size',
+        'by hand: with an equality, bags that are both empty or hold one value: say what is meant by set-equals or'
+        ' bag-size',
     ),
     (
         'any-of-any',
-        'by hand: with an equality and two bags the tool writes at-least-one-member-of; with another function say it by any-of over values that are known',
+        'by hand: with an equality and two bags the tool writes at-least-one-member-of; with another function say it by'
+        ' any-of over values that are known',
     ),
     (
         'all-of-any',
-        'by hand: with an equality and two bags the tool writes subset; with another function say it by all-of over values that are known',
+        'by hand: with an equality and two bags the tool writes subset; with another function say it by all-of over'
+        ' values that are known',
     ),
     ('map', IMPOSSIBLE + ': store the values that come of it as an attribute'),
     (
         'time-in-range',
-        'by hand: with literal bounds the tool writes two comparisons; with computed ones write them under `and`, or under `or` where the range goes over midnight',
+        'by hand: with literal bounds the tool writes two comparisons; with computed ones write them under `and`, or'
+        ' under `or` where the range goes over midnight',
     ),
     (
         'n-of',
-        'by hand: with a literal number and few arguments the tool writes `or` and `and`; else say which sets of them are enough',
+        'by hand: with a literal number and few arguments the tool writes `or` and `and`; else say which sets of them'
+        ' are enough',
     ),
     ('access-permitted', IMPOSSIBLE + ': no request asks another one'),
     ('-add-dayTimeDuration', 'by hand: store the moment that comes of it as an attribute, and compare with that'),
@@ -249,6 +259,19 @@ LEGACY_ALGORITHMS = {
         ]
     }
     for kind in (RULES, POLICIES)
+}
+
+# What a legacy algorithm decides where a child is Indeterminate (C.10 to C.13), and what its newer one makes of that.
+_KIND = (
+    'its own decision is the same, but an Indeterminate has a kind, which an algorithm above may pass over: there it'
+    ' may become Permit or Deny'
+)
+TURNS = {
+    (RULES, 'deny-overrides'): _KIND,
+    (RULES, 'permit-overrides'): _KIND,
+    (POLICIES, 'deny-overrides'): 'an Indeterminate child made it Deny: that may become Permit, where another child'
+    ' permits and this one couldn\'t deny, and else Indeterminate',
+    (POLICIES, 'permit-overrides'): 'a Deny beside an Indeterminate child that could permit becomes Indeterminate',
 }
 
 # ---- categories and status codes

@@ -3,6 +3,7 @@ from lxml import etree
 
 from . import literals, names
 from .elements import Elements
+from .grammar import Grammar
 from .places import BY_HAND, IMPOSSIBLE, REWRITTEN
 
 NO_CONTENT = 'attributes are values of types, not parts of documents; leave it out, or store what policies ask of it'
@@ -13,25 +14,22 @@ class Requests:
 
     def __init__(self, told, places):
         self.elements, self.told = Elements(told, places), told
+        self.grammar = Grammar(told, places)
         self.place = self.elements.place
 
     def request(self, root):
         """The request whose root element is given, as `{"Request":..}`; None where it is none of 3.0."""
-        if self.elements.name(root) != 'Request':
-            if etree.QName(root).namespace == names.NAMESPACE:
-                self.told.tell(
-                    IMPOSSIBLE, self.place(root), f'{etree.QName(root).localname} at the root', 'a Request stands there'
-                )
+        if not self.grammar.check(root, ['Request']):
             return None
-        found = self.elements.attributes(root, ['ReturnPolicyIdList', 'CombinedDecision'])
+        found = self.elements.attributes(root)
         for key, how in [
             ('ReturnPolicyIdList', 'false: a cell of the table says which rules decided'),
             ('CombinedDecision', 'false: each request by itself'),
         ]:
-            if self.elements.flag(root, found, key):
+            if found[key]:
                 self.told.tell(BY_HAND, self.place(root), f'{key} true', how)
         categories, seen = [], set()
-        for name, child in self.elements.children(root, ['RequestDefaults', 'Attributes', 'MultiRequests']):
+        for name, child in self.elements.children(root):
             if name == 'RequestDefaults':
                 self.told.tell(REWRITTEN, self.place(child), name, 'left out: there is no XPath')
             elif name == 'MultiRequests':
@@ -39,39 +37,33 @@ class Requests:
             else:
                 category = self.category(child)
                 if category['CategoryId'] in seen:
-                    self.told.tell(
-                        BY_HAND,
-                        self.place(child),
-                        f'the category {category["CategoryId"]} twice',
-                        'several decisions in one request: ask each by itself',
-                    )
+                    what = f'the category {category["CategoryId"]} twice'
+                    how = 'several decisions in one request: ask each by itself'
+                    self.told.tell(BY_HAND, self.place(child), what, how)
                 seen.add(category['CategoryId'])
                 categories.append(category)
-        return {'Request': {'Category': categories} if categories else {}}
+        return {'Request': {'Category': categories}}
 
     def category(self, element):
-        found = self.elements.attributes(element, ['Category'])
-        attributes = []
-        for name, child in self.elements.children(element, ['Content', 'Attribute']):
+        found = {'CategoryId': self.elements.attributes(element)['Category']}
+        for name, child in self.elements.children(element):
             if name == 'Content':
                 self.told.tell(IMPOSSIBLE, self.place(child), name, NO_CONTENT)
             else:
-                attributes += self.attribute(child)
-        return {'CategoryId': found['Category'], **({'Attribute': attributes} if attributes else {})}
+                found.setdefault('Attribute', []).extend(self.attribute(child))
+        return found
 
     def attribute(self, element):
-        """One attribute, or more where its values are of several types: those that follow each other with one type are one."""
-        found = self.elements.attributes(element, ['AttributeId', 'IncludeInResult'], ['Issuer'])
-        head = {'AttributeId': found['AttributeId'], **({'Issuer': found['Issuer']} if 'Issuer' in found else {})}
-        if self.elements.flag(element, found, 'IncludeInResult', False):
-            head['IncludeInResult'] = True
+        """One attribute, or more where its values are of several types: those that follow each other with one type are
+        one."""
+        head = self.elements.attributes(element)
+        if not head['IncludeInResult']:
+            del head['IncludeInResult']
         parts = []
-        for _, child in self.elements.children(element, ['AttributeValue']):
+        for _, child in self.elements.children(element):
             place = self.place(child)
-            uri = literals.data_type(
-                self.elements.attributes(child, ['DataType'], ['XPathCategory'])['DataType'], place, self.told
-            )
-            value = literals.value(uri, self.elements.text(child), place, self.told)
+            uri = literals.data_type(self.elements.attributes(child)['DataType'], place, self.told)
+            value = literals.value(uri, self.elements.text(child), place, self.told, literals.GIVEN)
             if parts and parts[-1]['DataType'] == uri:
                 parts[-1]['Value'].append(value)
             else:

@@ -6,7 +6,7 @@ import tempfile
 
 from lxml import etree
 
-from . import back, literals, names, places, policies
+from . import back, literals, names, places, policies, schema
 
 XS = names.XML_SCHEMA
 F1 = names.FUNCTION.format('1.0', '{}').format
@@ -39,12 +39,14 @@ OF_TYPE = {
 
 
 def again(document):
-    """What a document is after it was written as XML, which is as the schema says, and read again; what was told of it."""
+    """What a document is after it was written as XML, which is as the schema says, and read again; what was told of it
+    but for the Z of times."""
     root = back.document(document)
     SCHEMA.assertValid(root)
     read, where = places.read(etree.tostring(root, xml_declaration=True, encoding='UTF-8'))
     told = places.Told('trial')
-    return policies.Policies(told, where).document(read), told.lines()
+    found = policies.Policies(told, where).document(read)
+    return found, [line for line in told.lines() if ': a Z means nothing here: ' not in line]
 
 
 def compare(documents):
@@ -131,6 +133,10 @@ class Random:
     def name(self):
         return self.one(TEXTS) or 'n'
 
+    def uri(self):
+        """An id that is a URI in XML, so without white space at its ends."""
+        return schema.collapsed(self.name())
+
     def maybe(self, **parts):
         return {key: make() for key, make in parts.items() if self.random.random() < 0.4}
 
@@ -140,7 +146,7 @@ class Random:
     def policy(self):
         return {
             'Policy': {
-                'PolicyId': self.name(),
+                'PolicyId': self.uri(),
                 'Version': self.one(['1', '1.2', '10.0.3']),
                 'RuleCombiningAlgId': self.one(sorted(names.HERE_ALGORITHMS['rule'])),
                 **self.head(),
@@ -153,7 +159,7 @@ class Random:
     def set(self, levels):
         return {
             'PolicySet': {
-                'PolicySetId': self.name(),
+                'PolicySetId': self.uri(),
                 'Version': '2',
                 'PolicyCombiningAlgId': self.one(sorted(names.HERE_ALGORITHMS['policy'])),
                 **self.head(),
@@ -166,7 +172,7 @@ class Random:
         if self.random.random() < 0.4:
             versions = self.maybe(Version=lambda: '1.*', EarliestVersion=lambda: '1.+', LatestVersion=lambda: '3')
             return {
-                self.one(['PolicyIdReference', 'PolicySetIdReference']): {'Id': self.name().strip() or 'n', **versions}
+                self.one(['PolicyIdReference', 'PolicySetIdReference']): {'Id': self.uri(), **versions}
             }
         return self.document(levels)
 
@@ -204,7 +210,7 @@ class Random:
     def designator(self, kind):
         return {
             'Category': self.one(list(names.CATEGORIES.values())),
-            'AttributeId': self.name(),
+            'AttributeId': self.uri(),
             'DataType': XS + kind,
             **self.maybe(Issuer=self.name, MustBePresent=lambda: self.one([True, False])),
         }
@@ -236,21 +242,21 @@ class Random:
 
     def given(self):
         assignment = lambda: {
-            'AttributeId': self.name(),
-            **self.maybe(Category=self.name, Issuer=self.name),
+            'AttributeId': self.uri(),
+            **self.maybe(Category=self.uri, Issuer=self.name),
             'Expression': self.expression(1),
         }
         return self.maybe(
             ObligationExpressions=lambda: self.some(
                 lambda: {
-                    'ObligationId': self.name(),
+                    'ObligationId': self.uri(),
                     'FulfillOn': 'Permit',
                     'AttributeAssignmentExpression': self.some(assignment),
                 }
             ),
             AdviceExpressions=lambda: self.some(
                 lambda: {
-                    'AdviceId': self.name(),
+                    'AdviceId': self.uri(),
                     'AppliesTo': 'Deny',
                     'AttributeAssignmentExpression': self.some(assignment),
                 }

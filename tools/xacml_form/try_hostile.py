@@ -1,4 +1,5 @@
-"""XML made to hurt: each file ends with a sentence and status 1 within seconds and a bounded memory, and reads nothing else."""
+"""XML made to hurt: each file ends with a sentence and status 1 within seconds of a processor and a bounded memory, and
+reads nothing else."""
 import pathlib
 import resource
 import subprocess
@@ -6,10 +7,14 @@ import sys
 import tempfile
 
 from . import names
+from .driver import F1
 
-HEAD = f'<Policy xmlns="{names.NAMESPACE}" PolicyId="p" Version="1" RuleCombiningAlgId="urn:oasis:names:tc:xacml:3.0:rule-combining-algorithm:deny-overrides">'
+HEAD = (
+    f'<Policy xmlns="{names.NAMESPACE}" PolicyId="p" Version="1"'
+    ' RuleCombiningAlgId="urn:oasis:names:tc:xacml:3.0:rule-combining-algorithm:deny-overrides">'
+)
 MOST_MEMORY = 1024 * 1024 * 1024
-MOST_SECONDS = 20
+MOST_SECONDS, MOST_WAITING = 20, 300
 
 
 def files(folder):
@@ -24,16 +29,21 @@ def files(folder):
     square = '<!DOCTYPE Policy [<!ENTITY a "' + 'x' * 200000 + '">]>'
     yield 'laughs', f'{laughs}{HEAD}<Description>&m;</Description><Target/></Policy>', 'amplification'
     yield 'square', f'{square}{HEAD}<Description>{"&a;" * 2000}</Description><Target/></Policy>', ''
-    yield 'outside', f'<!DOCTYPE Policy [<!ENTITY a SYSTEM "file://{secret}">]>{HEAD}<Description>&a;</Description><Target/></Policy>', 'outside the file'
-    yield 'parameter', f'<!DOCTYPE Policy [<!ENTITY % a SYSTEM "file://{secret}"> %a;]>{HEAD}<Target/></Policy>', 'outside the file'
-    yield 'network', f'<!DOCTYPE Policy [<!ENTITY a SYSTEM "http://127.0.0.1:9/a">]>{HEAD}<Description>&a;</Description><Target/></Policy>', 'outside the file'
+    told = f'{HEAD}<Description>&a;</Description><Target/></Policy>'
+    yield 'outside', f'<!DOCTYPE Policy [<!ENTITY a SYSTEM "file://{secret}">]>{told}', 'outside the file'
+    yield 'parameter', f'<!DOCTYPE Policy [<!ENTITY % a SYSTEM "file://{secret}"> %a;]>{told}', 'outside the file'
+    yield 'network', f'<!DOCTYPE Policy [<!ENTITY a SYSTEM "http://127.0.0.1:9/a">]>{told}', 'outside the file'
     yield 'definition', f'<!DOCTYPE Policy SYSTEM "file://{secret}">{HEAD}<Target/></Policy>', None
+    yield 'defaults', f'<!DOCTYPE Policy [<!ATTLIST Rule Effect CDATA "Permit">]>{HEAD}<Target/></Policy>', 'by default'
     yield 'unknown_entity', f'{HEAD}<Description>&a;</Description><Target/></Policy>', 'undefined entity'
     yield 'levels', HEAD + '<Target>' * 1000 + '</Target>' * 1000 + '</Policy>', 'levels'
+    deep = f'<Apply FunctionId="{F1("not")}">' * 190 + '</Apply>' * 190
+    yield 'deep', f'{HEAD}<Target/><Rule RuleId="r" Effect="Permit"><Condition>{deep}</Condition></Rule></Policy>', None
     yield 'big', HEAD + ' ' * 100_000_000 + '</Policy>', 'bytes'
     yield 'wide', HEAD + '<Target/>' + ''.join(
         f'<Rule RuleId="r{n}" Effect="Permit"/>' for n in range(200_000)
     ) + '</Policy>', None
+    yield 'many', HEAD + ''.join(f'<Rule x="{n}"/>' for n in range(100_000)) + '</Policy>', '100000 times'
     yield 'attribute', HEAD.replace('PolicyId="p"', f'PolicyId="{"p" * 9_000_000}"') + '<Target/></Policy>', None
     yield 'twice', HEAD.replace('Version="1"', 'Version="1" Version="2"') + '<Target/></Policy>', 'duplicate attribute'
     yield 'open', HEAD + '<Target>', 'no XML'
@@ -42,14 +52,15 @@ def files(folder):
     yield 'nul', HEAD + '\0<Target/></Policy>', 'no XML'
     yield 'prefix', '<x:Policy PolicyId="p"/>', 'no XML'
     yield 'other', '<Policy xmlns="urn:other"/>', 'the namespace urn:other'
-    yield 'older', '<Policy xmlns="urn:oasis:names:tc:xacml:2.0:policy:schema:os" PolicyId="p"><Target/></Policy>', 'XACML 2.0'
+    yield 'older', '<Policy xmlns="urn:oasis:names:tc:xacml:2.0:policy:schema:os"><Target/></Policy>', 'XACML 2.0'
     yield 'none', '<Policy PolicyId="p"/>', '(none)'
     yield 'json', '{"Policy":{}}', 'no XML'
-    yield 'request', f'<Request xmlns="{names.NAMESPACE}" ReturnPolicyIdList="false" CombinedDecision="false"/>', 'Request at the root'
+    yield 'request', f'<Request xmlns="{names.NAMESPACE}"/>', 'Request at the root'
 
 
 def bounded():
     resource.setrlimit(resource.RLIMIT_AS, (MOST_MEMORY, MOST_MEMORY))
+    resource.setrlimit(resource.RLIMIT_CPU, (MOST_SECONDS, MOST_SECONDS))
 
 
 def run(tool):
@@ -66,11 +77,11 @@ def run(tool):
                     [sys.executable, str(tool), 'policy', '-o', str(folder / 'out'), str(file)],
                     capture_output=True,
                     text=True,
-                    timeout=MOST_SECONDS,
+                    timeout=MOST_WAITING,
                     preexec_fn=bounded,
                 )
             except subprocess.TimeoutExpired:
-                wrong.append(f'{stem}: no answer within {MOST_SECONDS} seconds')
+                wrong.append(f'{stem}: no answer within {MOST_WAITING} seconds')
                 continue
             expected = 0 if word is None else 1
             if (

@@ -1,11 +1,12 @@
-"""Each rewriting over a grid of values, of empty bags and of arguments that fail, beside a direct reading of the standard's function.
+"""Each rewriting over a grid of values, of empty bags and of arguments that fail, beside a direct reading of the
+standard's function.
 
-A reading here is of the words of appendix A.3 and knows nothing of what the tool writes: it works on values of Python, and FAILS stands
-for an argument that is Indeterminate."""
+A reading here is of the words of appendix A.3 and knows nothing of what the tool writes: it works on values of
+Python, and FAILS stands for an argument that is Indeterminate."""
 import datetime
 import itertools
 
-from . import literals, names, places, policies
+from . import direct_combining, literals, names, places, policies
 from .driver import F1, SUBJECT, apply, bag, function, literal, policy, single
 
 F3 = names.FUNCTION.format('3.0', '{}').format
@@ -227,9 +228,52 @@ def older_names(grid):
         )
 
 
+# ---- the legacy algorithms (C.10 to C.13) beside those that --as-modern takes, over all results of three children
+
+
+def legacy(name, of, results):
+    """The decision of a legacy algorithm by its pseudo-code; of rules an Indeterminate knows its effect alone."""
+    first, second = ('Deny', 'Permit') if name == 'deny-overrides' else ('Permit', 'Deny')
+    is_potential = has_second = has_error = False
+    for each in results:
+        if each == first:
+            return first
+        has_second = has_second or each == second
+        if each.startswith('Indeterminate'):
+            if of == names.POLICIES and first == 'Deny':
+                return 'Deny'
+            has_error = True
+            is_potential = is_potential or of == names.RULES and each == f'Indeterminate{{{first[0]}}}'
+    if is_potential:
+        return 'Indeterminate'
+    return second if has_second else 'Indeterminate' if has_error else 'NotApplicable'
+
+
+TURNED = {
+    (names.RULES, 'deny-overrides'): set(),
+    (names.RULES, 'permit-overrides'): set(),
+    (names.POLICIES, 'deny-overrides'): {('Deny', 'Permit'), ('Deny', 'Indeterminate')},
+    (names.POLICIES, 'permit-overrides'): {('Deny', 'Indeterminate')},
+}
+
+
+def turns(grid):
+    """What the tool says of each legacy algorithm: which decision may turn into which."""
+    for (of, name), expected in TURNED.items():
+        kinds = ['Indeterminate{P}', 'Indeterminate{D}'] + (['Indeterminate{DP}'] if of == names.POLICIES else [])
+        found = set()
+        for results in itertools.product(['Permit', 'Deny', 'NotApplicable', *kinds], repeat=3):
+            children = [(None, lambda request, each=each: (each, [], [])) for each in results]
+            modern = direct_combining.overrides(name)(children, None)[0].partition('{')[0]
+            found.add((legacy(name, of, results), modern))
+            grid.count += 1
+        if {(old, new) for old, new in found if old != new} != expected or (of, name) not in names.TURNS:
+            grid.wrong.append(f'{of} {name}: {found}')
+
+
 def run(service):
     """How many decisions were compared, and what was wrong."""
     grid = Grid(service)
-    for trial in (higher_order, ranges, numbers, moments, older_names):
+    for trial in (higher_order, ranges, numbers, moments, older_names, turns):
         trial(grid)
     return grid.count, grid.wrong

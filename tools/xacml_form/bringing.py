@@ -1,0 +1,53 @@
+"""From files of policies to documents: all that is told of each, and which of them are written."""
+import typing
+
+from . import cautions, checked, places, policies, times
+
+UNLOOKED = (
+    'without --program these weren\'t looked at: ids that are empty, doubled or too long, versions, variables, types of'
+    ' arguments, sizes, references'
+)
+UNCHECKED = 'files with something by hand or impossible weren\'t given to the program'
+UNCONVERTED = 'of what is no XACML 3.0 nothing was converted, so what isn\'t here wasn\'t looked for'
+
+
+class Brought(typing.NamedTuple):
+    """One file: its name, what is told of it, and its document, None where it has none."""
+
+    file: str
+    told: places.Told
+    document: typing.Optional[dict]
+
+
+def brought(file, data, as_modern):
+    """The document of a file, with what is told of its parts."""
+    told = places.Told(file)
+    try:
+        root, where = places.read(data)
+    except places.NotRead as fault:
+        told.tell(places.UNREAD, (fault.line, fault.column), fault.why)
+        return Brought(file, told, None)
+    return Brought(file, told, policies.Policies(told, where, as_modern).document(root))
+
+
+def judge(found, options, declared, text_of):
+    """Tells what is seen of documents: what can't match, times, and with a program what that says; what has no file
+    is given back."""
+    documents = [each for each in found if each.document is not None]
+    cautions.tell(documents, declared)
+    times.tell(documents)
+    good = [each for each in documents if options.keep_going or not each.told.stops()]
+    if options.program and good:
+        return checked.check(options.program, options.stored, good, text_of)
+    return []
+
+
+def unseen(found, options):
+    """What wasn't looked at."""
+    if any(each.told.holds(places.INVALID) for each in found):
+        yield UNCONVERTED
+    documents = [each for each in found if each.document is not None]
+    if documents and not options.program:
+        yield UNLOOKED
+    elif not options.keep_going and any(each.told.holds(places.BY_HAND, places.IMPOSSIBLE) for each in documents):
+        yield UNCHECKED
