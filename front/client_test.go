@@ -6,6 +6,7 @@ import (
 	"io"
 	"net"
 	"net/http"
+	"strconv"
 	"strings"
 	"sync"
 	"testing"
@@ -33,7 +34,7 @@ func TestStopReading(t *testing.T) {
 		half := f.connect("/lines")
 		fmt.Fprint(half.conn, "400\r\n{\"do\":\"pers")
 		for _, head := range []string{
-			"POST /authorize HTTP/1.1\r\nHost: front\r\nContent-Length: 500\r\n\r\n{\"Request\"",
+			"POST /authorize HTTP/1.1\r\nHost: localhost\r\nContent-Length: 500\r\n\r\n{\"Request\"",
 			"POST /authorize HTTP/1.1\r\nHost: fr",
 		} {
 			conn, err := net.Dial("tcp", f.address)
@@ -65,13 +66,15 @@ func TestStopReading(t *testing.T) {
 	eventually(t, "the connections end", func() bool { return f.metric("review_front_waiting_lines") == 0 })
 }
 
-// TestManyConnections asks over 300 connections at once.
+// TestManyConnections asks over 300 connections at once, or as many as FRONT_CONNECTIONS says.
 func TestManyConnections(t *testing.T) {
-	f := begin(t, t.TempDir())
+	connections := number("FRONT_CONNECTIONS", 300)
+	room := strconv.Itoa(connections + 100)
+	f := begin(t, t.TempDir(), "--connections", room, "--connections-each", room)
 	f.accept(clinic(t)...)
-	client := &http.Client{Transport: &http.Transport{MaxIdleConnsPerHost: 300}}
+	client := &http.Client{Transport: &http.Transport{MaxIdleConnsPerHost: connections}}
 	var all sync.WaitGroup
-	for i := 0; i < 300; i++ {
+	for i := 0; i < connections; i++ {
 		all.Add(1)
 		go func(i int) {
 			defer all.Done()
@@ -126,34 +129,38 @@ func TestNonsense(t *testing.T) {
 		sent   string
 		status []int
 	}{
-		{"GET /nothing HTTP/1.1\r\nHost: a\r\n\r\n", []int{404}},
-		{"GET /can HTTP/1.1\r\nHost: a\r\n\r\n", []int{404}},
-		{"GET /can/%FF HTTP/1.1\r\nHost: a\r\n\r\n", []int{400}},
-		{"GET /can/%zz HTTP/1.1\r\nHost: a\r\n\r\n", []int{400}},
-		{"GET /authorize HTTP/1.1\r\nHost: a\r\n\r\n", []int{405}},
-		{"DELETE /table HTTP/1.1\r\nHost: a\r\n\r\n", []int{405}},
-		{"BREW /table HTTP/1.1\r\nHost: a\r\n\r\n", []int{405}},
-		{"HEAD /table HTTP/1.1\r\nHost: a\r\nConnection: close\r\n\r\n", []int{200}},
-		{"GET /who?action=read HTTP/1.1\r\nHost: a\r\n\r\n", []int{400}},
-		{"GET /who?action=read&resource=rota&more=1 HTTP/1.1\r\nHost: a\r\n\r\n", []int{400}},
-		{"GET /counts?a HTTP/1.1\r\nHost: a\r\n\r\n", []int{400}},
-		{"GET /dump?version=x HTTP/1.1\r\nHost: a\r\n\r\n", []int{400}},
-		{"GET /dump?version=9 HTTP/1.1\r\nHost: a\r\n\r\n", []int{400}},
-		{"GET /state HTTP/1.1\r\nHost: a\r\n\r\n", []int{200, 404}},
-		{"GET /table HTTP/1.1\r\nHost: a\r\nX: " + long + "\r\n\r\n", []int{431, 0}},
+		{"GET /nothing HTTP/1.1\r\nHost: localhost\r\n\r\n", []int{404}},
+		{"GET /can HTTP/1.1\r\nHost: localhost\r\n\r\n", []int{404}},
+		{"GET /can/%FF HTTP/1.1\r\nHost: localhost\r\n\r\n", []int{400}},
+		{"GET /can/%zz HTTP/1.1\r\nHost: localhost\r\n\r\n", []int{400}},
+		{"GET /authorize HTTP/1.1\r\nHost: localhost\r\n\r\n", []int{405}},
+		{"DELETE /table HTTP/1.1\r\nHost: localhost\r\n\r\n", []int{405}},
+		{"BREW /table HTTP/1.1\r\nHost: localhost\r\n\r\n", []int{405}},
+		{"HEAD /table HTTP/1.1\r\nHost: localhost\r\nConnection: close\r\n\r\n", []int{200}},
+		{"GET /who?action=read HTTP/1.1\r\nHost: localhost\r\n\r\n", []int{400}},
+		{"GET /who?action=read&resource=rota&more=1 HTTP/1.1\r\nHost: localhost\r\n\r\n", []int{400}},
+		{"GET /counts?a HTTP/1.1\r\nHost: localhost\r\n\r\n", []int{400}},
+		{"GET /dump?version=x HTTP/1.1\r\nHost: localhost\r\n\r\n", []int{400}},
+		{"GET /dump?version=9 HTTP/1.1\r\nHost: localhost\r\n\r\n", []int{400}},
+		{"GET /who?action=a;b&resource=rota HTTP/1.1\r\nHost: localhost\r\n\r\n", []int{404}},
+		{"HEAD /notices HTTP/1.1\r\nHost: localhost\r\nConnection: close\r\n\r\n", []int{200}},
+		{"POST /authorize HTTP/1.1\r\nHost: localhost\r\nContent-Length: 11\r\n\r\n{\"a\":\"b\nc\"}", []int{400}},
+		{"POST /authorize HTTP/1.1\r\nHost: localhost\r\nAccept: */*;q=0\r\nContent-Length: 2\r\n\r\n{}", []int{406}},
+		{"GET /state HTTP/1.1\r\nHost: localhost\r\n\r\n", []int{200, 404}},
+		{"GET /table HTTP/1.1\r\nHost: localhost\r\nX: " + long + "\r\n\r\n", []int{431, 0}},
 		{"nonsense\r\n\r\n", []int{400}},
-		{"POST /authorize HTTP/1.1\r\nHost: a\r\nTransfer-Encoding: chunked\r\n\r\nzz\r\nnonsense\r\n", []int{400}},
-		{"POST /lines HTTP/1.1\r\nHost: a\r\nTransfer-Encoding: chunked\r\n\r\nzz\r\nnonsense\r\n", []int{400}},
-		{"POST /lines HTTP/1.1\r\nHost: a\r\nTransfer-Encoding: chunked\r\n\r\nffffffffffffffffffff\r\n", []int{400}},
-		{"POST /authorize HTTP/1.1\r\nHost: a\r\nContent-Length: -5\r\n\r\n", []int{400}},
-		{"POST /authorize HTTP/1.1\r\nHost: a\r\nContent-Length: 99999999999\r\n\r\n", []int{413}},
-		{"POST /authorize HTTP/1.1\r\nHost: a\r\nOrigin: http://b\r\nContent-Length: 2\r\n\r\n{}", []int{403}},
-		{"POST /lines HTTP/1.1\r\nHost: a\r\nOrigin: http://b\r\nContent-Length: 2\r\n\r\n{}", []int{403}},
-		{"POST /authorize HTTP/1.1\r\nHost: a\r\nContent-Type: application/xacml+xml\r\nContent-Length: 2\r\n\r\n{}", []int{415}},
-		{"POST /authorize HTTP/1.1\r\nHost: a\r\nAccept: application/xml\r\nContent-Length: 2\r\n\r\n{}", []int{406}},
-		{"POST /authorize HTTP/1.1\r\nHost: a\r\nContent-Length: 2\r\n\r\n{}", []int{400}},
-		{"POST /authorize HTTP/1.1\r\nHost: a\r\nContent-Length: 31\r\n\r\n{}},\"do\":\"dump\",\"x\":{\"request\":", []int{400}},
-		{"POST /authorize HTTP/1.1\r\nHost: a\r\nContent-Length: 0\r\n\r\n", []int{400}},
+		{"POST /authorize HTTP/1.1\r\nHost: localhost\r\nTransfer-Encoding: chunked\r\n\r\nzz\r\nnonsense\r\n", []int{400}},
+		{"POST /lines HTTP/1.1\r\nHost: localhost\r\nTransfer-Encoding: chunked\r\n\r\nzz\r\nnonsense\r\n", []int{400}},
+		{"POST /lines HTTP/1.1\r\nHost: localhost\r\nTransfer-Encoding: chunked\r\n\r\nffffffffffffffffffff\r\n", []int{400}},
+		{"POST /authorize HTTP/1.1\r\nHost: localhost\r\nContent-Length: -5\r\n\r\n", []int{400}},
+		{"POST /authorize HTTP/1.1\r\nHost: localhost\r\nContent-Length: 99999999999\r\n\r\n", []int{413}},
+		{"POST /authorize HTTP/1.1\r\nHost: localhost\r\nOrigin: http://b\r\nContent-Length: 2\r\n\r\n{}", []int{403}},
+		{"POST /lines HTTP/1.1\r\nHost: localhost\r\nOrigin: http://b\r\nContent-Length: 2\r\n\r\n{}", []int{403}},
+		{"POST /authorize HTTP/1.1\r\nHost: localhost\r\nContent-Type: text/csv\r\nContent-Length: 2\r\n\r\n{}", []int{415}},
+		{"POST /authorize HTTP/1.1\r\nHost: localhost\r\nAccept: text/html\r\nContent-Length: 2\r\n\r\n{}", []int{406}},
+		{"POST /authorize HTTP/1.1\r\nHost: localhost\r\nContent-Length: 2\r\n\r\n{}", []int{400}},
+		{"POST /authorize HTTP/1.1\r\nHost: localhost\r\nContent-Length: 31\r\n\r\n{}},\"do\":\"dump\",\"x\":{\"request\":", []int{400}},
+		{"POST /authorize HTTP/1.1\r\nHost: localhost\r\nContent-Length: 0\r\n\r\n", []int{400}},
 	} {
 		status, body := f.raw(one.sent)
 		fits := false

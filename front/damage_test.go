@@ -27,7 +27,7 @@ func opened(t *testing.T, path, dump string) (uint64, error) {
 	defer held.Close()
 	k := keeper.New(keeper.Options{
 		Command: program.Command{Path: theProgram(t), AttributeModules: 2, PolicyModules: 2},
-		Folder:  held, Meter: measure.New(), Queue: 16, Patience: time.Second,
+		Folder:  held, Meter: measure.New(), Queue: 16, Patience: time.Second, EndingTime: patient,
 	})
 	started, err := k.Start(context.Background())
 	if err != nil {
@@ -78,7 +78,9 @@ func journalled(t *testing.T) (path, name string, content []byte, begins []int) 
 	t.Helper()
 	path = t.TempDir()
 	f := begin(t, path)
-	f.accept(clinic(t)[:12]...)
+	for _, l := range clinic(t)[:12] {
+		f.accept(l) // one by one, so that each record but the last is known to be on disk
+	}
 	f.kill()
 	files, err := filepath.Glob(filepath.Join(path, "journal-*"))
 	if err != nil || len(files) != 1 {
@@ -119,7 +121,7 @@ func TestJournalCut(t *testing.T) {
 }
 
 // TestJournalFlipped changes each byte of the last records, in several ways: the start ends with file and place, and
-// nothing is dropped.
+// nothing is dropped; but of the very last one no other record says that it was on disk, so that it is dropped.
 func TestJournalFlipped(t *testing.T) {
 	path, name, content, begins := journalled(t)
 	records := len(begins) - 1
@@ -128,7 +130,13 @@ func TestJournalFlipped(t *testing.T) {
 			changed := append([]byte(nil), content...)
 			changed[at] ^= flip
 			to := copied(t, path, name, changed)
-			_, err := opened(t, to, "")
+			serial, err := opened(t, to, "")
+			if at >= begins[records-1] {
+				if err != nil || serial != uint64(records-2) {
+					t.Fatalf("byte %d flipped by %x: serial %d, %v", at, flip, serial, err)
+				}
+				continue
+			}
 			var damage *frame.Damage
 			if !errors.As(err, &damage) || filepath.Base(damage.File) != name {
 				t.Fatalf("byte %d flipped by %x: %v", at, flip, err)
@@ -140,13 +148,40 @@ func TestJournalFlipped(t *testing.T) {
 	}
 }
 
-// TestJournalHead cuts a journal that has no edit yet within its head, as a crash at its beginning.
+// TestJournalHead cuts a journal within its head, which no crash does: it has its name once it is on disk.
 func TestJournalHead(t *testing.T) {
 	path, name, content, begins := journalled(t)
-	for at := 0; at <= begins[1]; at += 7 {
-		if serial, err := opened(t, copied(t, path, name, content[:at]), ""); err != nil || serial != 0 {
-			t.Fatalf("cut at %d: %d edits, %v", at, serial, err)
+	for at := 0; at < begins[1]; at += 37 {
+		var damage *frame.Damage
+		if _, err := opened(t, copied(t, path, name, content[:at]), ""); !errors.As(err, &damage) {
+			t.Fatalf("cut at %d: %v", at, err)
 		}
+	}
+	if serial, err := opened(t, copied(t, path, name, content[:begins[1]]), ""); err != nil || serial != 0 {
+		t.Fatalf("cut behind the head: %d edits, %v", serial, err)
+	}
+}
+
+// TestOldDamaged changes an old journal, which no start reads: the front ends by itself with file and place.
+func TestOldDamaged(t *testing.T) {
+	path := t.TempDir()
+	f := begin(t, path)
+	f.accept(clinic(t)[:12]...)
+	if status := f.stop(); status != 0 {
+		t.Fatalf("the front ends with %d", status)
+	}
+	name := filepath.Join(path, fmt.Sprintf("journal-%020d", 1))
+	content, err := os.ReadFile(name)
+	if err != nil {
+		t.Fatal(err)
+	}
+	content[len(content)/2] ^= 1
+	if err := os.WriteFile(name, content, 0o600); err != nil {
+		t.Fatal(err)
+	}
+	f = launch(t, path)
+	if status := f.status(); status != 1 || !strings.Contains(f.log(), name+" is damaged at byte ") {
+		t.Errorf("the front ends with %d:\n%s", status, f.log())
 	}
 }
 

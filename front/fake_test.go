@@ -7,12 +7,22 @@ import (
 	"os"
 	"os/exec"
 	"path/filepath"
+	"regexp"
+	"strconv"
 	"strings"
 	"testing"
+	"time"
 )
 
+// slowTime is how long a slow edit takes.
+const slowTime = 20 * time.Millisecond
+
+// busyTime is longer than a line has in tests of it.
+const busyTime = 3 * time.Second
+
 // fake stands before the program, and answers some lines itself: of `memory` each tenth line of a process is
-// answered 15 once, of `dump` a process that is told the lines of a dump tells another one.
+// answered 15 once, of `dump` a process that is told the lines of a dump tells another one, of `busy` a line that says
+// so takes long, of `slow` a while, of `otherwise` an edit of the rota is refused where requests were asked.
 func fake(how string, words []string) int {
 	behind := exec.Command(os.Getenv("REVIEW_PROGRAM"), words...)
 	behind.Stderr = os.Stderr
@@ -29,16 +39,27 @@ func fake(how string, words []string) int {
 		return 0
 	}
 	lines, replies := bufio.NewReaderSize(os.Stdin, 1<<21), bufio.NewReaderSize(output, 1<<21)
-	second := false
+	second, asked := false, false
 	for count := 1; ; count++ {
 		l, err := lines.ReadString('\n')
 		if err != nil {
 			return 0
 		}
+		asked = asked || strings.Contains(l, `"do":"ask"`)
+		if how == "otherwise" && asked && strings.Contains(l, "rota") {
+			fmt.Println(`{"refused":9}`)
+			continue
+		}
 		second = second || strings.Contains(l, `"format"`)
 		if how == "memory" && count%10 == 0 {
 			fmt.Println(`{"refused":15}`)
 			continue
+		}
+		if how == "slow" && strings.Contains(l, "slow") {
+			time.Sleep(slowTime)
+		}
+		if how == "busy" && strings.Contains(l, "busy") {
+			work(l)
 		}
 		_, _ = io.WriteString(input, l)
 		reply, err := replies.ReadString('\n')
@@ -49,6 +70,16 @@ func fake(how string, words []string) int {
 			reply = strings.Replace(reply, `extra-`+"1", `extra-2`, 1)
 		}
 		fmt.Print(reply)
+	}
+}
+
+// work works for long, on a question for very long.
+func work(l string) {
+	while := busyTime
+	if strings.Contains(l, `"can"`) {
+		while *= 10
+	}
+	for began := time.Now(); time.Since(began) < while; {
 	}
 }
 
@@ -122,5 +153,33 @@ func TestDumpTooLong(t *testing.T) {
 	f.kill()
 	if f = begin(t, path); f.must("/dump") != dump {
 		t.Error("the dump is another one")
+	}
+}
+
+// TestReplayTime edits by lines that take a while: a snapshot is made as soon as they took so long, not by their number,
+// and a start behind them replays no more of them.
+func TestReplayTime(t *testing.T) {
+	theProgram(t)
+	path := t.TempDir()
+	slow := []string{"--program", faked(t, "slow"), "--replay-time", "300ms", "--snapshot-every", "0"}
+	f := begin(t, path, slow...)
+	const edits = 60
+	for i := 0; i < edits; i++ {
+		f.accept(fmt.Sprintf(`{"do":"attr.set","category":"Resource","entity":"slow","attribute":"n","type":"integer","values":[%d]}`, i))
+	}
+	f.snapshots(2)
+	dump := f.must("/dump")
+	f.kill()
+	f = begin(t, path, slow...)
+	if f.must("/dump") != dump {
+		t.Error("the dump is another one")
+	}
+	found := regexp.MustCompile(`"replayed":(\d+)`).FindStringSubmatch(f.log())
+	if found == nil {
+		t.Fatalf("the front doesn't tell what it replayed:\n%s", f.log())
+	}
+	// How many are behind a snapshot rests on how long it was under way; without one it would be all.
+	if replayed, _ := strconv.Atoi(found[1]); replayed >= edits {
+		t.Errorf("%d of %d edits were replayed", replayed, edits)
 	}
 }

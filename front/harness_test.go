@@ -6,6 +6,7 @@ import (
 	"encoding/json"
 	"fmt"
 	"io"
+	"net"
 	"net/http"
 	"os"
 	"os/exec"
@@ -39,7 +40,7 @@ func TestMain(m *testing.M) {
 }
 
 // patient is how long something may take that has to come: machines are busy.
-const patient = 5 * time.Minute
+var patient = time.Duration(number("FRONT_PATIENCE", 300)) * time.Second
 
 // theProgram is the program that is served, or ends the test.
 func theProgram(t testing.TB) string {
@@ -86,7 +87,8 @@ func launch(t testing.TB, folder string, more ...string) *front {
 func launchBy(t testing.TB, before, folder string, more ...string) *front {
 	t.Helper()
 	f := &front{t: t, folder: folder, ended: make(chan struct{})}
-	words := append([]string{"--program", theProgram(t), "--journal", folder, "--listen", "127.0.0.1:0"}, more...)
+	words := []string{"--program", theProgram(t), "--journal", folder, "--listen", "127.0.0.1:0", "--lame", "50ms"}
+	words = append(words, more...)
 	if before == "" {
 		f.process = exec.Command(os.Args[0], words...)
 	} else {
@@ -148,6 +150,18 @@ func (f *front) await() {
 		}
 	}
 	f.t.Fatalf("the front doesn't answer:\n%s", f.trace())
+}
+
+// at waits until a front listens, and asks it at an address of this machine then.
+func (f *front) at(address string) {
+	f.t.Helper()
+	eventually(f.t, "the front listens", func() bool { return addressOf.MatchString(f.log()) })
+	_, port, err := net.SplitHostPort(addressOf.FindStringSubmatch(f.log())[1])
+	if err != nil {
+		f.t.Fatal(err)
+	}
+	f.address = net.JoinHostPort(address, port)
+	f.await()
 }
 
 // trace ends the front, and is what it said and what it was doing.

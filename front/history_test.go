@@ -9,21 +9,41 @@ import (
 	"time"
 )
 
-// edit sends a line as somebody whom the server before the front names.
-func (f *front) editBy(by, l string) {
+// sentBy sends lines with some fields of the head, and gives the status and the body.
+func (f *front) sentBy(head http.Header, path, lines string) (int, string) {
 	f.t.Helper()
-	request, err := http.NewRequest(http.MethodPost, f.url("/lines"), strings.NewReader(l))
+	request, err := http.NewRequest(http.MethodPost, f.url(path), strings.NewReader(lines))
 	if err != nil {
 		f.t.Fatal(err)
 	}
-	request.Header.Set("X-User", by)
+	request.Header = head
 	answer, err := http.DefaultClient.Do(request)
 	if err != nil {
 		f.t.Fatal(err)
 	}
-	if _, body := bodyOf(f.t, answer); !strings.HasPrefix(body, `{"changes":`) {
+	return bodyOf(f.t, answer)
+}
+
+// editBy sends a line as somebody whom the server before the front names.
+func (f *front) editBy(by, l string) {
+	f.t.Helper()
+	if _, body := f.sentBy(http.Header{"X-User": {by}}, "/lines", l); !strings.HasPrefix(body, `{"changes":`) {
 		f.t.Fatalf("%s is answered %s", l, body)
 	}
+}
+
+// TestNobody lets the server before the front name nobody, or two: nothing is edited.
+func TestNobody(t *testing.T) {
+	f := begin(t, t.TempDir(), "--by-header", "X-User")
+	session := f.session()
+	for _, names := range [][]string{{""}, {"eve", "max"}} {
+		for _, path := range []string{"/lines", session + "/lines", session + "/mark"} {
+			if status, body := f.sentBy(http.Header{"X-User": names}, path, `{"do":"person.add","name":"ann"}`); status != 403 {
+				t.Errorf("%s by %q is answered %d %s", path, names, status, body)
+			}
+		}
+	}
+	f.editBy("eve", `{"do":"person.add","name":"ann"}`)
 }
 
 // TestHistory tells who edited what, over several starts, while the front serves.
@@ -75,7 +95,9 @@ func TestWords(t *testing.T) {
 		"--program a --journal b --key c":     2,
 		"--program a --journal b --clients c": 2,
 		"--program a --journal b --queue 0":   2,
-		"--program a --journal b --policy-modules 5": 2,
+		"--program a --journal b --host=":     2,
+		"--program a --journal b --by-header b --by-header-from c": 2,
+		"--program a --journal b --policy-modules 5":               2,
 	} {
 		var said bytes.Buffer
 		if _, status, ok := parse(strings.Fields(words), &said); ok || status != want || said.Len() == 0 {

@@ -13,19 +13,22 @@ import (
 	"review-front/measure"
 	"review-front/program"
 	"review-front/sessions"
+	"review-front/spool"
 )
 
 // kept is a keeper in this process whose edits come to the disk by something else.
 func kept(t *testing.T, sync func(*os.File) error) *keeper.Keeper {
 	t.Helper()
-	held, err := folder.Open(t.TempDir())
+	path := t.TempDir()
+	held, err := folder.Open(path)
 	if err != nil {
 		t.Fatal(err)
 	}
 	held.SyncBy(sync)
 	k := keeper.New(keeper.Options{
 		Command: program.Command{Path: theProgram(t), AttributeModules: 2, PolicyModules: 2},
-		Folder:  held, Meter: measure.New(), Queue: 16, Patience: time.Second,
+		Folder:  held, Meter: measure.New(), Queue: 16, Patience: time.Second, EndingTime: patient,
+		Spool: spool.New(path, 1<<30),
 	})
 	ctx, cancel := context.WithCancel(context.Background())
 	started, err := k.Start(ctx)

@@ -98,7 +98,7 @@ func editing(t testing.TB, f *front, client int, seed int64, known *acknowledged
 		l := <-sent
 		if serial, ok := accepted(reply); ok {
 			known.add(t, serial, l)
-		} else if strings.Contains(reply, `"status":503`) {
+		} else if strings.Contains(reply, `"status":503`) || strings.Contains(reply, `"status":422`) {
 			missed++
 		} else if !strings.HasPrefix(reply, `{"refused":`) {
 			t.Errorf("%s is answered %s", l, reply)

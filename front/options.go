@@ -5,6 +5,7 @@ import (
 	"flag"
 	"fmt"
 	"io"
+	"strings"
 	"time"
 )
 
@@ -15,27 +16,66 @@ type options struct {
 	policyModules    int
 	journal          string
 	listen           string
+	admin            string
 	certificate      string
 	key              string
 	clients          string
+	hosts            list
+	authzen          string
+	decisions        string
+	decisionsSize    int64
 	byHeader         string
+	trusted          list
 	keep             time.Duration
 	snapshotEvery    uint64
+	replayTime       time.Duration
 	reads            uint64
 	queue            int
+	spool            string
+	spoolBytes       int64
 	patience         time.Duration
 	connections      int
+	each             int
 	sessionIdle      time.Duration
 	bodyTime         time.Duration
 	streamIdle       time.Duration
 	writeTime        time.Duration
+	replyTime        time.Duration
+	access           string
+	issuer           string
+	issuerKeys       string
+	audience         string
+	withoutTLS       bool
+	rights           string
+	askers           int
+	tryTime          time.Duration
+	dryTime          time.Duration
+	lame             time.Duration
 	drain            time.Duration
+}
+
+// list is what an option says that may stand several times.
+type list []string
+
+func (l *list) String() string { return strings.Join(*l, " ") }
+
+// Set takes one more.
+func (l *list) Set(one string) error {
+	if one == "" {
+		return errors.New("it is empty")
+	}
+	*l = append(*l, one)
+	return nil
 }
 
 const usage = `Serves the program review to many clients over HTTP, and keeps what they edit.
 
 Usage: review-front --program PROGRAM --journal FOLDER [OPTION ..]
        review-front history --journal FOLDER [--since TIME] [--until TIME] [--by NAME]
+       review-front verify --journal FOLDER
+       review-front repair --journal FOLDER OUT
+       review-front restore --journal FOLDER --to SERIAL|TIME OUT
+       review-front undo --journal FOLDER SERIAL
 
 `
 
@@ -48,26 +88,7 @@ func parse(words []string, to io.Writer) (options, int, bool) {
 		fmt.Fprint(to, usage)
 		set.PrintDefaults()
 	}
-	set.StringVar(&o.program, "program", "", "the `file` of the program review")
-	set.IntVar(&o.attributeModules, "attribute-modules", 2, "how many modules of attributes the program has")
-	set.IntVar(&o.policyModules, "policy-modules", 2, "how many modules of policies the program has")
-	set.StringVar(&o.journal, "journal", "", "the `folder` of journals and snapshots, which is made if it isn't there")
-	set.StringVar(&o.listen, "listen", "127.0.0.1:8080", "the `address` at which clients are answered")
-	set.StringVar(&o.certificate, "certificate", "", "a `file` with the front's certificate; with --key: TLS")
-	set.StringVar(&o.key, "key", "", "a `file` with the key of the certificate")
-	set.StringVar(&o.clients, "clients", "", "a `file` with certificates; only clients with one that these sign are answered")
-	set.StringVar(&o.byHeader, "by-header", "", "the `field` of a head that says who asks, if a server before the front sets it")
-	set.DurationVar(&o.keep, "keep", 0, "how long journals are kept that no start needs; 0: for ever")
-	set.Uint64Var(&o.snapshotEvery, "snapshot-every", 10_000, "a snapshot is made after so many edits; 0: only at the end")
-	set.Uint64Var(&o.reads, "reads", 4_000_000_000, "the program is exchanged before it read so often; it ends at 4294967295")
-	set.IntVar(&o.queue, "queue", 4096, "how many lines wait for the program at most")
-	set.DurationVar(&o.patience, "patience", 5*time.Second, "how long a line waits for room among them before it gets 503")
-	set.IntVar(&o.connections, "connections", 1024, "how many connections are answered at a time; others wait")
-	set.DurationVar(&o.sessionIdle, "session-idle", 10*time.Minute, "a session is given back that nobody used for so long")
-	set.DurationVar(&o.bodyTime, "body-time", 30*time.Second, "how long a body may take to come")
-	set.DurationVar(&o.streamIdle, "stream-idle", time.Hour, "how long a stream of lines may say nothing")
-	set.DurationVar(&o.writeTime, "write-time", 30*time.Second, "how long a client may read nothing of what he is sent")
-	set.DurationVar(&o.drain, "drain", 10*time.Second, "how long requests may take to end once the front is told to end")
+	o.name(set)
 	if err := set.Parse(words); errors.Is(err, flag.ErrHelp) {
 		return o, 0, false
 	} else if err != nil {
@@ -78,6 +99,62 @@ func parse(words []string, to io.Writer) (options, int, bool) {
 		return o, 2, false
 	}
 	return o, 0, true
+}
+
+// name gives each option its words and what it is without them.
+func (o *options) name(set *flag.FlagSet) {
+	set.StringVar(&o.program, "program", "", "the `file` of the program review")
+	set.IntVar(&o.attributeModules, "attribute-modules", 2, "how many modules of attributes the program has")
+	set.IntVar(&o.policyModules, "policy-modules", 2, "how many modules of policies the program has")
+	set.StringVar(&o.journal, "journal", "", "the `folder` of journals and snapshots, which is made if it isn't there")
+	set.StringVar(&o.listen, "listen", "127.0.0.1:8080", "the `address` at which clients are answered, or unix: and "+
+		"the file of a socket")
+	set.StringVar(&o.admin, "admin", "", "an `address` at which /healthz, /readyz and /metrics are answered too, without TLS, "+
+		"and beside the connections of clients")
+	set.StringVar(&o.certificate, "certificate", "", "a `file` with the front's certificate; with --key: TLS")
+	set.StringVar(&o.key, "key", "", "a `file` with the key of the certificate")
+	set.StringVar(&o.clients, "clients", "", "a `file` with certificates; only clients with one that these sign are answered")
+	set.Var(&o.hosts, "host", "a `host` as which the front is asked, with a port or for each; may stand several times; "+
+		"else localhost and the address that it listens at")
+	set.StringVar(&o.authzen, "authzen", "", "a `file` that says what AuthZEN's types and properties are; with it AuthZEN's "+
+		"paths are answered")
+	set.StringVar(&o.decisions, "decisions", "", "a `folder` into which each decision is written, which is made if it isn't there")
+	set.Int64Var(&o.decisionsSize, "decisions-size", 64<<20, "how many bytes a file of decisions has before another begins")
+	set.StringVar(&o.byHeader, "by-header", "", "the `field` of a head that says who asks, if a server before the front sets it")
+	set.Var(&o.trusted, "by-header-from", "the `name` in the certificate of a client whose --by-header is believed; "+
+		"may stand several times; without --clients everybody's is")
+	set.StringVar(&o.access, "access", "", "a `file` with those who may ask, and what; without it whoever reaches the front may all")
+	set.StringVar(&o.issuer, "issuer", "", "the `name` of an issuer whose tokens are taken, as their claim iss has it")
+	set.StringVar(&o.issuerKeys, "issuer-keys", "", "a `file` with its keys, as a set of JSON Web Keys")
+	set.StringVar(&o.audience, "audience", "", "for whom its tokens are, as their claim aud `has` it")
+	set.StringVar(&o.rights, "rights", "", "a `file` with the lines of a state whose policies decide who may send which line")
+	set.BoolVar(&o.withoutTLS, "without-tls", false, "answers without TLS also at addresses that other machines reach")
+	set.DurationVar(&o.keep, "keep", 0, "how long journals are kept that no start needs; 0: for ever")
+	set.Uint64Var(&o.snapshotEvery, "snapshot-every", 10_000, "a snapshot is made after so many edits; 0: not by their number")
+	set.DurationVar(&o.replayTime, "replay-time", 5*time.Second, "a snapshot is made when the edits behind the last took "+
+		"so long, as a start would; 0: not by their time")
+	set.Uint64Var(&o.reads, "reads", 4_000_000_000, "the program is exchanged before it read so often; it ends at 4294967295")
+	set.IntVar(&o.queue, "queue", 4096, "how many lines wait for the program at most")
+	set.StringVar(&o.spool, "spool", "", "the `folder` in which replies of more than 256 KiB wait until they are read; "+
+		"else that of journals")
+	set.Int64Var(&o.spoolBytes, "spool-bytes", 1<<30, "while so much waits there, no more such replies are asked for")
+	set.DurationVar(&o.patience, "patience", 5*time.Second, "how long a line waits for room among them before it gets 503")
+	set.IntVar(&o.connections, "connections", 1024, "how many connections are answered at a time; others wait")
+	set.IntVar(&o.each, "connections-each", 0, "how many connections one address has at most, others of it are closed; "+
+		"0: fifteen of sixteen of --connections, so that none has all")
+	set.DurationVar(&o.sessionIdle, "session-idle", 10*time.Minute, "a session is given back that nobody used for so long")
+	set.DurationVar(&o.bodyTime, "body-time", 30*time.Second, "how long a body may take to come, for each 64 KiB of it")
+	set.DurationVar(&o.streamIdle, "stream-idle", time.Hour, "how long a stream of lines may say nothing")
+	set.DurationVar(&o.writeTime, "write-time", 30*time.Second, "how long a client may read nothing of what he is sent")
+	set.DurationVar(&o.replyTime, "reply-time", 30*time.Second, "how long the program may take for a line, or stand "+
+		"still over an edit or a report, before another takes its place; 0: for ever")
+	set.IntVar(&o.askers, "askers", 0, "how many programs beside the table's answer requests")
+	set.DurationVar(&o.tryTime, "try-time", 0, "an edit is told first to a spare program of the same state, and refused "+
+		"where it takes longer there; 0: there is none")
+	set.DurationVar(&o.dryTime, "dry-time", time.Minute, "how long it may take to tell what lines would change")
+	set.DurationVar(&o.lame, "lame", time.Second, "how long the front, told to end, answers on while /readyz says 503")
+	set.DurationVar(&o.drain, "drain", 30*time.Second, "how long the front may take to end: behind --lame, half of it for "+
+		"what is under way and half for a snapshot")
 }
 
 // wrong says what is wrong with the options, or nothing.
@@ -93,10 +170,30 @@ func (o options) wrong(rest []string) string {
 		return "--certificate and --key go together"
 	case o.clients != "" && o.certificate == "":
 		return "--clients needs --certificate and --key"
+	case o.certificate == "" && !o.withoutTLS && !isNear(o.listen):
+		return "--listen names an address that other machines reach: give --certificate and --key, or --without-tls"
+	case o.rights != "" && o.access == "":
+		return "--rights needs --access"
+	case o.issuer != "" && (o.access == "" || o.issuerKeys == "" || o.audience == ""):
+		return "--issuer needs --access, --issuer-keys and --audience"
+	case o.issuer == "" && (o.issuerKeys != "" || o.audience != ""):
+		return "--issuer-keys and --audience need --issuer"
+	case len(o.trusted) > 0 && (o.clients == "" || o.byHeader == ""):
+		return "--by-header-from needs --by-header and --clients"
 	case o.attributeModules < 1 || o.attributeModules > 4 || o.policyModules < 1 || o.policyModules > 4:
 		return "there are 1 to 4 modules of each sort"
-	case o.queue < 1 || o.connections < 1:
-		return "--queue and --connections are at least 1"
+	case o.queue < 1 || o.connections < 1 || o.each < 0:
+		return "--queue and --connections are at least 1, and --connections-each at least 0"
+	case o.decisionsSize < 1:
+		return "--decisions-size is at least 1"
+	case o.askers < 0 || o.tryTime < 0 || o.dryTime <= 0:
+		return "--askers and --try-time are at least 0, and --dry-time is more"
+	case o.spoolBytes < 1<<20:
+		return "--spool-bytes is at least 1048576"
+	case o.replayTime < 0:
+		return "--replay-time is at least 0"
+	case o.replyTime < 0 || o.lame < 0 || o.drain <= o.lame:
+		return "--reply-time and --lame are at least 0, and --drain is more than --lame"
 	}
 	return ""
 }

@@ -2,6 +2,8 @@ package main
 
 import (
 	"fmt"
+	"os"
+	"path/filepath"
 	"strings"
 	"testing"
 )
@@ -43,10 +45,22 @@ func TestSerials(t *testing.T) {
 	}
 }
 
-// TestTwo starts a second front on a folder: it ends at once, and the first serves on.
+// TestTwo starts a second front on a folder, also where what isn't a journal or a snapshot was taken away: it ends at
+// once, and the first serves on.
 func TestTwo(t *testing.T) {
 	path := t.TempDir()
 	f := begin(t, path)
+	files, err := os.ReadDir(path)
+	if err != nil {
+		t.Fatal(err)
+	}
+	for _, file := range files {
+		if !strings.Contains(file.Name(), "-") {
+			if err := os.Remove(filepath.Join(path, file.Name())); err != nil {
+				t.Fatal(err)
+			}
+		}
+	}
 	second := launch(t, path)
 	if status := second.status(); status != 1 || !strings.Contains(second.log(), "another front has this folder") {
 		t.Errorf("the second front ends with %d:\n%s", status, second.log())

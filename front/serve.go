@@ -3,7 +3,6 @@ package main
 import (
 	"context"
 	"crypto/tls"
-	"crypto/x509"
 	"errors"
 	"fmt"
 	"net"
@@ -17,6 +16,7 @@ import (
 	"review-front/logs"
 	"review-front/measure"
 	"review-front/program"
+	"review-front/spool"
 	"review-front/web"
 )
 
@@ -25,40 +25,61 @@ const (
 	idleTime  = 2 * time.Minute
 	headBytes = 32 << 10
 	askTime   = time.Second // how long the counts wait for the program
+	// adminPlaces is how many connections there are at a time at the address of --admin.
+	adminPlaces = 16
 )
 
-// serve serves until the context is done, or until there is no state to serve.
-func serve(ctx context.Context, o options, log *logs.Log) error {
+// serve serves until the context is done, or until there is no state to serve. Certificates are read again whenever
+// `again` says so.
+func serve(ctx context.Context, again <-chan os.Signal, o options, log *logs.Log) error {
 	held, err := folder.Open(o.journal)
 	if err != nil {
 		return err
 	}
 	defer held.Close()
+	kept := o.kept()
+	if err := kept.Clear(); err != nil {
+		return err
+	}
 	meter := measure.New()
-	k := keeper.New(keeper.Options{
-		Command: program.Command{
-			Path: o.program, AttributeModules: o.attributeModules, PolicyModules: o.policyModules, Faults: log.Lines(),
-		},
-		Folder: held, Log: log, Meter: meter, Queue: o.queue, Patience: o.patience,
-		SnapshotEvery: o.snapshotEvery, Keep: o.keep, Reads: o.reads,
-	})
+	k := keeper.New(o.keeping(held, kept, log, meter))
 	watch(meter, k)
-	listener, err := listen(o)
+	mapping, book, err := o.beside(log, meter)
+	if err != nil {
+		return err
+	}
+	defer book.Close()
+	who, err := o.who(log)
+	if err != nil {
+		return err
+	}
+	defer who.close()
+	listener, err := listen(ctx, again, o, who, log)
 	if err != nil {
 		return err
 	}
 	site := web.New(web.Options{
-		Keeper: k, Meter: meter, Log: log, ByHeader: o.byHeader, SessionIdle: o.sessionIdle,
-		BodyTime: o.bodyTime, StreamIdle: o.streamIdle, WriteTime: o.writeTime,
+		Keeper: k, Meter: meter, Log: log, Authzen: mapping, Decisions: book,
+		Hosts:    web.NewHosts(o.hosts, o.listen, listener.Addr()),
+		ByHeader: o.byHeader, Trusted: o.trusted, SessionIdle: o.sessionIdle, BodyTime: o.bodyTime,
+		StreamIdle: o.streamIdle, WriteTime: o.writeTime, DryTime: o.dryTime, Access: who.gate, Rights: who.rights,
 	})
+	k.Edited = site.Edited
 	server := &http.Server{
 		Handler: site, ConnContext: web.KeepConnection, ErrorLog: log.Standard(),
-		ReadHeaderTimeout: headTime, IdleTimeout: idleTime, MaxHeaderBytes: headBytes,
+		ReadHeaderTimeout: headTime, ReadTimeout: o.bodyTime, IdleTimeout: idleTime, MaxHeaderBytes: headBytes,
 		TLSNextProto: map[string]func(*http.Server, *tls.Conn, http.Handler){},
 	}
 	failed := make(chan error, 1)
 	go func() { failed <- server.Serve(listener) }()
 	defer server.Close()
+	if o.admin != "" {
+		admin, err := administer(o, site, log)
+		if err != nil {
+			return err
+		}
+		defer admin.Close()
+	}
 	go site.Sweep(ctx)
 	log.Info("clients can connect", "address", listener.Addr().String())
 	started, err := k.Start(ctx)
@@ -68,74 +89,47 @@ func serve(ctx context.Context, o options, log *logs.Log) error {
 	if err != nil {
 		return err
 	}
-	return until(ctx, o.drain, server, site, started, failed)
+	e := &ending{options: o, log: log, server: server, site: site, failed: failed}
+	return e.until(ctx, started)
 }
 
-// until serves until the context is done, ends what is under way, and leaves a snapshot.
-func until(
-	ctx context.Context, drain time.Duration, server *http.Server, site *web.Server, started *keeper.Started, failed <-chan error,
-) error {
-	running, stop := context.WithCancel(context.Background())
-	defer stop()
-	ended := make(chan error, 1)
-	go func() { ended <- started.Run(running) }()
-	select {
-	case err := <-ended:
-		return err
-	case err := <-failed:
-		stop()
-		<-ended
-		return fmt.Errorf("clients can't be answered: %w", err)
-	case <-ctx.Done():
+// administer answers who looks after the front, at an address of its own.
+func administer(o options, site *web.Server, log *logs.Log) (*http.Server, error) {
+	listener, err := net.Listen("tcp", o.admin)
+	if err != nil {
+		return nil, fmt.Errorf("the address of --admin: %w", err)
 	}
-	site.Stop()
-	limit, cancel := context.WithTimeout(context.Background(), drain)
-	defer cancel()
-	if err := server.Shutdown(limit); err != nil && !errors.Is(err, context.DeadlineExceeded) {
-		return fmt.Errorf("ending what is under way: %w", err)
+	server := &http.Server{
+		Handler: site.Admin(web.NewHosts(nil, o.admin, listener.Addr())), ErrorLog: log.Standard(),
+		ReadTimeout: headTime, WriteTimeout: headTime, IdleTimeout: idleTime, MaxHeaderBytes: headBytes,
 	}
-	stop()
-	return <-ended
+	go func() {
+		if err := server.Serve(web.Limit(listener, adminPlaces, 0)); !errors.Is(err, http.ErrServerClosed) {
+			log.Error("nobody is answered at the address of --admin any more", "error", err)
+		}
+	}()
+	log.Info("who looks after the front can connect", "admin", listener.Addr().String())
+	return server, nil
 }
 
-// listen opens the address, with TLS if there is a certificate.
-func listen(o options) (net.Listener, error) {
-	listener, err := net.Listen("tcp", o.listen)
-	if err != nil {
-		return nil, fmt.Errorf("the address: %w", err)
+// kept is where long replies wait.
+func (o options) kept() *spool.Spool {
+	if o.spool == "" {
+		return spool.New(o.journal, o.spoolBytes)
 	}
-	listener = web.Limit(listener, o.connections)
-	if o.certificate == "" {
-		return listener, nil
-	}
-	config, err := secured(o)
-	if err != nil {
-		listener.Close()
-		return nil, err
-	}
-	return tls.NewListener(listener, config), nil
+	return spool.New(o.spool, o.spoolBytes)
 }
 
-// secured is what TLS works with.
-func secured(o options) (*tls.Config, error) {
-	own, err := tls.LoadX509KeyPair(o.certificate, o.key)
-	if err != nil {
-		return nil, fmt.Errorf("the certificate: %w", err)
+// keeping is what the keeper of a folder works with.
+func (o options) keeping(held *folder.Folder, kept *spool.Spool, log *logs.Log, meter *measure.Meter) keeper.Options {
+	return keeper.Options{
+		Command: program.Command{
+			Path: o.program, AttributeModules: o.attributeModules, PolicyModules: o.policyModules, Faults: log.Lines(),
+		},
+		Folder: held, Spool: kept, Log: log, Meter: meter, Queue: o.queue, Patience: o.patience,
+		SnapshotEvery: o.snapshotEvery, ReplayTime: o.replayTime, Keep: o.keep, Reads: o.reads,
+		ReplyTime: o.replyTime, EndingTime: o.half(), Askers: o.askers, TryTime: o.tryTime,
 	}
-	config := &tls.Config{Certificates: []tls.Certificate{own}, MinVersion: tls.VersionTLS12}
-	if o.clients == "" {
-		return config, nil
-	}
-	signers, err := os.ReadFile(o.clients)
-	if err != nil {
-		return nil, fmt.Errorf("the certificates of clients: %w", err)
-	}
-	config.ClientCAs = x509.NewCertPool()
-	if !config.ClientCAs.AppendCertsFromPEM(signers) {
-		return nil, fmt.Errorf("the certificates of clients: %s has none", o.clients)
-	}
-	config.ClientAuth = tls.RequireAndVerifyClientCert
-	return config, nil
 }
 
 // watch adds what is looked up when somebody asks for the counts.
@@ -144,6 +138,8 @@ func watch(meter *measure.Meter, k *keeper.Keeper) {
 	meter.Watch("waiting_lines", "Lines that wait for the program.", func() float64 { return float64(k.Waiting()) })
 	meter.Watch("sessions", "Sessions that clients have.", func() float64 { return float64(k.Sessions.Taken()) })
 	meter.Watch("listeners", "Who listens to notices.", func() float64 { return float64(k.Notices.Count()) })
+	meter.Watch("askers", "Programs beside the table's that answer requests.", func() float64 { return float64(k.Askers()) })
+	meter.Watch("spool_bytes", "Bytes of replies that wait in files.", func() float64 { return float64(k.Spool.Used()) })
 	meter.Watch("ready", "Whether lines are answered.", func() float64 {
 		if k.Ready() {
 			return 1

@@ -95,14 +95,7 @@ func TestLeases(t *testing.T) {
 	if _, body := f.post(path+"/lines", `{"do":"notices"}`); strings.Count(body, `"person":"extra"`) != 60 {
 		t.Errorf("notices by a line are %s", body)
 	}
-	request, err := http.NewRequest(http.MethodDelete, f.url(path), nil)
-	if err != nil {
-		t.Fatal(err)
-	}
-	answer, err := http.DefaultClient.Do(request)
-	if err != nil || answer.StatusCode != http.StatusNoContent {
-		t.Fatalf("a session is ended by %v, %v", answer, err)
-	}
+	f.end(path)
 	if status, _ := f.get(path + "/notices"); status != http.StatusNotFound {
 		t.Errorf("notices of a session that has ended are %d", status)
 	}

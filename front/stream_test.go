@@ -24,7 +24,7 @@ func (f *front) open(path string) (*stream, error) {
 		return nil, err
 	}
 	_ = conn.SetDeadline(time.Now().Add(2 * patient))
-	_, err = fmt.Fprintf(conn, "POST %s HTTP/1.1\r\nHost: front\r\nTransfer-Encoding: chunked\r\n\r\n", path)
+	_, err = fmt.Fprintf(conn, "POST %s HTTP/1.1\r\nHost: localhost\r\nTransfer-Encoding: chunked\r\n\r\n", path)
 	return &stream{conn: conn}, err
 }
 

@@ -1,8 +1,9 @@
 #!/bin/sh
 # Tests the front over a program: front/test.sh [PROGRAM [all]]; PROGRAM is crates/review/out/review unless it is named.
-# With `all` it kills the front and the program 200 times each and sends all of the gate's sessions; without it 8 times, and
-# each eighth session.
-# Where Go, its client of Prometheus or a C compiler (for the race detector) isn't there, it says so and ends with status 3.
+# With `all` it kills the front and the program 200 times each, stops the front 30 times, and sends all of the gate's
+# sessions; without it 8 times, 4 times, and each eighth session.
+# Where Go, its client of Prometheus or a C compiler (for the race detector) isn't there, it says so and ends with status 3;
+# where strace isn't there, or may not look at processes, it does so when all tests but that of system calls have passed.
 set -eu
 program=$(realpath "${1:-$(dirname "$0")/../crates/review/out/review}")
 cd "$(dirname "$0")"
@@ -17,11 +18,17 @@ if [ -n "$unformed" ]; then
     echo "gofmt would change $unformed"
     exit 1
 fi
+if ! strace -o /dev/null true 2>/dev/null; then
+    echo "front/test.sh: there is no strace that may look at processes"
+    FRONT_UNTRACED=1
+    export FRONT_UNTRACED
+fi
 ./build.sh
 ./build.sh go vet ./...
 (cd .. && GO111MODULE=off go vet ./bench/front)
 if [ "${2:-}" = all ]; then
-    FRONT_KILLS=200 FRONT_SESSIONS=1
-    export FRONT_KILLS FRONT_SESSIONS
+    FRONT_KILLS=200 FRONT_STOPS=30 FRONT_SESSIONS=1 FRONT_TABLES=200
+    export FRONT_KILLS FRONT_STOPS FRONT_SESSIONS FRONT_TABLES
 fi
 REVIEW_PROGRAM=$program ./build.sh go test -race -count=1 -timeout 60m ./...
+[ -z "${FRONT_UNTRACED:-}" ] || exit 3

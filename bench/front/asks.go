@@ -107,13 +107,19 @@ type asked struct {
 	rate    float64 // answers a second
 	median  time.Duration
 	slowest time.Duration // of a hundred
+	front   time.Duration // processor time of the front for an answer
+	program time.Duration // that of the program
 }
 
-// overHTTP asks the front over so many kept connections for a while. Each waits for its answer before it asks again.
-func overHTTP(address string, connections int, lasting time.Duration) (asked, error) {
+// overHTTP asks a front over so many kept connections for a while. Each waits for its answer before it asks again.
+func (s *started) overHTTP(connections int, lasting time.Duration) (asked, error) {
 	var all sync.WaitGroup
 	times := make([][]time.Duration, connections)
 	faults := make(chan error, connections)
+	front, program, err := s.worked()
+	if err != nil {
+		return asked{}, err
+	}
 	began := time.Now()
 	for i := 0; i < connections; i++ {
 		all.Add(1)
@@ -136,9 +142,15 @@ func overHTTP(address string, connections int, lasting time.Duration) (asked, er
 	for _, taken := range times {
 		every = append(every, taken...)
 	}
+	frontNow, programNow, err := s.worked()
+	if err != nil {
+		return asked{}, err
+	}
 	sort.Slice(every, func(i, j int) bool { return every[i] < every[j] })
+	count := time.Duration(len(every))
 	return asked{
-		rate: float64(len(every)) / took.Seconds(), median: every[len(every)/2], slowest: every[len(every)*99/100],
+		rate: float64(count) / took.Seconds(), median: every[count/2], slowest: every[count*99/100],
+		front: (frontNow - front) / count, program: (programNow - program) / count,
 	}, nil
 }
 
@@ -151,7 +163,7 @@ func asking(address string, first int, until time.Time) ([]time.Duration, error)
 	defer conn.Close()
 	var posts [][]byte
 	for _, request := range requests() {
-		posts = append(posts, []byte("POST /authorize HTTP/1.1\r\nHost: front\r\nContent-Type: application/xacml+json\r\n"+
+		posts = append(posts, []byte("POST /authorize HTTP/1.1\r\nHost: localhost\r\nContent-Type: application/xacml+json\r\n"+
 			"Content-Length: "+strconv.Itoa(len(request))+"\r\n\r\n"+string(request)))
 	}
 	from := bufio.NewReaderSize(conn, 1<<14)

@@ -99,7 +99,7 @@ func (r run) measure(only string) error {
 	for _, part := range []struct {
 		name string
 		call func() error
-	}{{"asks", r.asks}, {"edits", r.someEdits}, {"starts", r.starts}} {
+	}{{"asks", r.asks}, {"edits", r.someEdits}, {"starts", r.starts}, {"snapshots", r.snapshots}, {"beside", r.beside}} {
 		if strings.Contains(only, part.name) {
 			if err := part.call(); err != nil {
 				return fmt.Errorf("%s: %w", part.name, err)
@@ -129,14 +129,14 @@ func (r run) asks() error {
 	}
 	fmt.Printf("asks, the pipe alone      %8.0f a second\n", alone)
 	for _, connections := range []int{1, 32, 256} {
-		got, err := overHTTP(address, connections, r.time)
+		got, err := front.overHTTP(connections, r.time)
 		if err != nil {
 			return err
 		}
 		fmt.Printf("asks, %3d connections     %8.0f a second, %4.2f of the pipe; "+
-			"median %v, slowest of a hundred %v, %4.1f times\n",
+			"median %v, slowest of a hundred %v, %4.1f times; processor time of the front %v, of the program %v\n",
 			connections, got.rate, got.rate/alone, got.median.Round(time.Microsecond), got.slowest.Round(time.Microsecond),
-			float64(got.slowest)/float64(got.median))
+			float64(got.slowest)/float64(got.median), got.front.Round(100*time.Nanosecond), got.program.Round(100*time.Nanosecond))
 	}
 	return nil
 }

@@ -4,7 +4,8 @@
 //
 // Asks of the clinic: lines in the pipe alone, and then requests to the front over 1, 32 and 256 kept connections,
 // each of which waits for its answer. Edits of 16 clients, and how many came to the disk together. The start from
-// 100,000 edits, with a snapshot and without.
+// 100,000 edits, with a snapshot and without. Asks while a snapshot is made, and between. Asks beside edits of a policy
+// on which a large table rests, without askers and with one and three.
 package main
 
 import (
@@ -28,7 +29,7 @@ func main() {
 	flag.StringVar(&r.clinic, "lines", "examples/clinic/clinic.jsonl", "the lines that make the state")
 	flag.DurationVar(&r.time, "time", 5*time.Second, "how long each measurement of asks takes")
 	flag.IntVar(&r.edits, "edits", 100_000, "how many edits the starts begin with")
-	only := flag.String("only", "asks,edits,starts", "what is measured")
+	only := flag.String("only", "asks,edits,starts,snapshots,beside", "what is measured")
 	flag.Parse()
 	if err := r.measure(*only); err != nil {
 		fmt.Fprintln(os.Stderr, "bench/front:", err)

@@ -9,8 +9,12 @@ import (
 	"review-front/frame"
 )
 
-// Format is the version of what stands in the files of a folder.
-const Format = 1
+// Format is the version of what stands in the files of a folder. Files of the first one are read too: their journals
+// have no chain, and don't tell what was known to be on disk.
+const (
+	Format = 2
+	first  = 1
+)
 
 // Head is the first record of each file: what it is, and of which program.
 type Head struct {
@@ -25,6 +29,16 @@ type Head struct {
 	After uint64 `json:"after"`
 	// Lines is, of a snapshot, how many lines it has.
 	Lines int `json:"lines,omitempty"`
+	// Before is, of a journal, the one before it, and of a snapshot the journal that it was made of.
+	Before *Part `json:"before,omitempty"`
+}
+
+// Part is the beginning of a journal, up to an edit.
+type Part struct {
+	Journal uint64 `json:"journal"` // the number of the journal
+	Serial  uint64 `json:"serial"`  // that of the edit
+	Bytes   int64  `json:"bytes"`   // how long it is
+	Sum     string `json:"sum"`     // its checksum, SHA-256
 }
 
 // Entry is an edit that was accepted.
@@ -34,15 +48,22 @@ type Entry struct {
 	Serial  uint64 // how many edits were accepted with it, since the folder was new
 	Changes uint64 // how many requests have another answer by it
 	Line    []byte // the line as it was sent to the program
+	// Together, of the first of several edits that are made all together, is how many these are. They have one record.
+	Together int
+	// synced is up to which byte its journal was known to be on disk when it was written.
+	synced int64
 }
 
 // written is an entry as its record has it.
 type written struct {
+	Synced  int64           `json:"synced"`
 	Time    time.Time       `json:"time"`
 	By      string          `json:"by"`
 	Serial  *uint64         `json:"serial"`
 	Changes *uint64         `json:"changes"`
 	Line    json.RawMessage `json:"line"`
+	// Edits are those of a record of several.
+	Edits []written `json:"edits"`
 }
 
 // Append appends the entry as JSON. The line stands in it as it was sent.
@@ -64,15 +85,56 @@ func (e Entry) Append(to []byte) []byte {
 	return append(to, '}')
 }
 
-func readEntry(record []byte) (Entry, error) {
+// record appends the record of an entry in a journal that is known to be on disk up to a byte.
+func (e Entry) record(to []byte, synced int64) []byte {
+	content := strconv.AppendInt([]byte(`{"synced":`), synced, 10)
+	begin := len(content)
+	content = e.Append(content)
+	content[begin] = ','
+	return frame.Append(to, content)
+}
+
+// recordOf appends the record of edits that are made all together.
+func recordOf(to []byte, entries []Entry, synced int64) []byte {
+	content := append(strconv.AppendInt([]byte(`{"synced":`), synced, 10), `,"edits":[`...)
+	for i, entry := range entries {
+		if i > 0 {
+			content = append(content, ',')
+		}
+		content = entry.Append(content)
+	}
+	return frame.Append(to, append(content, `]}`...))
+}
+
+// readEntries reads the edits of a record: one, or several that are made all together.
+func readEntries(record []byte) ([]Entry, error) {
 	var w written
 	if err := json.Unmarshal(record, &w); err != nil {
-		return Entry{}, fmt.Errorf("a record isn't an edit: %w", err)
+		return nil, fmt.Errorf("a record isn't an edit: %w", err)
 	}
+	if len(w.Edits) == 0 {
+		w.Edits = []written{w}
+	}
+	entries := make([]Entry, 0, len(w.Edits))
+	for _, one := range w.Edits {
+		one.Synced = w.Synced
+		entry, err := one.entry()
+		if err != nil {
+			return nil, err
+		}
+		entries = append(entries, entry)
+	}
+	return entries, nil
+}
+
+// entry is an edit as it was written.
+func (w written) entry() (Entry, error) {
 	if w.Serial == nil || w.Changes == nil || len(w.Line) == 0 {
 		return Entry{}, fmt.Errorf("a record isn't an edit: a key is missing")
 	}
-	return Entry{Time: w.Time, By: w.By, Serial: *w.Serial, Changes: *w.Changes, Line: w.Line}, nil
+	return Entry{
+		Time: w.Time, By: w.By, Serial: *w.Serial, Changes: *w.Changes, Line: w.Line, synced: w.Synced,
+	}, nil
 }
 
 // readHead reads the first record of a file of a kind.
@@ -85,8 +147,9 @@ func readHead(records *frame.Reader, kind string) (Head, error) {
 	if err := json.Unmarshal(record, &head); err != nil || head.Kind != kind {
 		return Head{}, records.Damage("it doesn't begin with the head of a " + kind)
 	}
-	if head.Format != Format {
-		return Head{}, records.Damage(fmt.Sprintf("its format is %d, and this program knows %d", head.Format, Format))
+	if head.Format < first || head.Format > Format {
+		what := fmt.Sprintf("its format is %d, and this program knows %d to %d", head.Format, first, Format)
+		return Head{}, records.Damage(what)
 	}
 	return head, nil
 }

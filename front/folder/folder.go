@@ -3,11 +3,17 @@
 //
 // A journal `journal-N` has the edits from serial N on, up to those of the next one. A snapshot `snapshot-N` has the
 // lines of a dump of the state at serial N. Each begins with a head; all are records as package frame has them.
+//
+// They are a chain: the head of a journal has the checksum of the journal before it, that of a snapshot the checksum of
+// its journal up to its serial, and the file `journals` says which journal is the first and which the newest. Each
+// record of a journal says up to which byte that was known to be on disk, so that what a crash leaves behind such a
+// byte, in whatever order it was written, can be told from damage before it.
 package folder
 
 import (
 	"errors"
 	"fmt"
+	"hash"
 	"os"
 	"path/filepath"
 	"sort"
@@ -15,14 +21,16 @@ import (
 	"strings"
 	"sync"
 	"syscall"
+	"time"
 )
 
 const (
 	journalName  = "journal-"
 	snapshotName = "snapshot-"
 	asideName    = ".aside"
-	lockName     = "lock"
 	digits       = 20
+	// lockTime is how long it is tried to have a folder.
+	lockTime = 500 * time.Millisecond
 )
 
 // ErrTaken says that another front has the folder.
@@ -31,29 +39,35 @@ var ErrTaken = errors.New("another front has this folder")
 // Folder is a folder of journals and snapshots that this process has alone.
 type Folder struct {
 	path    string
-	lock    *os.File
+	lock    *os.File // the folder itself
 	mutex   sync.Mutex
 	head    Head     // of the journals that are begun
 	current *os.File // the journal that edits are appended to
 	began   uint64   // the first serial that it has, or would have
 	size    int64    // how many bytes of it are on disk
-	last    uint64   // the serial of the last edit that is on disk
-	broken  error    // why nothing can be written, if so
+	sum     hash.Hash
+	before  *Part  // the end of the journal that has the last edit, or where it begins that of the one before
+	first   uint64 // the number of the first journal that has to stand
+	checked uint64 // from which journal on Recover has read them
+	chained bool   // whether each journal that stood has its predecessor's checksum
+	last    uint64 // the serial of the last edit that is on disk
+	broken  error  // why nothing can be written, if so
 	sync    func(*os.File) error
 }
 
-// Open takes a folder, which is made if it isn't there.
+// Open takes a folder, which is made if it isn't there. The folder itself is locked: there is no file of a lock that
+// could be taken away.
 func Open(path string) (*Folder, error) {
 	if err := os.MkdirAll(path, 0o700); err != nil {
 		return nil, fmt.Errorf("the folder of journals: %w", err)
 	}
-	lock, err := os.OpenFile(filepath.Join(path, lockName), os.O_CREATE|os.O_RDWR, 0o600)
+	lock, err := os.Open(path)
 	if err != nil {
-		return nil, fmt.Errorf("the lock of the folder: %w", err)
+		return nil, fmt.Errorf("the folder of journals: %w", err)
 	}
-	if err := syscall.Flock(int(lock.Fd()), syscall.LOCK_EX|syscall.LOCK_NB); err != nil {
+	if err := take(lock); err != nil {
 		lock.Close()
-		return nil, fmt.Errorf("%s: %w", path, ErrTaken)
+		return nil, fmt.Errorf("%s: %w", path, err)
 	}
 	f := &Folder{path: path, lock: lock, sync: (*os.File).Sync}
 	if err := f.clear(); err != nil {
@@ -61,6 +75,20 @@ func Open(path string) (*Folder, error) {
 		return nil, err
 	}
 	return f, nil
+}
+
+// take locks a folder. A front that was killed just now may have been starting a process, which holds its lock until it
+// has become another program: so it is tried for a while.
+func take(lock *os.File) error {
+	for until := time.Now().Add(lockTime); ; time.Sleep(lockTime / 50) {
+		err := syscall.Flock(int(lock.Fd()), syscall.LOCK_EX|syscall.LOCK_NB)
+		switch {
+		case err == nil || !errors.Is(err, syscall.EWOULDBLOCK):
+			return err
+		case time.Now().After(until):
+			return ErrTaken
+		}
+	}
 }
 
 // SyncBy has edits brought to the disk by something else, as one that fails or takes its time, to see what follows.
@@ -98,6 +126,16 @@ func (f *Folder) Last() uint64 {
 	return f.last
 }
 
+// First is the number of the first journal that has to stand.
+func (f *Folder) First() uint64 {
+	f.mutex.Lock()
+	defer f.mutex.Unlock()
+	return f.first
+}
+
+// Chained says whether each journal that stood has its predecessor's checksum. Those of the first format have none.
+func (f *Folder) Chained() bool { return f.chained }
+
 // numbered lists the numbers of the files of a kind, in their order.
 func numbered(path, kind string) ([]uint64, error) {
 	files, err := os.ReadDir(path)
@@ -120,6 +158,7 @@ func numbered(path, kind string) ([]uint64, error) {
 	return numbers, nil
 }
 
+// named is where a file of a kind stands.
 func named(path, kind string, number uint64) string {
 	return filepath.Join(path, fmt.Sprintf("%s%0*d", kind, digits, number))
 }

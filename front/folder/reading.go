@@ -1,88 +1,131 @@
 package folder
 
 import (
+	"context"
 	"errors"
 	"fmt"
-	"io"
 	"math"
 	"os"
 
 	"review-front/frame"
 )
 
-// Torn is a last record that a crash cut off and that was dropped.
-type Torn struct {
-	File  string
-	Place int64 // where it began
-	Bytes int64 // how many bytes of it were there
-}
-
-// Recover reads the journals to their end, drops a last record that was cut off, and says which. Other damage is an
-// error. Nothing is written before it, and it needs no snapshot: `since` is the serial of that which will be read.
+// Recover reads the heads of all files and the journals from that of a snapshot on, drops what a crash left behind the
+// last edit, and says what. Other damage is an error. Nothing is written before it, and it needs no snapshot: `since` is
+// the serial of that which will be read.
 func (f *Folder) Recover(since uint64) (*Torn, error) {
-	numbers, err := numbered(f.path, journalName)
+	s, err := look(f.path)
 	if err != nil {
 		return nil, err
 	}
-	f.last = since
-	if len(numbers) == 0 {
+	if len(s.faults) > 0 {
+		return nil, s.faults[0]
+	}
+	f.last, f.chained = since, s.chains
+	if s.span != nil {
+		f.first = s.span.First
+	}
+	for _, number := range s.begun {
+		if err := os.Remove(f.journal(number)); err != nil {
+			return nil, fmt.Errorf("a journal that was being begun: %w", err)
+		}
+	}
+	if len(s.journals) == 0 {
+		if s.span == nil && s.lost() != nil {
+			return nil, s.lost()
+		}
 		return nil, nil
 	}
-	newest := numbers[len(numbers)-1]
-	name := f.journal(newest)
-	last, place, err := f.walk(newest, math.MaxInt64, nil)
+	return f.recover(s, since)
+}
+
+// recover reads the journals from that of a snapshot on.
+func (f *Folder) recover(s *survey, since uint64) (*Torn, error) {
+	newest := len(s.journals) - 1
+	j, err := s.walk(s.journals[newest], math.MaxInt64, nil)
 	var torn *Torn
-	switch {
-	case err == nil:
-	case errors.Is(err, frame.ErrTorn):
-		if torn, err = f.drop(name, place); err != nil {
+	if err != nil {
+		if torn, err = j.judge(err, s.claimed(j.number)); err != nil {
 			return nil, err
 		}
-	default:
-		return nil, err
 	}
-	if last < since {
-		return nil, &frame.Damage{File: name, Place: place, What: fmt.Sprintf(
-			"the journal ends at serial %d, and the newest snapshot stands for %d", last, since)}
+	if j.last < since {
+		return nil, j.damage("the journal ends at serial %d, and the newest snapshot stands for %d", j.last, since)
 	}
-	f.last = last
-	return torn, nil
-}
-
-// drop takes away what stands from a place on. A journal without a whole head goes whole.
-func (f *Folder) drop(name string, place int64) (*Torn, error) {
-	about, err := os.Stat(name)
-	if err != nil {
-		return nil, fmt.Errorf("a journal: %w", err)
-	}
-	torn := &Torn{File: name, Place: place, Bytes: about.Size() - place}
-	if place == 0 {
-		if err := os.Remove(name); err != nil {
-			return nil, fmt.Errorf("a journal that was cut off: %w", err)
+	if torn != nil {
+		if err := f.drop(torn); err != nil {
+			return nil, err
 		}
-		return torn, f.syncFolder()
 	}
-	file, err := os.OpenFile(name, os.O_RDWR, 0)
-	if err != nil {
-		return nil, fmt.Errorf("a journal: %w", err)
+	f.last, f.before = j.last, j.head.Before
+	if j.last >= j.number {
+		f.before = j.part()
 	}
-	defer file.Close()
-	if err := file.Truncate(place); err != nil {
-		return nil, fmt.Errorf("a journal that was cut off: %w", err)
-	}
-	if err := file.Sync(); err != nil {
-		return nil, fmt.Errorf("a journal that was cut off: %w", err)
+	for f.checked = j.number; newest > 0 && f.checked > since+1; newest-- {
+		f.checked = s.journals[newest-1]
+		if err := s.older(f.checked); err != nil {
+			return nil, err
+		}
 	}
 	return torn, nil
 }
 
-// Place is where a record stands.
-type Place struct {
-	File string
-	Byte int64
+// lost says that snapshots stand without a journal, where journals were listed.
+func (s *survey) lost() error {
+	for _, serial := range s.snapshots {
+		name := named(s.path, snapshotName, serial)
+		if head, err := headOf(name, "snapshot"); err == nil && head.Format == Format {
+			return &frame.Damage{File: s.path, What: name + " stands there without a journal"}
+		}
+	}
+	return nil
 }
 
-func (p Place) String() string { return fmt.Sprintf("%s, byte %d", p.File, p.Byte) }
+// older reads a journal that isn't the newest.
+func (s *survey) older(number uint64) error {
+	j, err := s.walk(number, math.MaxInt64, nil)
+	if errors.Is(err, frame.ErrTorn) {
+		return j.damage("it ends within a record")
+	}
+	if err != nil {
+		return err
+	}
+	for i, one := range s.journals {
+		if one == number && i+1 < len(s.journals) && s.journals[i+1] != j.last+1 {
+			return j.damage("it ends at serial %d, and the next one begins at %d", j.last, s.journals[i+1])
+		}
+	}
+	return nil
+}
+
+// CheckOld reads what no start needed: older journals, and snapshots. It gives the first damage, or nil once the context
+// is done. What was taken away meanwhile isn't missed.
+func (f *Folder) CheckOld(ctx context.Context) error {
+	s, err := look(f.path)
+	if err != nil {
+		return err
+	}
+	if len(s.faults) > 0 {
+		return s.faults[0]
+	}
+	for _, number := range s.journals {
+		if number >= f.checked || ctx.Err() != nil {
+			break
+		}
+		if err := s.older(number); err != nil && !(errors.Is(err, os.ErrNotExist) && number < f.First()) {
+			return err
+		}
+	}
+	for _, serial := range s.snapshots {
+		if ctx.Err() != nil {
+			break
+		}
+		if _, _, err := f.read(serial); err != nil && !errors.Is(err, os.ErrNotExist) {
+			return err
+		}
+	}
+	return nil
+}
 
 // Each calls for each edit behind a serial, in their order, with its place. It ends at the last edit that is known
 // to be on disk, also where more is being written.
@@ -92,8 +135,7 @@ func (f *Folder) Each(since uint64, call func(Entry, Place) error) error {
 		return err
 	}
 	f.mutex.Lock()
-	limit, began, last := f.size, f.began, f.last
-	writing := f.current != nil
+	last := f.last
 	f.mutex.Unlock()
 	reached, first := since, true
 	for i, number := range numbers {
@@ -104,24 +146,20 @@ func (f *Folder) Each(since uint64, call func(Entry, Place) error) error {
 			what := fmt.Sprintf("it should have the edits from serial %d on", reached+1)
 			return &frame.Damage{File: f.journal(number), What: what}
 		}
-		most := int64(math.MaxInt64)
-		if writing && number == began {
-			most = limit
-		}
-		end, place, err := f.walk(number, most, func(entry Entry, place Place) error {
+		j, err := walk(f.path, number, f.most(number), func(_ *journal, entry Entry, place Place) error {
 			if entry.Serial <= since {
 				return nil
 			}
 			return call(entry, place)
 		})
 		if errors.Is(err, frame.ErrTorn) {
-			return &frame.Damage{File: f.journal(number), Place: place, What: "it ends within a record"}
+			return j.damage("it ends within a record")
 		}
 		if err != nil {
 			return err
 		}
-		if first = false; end > reached {
-			reached = end
+		if first = false; j.last > reached {
+			reached = j.last
 		}
 	}
 	if reached < last {
@@ -130,83 +168,79 @@ func (f *Folder) Each(since uint64, call func(Entry, Place) error) error {
 	return nil
 }
 
-// walk reads one journal up to so many bytes, and gives the last serial and the place behind it.
-func (f *Folder) walk(number uint64, most int64, call func(Entry, Place) error) (uint64, int64, error) {
-	name := f.journal(number)
-	file, err := os.Open(name)
-	if err != nil {
-		return 0, 0, fmt.Errorf("a journal: %w", err)
+// most is how many bytes of a journal are known to be on disk.
+func (f *Folder) most(number uint64) int64 {
+	f.mutex.Lock()
+	defer f.mutex.Unlock()
+	if f.current != nil && number == f.began {
+		return f.size
 	}
-	defer file.Close()
-	return walk(io.LimitReader(file, most), name, number, call)
+	return math.MaxInt64
 }
 
-func walk(from io.Reader, name string, number uint64, call func(Entry, Place) error) (uint64, int64, error) {
-	records := frame.NewReader(from, name)
-	head, err := readHead(records, "journal")
-	if err == io.EOF {
-		err = frame.ErrTorn // without a head
-	}
+// Before calls for each line of the first snapshot that the journals go on from, where they don't begin at the first
+// edit, and gives its serial. It stands for less edits than a serial.
+func Before(path string, serial uint64, call func(line []byte) error) (uint64, error) {
+	s, err := look(path)
 	if err != nil {
-		return number - 1, 0, err
+		return 0, err
 	}
-	if head.After != number-1 {
-		return number - 1, 0, records.Damage("its head has another serial than its name")
+	if len(s.journals) == 0 || s.journals[0] == 1 {
+		return 0, nil
 	}
-	last := head.After
-	for {
-		place := records.Place()
-		record, err := records.Next()
-		if err == io.EOF {
-			return last, place, nil
+	f := &Folder{path: path}
+	for _, one := range s.snapshots {
+		if one+1 < s.journals[0] {
+			continue
 		}
+		if one >= serial {
+			break
+		}
+		snapshot, _, err := f.read(one)
 		if err != nil {
-			return last, place, err
+			return 0, err
 		}
-		entry, err := readEntry(record)
-		if err != nil {
-			return last, place, &frame.Damage{File: name, Place: place, What: err.Error()}
-		}
-		if entry.Serial != last+1 {
-			what := fmt.Sprintf("serial %d follows %d", entry.Serial, last)
-			return last, place, &frame.Damage{File: name, Place: place, What: what}
-		}
-		if call != nil {
-			if err := call(entry, Place{File: name, Byte: place}); err != nil {
-				return last, place, err
+		for _, line := range snapshot.Lines {
+			if err := call(line); err != nil {
+				return 0, err
 			}
 		}
-		last = entry.Serial
+		return one, nil
 	}
+	return 0, fmt.Errorf("no snapshot stands for what was before serial %d", serial)
 }
 
 // History calls for each edit behind a serial in the journals of a folder, which another process may have: a last
-// record that isn't whole yet is passed over.
+// record that isn't whole yet is passed over, as Recover would. It ends with the first damage.
 func History(path string, since uint64, call func(Entry) error) error {
-	numbers, err := numbered(path, journalName)
+	s, err := look(path)
 	if err != nil {
 		return err
 	}
-	f := &Folder{path: path}
-	for i, number := range numbers {
-		if i+1 < len(numbers) && numbers[i+1] <= since+1 {
+	for i, number := range s.journals {
+		if i+1 < len(s.journals) && s.journals[i+1] <= since+1 {
 			continue
 		}
-		_, _, err := f.walk(number, math.MaxInt64, func(entry Entry, _ Place) error {
+		j, err := s.walk(number, math.MaxInt64, func(_ *journal, entry Entry, _ Place) error {
 			if entry.Serial <= since {
 				return nil
 			}
 			return call(entry)
 		})
-		if errors.Is(err, frame.ErrTorn) && i+1 == len(numbers) {
-			return nil
-		}
-		if errors.Is(err, os.ErrNotExist) {
-			continue // it was as old as is kept
-		}
-		if err != nil {
+		switch {
+		case err == nil && i+1 < len(s.journals) && s.journals[i+1] != j.last+1:
+			return j.damage("it ends at serial %d, and the next one begins at %d", j.last, s.journals[i+1])
+		case err == nil || errors.Is(err, os.ErrNotExist): // that one was as old as is kept
+		case i+1 == len(s.journals):
+			if _, err = j.judge(err, s.claimed(number)); err != nil {
+				return err
+			}
+		default:
 			return err
 		}
+	}
+	if len(s.faults) > 0 {
+		return s.faults[0]
 	}
 	return nil
 }

@@ -78,10 +78,14 @@ func (f *Folder) Keep(snapshot *Snapshot) error {
 	f.mutex.Lock()
 	head := f.head
 	f.mutex.Unlock()
-	head.Kind, head.After, head.Lines = "snapshot", snapshot.Serial, len(snapshot.Lines)
+	part, err := partOf(f.path, snapshot.Serial, f.most)
+	if err != nil {
+		return err
+	}
+	head.Kind, head.After, head.Lines, head.Before = "snapshot", snapshot.Serial, len(snapshot.Lines), part
 	name := f.snapshot(snapshot.Serial)
 	aside := name + asideName
-	err := f.writeAside(aside, head, snapshot.Lines)
+	err = f.writeAside(aside, head, snapshot.Lines)
 	if err == nil {
 		err = os.Rename(aside, name)
 	}
@@ -148,16 +152,28 @@ func (f *Folder) trimJournals(from uint64, before time.Time) error {
 	if err != nil {
 		return err
 	}
-	for i := 0; i+1 < len(numbers) && numbers[i+1] <= from+1; i++ {
-		name := f.journal(numbers[i])
-		about, err := os.Stat(name)
+	old := 0
+	for ; old+1 < len(numbers) && numbers[old+1] <= from+1; old++ {
+		about, err := os.Stat(f.journal(numbers[old]))
 		if err != nil {
 			return fmt.Errorf("an old journal: %w", err)
 		}
 		if !about.ModTime().Before(before) {
-			return nil
+			break
 		}
-		if err := os.Remove(name); err != nil {
+	}
+	if old == 0 {
+		return nil
+	}
+	// First it is said that they go: one that is gone then isn't missed.
+	f.mutex.Lock()
+	err = f.writeSpan(numbers[old], f.began)
+	f.mutex.Unlock()
+	if err != nil {
+		return err
+	}
+	for _, number := range numbers[:old] {
+		if err := os.Remove(f.journal(number)); err != nil {
 			return fmt.Errorf("an old journal: %w", err)
 		}
 	}

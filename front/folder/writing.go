@@ -1,10 +1,11 @@
 package folder
 
 import (
+	"crypto/sha256"
+	"encoding/hex"
 	"fmt"
 	"os"
-
-	"review-front/frame"
+	"path/filepath"
 )
 
 // probeBytes is how much is written to see whether writing works again.
@@ -33,13 +34,15 @@ func (f *Folder) Rotate() error {
 // is it the present one: before that, edits go on into the other.
 func (f *Folder) begin() error {
 	head := f.head
-	head.Kind, head.After = "journal", f.last
+	if f.current != nil {
+		f.before = f.part()
+	}
+	head.Kind, head.After, head.Before = "journal", f.last, f.before
 	record, err := headRecord(head)
 	if err != nil {
 		return err
 	}
-	name := f.journal(f.last + 1)
-	file, err := f.make(name, record)
+	file, err := f.make(f.last+1, record)
 	if err != nil {
 		if f.current == nil {
 			f.broken = err
@@ -49,16 +52,53 @@ func (f *Folder) begin() error {
 	if f.current != nil {
 		f.current.Close()
 	}
-	f.current, f.began, f.size, f.broken = file, f.last+1, int64(len(record)), nil
+	f.current, f.began, f.size, f.sum, f.broken = file, f.last+1, int64(len(record)), sha256.New(), nil
+	f.sum.Write(record)
 	return nil
 }
 
-// make writes a file aside, renames it, and sees that both are on disk.
-func (f *Folder) make(name string, content []byte) (*os.File, error) {
+// part is the present journal as far as it is on disk.
+func (f *Folder) part() *Part {
+	return &Part{Journal: f.began, Serial: f.last, Bytes: f.size, Sum: hex.EncodeToString(f.sum.Sum(nil))}
+}
+
+// make makes a journal that has this content, and says that it is the newest.
+func (f *Folder) make(number uint64, content []byte) (*os.File, error) {
+	name, first := f.journal(number), f.first
+	if first == 0 {
+		first = number
+		if numbers, err := numbered(f.path, journalName); err == nil && len(numbers) > 0 {
+			first = numbers[0]
+		}
+	}
+	file, err := f.replace(name, content)
+	if err == nil {
+		if err = f.writeSpan(first, number); err != nil {
+			file.Close()
+		}
+	}
+	if err != nil {
+		// Edits go on into the journal before: one of this name that has none of them may not stay.
+		os.Remove(name)
+		return nil, fmt.Errorf("a new journal: %w", err)
+	}
+	return file, nil
+}
+
+// Path is where a file of the folder stands.
+func (f *Folder) Path(name string) string { return filepath.Join(f.path, name) }
+
+// Replace has a file on disk with this content in the place of what was there, and gives it to be written on.
+func (f *Folder) Replace(name string, content []byte) (*os.File, error) {
+	return f.replace(f.Path(name), content)
+}
+
+// replace writes a file aside, renames it, and sees that both are on disk.
+func (f *Folder) replace(name string, content []byte) (*os.File, error) {
 	aside := name + asideName
 	file, err := os.OpenFile(aside, os.O_CREATE|os.O_TRUNC|os.O_RDWR, 0o600)
 	if err != nil {
-		return nil, fmt.Errorf("a new journal: %w", err)
+		return nil, err
 	}
 	if _, err = file.Write(content); err == nil {
 		err = file.Sync()
@@ -70,11 +110,9 @@ func (f *Folder) make(name string, content []byte) (*os.File, error) {
 		err = f.syncFolder()
 	}
 	if err != nil {
-		// Edits go on into the journal before: one of this name that has none of them may not stay.
 		file.Close()
 		os.Remove(aside)
-		os.Remove(name)
-		return nil, fmt.Errorf("a new journal: %w", err)
+		return nil, err
 	}
 	return file, nil
 }
@@ -87,10 +125,14 @@ func (f *Folder) Append(entries []Entry) error {
 	if f.broken != nil {
 		return f.broken
 	}
-	var records, entry []byte
-	for _, e := range entries {
-		entry = e.Append(entry[:0])
-		records = frame.Append(records, entry)
+	var records []byte
+	for left := entries; len(left) > 0; {
+		together := left[0].Together
+		if together > 1 {
+			records, left = recordOf(records, left[:together], f.size), left[together:]
+		} else {
+			records, left = left[0].record(records, f.size), left[1:]
+		}
 	}
 	_, err := f.current.WriteAt(records, f.size)
 	if err == nil {
@@ -102,6 +144,7 @@ func (f *Folder) Append(entries []Entry) error {
 		f.broken = fmt.Errorf("the journal can't be written: %w", err)
 		return f.broken
 	}
+	f.sum.Write(records)
 	f.size += int64(len(records))
 	f.last = entries[len(entries)-1].Serial
 	return nil

@@ -53,12 +53,16 @@ type Reader struct {
 	from  *bufio.Reader
 	file  string
 	place int64 // where the next record begins
+	copy  io.Writer
 }
 
 // NewReader reads the records of a file from its beginning.
 func NewReader(from io.Reader, file string) *Reader {
-	return &Reader{from: bufio.NewReaderSize(from, 1<<18), file: file}
+	return &Reader{from: bufio.NewReaderSize(from, 1<<15), file: file}
 }
+
+// Copy has the bytes of each record that is read whole from now on written to something that takes all, as a checksum.
+func (r *Reader) Copy(to io.Writer) { r.copy = to }
 
 // Place is where the next record begins: behind all that was read whole.
 func (r *Reader) Place() int64 { return r.place }
@@ -97,6 +101,10 @@ func (r *Reader) Next() ([]byte, error) {
 	}
 	if record[length] != '\n' || crc32.Checksum(record[:length], table) != sum {
 		return nil, r.Damage("a record isn't what its checksum says")
+	}
+	if r.copy != nil {
+		_, _ = r.copy.Write(first[:])
+		_, _ = r.copy.Write(record)
 	}
 	r.place += int64(head + len(record))
 	return record[:length], nil
@@ -149,4 +157,20 @@ func numbers(first []byte) (length int, sum uint32, ok bool) {
 		return 0, 0, false
 	}
 	return int(long), sum, true
+}
+
+// Find calls for each whole record that stands somewhere in some bytes, in their order.
+func Find(in []byte, call func(record []byte)) {
+	for at := 0; at+head < len(in); at++ {
+		if in[at+digits] != ' ' || in[at+head-1] != ' ' {
+			continue
+		}
+		length, sum, ok := numbers(in[at : at+head])
+		end := at + head + length
+		if !ok || end >= len(in) || in[end] != '\n' || crc32.Checksum(in[at+head:end], table) != sum {
+			continue
+		}
+		call(in[at+head : end])
+		at = end
+	}
 }

@@ -9,14 +9,14 @@ import (
 
 	"review-front/folder"
 	"review-front/line"
-	"review-front/program"
 )
 
 // running is a program that has a state.
 type running struct {
-	*program.Program
-	offset uint64 // what is added to a serial of the program
-	serial uint64 // how many edits stand behind its state; for the goroutine that reads replies
+	*watched
+	offset uint64        // what is added to a serial of the program
+	serial uint64        // how many edits stand behind its state; for the goroutine that reads replies
+	took   time.Duration // how long the edits behind a snapshot took
 }
 
 // build starts a program and brings it to the state of the last edit on disk, with the marks that are wanted where
@@ -33,6 +33,7 @@ func (k *Keeper) build(ctx context.Context, marks map[int]uint64) (*running, err
 	}
 	took := time.Since(began)
 	k.Meter.Built(edits, took)
+	k.took.Store(int64(r.took))
 	k.Log.Info("the state stands", "serial", r.serial, "replayed", edits, "took", took, "process", r.ID())
 	return r, nil
 }
@@ -47,16 +48,16 @@ func (k *Keeper) try(ctx context.Context, marks map[int]uint64, careful bool) (*
 		return nil, 0, fmt.Errorf("%w: the snapshot is of %d modules of attributes and %d of policies", errDamage,
 			head.AttributeModules, head.PolicyModules)
 	}
-	p, err := k.Command.Start()
+	w, err := k.start()
 	if err != nil {
 		return nil, 0, err
 	}
-	stop := killWith(ctx, p)
+	stop := killWith(ctx, w)
 	defer stop()
-	r := &running{Program: p, serial: snapshot.Serial}
-	kept, err := k.replay(begin(ctx, p, careful), r, snapshot, marks)
+	r := &running{watched: w, serial: snapshot.Serial}
+	kept, err := k.replay(begin(ctx, w, careful), r, snapshot, marks)
 	if err != nil {
-		p.Discard()
+		w.Discard()
 		if ctx.Err() != nil {
 			err = ctx.Err()
 		}
@@ -67,16 +68,16 @@ func (k *Keeper) try(ctx context.Context, marks map[int]uint64, careful bool) (*
 }
 
 // killWith kills a program when the context is done, until it is told to stop watching.
-func killWith(ctx context.Context, p *program.Program) (stop func()) {
-	watched := make(chan struct{})
+func killWith(ctx context.Context, w *watched) (stop func()) {
+	done := make(chan struct{})
 	go func() {
 		select {
 		case <-ctx.Done():
-			p.Kill()
-		case <-watched:
+			w.Kill()
+		case <-done:
 		}
 	}()
-	return func() { close(watched) }
+	return func() { close(done) }
 }
 
 // replay sends the lines of a snapshot, the edits behind it, and each mark at its serial, and gives the marks that
@@ -85,7 +86,7 @@ func (k *Keeper) replay(
 	replay *replay, r *running, snapshot *folder.Snapshot, marks map[int]uint64,
 ) (map[int]uint64, error) {
 	kept := map[int]uint64{}
-	edits, err := replay.snapshotLines(snapshot)
+	edits, err := replay.snapshotLines(snapshot, nil)
 	r.offset = snapshot.Serial - edits
 	due := inOrder(marks)
 	mark := func() error {
@@ -114,7 +115,9 @@ func (k *Keeper) replay(
 			return mark()
 		})
 	}
-	return kept, replay.end(err)
+	err = replay.end(err)
+	r.took = time.Since(replay.read)
+	return kept, err
 }
 
 // oldest is the serial of the oldest mark, or else a given one.

@@ -9,11 +9,13 @@ import (
 	"time"
 
 	"review-front/folder"
+	"review-front/keys"
 	"review-front/line"
 	"review-front/logs"
 	"review-front/notices"
 	"review-front/program"
 	"review-front/sessions"
+	"review-front/spool"
 )
 
 // Unavailable says why a line has no reply of the program.
@@ -33,7 +35,8 @@ var (
 	ErrNotReady = &Unavailable{Why: "the program hasn't its state yet", After: time.Second}
 	ErrBusy     = &Unavailable{Why: "too many lines are waiting", After: time.Second}
 	ErrStopping = &Unavailable{Why: "the front is stopping", After: 5 * time.Second}
-	ErrSessions = &Unavailable{Why: "all sessions are taken", After: 5 * time.Second}
+	ErrSpare    = &Unavailable{Why: "there is no spare program yet on which an edit can be tried", After: time.Second}
+	ErrBehind   = &Unavailable{Why: "there aren't so many edits", After: time.Second}
 )
 
 // Meter is told what happens.
@@ -51,29 +54,42 @@ type Options struct {
 	Folder        *folder.Folder
 	Log           *logs.Log
 	Meter         Meter
-	Queue         int           // how many lines wait at most
-	Patience      time.Duration // how long a line waits for room among them
-	SnapshotEvery uint64        // a snapshot is made after so many edits; 0: only at the end
-	Keep          time.Duration // how long old journals are kept; 0: for ever
-	Reads         uint64        // the program is exchanged before it has looked at its input so often
+	Queue         int                  // how many lines wait at most
+	Patience      time.Duration        // how long a line waits for room among them
+	SnapshotEvery uint64               // a snapshot is made after so many edits; 0: not by their number
+	ReplayTime    time.Duration        // a snapshot is made when the edits behind the last took so long; 0: not by their time
+	Keep          time.Duration        // how long old journals are kept; 0: for ever
+	Reads         uint64               // the program is exchanged before it has looked at its input so often
+	ReplyTime     time.Duration        // how long a reply may take before the program is exchanged; 0: for ever
+	EndingTime    time.Duration        // how long the last snapshot may take, and what still has no reply then
+	Edited        func([]folder.Entry) // is told edits that are on disk, in their order; may be nil
+	Askers        int                  // how many programs beside the table's answer requests
+	TryTime       time.Duration        // how long an edit may take in a spare program; 0: there is none
+	Spool         *spool.Spool         // where long replies wait until they are read
 }
 
 // Call is a line on its way.
 type Call struct {
 	Line []byte
 	By   string // who sent it
-	kind line.Kind
+	// Remember, if there is one, is the body with a key whose next line this is: its reply is remembered.
+	Remember *keys.Use
+	// Known, if there is one, is how many edits there are to be before this one.
+	Known *uint64
+	kind  line.Kind
 	// settle, if there is one, sees the reply when it is handed out, in the order of replies, and may change it.
 	settle  func(*Reply)
 	context context.Context
 	reply   chan Reply
-}
-
-// Reply is what comes back.
-type Reply struct {
-	Body   []byte // the reply of the program, without its newline
-	Serial uint64 // how many edits had been accepted when the program gave it
-	Err    error  // why there is none; an *Unavailable, or that of the context
+	behind  []*Call // lines that are sent at once behind this one, with nothing between
+	run     bool    // whether it is one of several such lines
+	ended   int     // how many askers ended over it
+	group   *group  // the edits that are made with this one, or not at all
+	tried   []byte  // what a spare program answered to it
+	// differs, if a spare program was told it that more are told, says whether that has another state than the table's.
+	differs *atomic.Bool
+	turn    chan struct{} // of a long reply, what the next one waits for
+	left    atomic.Bool   // nobody waits for the reply any more
 }
 
 // Keeper owns the program.
@@ -81,14 +97,22 @@ type Keeper struct {
 	Options
 	Sessions *sessions.Table
 	Notices  *notices.Hub
+	Keys     *keys.Table
 
+	askers   *askers
+	edits    *edits
+	spare    *spare
 	queue    chan *Call
 	edited   chan struct{}
 	ready    *readiness
+	serving  atomic.Pointer[watched] // the program to which lines are sent
 	serial   atomic.Uint64
+	reached  *progress     // says that it has grown
 	snapshot atomic.Uint64 // the serial of the newest snapshot
 	tried    atomic.Uint64 // the serial at which one was tried last
+	took     atomic.Int64  // how long the edits since then took, in nanoseconds
 	asked    chan struct{} // a snapshot is wanted
+	long     chan struct{} // holds something while a long reply is due
 	held     []*Call       // lines that were taken and not sent; the next program has them first
 	version  string
 	shifted  uint64       // added to the count of evaluations, since a planned change can't be seen
@@ -97,15 +121,20 @@ type Keeper struct {
 
 // New makes a keeper. Nothing is started before Open.
 func New(options Options) *Keeper {
-	return &Keeper{
-		Options: options, Sessions: sessions.NewTable(), Notices: notices.NewHub(),
+	k := &Keeper{
+		Options: options, Sessions: sessions.NewTable(), Notices: notices.NewHub(), Keys: keys.New(options.Folder),
 		ready: newReadiness(), queue: make(chan *Call, options.Queue),
-		edited: make(chan struct{}, 1), asked: make(chan struct{}, 1),
+		edited: make(chan struct{}, 1), asked: make(chan struct{}, 1), reached: &progress{}, long: make(chan struct{}, 1),
 	}
+	k.askers, k.edits, k.spare = newAskers(k, options.Askers), newEdits(), newSpare(k)
+	return k
 }
 
-// Ready says whether the program has the state of the journal, and answers.
-func (k *Keeper) Ready() bool { return k.ready.is() }
+// Ready says whether the program has the state of the journal, and answers or is at work.
+func (k *Keeper) Ready() bool {
+	now := k.serving.Load()
+	return k.ready.is() && now != nil && !now.stuck.Load()
+}
 
 // Await waits a while until the program answers.
 func (k *Keeper) Await(ctx context.Context) error {
@@ -121,6 +150,28 @@ func (k *Keeper) Await(ctx context.Context) error {
 		return ErrNotReady
 	case <-ctx.Done():
 		return ctx.Err()
+	}
+}
+
+// Reach waits a while until so many edits are on disk.
+func (k *Keeper) Reach(ctx context.Context, serial uint64) error {
+	if k.serial.Load() >= serial {
+		return nil
+	}
+	timer := time.NewTimer(k.Patience)
+	defer timer.Stop()
+	for {
+		grown := k.reached.next()
+		if k.serial.Load() >= serial {
+			return nil
+		}
+		select {
+		case <-grown:
+		case <-timer.C:
+			return ErrBehind
+		case <-ctx.Done():
+			return ctx.Err()
+		}
 	}
 }
 
@@ -140,74 +191,99 @@ func Prepare(l []byte, by string, client *sessions.Client) (*Call, error) {
 	call := &Call{Line: l, By: by, kind: kind}
 	switch kind {
 	case line.Mark:
-		session, ok := client.Take(number)
-		if !ok {
-			return nil, ErrSessions
+		session, err := client.Marking(number)
+		if err != nil {
+			return nil, err
 		}
 		call.Line = line.Marking(session.Number())
-		session.Marking()
 		call.settle = func(reply *Reply) {
 			_, marked := line.ReadMark(reply.Body)
 			session.Settled(reply.Serial, marked && reply.Err == nil)
 		}
 	case line.Notices:
-		if session, ok := client.Marked(number); ok {
+		if session, ok := client.Noticing(number); ok {
 			call.Line = line.Noticing(session.Number())
+			call.settle = func(*Reply) { session.Answered() }
 			break
 		}
 		// The program may know a mark of somebody before: what it says of the line is asked with a session that has one.
 		call.Line = line.Noticing(sessions.Own)
 		call.settle = func(reply *Reply) {
 			if line.IsNotices(reply.Body) {
-				reply.Body = []byte(line.NoMark)
+				reply.Drop()
+				reply.Body, reply.Rest = []byte(line.NoMark), nil
 			}
 		}
 	}
 	return call, nil
 }
 
-// IsLong says whether the reply may be as long as the table.
-func (c *Call) IsLong() bool { return c.kind == line.Report || c.kind == line.Notices }
-
 // Submit puts a call on its way. Its reply comes on the channel, whatever happens; an error says that there is no
 // way. The call's line isn't sent any more once the context is done.
 func (k *Keeper) Submit(ctx context.Context, call *Call) (<-chan Reply, error) {
+	if call.kind == line.Edit {
+		return k.submitEdit(ctx, call)
+	}
+	if call.IsLong() {
+		if err := k.turn(ctx, call); err != nil {
+			call.reply = make(chan Reply, 1)
+			call.finish(Reply{Err: err})
+			return nil, err
+		}
+	}
+	return k.submit(ctx, k.queue, call)
+}
+
+// submit puts a call among those that wait for a program.
+func (k *Keeper) submit(ctx context.Context, queue chan<- *Call, call *Call) (<-chan Reply, error) {
 	call.context = ctx
 	call.reply = make(chan Reply, 1)
 	select {
-	case k.queue <- call:
+	case queue <- call:
 		return call.reply, nil
 	default:
 	}
 	timer := time.NewTimer(k.Patience)
 	defer timer.Stop()
 	select {
-	case k.queue <- call:
+	case queue <- call:
 		return call.reply, nil
 	case <-timer.C:
-		call.finish(Reply{Err: ErrBusy})
+		call.end(ErrBusy)
 		return nil, ErrBusy
 	case <-ctx.Done():
-		call.finish(Reply{Err: ctx.Err()})
+		call.end(ctx.Err())
 		return nil, ctx.Err()
 	}
 }
 
-// Ask submits a line that needs no session, and waits for its reply.
+// Ask submits a line that needs no session and whose reply is short, and waits for it.
 func (k *Keeper) Ask(ctx context.Context, l []byte) Reply {
 	return k.Send(ctx, &Call{Line: l})
 }
 
+// Report submits a line that needs no session and whose reply may be long, and waits for it.
+func (k *Keeper) Report(ctx context.Context, l []byte) Reply {
+	kind, _ := line.Read(l)
+	return k.Send(ctx, &Call{Line: l, kind: kind})
+}
+
 // Send submits a call, and waits for its reply.
 func (k *Keeper) Send(ctx context.Context, call *Call) Reply {
-	replies, err := k.Submit(ctx, call)
+	_, err := k.Submit(ctx, call)
+	return call.wait(ctx, err)
+}
+
+// wait waits for the reply, if the call is on its way.
+func (c *Call) wait(ctx context.Context, err error) Reply {
 	if err != nil {
 		return Reply{Err: err}
 	}
 	select {
-	case reply := <-replies:
+	case reply := <-c.reply:
 		return reply
 	case <-ctx.Done():
+		c.Leave()
 		return Reply{Err: ctx.Err()}
 	}
 }
@@ -219,13 +295,16 @@ func (k *Keeper) Listen() *notices.Listener {
 	return listener
 }
 
-// finish hands out a reply.
-func (c *Call) finish(reply Reply) {
-	if c.settle != nil {
-		c.settle(&reply)
+// end tells why a line isn't sent, and those behind it.
+func (c *Call) end(why error) {
+	c.finish(Reply{Err: why})
+	for _, next := range c.behind {
+		next.finish(Reply{Err: why})
 	}
-	c.reply <- reply
 }
+
+// working asks what takes no time.
+var working = []byte(`{"do":"work"}`)
 
 // errDamage says that there is no state to serve.
 var errDamage = errors.New("the state can't be built from the journal")

@@ -37,3 +37,29 @@ func (r *readiness) set(ready bool) {
 	}
 	r.ready = ready
 }
+
+// progress lets others wait until something has grown.
+type progress struct {
+	mutex sync.Mutex
+	grown chan struct{} // closed when it has; nil where nobody waits
+}
+
+// moved says that it has grown.
+func (p *progress) moved() {
+	p.mutex.Lock()
+	defer p.mutex.Unlock()
+	if p.grown != nil {
+		close(p.grown)
+		p.grown = nil
+	}
+}
+
+// next is closed once it has grown again.
+func (p *progress) next() <-chan struct{} {
+	p.mutex.Lock()
+	defer p.mutex.Unlock()
+	if p.grown == nil {
+		p.grown = make(chan struct{})
+	}
+	return p.grown
+}

@@ -9,13 +9,13 @@ import (
 
 	"review-front/folder"
 	"review-front/line"
-	"review-front/program"
 )
 
 const (
 	ahead       = 256 // how many lines are sent before their replies are read
 	memoryTries = 40
 	memoryPause = 100 * time.Millisecond
+	shownBytes  = 200
 )
 
 // errMemory says that a line was answered 15, which is tried again.
@@ -29,11 +29,15 @@ type mismatch struct {
 }
 
 func (m *mismatch) Error() string {
-	shown := m.line
-	if len(shown) > 200 {
-		shown = append(append([]byte(nil), shown[:200]...), "..."...)
+	return fmt.Sprintf("%v: %s: %s", m.place, m.what, beginning(m.line))
+}
+
+// beginning is as much of a line as is told.
+func beginning(l []byte) []byte {
+	if len(l) <= shownBytes {
+		return l
 	}
-	return fmt.Sprintf("%v: %s: %s", m.place, m.what, shown)
+	return append(append([]byte(nil), l[:shownBytes]...), "..."...)
 }
 
 func (m *mismatch) Unwrap() error { return errDamage }
@@ -52,16 +56,18 @@ type expected struct {
 
 // replay sends lines to a program that nobody else uses, and checks each reply.
 type replay struct {
-	program *program.Program
+	program *watched
 	careful bool // each reply is waited for, and 15 is tried again
 	context context.Context
 	sent    chan expected
 	ended   chan error
+	read    time.Time // when the snapshot had been read
 }
 
 // begin begins a replay. Its end has to be waited for by `end`.
-func begin(ctx context.Context, p *program.Program, careful bool) *replay {
-	r := &replay{program: p, careful: careful, context: ctx, sent: make(chan expected, ahead), ended: make(chan error, 1)}
+func begin(ctx context.Context, w *watched, careful bool) *replay {
+	r := &replay{program: w, careful: careful, context: ctx, sent: make(chan expected, ahead), ended: make(chan error, 1)}
+	r.read = time.Now()
 	if careful {
 		r.ended <- nil
 	} else {
@@ -94,7 +100,7 @@ func (e expected) judge(reply []byte) error {
 	if ok {
 		return nil
 	}
-	if number, _, refused := line.ReadRefusal(reply); refused && number == 15 {
+	if line.NoMemory(reply) {
 		return fmt.Errorf("%v: %w", e.place, errMemory)
 	}
 	return &mismatch{place: e.place, line: e.line, what: what}
@@ -152,31 +158,45 @@ func (r *replay) end(sending error) error {
 }
 
 // exchange sends one line to a program of which no reply is due, and waits for its reply.
-func exchange(p *program.Program, l []byte) ([]byte, error) {
-	if err := p.Send(l); err != nil {
+func exchange(w *watched, l []byte) ([]byte, error) {
+	if err := w.Send(l); err != nil {
 		return nil, err
 	}
-	if err := p.Flush(); err != nil {
+	if err := w.Flush(); err != nil {
 		return nil, err
 	}
-	return p.Receive()
+	return w.Receive()
 }
 
-// snapshotLines sends the lines of a snapshot, and gives how many edits they are.
-func (r *replay) snapshotLines(snapshot *folder.Snapshot) (uint64, error) {
+// snapshotLines sends the lines of a snapshot but those that are left out, and gives how many edits they are.
+func (r *replay) snapshotLines(snapshot *folder.Snapshot, out func(line []byte) bool) (uint64, error) {
 	edits := uint64(0)
 	for i, l := range snapshot.Lines {
+		if out != nil && out(l) {
+			continue
+		}
 		place := text(fmt.Sprintf("line %d of the snapshot of serial %d", i+1, snapshot.Serial))
 		check := isFormat
 		if i > 0 {
 			edits++
 			check = isEdit(edits)
 		}
+		if i+1 == len(snapshot.Lines) {
+			check = r.last(check)
+		}
 		if err := r.send(expected{line: l, place: place, check: check}); err != nil {
 			return 0, err
 		}
 	}
 	return edits, nil
+}
+
+// last notes when the last line of a snapshot has its reply.
+func (r *replay) last(check func([]byte) (string, bool)) func([]byte) (string, bool) {
+	return func(reply []byte) (string, bool) {
+		r.read = time.Now()
+		return check(reply)
+	}
 }
 
 // isFormat says whether a line was answered by its version.

@@ -15,7 +15,6 @@ import (
 const (
 	firstPause = 100 * time.Millisecond
 	lastPause  = 5 * time.Second
-	endingTime = time.Minute // how long the last snapshot may take
 )
 
 // Start brings a first program to the state of the folder, or says why there is none, with file and place.
@@ -35,9 +34,16 @@ func (k *Keeper) Start(ctx context.Context) (*Started, error) {
 		return nil, err
 	}
 	if torn != nil {
-		k.Log.Info("a last record that was cut off is dropped", "file", torn.File, "byte", torn.Place, "bytes", torn.Bytes)
+		k.Log.Info("what a crash left behind the last edit is dropped", "file", torn.File, "byte", torn.Place,
+			"bytes", torn.Bytes, "what", torn.What)
 	}
-	if k.version, err = k.Command.Version(ctx); err != nil {
+	if !k.Folder.Chained() {
+		k.Log.Info("some journals are of the first format, in which no change of an old one can be seen")
+	}
+	if err := k.Keys.Recover(k.Folder.Last()); err != nil {
+		return nil, err
+	}
+	if k.version, err = k.says(ctx); err != nil {
 		return nil, err
 	}
 	r, err := k.build(ctx, map[int]uint64{sessions.Own: k.Folder.Last()})
@@ -45,6 +51,8 @@ func (k *Keeper) Start(ctx context.Context) (*Started, error) {
 		return nil, err
 	}
 	k.serial.Store(r.serial)
+	k.reached.moved()
+	k.want()
 	err = k.Folder.Begin(folder.Head{
 		Program: k.version, AttributeModules: k.Command.AttributeModules, PolicyModules: k.Command.PolicyModules,
 	})
@@ -54,30 +62,64 @@ func (k *Keeper) Start(ctx context.Context) (*Started, error) {
 	return &Started{keeper: k, first: r}, nil
 }
 
+// says is what the program says of its version, in the time of a reply.
+func (k *Keeper) says(ctx context.Context) (string, error) {
+	if k.ReplyTime > 0 {
+		var cancel context.CancelFunc
+		ctx, cancel = context.WithTimeout(ctx, k.ReplyTime)
+		defer cancel()
+	}
+	return k.Command.Version(ctx)
+}
+
 // Started is a keeper whose first program has its state.
 type Started struct {
 	keeper *Keeper
 	first  *running
 }
 
-// Run serves lines until the context is done, and then leaves a snapshot. It ends earlier where no program can be
-// brought to the state of the journal.
+// Run serves lines until the context is done, and then leaves a snapshot, if the time for the end is enough. It ends
+// earlier where no program can be brought to the state of the journal.
 func (s *Started) Run(ctx context.Context) error {
 	k, r := s.keeper, s.first
+	defer k.Keys.Close()
+	limit, over := later(ctx, k.EndingTime)
+	defer over()
+	ctx, stop := context.WithCancel(ctx)
+	defer stop()
 	background, cancel := context.WithCancel(ctx)
 	var done sync.WaitGroup
-	done.Add(1)
+	done.Add(4)
+	go func() {
+		defer done.Done()
+		k.spare.run(background)
+	}()
+	go func() {
+		defer done.Done()
+		k.askers.run(background)
+	}()
 	go func() {
 		defer done.Done()
 		k.snapshots(background)
 	}()
+	var damage error
+	go func() {
+		defer done.Done()
+		if damage = k.Folder.CheckOld(background); damage != nil {
+			stop()
+		}
+	}()
 	var err error
 	for err == nil {
-		switch k.serve(ctx, r) {
+		switch k.serve(ctx, limit, r) {
 		case stopped:
 			cancel()
 			done.Wait()
-			return k.finish(r)
+			// What is damaged is old: a snapshot of the state may still be what it is rescued by.
+			if err := k.finish(limit, r); err != nil || damage == nil {
+				return err
+			}
+			return damage
 		case ended:
 			r, err = k.again(ctx, r)
 		case due:
@@ -86,23 +128,48 @@ func (s *Started) Run(ctx context.Context) error {
 	}
 	cancel()
 	done.Wait()
+	if damage != nil {
+		return damage
+	}
 	if ctx.Err() != nil {
 		return nil
 	}
 	return err
 }
 
+// later is a context that is done a while after another one.
+func later(ctx context.Context, while time.Duration) (context.Context, context.CancelFunc) {
+	limit, over := context.WithCancel(context.Background())
+	go func() {
+		select {
+		case <-ctx.Done():
+		case <-limit.Done():
+			return
+		}
+		timer := time.NewTimer(while)
+		defer timer.Stop()
+		select {
+		case <-timer.C:
+			over()
+		case <-limit.Done():
+		}
+	}()
+	return limit, over
+}
+
 // again brings a new program to the state of the journal after one has ended, and tells those who listen.
 func (k *Keeper) again(ctx context.Context, old *running) (*running, error) {
 	why := "the program ended"
-	if k.Folder.Broken() != nil {
+	if k.Folder.Broken() != nil || k.Keys.Broken() != nil {
 		why = "the journal can't be written"
+	} else if old.late.Load() {
+		why = "a line took too long"
 	}
 	old.Discard()
 	k.Meter.Restarted(why)
 	k.Log.Error("the program is started anew", "why", why, "ended", old.Ended(), "process", old.ID())
 	k.shifted = 0
-	for pause := firstPause; ; pause *= 2 {
+	for pause := firstPause; ; pause = longer(pause) {
 		marks := k.Sessions.Marks()
 		marks[sessions.Own] = k.Folder.Last()
 		r, err := k.build(ctx, marks)
@@ -115,9 +182,6 @@ func (k *Keeper) again(ctx context.Context, old *running) (*running, error) {
 		if ctx.Err() != nil || errors.Is(err, errDamage) || errors.As(err, &damage) {
 			return nil, err
 		}
-		if pause > lastPause {
-			pause = lastPause
-		}
 		k.Log.Error("the program couldn't be brought to its state, and is started again", "error", err, "after", pause)
 		select {
 		case <-time.After(pause):
@@ -125,6 +189,14 @@ func (k *Keeper) again(ctx context.Context, old *running) (*running, error) {
 			return nil, ctx.Err()
 		}
 	}
+}
+
+// longer is the pause behind a pause.
+func longer(pause time.Duration) time.Duration {
+	if pause *= 2; pause > lastPause {
+		return lastPause
+	}
+	return pause
 }
 
 // exchange puts a new program in the place of one that has looked at its input nearly as often as it may. Marks
@@ -141,8 +213,8 @@ func (k *Keeper) exchange(ctx context.Context, old *running) *running {
 		old.Rest()
 		return old
 	}
-	before, ok1 := evaluations(old)
-	now, ok2 := evaluations(r)
+	before, ok1 := evaluations(ctx, old)
+	now, ok2 := evaluations(ctx, r)
 	if ok1 && ok2 {
 		k.shifted += before - now
 	}
@@ -152,46 +224,49 @@ func (k *Keeper) exchange(ctx context.Context, old *running) *running {
 	return r
 }
 
-func evaluations(r *running) (uint64, bool) {
-	reply, err := exchange(r.Program, []byte(`{"do":"work"}`))
+// evaluations asks a program of which no reply is due.
+func evaluations(ctx context.Context, r *running) (uint64, bool) {
+	stop := killWith(ctx, r.watched)
+	defer stop()
+	reply, err := exchange(r.watched, working)
 	if err != nil {
 		return 0, false
 	}
 	return line.ReadEvaluations(reply)
 }
 
-// finish leaves a snapshot, if there were edits since the last, and ends the program.
-func (k *Keeper) finish(r *running) error {
+// finish leaves a snapshot, if there were edits since the last, and ends the program, both before a context is done.
+func (k *Keeper) finish(limit context.Context, r *running) error {
+	stop := killWith(limit, r.watched)
+	defer stop()
 	defer r.Close()
 	k.Notices.Close()
 	k.refuse()
 	if r.serial == k.snapshot.Load() {
 		return nil
 	}
-	ctx, cancel := context.WithTimeout(context.Background(), endingTime)
-	defer cancel()
-	stop := killWith(ctx, r.Program)
-	defer stop()
-	reply, err := exchange(r.Program, dumping)
+	reply, err := exchange(r.watched, dumping)
+	if err == nil {
+		// What else goes wrong is told, and nothing is lost by it.
+		_ = k.keep(limit, Reply{Body: reply, Serial: r.serial})
+		err = limit.Err()
+	}
 	if err != nil {
 		k.Log.Error("no snapshot was made; the journal and the old one stay", "serial", r.serial, "error", err)
-		return nil
 	}
-	// What goes wrong is told, and nothing is lost by it.
-	_ = k.keep(ctx, Reply{Body: reply, Serial: r.serial})
 	return nil
 }
 
 // refuse tells all lines that wait that the front is stopping.
 func (k *Keeper) refuse() {
 	for _, call := range k.held {
-		call.finish(Reply{Err: ErrStopping})
+		call.end(ErrStopping)
 	}
 	k.held = nil
 	for {
 		select {
 		case call := <-k.queue:
-			call.finish(Reply{Err: ErrStopping})
+			call.end(ErrStopping)
 		default:
 			return
 		}

@@ -39,6 +39,7 @@ type serving struct {
 	unsettled atomic.Int64
 	over      atomic.Bool // no line is sent any more: the program ended or is being killed
 	telling   atomic.Bool // notices are on their way
+	sent      bool        // a line was sent since it was looked
 	renewed   uint64      // the serial at which old marks were made anew
 }
 
@@ -47,10 +48,14 @@ type settled struct {
 	call  *Call
 	reply Reply
 	entry *folder.Entry // of an edit that was accepted
+	parts []settled     // those of edits that are made all together, of which it is the first
 }
 
-// serve serves lines by a program until there is a reason not to. Then none of its lines is without a reply.
-func (k *Keeper) serve(ctx context.Context, r *running) reason {
+// serve serves lines by a program until there is a reason not to. Then none of its lines is without a reply. Where the
+// program doesn't answer it is killed once `limit` is done.
+func (k *Keeper) serve(ctx, limit context.Context, r *running) reason {
+	stop := killWith(limit, r.watched)
+	defer stop()
 	s := &serving{
 		keeper: k, program: r, flight: make(chan *Call, inFlight), replies: make(chan settled, inFlight), renewed: r.serial,
 	}
@@ -64,12 +69,23 @@ func (k *Keeper) serve(ctx context.Context, r *running) reason {
 		defer both.Done()
 		s.commit()
 	}()
+	k.serving.Store(r.watched)
 	k.ready.set(true)
 	why := s.feed(ctx)
 	close(s.flight)
 	both.Wait()
 	k.ready.set(false)
+	k.serving.Store(nil)
 	return why
+}
+
+// idle comes from time to time, if it is to be seen that the program moves also where nobody asks.
+func (s *serving) idle() (<-chan time.Time, func()) {
+	if s.program.time == 0 {
+		return nil, func() {}
+	}
+	tick := time.NewTicker(s.program.pause())
+	return tick.C, tick.Stop
 }
 
 // feed sends lines until there is a reason not to.
@@ -81,18 +97,22 @@ func (s *serving) feed(ctx context.Context) reason {
 		s.take(call)
 	}
 	_ = s.program.Flush()
+	idle, end := s.idle()
+	defer end()
 	for {
 		select {
 		case call := <-k.queue:
 			s.take(call)
 		case <-k.edited:
 			s.tell()
+		case <-idle:
+			if !s.sent {
+				s.own(working, nil)
+			}
+			s.sent = false
 		case <-s.program.Done():
 			return ended
 		case <-ctx.Done():
-			for s.more() {
-			}
-			_ = s.program.Flush()
 			return stopped
 		}
 		for taken := 0; taken < together && s.more(); taken++ {
@@ -100,7 +120,6 @@ func (s *serving) feed(ctx context.Context) reason {
 		// A pipe that is closed is seen by the program's end.
 		_ = s.program.Flush()
 		if s.over.Load() {
-			<-s.program.Done()
 			return ended
 		}
 		if k.Reads != 0 && s.program.Looks() >= k.Reads {
@@ -130,19 +149,23 @@ func (s *serving) take(call *Call) {
 		return
 	}
 	if call.context != nil && call.context.Err() != nil {
-		call.finish(Reply{Err: call.context.Err()})
+		call.end(call.context.Err())
 		return
 	}
 	if call.kind == line.Edit && !s.keeper.mayEdit() {
-		call.finish(Reply{Err: ErrJournal})
+		call.end(ErrJournal)
 		return
 	}
 	s.send(call)
+	for _, next := range call.behind {
+		s.send(next)
+	}
 }
 
-// mayEdit says whether the journal can be written. Where it couldn't, that is tried again from time to time.
+// mayEdit says whether the journal and the keys can be written. Where they couldn't, that is tried again from time to
+// time.
 func (k *Keeper) mayEdit() bool {
-	if k.Folder.Broken() == nil {
+	if k.Folder.Broken() == nil && k.Keys.Broken() == nil {
 		return true
 	}
 	now := time.Now().UnixNano()
@@ -150,7 +173,11 @@ func (k *Keeper) mayEdit() bool {
 		return false
 	}
 	k.repaired.Store(now)
-	if err := k.Folder.Repair(); err != nil {
+	err := k.Folder.Repair()
+	if err == nil {
+		err = k.Keys.Repair()
+	}
+	if err != nil {
 		k.Log.Error("edits are refused", "error", err)
 		return false
 	}
@@ -166,6 +193,7 @@ func (s *serving) send(call *Call) {
 		_ = s.program.Flush()
 		s.flight <- call
 	}
+	s.sent = true
 	// If the pipe is closed the reader finds no reply, and says so.
 	_ = s.program.Send(call.Line)
 }

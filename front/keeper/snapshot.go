@@ -27,18 +27,43 @@ func (k *Keeper) snapshots(ctx context.Context) {
 		if !k.wants() {
 			continue // it was made while this was asked
 		}
-		reply := k.Ask(ctx, dumping)
+		// Of one that fails the next is made after as many edits again.
+		k.tried.Store(k.Folder.Last())
+		k.took.Store(0)
+		reply, err := k.beside(ctx)
 		if ctx.Err() != nil {
 			return
 		}
-		if reply.Err != nil {
-			k.Log.Error("no snapshot was made", "error", reply.Err)
+		if err != nil {
+			k.Meter.Snapshot(false, 0)
+			k.Log.Error("no snapshot was made", "error", err)
 			continue
 		}
-		// Of one that fails the next is made after as many edits again.
-		k.tried.Store(reply.Serial)
 		_ = k.keep(ctx, reply)
 	}
+}
+
+// beside brings another program to the state of the last edit on disk, and gives its dump. The one that serves isn't
+// asked, which would answer nothing else meanwhile.
+func (k *Keeper) beside(ctx context.Context) (Reply, error) {
+	r, err := k.another(ctx, k.aside)
+	if err != nil {
+		return Reply{}, err
+	}
+	stop := killWith(ctx, r.watched)
+	defer stop()
+	defer r.Close()
+	dump, err := exchange(r.watched, dumping)
+	return Reply{Body: dump, Serial: r.serial}, err
+}
+
+// aside starts a program that holds nothing, and yields to the one that serves while one does.
+func (k *Keeper) aside() (*watched, error) {
+	w, err := k.start()
+	if err == nil && k.ready.is() {
+		w.Yield()
+	}
+	return w, err
 }
 
 // keep makes a snapshot of the reply to a dump, if a second program that is told it comes to the same dump. Else the
@@ -89,20 +114,20 @@ func (k *Keeper) verified(ctx context.Context, reply Reply) error {
 
 // second sees that a program which holds nothing accepts each line of a snapshot, and tells the same dump.
 func (k *Keeper) second(ctx context.Context, snapshot *folder.Snapshot, dump []byte) error {
-	p, err := k.Command.Start()
+	w, err := k.aside()
 	if err != nil {
 		return err
 	}
-	stop := killWith(ctx, p)
+	stop := killWith(ctx, w)
 	defer stop()
-	replay := begin(ctx, p, false)
-	_, err = replay.snapshotLines(snapshot)
+	replay := begin(ctx, w, false)
+	_, err = replay.snapshotLines(snapshot, nil)
 	if err = replay.end(err); err != nil {
-		p.Discard()
+		w.Discard()
 		return fmt.Errorf("%w: %v", errSnapshot, err)
 	}
-	told, err := exchange(p, dumping)
-	p.Close()
+	told, err := exchange(w, dumping)
+	w.Close()
 	if err != nil {
 		return err
 	}

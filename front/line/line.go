@@ -3,7 +3,6 @@
 package line
 
 import (
-	"bytes"
 	"encoding/json"
 	"strconv"
 )
@@ -63,6 +62,27 @@ func Read(l []byte) (Kind, int) {
 	return kind, number
 }
 
+// names has the commands that list names, and take them from a list.
+var names = map[string]bool{
+	"person.add": true, "person.drop": true, "action.add": true, "action.drop": true, "resource.add": true,
+	"resource.drop": true,
+}
+
+// IsName says whether a line lists a name, or takes it from a list.
+func IsName(l []byte) bool {
+	do, _, _, ok := keys(l)
+	return ok && names[do]
+}
+
+// Command is which command a line names, or nothing where it isn't well formed.
+func Command(l []byte) string {
+	do, _, _, ok := keys(l)
+	if !ok {
+		return ""
+	}
+	return do
+}
+
 // sessionOf reads a session's number as the program does: a whole number from 0 to 15; absent it is 0.
 func sessionOf(written []byte) (int, bool) {
 	if written == nil {
@@ -83,34 +103,4 @@ func Marking(session int) []byte {
 // Noticing is the line that asks what changed since the mark of a session of the program.
 func Noticing(session int) []byte {
 	return []byte(`{"do":"notices","session":` + strconv.Itoa(session) + `}`)
-}
-
-// Asking wraps a request as a line. It is false where the body isn't one JSON object by its brackets, so that nothing
-// in a body can be a key of the line.
-func Asking(body []byte) ([]byte, bool) {
-	body = bytes.Trim(body, " \t\r\n")
-	if len(body) == 0 || body[0] != '{' {
-		return nil, false
-	}
-	if end, ok := skip(body, 0); !ok || end != len(body) {
-		return nil, false
-	}
-	const before = `{"do":"ask","request":`
-	l := make([]byte, 0, len(before)+len(body)+2)
-	l = append(l, before...)
-	l = append(l, body...)
-	blank(l[len(before):])
-	return append(l, '}'), true
-}
-
-// blank puts blanks for newlines, so that a body is one line.
-func blank(l []byte) {
-	for {
-		at := bytes.IndexByte(l, '\n')
-		if at < 0 {
-			return
-		}
-		l[at] = ' '
-		l = l[at+1:]
-	}
 }

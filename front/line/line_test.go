@@ -56,8 +56,31 @@ func TestAsking(t *testing.T) {
 		`1`:                     "",
 		``:                      "",
 		`{"a":1`:                "",
+		"{\"a\":\"b\nc\"}":      "",
+		"{\"a\nb\":1}":          "",
+		"{\n\"a\":\"\\\"\n\"}":  "",
+		"{\n\"a\":\"\\n\"\n}":   `{"do":"ask","request":{ "a":"\n" }}`,
 	} {
 		l, ok := Asking([]byte(body))
+		if ok != (want != "") || ok && string(l) != want {
+			t.Errorf("%q becomes %s", body, l)
+		}
+	}
+}
+
+func TestCommanding(t *testing.T) {
+	for body, want := range map[string]string{
+		"":                                `{"do":"day.set"}`,
+		" \n":                             `{"do":"day.set"}`,
+		"{ }":                             `{ "do":"day.set"}`,
+		"{\"day\":\n\"2026-11-28\"}\n":    `{"day": "2026-11-28","do":"day.set"}`,
+		`{"do":"person.drop","name":"a"}`: `{"do":"person.drop","name":"a","do":"day.set"}`,
+		`{"a":1]`:                         "",
+		`{"a":1},{"b":2}`:                 "",
+		`["a"]`:                           "",
+		"{\"a\":\"\n\"}":                  "",
+	} {
+		l, ok := Commanding("day.set", []byte(body))
 		if ok != (want != "") || ok && string(l) != want {
 			t.Errorf("%q becomes %s", body, l)
 		}

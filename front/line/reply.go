@@ -85,6 +85,15 @@ func ReadRefusal(reply []byte) (refusal, subcode int, ok bool) {
 	return int(n), subcode, string(rest) == "}"
 }
 
+// noMemory is the refusal that says that there was no memory: the same line may be accepted later.
+const noMemory = 15
+
+// NoMemory says whether a reply refuses a line for want of memory.
+func NoMemory(reply []byte) bool {
+	number, _, ok := ReadRefusal(reply)
+	return ok && number == noMemory
+}
+
 // Shift adds to each serial that a reply says: of `mark`, of an accepted edit, and of `state`. Other replies stay as
 // they are.
 func Shift(reply []byte, by uint64) []byte {

@@ -4,6 +4,7 @@ package measure
 import (
 	"net/http"
 	"strconv"
+	"sync"
 	"time"
 
 	"github.com/prometheus/client_golang/prometheus"
@@ -19,7 +20,9 @@ type Meter struct {
 
 	requests  *prometheus.CounterVec
 	seconds   *prometheus.HistogramVec
-	decisions *prometheus.CounterVec
+	mutex     sync.RWMutex
+	known     map[kind]counted // what was counted before: finding it by its labels takes longer than counting
+	decisions map[string]prometheus.Counter
 	lines     prometheus.Counter
 
 	edits    prometheus.Counter
@@ -34,6 +37,24 @@ type Meter struct {
 	snapshot  prometheus.Gauge
 }
 
+// kind is a path and a status of requests.
+type kind struct {
+	path   string
+	status int
+}
+
+// counted is where requests of a kind are counted.
+type counted struct {
+	number  prometheus.Counter
+	seconds prometheus.Observer
+}
+
+// Decisions are what answers may be, and what is said of one that can't be read.
+var Decisions = []string{"Permit", "Deny", "NotApplicable", "Indeterminate", Unknown}
+
+// Unknown is said of an answer whose decision can't be read.
+const Unknown = "unknown"
+
 var (
 	requestTimes = prometheus.ExponentialBuckets(0.0001, 2.5, 14)
 	syncTimes    = prometheus.ExponentialBuckets(0.0001, 2.5, 12)
@@ -41,12 +62,15 @@ var (
 
 // New is a meter that has counted nothing.
 func New() *Meter {
-	m := &Meter{registry: prometheus.NewRegistry()}
+	m := &Meter{registry: prometheus.NewRegistry(), known: map[kind]counted{}, decisions: map[string]prometheus.Counter{}}
 	m.requests = m.counters("requests_total", "Requests by path and status.", "path", "status")
 	m.seconds = prometheus.NewHistogramVec(prometheus.HistogramOpts{
 		Namespace: space, Name: "request_seconds", Help: "Time of requests by path.", Buckets: requestTimes,
 	}, []string{"path"})
-	m.decisions = m.counters("decisions_total", "Answers to requests of /authorize by decision.", "decision")
+	decisions := m.counters("decisions_total", "Answers to requests of /authorize by decision.", "decision")
+	for _, decision := range Decisions {
+		m.decisions[decision] = decisions.WithLabelValues(decision)
+	}
 	m.lines = m.counter("lines_total", "Lines of clients.")
 	m.edits = m.counter("edits_total", "Edits that were accepted and are on disk.")
 	m.syncs = m.counter("journal_syncs_total", "How often edits were brought to the disk.")
@@ -89,12 +113,24 @@ func (m *Meter) Watch(name, help string, now func() float64) {
 
 // Request counts a request that was answered.
 func (m *Meter) Request(path string, status int, took time.Duration) {
-	m.requests.WithLabelValues(path, strconv.Itoa(status)).Inc()
-	m.seconds.WithLabelValues(path).Observe(took.Seconds())
+	of := kind{path: path, status: status}
+	m.mutex.RLock()
+	where, ok := m.known[of]
+	m.mutex.RUnlock()
+	if !ok {
+		where = counted{
+			number: m.requests.WithLabelValues(path, strconv.Itoa(status)), seconds: m.seconds.WithLabelValues(path),
+		}
+		m.mutex.Lock()
+		m.known[of] = where
+		m.mutex.Unlock()
+	}
+	where.number.Inc()
+	where.seconds.Observe(took.Seconds())
 }
 
-// Decision counts a decision.
-func (m *Meter) Decision(decision string) { m.decisions.WithLabelValues(decision).Inc() }
+// Decision counts a decision, which is one of Decisions.
+func (m *Meter) Decision(decision string) { m.decisions[decision].Inc() }
 
 // Line counts a line of a client.
 func (m *Meter) Line() { m.lines.Inc() }

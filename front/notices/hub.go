@@ -3,8 +3,12 @@ package notices
 
 import "sync"
 
-// Waiting is how many events wait for a listener. Who is further behind is let go.
-const Waiting = 256
+// Waiting is how many events wait for a listener, and WaitingBytes how long they are at most where there are several.
+// Who is further behind is let go.
+const (
+	Waiting      = 256
+	WaitingBytes = 64 << 20
+)
 
 // The kinds of events.
 const (
@@ -33,10 +37,18 @@ type Listener struct {
 	hub    *Hub
 	events chan Event
 	stage  stage
+	bytes  int // of the events that wait
 }
 
 // Events is where a listener's events come. It is closed when the listener is let go.
 func (l *Listener) Events() <-chan Event { return l.events }
+
+// Took says that an event was sent on.
+func (l *Listener) Took(event Event) {
+	l.hub.mutex.Lock()
+	defer l.hub.mutex.Unlock()
+	l.bytes -= len(event.Data)
+}
 
 // Hub knows all listeners.
 type Hub struct {
@@ -151,8 +163,13 @@ func (h *Hub) Anew(serial uint64) {
 
 // give puts an event where a listener finds it, or lets go a listener who doesn't read.
 func (h *Hub) give(l *Listener, event Event) {
+	if l.bytes > 0 && l.bytes+len(event.Data) > WaitingBytes {
+		h.drop(l)
+		return
+	}
 	select {
 	case l.events <- event:
+		l.bytes += len(event.Data)
 	default:
 		h.drop(l)
 	}

@@ -3,6 +3,7 @@ package program
 
 import (
 	"bufio"
+	"bytes"
 	"context"
 	"errors"
 	"fmt"
@@ -14,6 +15,8 @@ import (
 	"sync/atomic"
 	"syscall"
 	"time"
+
+	"review-front/spool"
 )
 
 // Command is how the program is started.
@@ -33,6 +36,17 @@ const (
 	setPipe    = 1031 // F_SETPIPE_SZ of Linux
 	readBuffer = 1 << 18
 	rest       = 1 << 20
+	// besidePriority has a process get a third of what another one gets.
+	besidePriority = 5
+	// beginning is how much of a reply that is longer than what is read at once stays in memory.
+	beginning = 1 << 16
+)
+
+var newline = []byte("\n")
+
+const (
+	closeTime = 2 * time.Second // how long the program may take to end by itself
+	killTime  = time.Second     // how long the system may take to end it
 )
 
 // Program is one process of the service. Its input is written by one goroutine, its output read by another.
@@ -140,11 +154,65 @@ func (p *Program) Receive() ([]byte, error) {
 		part, err = p.reader.ReadSlice('\n')
 		reply = append(reply, part...)
 	}
-	if err != nil {
-		// What has no newline is a front of a reply, and none.
-		return nil, fmt.Errorf("%w: %v", ErrEnded, err)
+	if err = ending(err); err != nil {
+		return nil, err
 	}
 	return reply[:len(reply)-1], nil
+}
+
+// ending is why a reply has no end. What has no newline is a front of a reply, and none.
+func ending(err error) error {
+	if err == nil {
+		return nil
+	}
+	return fmt.Errorf("%w: %v", ErrEnded, err)
+}
+
+// Reply is what the program answered, of which the rest stands in a file if it is long.
+type Reply struct {
+	Body []byte
+	Rest *spool.File
+	Lost error // why the rest is nowhere
+}
+
+// ReceiveLong waits for the next reply as Receive does, and has what is long of it wait in a file.
+func (p *Program) ReceiveLong(to *spool.Spool) (Reply, error) {
+	part, err := p.reader.ReadSlice('\n')
+	if !errors.Is(err, bufio.ErrBufferFull) {
+		return Reply{Body: append([]byte(nil), bytes.TrimSuffix(part, newline)...)}, ending(err)
+	}
+	reply := Reply{Body: append([]byte(nil), part[:beginning]...)}
+	part = part[beginning:]
+	reply.Rest, reply.Lost = to.File()
+	for errors.Is(err, bufio.ErrBufferFull) {
+		reply.add(part)
+		part, err = p.reader.ReadSlice('\n')
+	}
+	if err = ending(err); err != nil {
+		reply.lose(err)
+		return Reply{}, err
+	}
+	reply.add(part[:len(part)-1])
+	return reply, nil
+}
+
+// add puts a part into the file. Where that can't be done the reply is read on, and given up.
+func (r *Reply) add(part []byte) {
+	if r.Lost != nil {
+		return
+	}
+	if _, err := r.Rest.Write(part); err != nil {
+		r.lose(fmt.Errorf("a reply that is long: %w", err))
+	}
+}
+
+// lose gives a reply up.
+func (r *Reply) lose(why error) {
+	r.Lost = why
+	if r.Rest != nil {
+		r.Rest.Close()
+		r.Rest = nil
+	}
 }
 
 // LooksOf is how often the program looks at its input for a line of so many bytes, at most: it takes what the pipe
@@ -168,37 +236,73 @@ func (p *Program) Rest() {
 // Done is closed when the process has ended.
 func (p *Program) Done() <-chan struct{} { return p.done }
 
-// Ended says how the process ended, once Done is closed.
-func (p *Program) Ended() error { return p.ended }
+// Ended says how the process ended, if it has.
+func (p *Program) Ended() error {
+	select {
+	case <-p.done:
+		return p.ended
+	default:
+		return errors.New("it was killed, and hasn't ended yet")
+	}
+}
+
+// Yield has the process work less than others that want to work too.
+func (p *Program) Yield() {
+	// Where the system doesn't have it so, it works as the others do.
+	_ = syscall.Setpriority(syscall.PRIO_PROCESS, p.ID(), besidePriority)
+}
 
 // ID is the number of the process.
 func (p *Program) ID() int { return p.process.Process.Pid }
 
-// Kill ends the process at once.
+// Kill ends the process at once, and what it started. Where the system can't end it soon its pipe is closed, so that
+// nobody waits for it.
 func (p *Program) Kill() {
-	if !p.killed.Swap(true) {
-		_ = p.process.Process.Kill()
+	if p.killed.Swap(true) {
+		return
 	}
+	if p.process.Process.Signal(syscall.Signal(0)) == nil {
+		_ = syscall.Kill(-p.ID(), syscall.SIGKILL)
+	}
+	go func() {
+		if !p.ends(killTime) {
+			p.shut()
+		}
+	}()
+}
+
+// ends waits a while for the process's end.
+func (p *Program) ends(while time.Duration) bool {
+	timer := time.NewTimer(while)
+	defer timer.Stop()
+	select {
+	case <-p.done:
+		return true
+	case <-timer.C:
+		return false
+	}
+}
+
+// shut closes the pipe.
+func (p *Program) shut() {
+	_ = p.input.Close()
+	_ = p.output.Close()
 }
 
 // Close ends the input, and the process with it, and waits for its end; after a while it is killed.
 func (p *Program) Close() {
 	_ = p.writer.Flush()
 	_ = p.input.Close()
-	select {
-	case <-p.done:
-	case <-time.After(2 * time.Second):
+	if !p.ends(closeTime) {
 		p.Kill()
-		<-p.done
+		p.ends(killTime)
 	}
-	_ = p.output.Close()
+	p.shut()
 }
 
 // Discard kills the process and gives back what it held.
 func (p *Program) Discard() {
 	p.Kill()
-	<-p.done
-	_ = p.input.Close()
-	_, _ = io.Copy(io.Discard, p.output)
-	_ = p.output.Close()
+	p.ends(killTime)
+	p.shut()
 }

@@ -3,9 +3,16 @@ package sessions
 import (
 	"crypto/rand"
 	"encoding/hex"
+	"errors"
 	"fmt"
 	"sync"
 	"time"
+)
+
+// The reasons why a client has no session.
+var (
+	ErrTaken = errors.New("all sessions are taken")
+	ErrGone  = errors.New("the session has ended")
 )
 
 // Client is somebody whose lines name sessions by numbers of his own. Each has a session of the program from its
@@ -22,29 +29,51 @@ func (t *Table) NewClient() *Client {
 	return &Client{table: t, own: map[int]*Session{}}
 }
 
-// Take is the session of the program for a number of the client, and is false where all are taken.
-func (c *Client) Take(number int) (*Session, bool) {
+// Marking is the session of the program for a mark at a number of the client. It is his until the mark is settled.
+func (c *Client) Marking(number int) (*Session, error) {
 	c.mutex.Lock()
 	defer c.mutex.Unlock()
-	if session := c.own[number]; session != nil {
-		return session, true
+	session, err := c.take(number)
+	if err == nil {
+		session.Marking()
 	}
-	if c.gone {
-		return nil, false
-	}
-	session, ok := c.table.Take()
-	if ok {
-		c.own[number] = session
-	}
-	return session, ok
+	return session, err
 }
 
-// Marked is the session of the program for a number of the client, where that has a mark.
-func (c *Client) Marked(number int) (*Session, bool) {
+// Noticing is the session of the program for notices at a number of the client, where that has a mark. It is his until
+// they are answered.
+func (c *Client) Noticing(number int) (*Session, bool) {
 	c.mutex.Lock()
 	defer c.mutex.Unlock()
 	session := c.own[number]
-	return session, session != nil && session.HasMark()
+	if session == nil || !session.HasMark() {
+		return nil, false
+	}
+	session.Sending()
+	return session, true
+}
+
+// Take gets a session of the program for a number of the client, if he has none.
+func (c *Client) Take(number int) error {
+	c.mutex.Lock()
+	defer c.mutex.Unlock()
+	_, err := c.take(number)
+	return err
+}
+
+func (c *Client) take(number int) (*Session, error) {
+	if session := c.own[number]; session != nil {
+		return session, nil
+	}
+	if c.gone {
+		return nil, ErrGone
+	}
+	session, ok := c.table.Take()
+	if !ok {
+		return nil, ErrTaken
+	}
+	c.own[number] = session
+	return session, nil
 }
 
 // Close gives back the sessions of a client.
@@ -77,22 +106,22 @@ func NewLeases(table *Table, idle time.Duration) *Leases {
 	return &Leases{table: table, idle: idle, held: map[string]*lease{}}
 }
 
-// Open begins a lease with a session for number 0, and is false where all sessions are taken.
-func (l *Leases) Open() (string, bool, error) {
+// Open begins a lease with a session for number 0, and gives its name.
+func (l *Leases) Open() (string, error) {
 	var word [16]byte
 	if _, err := rand.Read(word[:]); err != nil {
-		return "", false, fmt.Errorf("a word for a session: %w", err)
+		return "", fmt.Errorf("a word for a session: %w", err)
 	}
 	l.mutex.Lock()
 	defer l.mutex.Unlock()
 	l.sweep(time.Now())
 	client := l.table.NewClient()
-	if _, ok := client.Take(0); !ok {
-		return "", false, nil
+	if err := client.Take(0); err != nil {
+		return "", err
 	}
 	name := hex.EncodeToString(word[:])
 	l.held[name] = &lease{client: client, used: time.Now()}
-	return name, true, nil
+	return name, nil
 }
 
 // Use is the client of a lease, which doesn't end before `done` is called.

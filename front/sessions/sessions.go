@@ -14,16 +14,19 @@ const Own = 0
 type Table struct {
 	mutex sync.Mutex
 	taken [line.Sessions]*Session
-	stale [line.Sessions]bool // the program still has a mark there, and nobody has the session
+	stale [line.Sessions]bool // the program still has a mark of who had the session before
 }
 
-// Session is one of the program's sessions that somebody has.
+// Session is one of the program's sessions that somebody has. Who gives it back while lines of his are on their way
+// has it until the last of them is answered: else a line would find the mark of whoever has the session next.
 type Session struct {
-	table   *Table
-	number  int
-	marked  bool
-	at      uint64 // the serial of the mark
-	pending int    // marks that have no reply yet
+	table  *Table
+	number int
+	marked bool
+	at     uint64 // the serial of the mark
+	marks  int    // marks that have no reply yet
+	lines  int    // lines that have no reply yet, marks among them
+	given  bool   // it was given back, and no more lines are sent to it
 }
 
 // NewTable is a table in which the front has its own session, and nobody else any.
@@ -111,40 +114,59 @@ func has(marks map[int]uint64, number int) bool {
 // Number is the session's number in the program.
 func (s *Session) Number() int { return s.number }
 
-// Marking says that a mark was sent.
+// Sending says that a line for the session is on its way.
+func (s *Session) Sending() {
+	s.table.mutex.Lock()
+	defer s.table.mutex.Unlock()
+	s.lines++
+}
+
+// Answered says that a line for the session has its reply, or gets none.
+func (s *Session) Answered() {
+	s.table.mutex.Lock()
+	defer s.table.mutex.Unlock()
+	s.lines--
+	s.free()
+}
+
+// Marking says that a mark is on its way.
 func (s *Session) Marking() {
 	s.table.mutex.Lock()
 	defer s.table.mutex.Unlock()
-	s.pending++
+	s.lines++
+	s.marks++
 }
 
-// Settled says that a mark that was sent has its reply: a serial, or none.
+// Settled says that a mark has its reply, a serial or none, or gets none.
 func (s *Session) Settled(at uint64, marked bool) {
 	s.table.mutex.Lock()
 	defer s.table.mutex.Unlock()
-	s.pending--
-	if !marked {
-		return
-	}
-	if s.table.taken[s.number] == s {
+	s.lines--
+	s.marks--
+	if marked {
 		s.marked, s.at = true, at
-	} else if s.table.taken[s.number] == nil {
-		s.table.stale[s.number] = true
 	}
+	s.free()
 }
 
 // HasMark says whether the program has, or is about to have, a mark of this session.
 func (s *Session) HasMark() bool {
 	s.table.mutex.Lock()
 	defer s.table.mutex.Unlock()
-	return s.marked || s.pending > 0
+	return s.marked || s.marks > 0
 }
 
-// Give gives the session back.
+// Give gives the session back, once no line of it is on its way.
 func (s *Session) Give() {
 	s.table.mutex.Lock()
 	defer s.table.mutex.Unlock()
-	if s.table.taken[s.number] == s {
+	s.given = true
+	s.free()
+}
+
+// free lets others have the session, if it was given back and all its lines are answered.
+func (s *Session) free() {
+	if s.given && s.lines == 0 && s.table.taken[s.number] == s {
 		s.table.taken[s.number] = nil
 		s.table.stale[s.number] = s.table.stale[s.number] || s.marked
 	}

@@ -2,133 +2,94 @@ package web
 
 import (
 	"bytes"
-	"errors"
-	"io"
-	"mime"
 	"net/http"
-	"strings"
-	"time"
 
-	"review-front/line"
+	"review-front/measure"
+	"review-front/profile"
 )
-
-const profileType = "application/xacml+json"
 
 var (
-	profileTypes  = []string{profileType}
+	responseTypes = map[string][]string{profileType: {profileType}, xmlType: {xmlType}}
 	decisionKey   = []byte(`"Decision":"`)
-	errBodyLength = errors.New("the body is too long")
 )
 
-// authorize answers a request of the JSON Profile as the REST Profile has it: the request in, its response out.
+// authorize answers a request as the REST Profile has it: the request in, its response out, each in JSON or XML.
 func (s *Server) authorize(w *answered, r *http.Request) {
 	if r.Method != http.MethodPost {
 		w.Header().Set("Allow", http.MethodPost)
 		problem{Title: "no such method", Status: http.StatusMethodNotAllowed, Detail: "a request comes by POST"}.send(w)
 		return
 	}
-	if wrong, ok := s.unfit(r); ok {
+	given, wanted, wrong := s.fit(r)
+	if wrong != nil {
 		wrong.send(w)
 		return
 	}
-	body, err := s.body(r)
-	if errors.Is(err, errBodyLength) {
-		refuse(w, []byte(line.TooLong))
+	body, ok := s.taken(w, r)
+	if !ok || !s.reach(w, r) {
 		return
 	}
-	if err != nil {
-		bad("the body broke off").send(w)
+	all, told := s.responsesTo(r.Context(), given, body)
+	if told != nil {
+		told.send(w)
 		return
 	}
-	l, ok := line.Asking(body)
-	if !ok {
-		bad("the body isn't one JSON object").send(w)
-		return
+	response := joined(all)
+	if wanted == xmlType {
+		var err error
+		if response, err = profile.ResponseXML(response); err != nil {
+			problem{Title: "no XML", Status: http.StatusNotAcceptable, Detail: err.Error()}.send(w)
+			return
+		}
 	}
-	if len(l) > line.Limit {
-		refuse(w, []byte(line.TooLong))
-		return
+	for _, one := range all {
+		s.Meter.Decision(decisionOf(one.reply.Body))
 	}
-	if err := s.Keeper.Await(r.Context()); err != nil {
-		problemFor(err).send(w)
-		return
-	}
-	reply := s.Keeper.Ask(r.Context(), l)
-	if reply.Err != nil {
-		problemFor(reply.Err).send(w)
-		return
-	}
-	if refuse(w, reply.Body) {
-		return
-	}
-	s.Meter.Decision(decisionOf(reply.Body))
-	w.Header()["Content-Type"] = profileTypes
+	s.keepAll(r, all)
+	tellSerial(w, all[0].reply.Serial)
+	w.Header()["Content-Type"] = responseTypes[wanted]
 	// Who has gone isn't told.
-	_, _ = w.Write(append(reply.Body, '\n'))
+	_, _ = w.Write(append(response, '\n'))
 }
 
-// unfit says why a request can't be answered whatever its body is.
-func (s *Server) unfit(r *http.Request) (problem, bool) {
-	if fromElsewhere(r) {
-		return problem{Title: "from another site", Status: http.StatusForbidden, Detail: "a page of another site asks"}, true
+// The beginning and the end of a response, between which its results stand.
+var (
+	responseBegins = []byte(`{"Response":[`)
+	responseEnds   = []byte(`]}`)
+)
+
+// joined is one response with the results of all.
+func joined(all []asked) []byte {
+	if len(all) == 1 {
+		return all[0].reply.Body
 	}
-	if !isProfile(r.Header.Get("Content-Type")) {
-		status := http.StatusUnsupportedMediaType
-		return problem{Title: "another type", Status: status, Detail: "a request is " + profileType}, true
+	var results [][]byte
+	for _, one := range all {
+		results = append(results, bytes.TrimSuffix(bytes.TrimPrefix(one.reply.Body, responseBegins), responseEnds))
 	}
-	if !accepts(r.Header.Get("Accept")) {
-		return problem{Title: "another type", Status: http.StatusNotAcceptable, Detail: "a response is " + profileType}, true
-	}
-	return problem{}, false
+	return append(append(append([]byte(nil), responseBegins...), bytes.Join(results, []byte(","))...), responseEnds...)
 }
 
-// isProfile says whether a body's type is that of the profile, or JSON, or not said. What curl says by itself is
-// taken.
-func isProfile(given string) bool {
-	if given == "" || given == profileType {
-		return true
-	}
-	kind, _, err := mime.ParseMediaType(given)
-	return err == nil && (kind == profileType || kind == "application/json" || kind == "application/x-www-form-urlencoded")
-}
-
-// accepts says whether who asks takes a response of the profile.
-func accepts(given string) bool {
-	if given == "" || given == "*/*" || given == profileType {
-		return true
-	}
-	for _, one := range strings.Split(given, ",") {
-		kind, _, err := mime.ParseMediaType(strings.TrimSpace(one))
-		if err != nil {
-			continue
-		}
-		switch kind {
-		case "*/*", "application/*", "application/json", profileType:
-			return true
+// fit is of which types a request and its response are, or why it can't be answered whatever its body is.
+func (s *Server) fit(r *http.Request) (given, wanted string, wrong *problem) {
+	if s.Hosts.elsewhere(r) {
+		return "", "", &problem{
+			Title: "from another site", Status: http.StatusForbidden, Detail: "a page of another site asks",
 		}
 	}
-	return false
-}
-
-// body reads a body of no more bytes than a line has, in its time.
-func (s *Server) body(r *http.Request) ([]byte, error) {
-	if r.ContentLength > line.Limit {
-		return nil, errBodyLength
+	if given = requestType(r.Header.Get("Content-Type")); given == "" {
+		return "", "", &problem{
+			Title: "another type", Status: http.StatusUnsupportedMediaType,
+			Detail: "a request is " + profileType + " or " + xmlType,
+		}
 	}
-	if conn := connOf(r); conn != nil {
-		_ = conn.SetReadDeadline(time.Now().Add(s.BodyTime))
-		defer func() { _ = conn.SetReadDeadline(time.Time{}) }()
+	if wanted = responseType(r.Header["Accept"], given); wanted == "" {
+		return "", "", &problem{
+			Title: "another type", Status: http.StatusNotAcceptable,
+			Detail: "a response is " + profileType + " or " + xmlType,
+		}
 	}
-	if r.ContentLength >= 0 {
-		body := make([]byte, r.ContentLength)
-		_, err := io.ReadFull(r.Body, body)
-		return body, err
-	}
-	body, err := io.ReadAll(io.LimitReader(r.Body, line.Limit+1))
-	if len(body) > line.Limit {
-		return nil, errBodyLength
-	}
-	return body, err
+	return given, wanted, nil
 }
 
 // decisionOf is the decision of a response. In a text of it quotes would be escaped, so that what is found is the
@@ -136,13 +97,13 @@ func (s *Server) body(r *http.Request) ([]byte, error) {
 func decisionOf(response []byte) string {
 	at := bytes.Index(response, decisionKey)
 	if at < 0 {
-		return "unknown"
+		return measure.Unknown
 	}
 	rest := response[at+len(decisionKey):]
-	for _, known := range []string{"Permit", "Deny", "NotApplicable", "Indeterminate"} {
+	for _, known := range measure.Decisions {
 		if bytes.HasPrefix(rest, []byte(known)) {
 			return known
 		}
 	}
-	return "unknown"
+	return measure.Unknown
 }

@@ -8,6 +8,7 @@ import (
 	"sync/atomic"
 	"time"
 
+	"review-front/access"
 	"review-front/keeper"
 	"review-front/line"
 	"review-front/sessions"
@@ -25,11 +26,13 @@ const (
 
 // pending is a line whose reply is due: it comes, or is there.
 type pending struct {
+	call    *keeper.Call
 	replies <-chan keeper.Reply
 	there   []byte
 	problem *problem
 	long    bool // its reply may be as long as the table
 	bytes   int64
+	keep    func(keeper.Reply) // writes down what was decided; may be nil
 }
 
 // freeLines answers lines of a client who has his sessions as long as his lines come.
@@ -41,6 +44,26 @@ func (s *Server) freeLines(w *answered, r *http.Request, _ map[string]string) {
 
 // lines answers commands as lines by replies as lines, in their order, as they come.
 func (s *Server) lines(w *answered, r *http.Request, client *sessions.Client) {
+	how, ok := howOf(w, r)
+	if !ok {
+		return
+	}
+	switch given := r.Header.Values(keyHeader); {
+	case how.dry:
+		s.dry(w, r)
+		return
+	case how.whole:
+		s.whole(w, r, given, how.known)
+		return
+	case len(given) > 0:
+		s.keyed(w, r, given)
+		return
+	}
+	by, nobody := s.who(r)
+	if nobody != nil {
+		nobody.send(w)
+		return
+	}
 	if err := s.Keeper.Await(r.Context()); err != nil {
 		problemFor(err).send(w)
 		return
@@ -49,20 +72,26 @@ func (s *Server) lines(w *answered, r *http.Request, client *sessions.Client) {
 	ctx, cancel := context.WithCancel(context.Background())
 	defer cancel()
 	in := &stream{
-		server: s, client: client, by: s.who(r), out: make(chan pending, window), long: make(chan struct{}, 1),
-		freed: make(chan struct{}, 1),
+		server: s, client: client, by: by, who: whoAsks(r), out: make(chan pending, window), long: make(chan struct{}, 1),
+		freed: make(chan struct{}, 1), gate: newGate(),
 	}
-	if r.ContentLength >= 0 && r.ContentLength <= shortBody {
-		body, err := s.body(r)
+	if s.Decisions != nil {
+		in.keep = func(l []byte, reply keeper.Reply) { s.keepLine(r, l, reply) }
+	}
+	whole := r.ContentLength >= 0 && r.ContentLength <= shortBody
+	if whole {
+		body, err := s.body(w, r)
 		if err != nil {
-			bad("the body broke off").send(w)
+			brokenOff(err).send(w)
 			return
 		}
 		in.from = line.NewReader(bytes.NewReader(body))
 	} else {
 		// Replies leave while lines come: such a connection can't be used again.
 		w.Header().Set("Connection", "close")
-		in.from = line.NewReader(&timed{from: r.Body, request: r, idle: s.StreamIdle, stopping: s.stopping})
+		body := &timed{from: r.Body, request: r, idle: s.StreamIdle, stopping: s.stopping}
+		defer func() { w.unread = !body.ended }()
+		in.from = line.NewReader(body)
 	}
 	done := make(chan struct{})
 	go func() {
@@ -71,65 +100,84 @@ func (s *Server) lines(w *answered, r *http.Request, client *sessions.Client) {
 		in.send(ctx)
 	}()
 	if err := in.reply(ctx, w); err != nil {
-		// The client has gone: what he still sends isn't read.
+		// The client has gone, or has his answer: what he still sends isn't read.
+		in.gate.end()
 		cancel()
-		if conn := connOf(r); conn != nil {
+		if conn := connOf(r); conn != nil && !(whole && err == errOver) {
 			_ = conn.SetReadDeadline(time.Unix(1, 0))
 		}
 	}
-	for range in.out {
+	for next := range in.out {
+		next.leave()
 	}
 	<-done
 }
 
 // reply writes replies in the order of their lines, and sends them on whenever none is ready.
 func (in *stream) reply(ctx context.Context, w *answered) error {
-	begun := false
+	first, any := <-in.out
+	if !any {
+		w.Header().Set("Content-Type", linesType)
+		w.WriteHeader(http.StatusOK)
+		return nil
+	}
+	if err := in.begin(ctx, w, first); err != nil {
+		return err
+	}
+	in.flush(w)
 	for next := range in.out {
-		reply, told := next.wait(ctx)
+		reply, _ := next.wait(ctx)
 		if err := ctx.Err(); err != nil {
+			reply.Drop()
 			return err
 		}
-		if !begun {
-			begun = true
-			if told != nil {
-				told.head(w, linesType)
-			} else {
-				w.Header().Set("Content-Type", linesType)
-			}
-		}
-		if _, err := w.Write(append(reply, '\n')); err != nil {
+		if _, err := reply.WriteTo(w); err != nil {
 			return err
 		}
 		in.free(next)
-		if len(in.out) == 0 {
-			w.Flush()
-		}
-	}
-	if !begun {
-		w.Header().Set("Content-Type", linesType)
-		w.WriteHeader(http.StatusOK)
+		in.flush(w)
 	}
 	return nil
 }
 
+// flush sends on what was written, if no reply is ready.
+func (in *stream) flush(w *answered) {
+	if len(in.out) == 0 {
+		w.Flush()
+	}
+}
+
 // wait is the reply, or the problem that stands in its place.
-func (p pending) wait(ctx context.Context) ([]byte, *problem) {
+func (p pending) wait(ctx context.Context) (keeper.Reply, *problem) {
 	if p.problem != nil {
-		return p.problem.line(), p.problem
+		return keeper.Reply{Body: p.problem.line()}, p.problem
 	}
 	if p.replies == nil {
-		return p.there, nil
+		return keeper.Reply{Body: p.there}, nil
 	}
 	select {
 	case reply := <-p.replies:
 		if reply.Err == nil {
-			return reply.Body, nil
+			if p.keep != nil {
+				p.keep(reply)
+			}
+			return reply, nil
 		}
 		told := problemFor(reply.Err)
-		return told.line(), &told
+		if told.Status != http.StatusServiceUnavailable {
+			return keeper.Reply{Body: told.line()}, nil // it is the line that is wrong
+		}
+		return keeper.Reply{Body: told.line()}, &told
 	case <-ctx.Done():
-		return nil, nil
+		p.leave()
+		return keeper.Reply{}, nil
+	}
+}
+
+// leave says that nobody waits for the reply.
+func (p pending) leave() {
+	if p.replies != nil && p.call != nil {
+		p.call.Leave()
 	}
 }
 
@@ -138,11 +186,14 @@ type stream struct {
 	server *Server
 	client *sessions.Client
 	by     string
+	who    *access.Identity // nil: he may everything
 	from   *line.Reader
 	out    chan pending
 	long   chan struct{} // holds something while a long reply is due: there is one of them at a time
 	bytes  atomic.Int64  // of lines that are on their way
 	freed  chan struct{} // says that there is more room
+	gate   *gate
+	keep   func([]byte, keeper.Reply) // writes down what a line decided; may be nil
 }
 
 // room waits until there is room for a line of so many bytes, and takes it.
@@ -173,15 +224,20 @@ func (in *stream) free(written pending) {
 func (in *stream) send(ctx context.Context) {
 	for ctx.Err() == nil {
 		l, err := in.from.Next()
+		if err == io.EOF || !in.gate.pass() {
+			return
+		}
 		switch err {
 		case nil:
 			in.server.Meter.Line()
+			if told, wrong := in.server.judge(in.who, l); wrong {
+				in.put(ctx, pending{there: told.line()})
+				continue
+			}
 			in.put(ctx, in.submit(ctx, l))
 		case line.ErrTooLong:
 			in.server.Meter.Line()
 			in.put(ctx, pending{there: []byte(line.TooLong)})
-		case io.EOF:
-			return
 		case errStopping:
 			told := problemFor(keeper.ErrStopping)
 			in.put(ctx, pending{problem: &told})
@@ -198,10 +254,14 @@ func (in *stream) send(ctx context.Context) {
 func (in *stream) submit(ctx context.Context, l []byte) pending {
 	call, err := keeper.Prepare(l, in.by, in.client)
 	if err != nil {
+		in.gate.failed()
 		told := problemFor(err)
 		return pending{problem: &told}
 	}
-	next := pending{long: call.IsLong(), bytes: int64(len(l))}
+	next := pending{call: call, long: call.IsLong(), bytes: int64(len(l))}
+	if in.keep != nil {
+		next.keep = func(reply keeper.Reply) { in.keep(l, reply) }
+	}
 	in.room(ctx, next.bytes)
 	if next.long {
 		select {
@@ -210,6 +270,7 @@ func (in *stream) submit(ctx context.Context, l []byte) pending {
 		}
 	}
 	if next.replies, err = in.server.Keeper.Submit(ctx, call); err != nil {
+		in.gate.failed()
 		told := problemFor(err)
 		next.problem = &told
 	}
@@ -220,5 +281,6 @@ func (in *stream) put(ctx context.Context, next pending) {
 	select {
 	case in.out <- next:
 	case <-ctx.Done():
+		next.leave()
 	}
 }

@@ -2,11 +2,15 @@ package web
 
 import (
 	"encoding/json"
+	"errors"
+	"fmt"
 	"net/http"
 	"strconv"
 
 	"review-front/keeper"
+	"review-front/keys"
 	"review-front/line"
+	"review-front/sessions"
 )
 
 // problem is an answer that something is wrong, as problem+json has it.
@@ -16,10 +20,15 @@ type problem struct {
 	Detail  string `json:"detail,omitempty"`
 	Refused int    `json:"refused,omitempty"` // the number of the program's refusal
 	Sub     int    `json:"sub,omitempty"`     // its sub-code
+	Place   string `json:"place,omitempty"`   // where a request is wrong: a JSON pointer, or of XML the path of an element
 	after   int    // after how many seconds it may be tried again
 }
 
-const problemType = "application/problem+json"
+const (
+	problemType = "application/problem+json"
+	// freedAfter is after how many seconds a session may be free where all were taken.
+	freedAfter = 5
+)
 
 // refusal is what a number of the program means to a client.
 type refusal struct {
@@ -62,12 +71,30 @@ func problemOf(reply []byte) (problem, bool) {
 
 // problemFor is what stands in the place of a reply that there is none of.
 func problemFor(err error) problem {
-	if why, ok := err.(*keeper.Unavailable); ok {
-		return problem{
-			Title: "not available", Status: http.StatusServiceUnavailable, Detail: why.Why, after: int(why.After.Seconds()),
-		}
+	after := 1
+	var why *keeper.Unavailable
+	var tried *keeper.Tried
+	var otherwise *keeper.Otherwise
+	var part *keeper.Part
+	switch {
+	case errors.As(err, &tried):
+		return problem{Title: "it takes too long", Status: http.StatusUnprocessableEntity, Detail: err.Error()}
+	case errors.As(err, &otherwise):
+		return problem{Title: "edited in between", Status: http.StatusPreconditionFailed, Detail: err.Error()}
+	case errors.As(err, &part):
+		told, _ := problemOf(part.Reply)
+		told.Detail = fmt.Sprintf("edit %d of the body: %s; none is made", part.Number, told.Detail)
+		return told
+	case errors.Is(err, sessions.ErrGone):
+		return noSession()
+	case errors.Is(err, keys.ErrOther):
+		return problem{Title: "another body", Status: http.StatusUnprocessableEntity, Detail: err.Error()}
+	case errors.Is(err, sessions.ErrTaken):
+		after = freedAfter
+	case errors.As(err, &why):
+		after = int(why.After.Seconds())
 	}
-	return problem{Title: "not available", Status: http.StatusServiceUnavailable, Detail: err.Error(), after: 1}
+	return problem{Title: "not available", Status: http.StatusServiceUnavailable, Detail: err.Error(), after: after}
 }
 
 // line is the problem as one line, without its newline.
@@ -101,4 +128,10 @@ func bad(detail string) problem {
 
 func unknown() problem {
 	return problem{Title: "no such path", Status: http.StatusNotFound, Detail: "GET / lists the paths"}
+}
+
+func misdirected() problem {
+	return problem{
+		Title: "another host", Status: http.StatusMisdirectedRequest, Detail: "the front isn't asked as this host: --host names it",
+	}
 }

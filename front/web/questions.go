@@ -6,8 +6,10 @@ import (
 	"net/http"
 	"net/url"
 	"strconv"
+	"strings"
 	"unicode/utf8"
 
+	"review-front/keeper"
 	"review-front/line"
 )
 
@@ -64,6 +66,9 @@ func (s *Server) asking(q question) func(*answered, *http.Request, map[string]st
 			bad(err.Error()).send(w)
 			return
 		}
+		if !s.mayAll(w, r, l) {
+			return
+		}
 		s.relay(w, r, l)
 	}
 }
@@ -74,18 +79,25 @@ func (s *Server) relay(w *answered, r *http.Request, l []byte) {
 		refuse(w, []byte(line.TooLong))
 		return
 	}
-	if err := s.Keeper.Await(r.Context()); err != nil {
-		problemFor(err).send(w)
+	if !s.stands(w, r) {
 		return
 	}
-	reply := s.Keeper.Ask(r.Context(), l)
+	sendReply(w, s.Keeper.Report(r.Context(), l))
+}
+
+// sendReply answers with a reply of the program, or with why it has none or refuses.
+func sendReply(w http.ResponseWriter, reply keeper.Reply) {
 	if reply.Err != nil {
 		problemFor(reply.Err).send(w)
 		return
 	}
-	if !refuse(w, reply.Body) {
-		sendJSON(w, reply.Body)
+	tellSerial(w, reply.Serial)
+	if refuse(w, reply.Body) {
+		return
 	}
+	w.Header().Set("Content-Type", "application/json")
+	// Who has gone isn't told.
+	_, _ = reply.WriteTo(w)
 }
 
 // refuse answers with a problem where a reply is a refusal.
@@ -99,7 +111,8 @@ func refuse(w http.ResponseWriter, reply []byte) bool {
 
 // line is the line of a question.
 func (q question) line(inPath map[string]string, query string) ([]byte, error) {
-	given, err := url.ParseQuery(query)
+	// The library would refuse `;`, which separates nothing.
+	given, err := url.ParseQuery(strings.ReplaceAll(query, ";", "%3B"))
 	if err != nil {
 		return nil, fmt.Errorf("the query can't be read")
 	}

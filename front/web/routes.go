@@ -25,7 +25,9 @@ func (r route) name() string { return r.path }
 func (s *Server) routes() []route {
 	all := []route{
 		{http.MethodGet, "/", s.home},
+		{http.MethodGet, "/openapi.json", s.openapi},
 		{http.MethodPost, "/lines", s.freeLines},
+		{http.MethodPost, "/commands/{command}", s.command},
 		{http.MethodGet, "/notices", s.notices},
 		{http.MethodPost, "/sessions", s.openSession},
 		{http.MethodDelete, "/sessions/{session}", s.endSession},
@@ -38,6 +40,9 @@ func (s *Server) routes() []route {
 	}
 	for _, q := range questions {
 		all = append(all, route{http.MethodGet, q.path, s.asking(q)})
+	}
+	if s.Authzen != nil {
+		all = append(all, s.authzenRoutes()...)
 	}
 	return all
 }
@@ -134,6 +139,10 @@ func (s *Server) health(w *answered, _ *http.Request, _ map[string]string) {
 
 // ready says whether lines are answered.
 func (s *Server) ready(w *answered, _ *http.Request, _ map[string]string) {
+	if s.leaving.Load() {
+		problemFor(keeper.ErrStopping).send(w)
+		return
+	}
 	if !s.Keeper.Ready() {
 		problemFor(keeper.ErrNotReady).send(w)
 		return

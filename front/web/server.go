@@ -5,14 +5,18 @@ import (
 	"context"
 	"net"
 	"net/http"
-	"net/url"
 	"strings"
 	"sync"
+	"sync/atomic"
 	"time"
 
+	"review-front/access"
+	"review-front/authzen"
+	"review-front/decisions"
 	"review-front/keeper"
 	"review-front/logs"
 	"review-front/measure"
+	"review-front/rights"
 	"review-front/sessions"
 )
 
@@ -21,31 +25,59 @@ type Options struct {
 	Keeper      *keeper.Keeper
 	Meter       *measure.Meter
 	Log         *logs.Log
-	ByHeader    string        // the head's field that says who asks, set by what stands before the front
-	SessionIdle time.Duration // after so long without use a session is given back
-	BodyTime    time.Duration // how long a body may take
-	StreamIdle  time.Duration // how long a stream of lines may say nothing
-	WriteTime   time.Duration // how long a client may read nothing
+	Decisions   *decisions.Book  // where decisions are written down; may be nil
+	Authzen     *authzen.Mapping // what AuthZEN's types are; nil: its paths aren't served
+	Hosts       *Hosts           // as which it is asked; else this machine
+	ByHeader    string           // the head's field that says who asks, set by what stands before the front
+	Trusted     []string         // names in certificates of clients who are believed in that; without certificates all are
+	SessionIdle time.Duration    // after so long without use a session is given back
+	BodyTime    time.Duration    // how long a body may take, for each page of it
+	StreamIdle  time.Duration    // how long a stream of lines may say nothing
+	WriteTime   time.Duration    // how long a client may read nothing
+	Access      *access.Gate     // who may what; nil: everybody everything
+	Rights      *rights.Judge    // who may send which line, beside his roles; nil: his roles alone count
+	DryTime     time.Duration    // how long it may take to tell what lines would change
+	Beat        time.Duration    // how often a listener hears something; 0: as Beat says
 }
 
 // Server answers requests.
 type Server struct {
 	Options
 	leases   *sessions.Leases
+	drying   chan struct{} // holds something while it is told what lines would change
 	metrics  http.Handler
 	known    []route
-	stopping chan struct{} // closed when streams have to end
+	listing  listing
+	byLines  map[string]bool // the paths that whoever is known may ask for, since their lines are looked at
+	stopping chan struct{}   // closed when streams have to end
 	stopped  sync.Once
+	leaving  atomic.Bool // the front ends soon
 }
 
 // New makes a server.
 func New(options Options) *Server {
+	if options.Hosts == nil {
+		options.Hosts = NewHosts(nil, "127.0.0.1", nil)
+	}
 	s := &Server{Options: options, metrics: options.Meter.Handler()}
+	if s.Beat == 0 {
+		s.Beat = Beat
+	}
 	s.leases = sessions.NewLeases(options.Keeper.Sessions, options.SessionIdle)
 	s.known = s.routes()
-	s.stopping = make(chan struct{})
+	s.byLines = map[string]bool{}
+	for path := range forKnown {
+		s.byLines[path] = true
+	}
+	for _, q := range questions {
+		s.byLines[q.path] = true
+	}
+	s.stopping, s.drying = make(chan struct{}), make(chan struct{}, 1)
 	return s
 }
+
+// Leave says that the front ends soon: it isn't ready any more, and each connection ends with the answer that is due.
+func (s *Server) Leave() { s.leaving.Store(true) }
 
 // Stop ends streams: lines that came whole are answered, and no more are read.
 func (s *Server) Stop() { s.stopped.Do(func() { close(s.stopping) }) }
@@ -69,7 +101,7 @@ type connection struct{}
 
 // KeepConnection puts a connection where its requests find it, so that each read and each write has its time.
 func KeepConnection(ctx context.Context, c net.Conn) context.Context {
-	return context.WithValue(ctx, connection{}, c)
+	return keepPeer(context.WithValue(ctx, connection{}, c), c)
 }
 
 // connOf is the connection of a request, or nil.
@@ -78,26 +110,57 @@ func connOf(r *http.Request) net.Conn {
 	return c
 }
 
+// closing is the field `Connection` of an answer that is the last.
+var closing = []string{"close"}
+
 // answered remembers the status of an answer, and gives each write its time.
 type answered struct {
 	http.ResponseWriter
 	status int
 	conn   net.Conn
 	time   time.Duration
+	unread bool         // the body wasn't read to its end
+	last   *atomic.Bool // connections aren't kept
+}
+
+// begin says by which status the answer begins. A connection whose body wasn't read isn't kept: what is left of it
+// would have to be waited for.
+func (a *answered) begin(status int) {
+	if a.status != 0 {
+		return
+	}
+	a.status = status
+	if a.unread || a.last.Load() {
+		a.Header()["Connection"] = closing
+	}
+}
+
+// whole says that the body was read to its end, and from now on the client may say nothing. It fails where the front
+// closed the connection, as at its end: what isn't answered then isn't to be done.
+func (a *answered) whole() error {
+	a.unread = false
+	if a.conn == nil {
+		return nil
+	}
+	return a.conn.SetReadDeadline(time.Time{})
+}
+
+// end ends the reading of a body of which there is more, so that nobody waits for it.
+func (a *answered) end() {
+	if a.unread && a.conn != nil {
+		linger(a.conn)
+		_ = a.conn.SetReadDeadline(time.Unix(1, 0))
+	}
 }
 
 func (a *answered) WriteHeader(status int) {
-	if a.status == 0 {
-		a.status = status
-	}
+	a.begin(status)
 	a.allow()
 	a.ResponseWriter.WriteHeader(status)
 }
 
 func (a *answered) Write(b []byte) (int, error) {
-	if a.status == 0 {
-		a.status = http.StatusOK
-	}
+	a.begin(http.StatusOK)
 	a.allow()
 	return a.ResponseWriter.Write(b)
 }
@@ -116,22 +179,48 @@ func (a *answered) allow() {
 	}
 }
 
-// ServeHTTP answers a request.
+// ServeHTTP answers a request. The library would log each query that has a `;`, unless it is told that this is known.
 func (s *Server) ServeHTTP(w http.ResponseWriter, r *http.Request) {
+	if strings.IndexByte(r.URL.RawQuery, ';') < 0 {
+		s.serve(w, r)
+		return
+	}
+	known := func(w http.ResponseWriter, _ *http.Request) { s.serve(w, r) }
+	http.AllowQuerySemicolons(http.HandlerFunc(known)).ServeHTTP(w, r)
+}
+
+func (s *Server) serve(w http.ResponseWriter, r *http.Request) {
 	began := time.Now()
-	a := &answered{ResponseWriter: w, conn: connOf(r), time: s.WriteTime}
+	a := &answered{
+		ResponseWriter: w, conn: connOf(r), time: s.WriteTime, unread: r.ContentLength != 0, last: &s.leaving,
+	}
+	if !a.unread && a.whole() != nil {
+		return
+	}
 	name := s.answer(a, r)
+	a.end()
 	a.allow() // for the end of the answer
+	if trace := traceOf(r); trace != "" && a.status >= http.StatusInternalServerError {
+		s.Log.Error("a request has no answer", "path", r.URL.Path, "status", a.status, "traceparent", trace)
+	}
 	s.Meter.Request(name, a.status, time.Since(began))
 }
 
 // answer answers a request, and says by which name its path is counted.
 func (s *Server) answer(w *answered, r *http.Request) string {
+	if !s.Hosts.serves(r) {
+		misdirected().send(w)
+		return "misdirected"
+	}
+	r, known := s.admit(w, r)
+	if !known {
+		return "refused"
+	}
 	if r.URL.Path == "/authorize" {
 		s.authorize(w, r)
 		return "/authorize"
 	}
-	if fromElsewhere(r) {
+	if s.Hosts.elsewhere(r) {
 		problem{Title: "from another site", Status: http.StatusForbidden, Detail: "a page of another site asks"}.send(w)
 		return "elsewhere"
 	}
@@ -150,36 +239,8 @@ func (s *Server) answer(w *answered, r *http.Request) string {
 		problem{Title: "no such method", Status: http.StatusMethodNotAllowed}.send(w)
 		return route.name()
 	}
-	route.serve(w, r, keys)
+	if s.mayAsk(w, r, route) {
+		route.serve(w, r, keys)
+	}
 	return route.name()
-}
-
-// fromElsewhere says whether a browser asks for a page of another site.
-func fromElsewhere(r *http.Request) bool {
-	if r.Header.Get("Sec-Fetch-Site") == "cross-site" {
-		return true
-	}
-	origin := r.Header.Get("Origin")
-	if origin == "" {
-		return false
-	}
-	from, err := url.Parse(origin)
-	return err != nil || !strings.EqualFold(from.Host, r.Host)
-}
-
-// who says who asks: the name in his certificate, or what the server before the front says, or where he is.
-func (s *Server) who(r *http.Request) string {
-	if r.TLS != nil && len(r.TLS.PeerCertificates) > 0 {
-		return r.TLS.PeerCertificates[0].Subject.CommonName
-	}
-	if s.ByHeader != "" {
-		if by := r.Header.Get(s.ByHeader); by != "" {
-			return by
-		}
-	}
-	host, _, err := net.SplitHostPort(r.RemoteAddr)
-	if err != nil {
-		return r.RemoteAddr
-	}
-	return host
 }

@@ -9,13 +9,9 @@ import (
 
 // openSession gives a client a session that stays from one request to the next.
 func (s *Server) openSession(w *answered, _ *http.Request, _ map[string]string) {
-	name, ok, err := s.leases.Open()
+	name, err := s.leases.Open()
 	if err != nil {
 		problemFor(err).send(w)
-		return
-	}
-	if !ok {
-		problemFor(keeper.ErrSessions).send(w)
 		return
 	}
 	w.Header().Set("Location", "/sessions/"+name)
@@ -56,31 +52,31 @@ func (s *Server) sessionLines(w *answered, r *http.Request, keys map[string]stri
 
 // mark marks the table for a session.
 func (s *Server) mark(w *answered, r *http.Request, keys map[string]string) {
-	s.within(w, keys, func(client *sessions.Client) { s.one(w, r, client, `{"do":"mark"}`) })
+	s.within(w, keys, func(client *sessions.Client) { s.one(w, r, client, `{"do":"mark"}`, nil) })
 }
 
 // changed tells what changed since a session's mark.
 func (s *Server) changed(w *answered, r *http.Request, keys map[string]string) {
-	s.within(w, keys, func(client *sessions.Client) { s.one(w, r, client, `{"do":"notices"}`) })
+	s.within(w, keys, func(client *sessions.Client) { s.one(w, r, client, `{"do":"notices"}`, nil) })
 }
 
-// one asks one line within a session.
-func (s *Server) one(w *answered, r *http.Request, client *sessions.Client, l string) {
-	if err := s.Keeper.Await(r.Context()); err != nil {
-		problemFor(err).send(w)
+// one asks one line within a session. `known`, if there is one, is how many edits there are to be before it.
+func (s *Server) one(w *answered, r *http.Request, client *sessions.Client, l string, known *uint64) {
+	if !s.stands(w, r) {
 		return
 	}
-	call, err := keeper.Prepare([]byte(l), s.who(r), client)
+	by, nobody := s.who(r)
+	if nobody != nil {
+		nobody.send(w)
+		return
+	}
+	call, err := keeper.Prepare([]byte(l), by, client)
 	if err != nil {
 		problemFor(err).send(w)
 		return
 	}
+	call.Known = known
 	reply := s.Keeper.Send(r.Context(), call)
-	if reply.Err != nil {
-		problemFor(reply.Err).send(w)
-		return
-	}
-	if !refuse(w, reply.Body) {
-		sendJSON(w, reply.Body)
-	}
+	s.keepLine(r, []byte(l), reply)
+	sendReply(w, reply)
 }

@@ -16,6 +16,7 @@ type timed struct {
 	request  *http.Request
 	idle     time.Duration
 	stopping <-chan struct{}
+	ended    bool // it was read to its end
 }
 
 // Read reads what comes.
@@ -31,7 +32,9 @@ func (t *timed) Read(to []byte) (int, error) {
 	}
 	ended := make(chan struct{})
 	watched := make(chan struct{})
-	_ = conn.SetReadDeadline(time.Now().Add(t.idle))
+	if err := conn.SetReadDeadline(time.Now().Add(t.idle)); err != nil {
+		return 0, err
+	}
 	go func() {
 		defer close(watched)
 		select {
@@ -50,6 +53,7 @@ func (t *timed) Read(to []byte) (int, error) {
 		default:
 		}
 	} else {
+		t.ended = err == io.EOF
 		_ = conn.SetReadDeadline(time.Time{})
 	}
 	return n, err

@@ -1,0 +1,165 @@
+// Package access knows who asks the front, and what he may: by a token, the token of an issuer, a certificate, or the user
+// of a Unix socket, and by roles, which are sets of commands.
+package access
+
+import (
+	"crypto/sha256"
+	"crypto/subtle"
+	"errors"
+	"net/http"
+	"strings"
+	"sync/atomic"
+	"time"
+)
+
+// Options is where it is read who may what.
+type Options struct {
+	File     string // those who are known, and roles of their own
+	Issuer   string // whose tokens are taken, as their claim `iss` has it; none where it is empty
+	Keys     string // the file with its keys, as a set of JSON Web Keys
+	Audience string // for whom its tokens are, as their claim `aud` has it
+}
+
+// Identity is who asks.
+type Identity struct {
+	Name   string              // as it is written down
+	Claims map[string][]string // what is known of him, as the token of an issuer says it
+	Gives  *Gives              // what his requests may say; nil: everything
+	may    map[string]bool
+}
+
+// May says whether he may send a command, or ask for what stands under such a word.
+func (i *Identity) May(command string) bool { return i.may[command] }
+
+// Way is how somebody shows who he is.
+type Way struct {
+	Certificate string // the name in his certificate, or nothing
+	User        string // the user at the other end of a Unix socket, or nothing
+}
+
+// The reasons why somebody isn't known.
+var (
+	ErrNobody = errors.New("nothing says who asks")
+	ErrTwice  = errors.New("the field Authorization stands more than once")
+	ErrScheme = errors.New("the field Authorization has no bearer token")
+	ErrToken  = errors.New("the token isn't known")
+	ErrName   = errors.New("the name isn't known")
+)
+
+// Gate knows who may what, as it was read last.
+type Gate struct {
+	options Options
+	now     atomic.Pointer[known]
+	slow    *slowing
+}
+
+// known is what was read.
+type known struct {
+	users  []user
+	issuer *issuer
+}
+
+// Open reads who may what.
+func Open(options Options) (*Gate, error) {
+	g := &Gate{options: options, slow: newSlowing()}
+	return g, g.Read()
+}
+
+// Read reads it again. Where that fails what was read before stays.
+func (g *Gate) Read() error {
+	users, err := readUsers(g.options.File)
+	if err != nil {
+		return err
+	}
+	read := &known{users: users}
+	if g.options.Issuer != "" {
+		if read.issuer, err = readIssuer(g.options); err != nil {
+			return err
+		}
+	}
+	g.now.Store(read)
+	return nil
+}
+
+// Of says who asks: by his token if he has one, else by his certificate, and else by his user.
+func (g *Gate) Of(head http.Header, way Way) (*Identity, error) {
+	now := g.now.Load()
+	given := head["Authorization"]
+	switch {
+	case len(given) > 1:
+		return nil, ErrTwice
+	case len(given) == 1:
+		return now.byToken(given[0])
+	case way.Certificate != "":
+		return now.named(func(u user) bool { return u.Certificate == way.Certificate })
+	case way.User != "":
+		return now.named(func(u user) bool { return u.Unix == way.User })
+	}
+	return nil, ErrNobody
+}
+
+// byToken is who has a token: one that is known, or one of the issuer.
+func (k *known) byToken(field string) (*Identity, error) {
+	scheme, token, ok := strings.Cut(field, " ")
+	token = strings.TrimSpace(token)
+	if !ok || !strings.EqualFold(scheme, "Bearer") || token == "" {
+		return nil, ErrScheme
+	}
+	if k.issuer != nil && strings.Count(token, ".") == 2 {
+		claims, err := k.issuer.verify(token, time.Now())
+		if err != nil {
+			return nil, err
+		}
+		return k.byClaims(claims)
+	}
+	sum, found := sha256.Sum256([]byte(token)), -1
+	for i, u := range k.users {
+		// Each is looked at, so that the time tells nothing of the others.
+		if len(u.token) == len(sum) && subtle.ConstantTimeCompare(u.token, sum[:]) == 1 {
+			found = i
+		}
+	}
+	if found < 0 {
+		return nil, ErrToken
+	}
+	return k.users[found].identity(), nil
+}
+
+// named is who is known by a name that he can't choose.
+func (k *known) named(is func(user) bool) (*Identity, error) {
+	for _, u := range k.users {
+		if is(u) {
+			return u.identity(), nil
+		}
+	}
+	return nil, ErrName
+}
+
+// byClaims is who has a token of the issuer: he may what each does who is known by his subject or a claim, and his
+// requests may say what each of these may give.
+func (k *known) byClaims(claims map[string][]string) (*Identity, error) {
+	who := &Identity{Name: claims["sub"][0], Claims: claims, may: map[string]bool{}}
+	found := false
+	for _, u := range k.users {
+		if !u.isMeant(claims) {
+			continue
+		}
+		for command := range u.may {
+			who.may[command] = true
+		}
+		if !found {
+			who.Gives = u.Gives
+		} else {
+			who.Gives = who.Gives.and(u.Gives)
+		}
+		found = true
+	}
+	if !found {
+		return nil, ErrName
+	}
+	return who, nil
+}
+
+// Refused says how long somebody who isn't known waits for his answer, by his address, and is false where he isn't
+// answered at all for now.
+func (g *Gate) Refused(address string) (time.Duration, bool) { return g.slow.next(address, time.Now()) }

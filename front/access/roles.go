@@ -1,0 +1,31 @@
+package access
+
+// Metrics is the word for the counts of the front, which no command tells.
+const Metrics = "metrics"
+
+// Roles are those that there are without being told: for each the commands that it has.
+var Roles = map[string][]string{
+	"ask": {"ask"},
+	"read": {
+		"table", "cell", "counts", "can", "who", "by_rule", "cells", "documents", "attributes", "explain", "faults", "state",
+		"work", "format",
+	},
+	"audit": {"mark", "notices"},
+	"edit": {
+		"person.add", "person.drop", "action.add", "action.drop", "resource.add", "resource.drop", "policy.add",
+		"policy.replace", "policy.withdraw", "root.set", "attr.set", "day.set", "moment.set",
+	},
+	"operate": {"dump", "day.set", "moment.set", "state", "work", "format"},
+	Metrics:   {Metrics},
+}
+
+// commands are all that a role has.
+var commands = func() map[string]bool {
+	all := map[string]bool{}
+	for _, some := range Roles {
+		for _, command := range some {
+			all[command] = true
+		}
+	}
+	return all
+}()

@@ -1,0 +1,112 @@
+package main
+
+import (
+	"fmt"
+	"net/http"
+	"strings"
+	"syscall"
+	"testing"
+	"time"
+)
+
+// halt stops the program that is served where it is, as if it hung, until what it gives is called.
+func (f *front) halt() (goOn func()) {
+	f.t.Helper()
+	ids := f.programs()
+	id := ids[len(ids)-1]
+	if err := syscall.Kill(id, syscall.SIGSTOP); err != nil {
+		f.t.Fatal(err)
+	}
+	// Whatever becomes of the front, it doesn't stay.
+	f.t.Cleanup(func() { _ = syscall.Kill(id, syscall.SIGKILL) })
+	return func() { _ = syscall.Kill(id, syscall.SIGCONT) }
+}
+
+const tooLong = `review_front_restarts_total{why="a line took too long"}`
+
+// TestHung stops the program: lines that it had get 503, it is told that the front isn't ready, and another program
+// takes its place with the same state and marks, also where nobody asks.
+func TestHung(t *testing.T) {
+	f := begin(t, t.TempDir(), "--reply-time", "2s")
+	f.accept(clinic(t)...)
+	s := f.connect("/lines")
+	s.ask(t, `{"do":"mark"}`)
+	f.accept(`{"do":"person.add","name":"extra"}`)
+	table := f.must("/table")
+	for round, lines := range [][]string{{`{"do":"counts"}`, `{"do":"person.add","name":"more"}`, `{"do":"table"}`}, nil} {
+		f.halt()
+		began := time.Now()
+		replies := make(chan string, len(lines))
+		for _, l := range lines {
+			go func(l string) {
+				answer, err := http.Post(f.url("/lines"), "", strings.NewReader(l))
+				if err != nil {
+					replies <- err.Error()
+					return
+				}
+				status, body := bodyOf(t, answer)
+				replies <- fmt.Sprint(status, body)
+			}(l)
+			time.Sleep(50 * time.Millisecond)
+		}
+		eventually(t, "the front isn't ready", func() bool { status, _ := f.get("/readyz"); return status == 503 })
+		if ended := strings.Count(f.log(), "and the program is ended"); ended > round {
+			t.Errorf("round %d: that isn't told before the program is ended", round)
+		}
+		for range lines {
+			if reply := <-replies; !strings.HasPrefix(reply, "503") {
+				t.Errorf("round %d: a line is answered %s", round, reply)
+			}
+		}
+		eventually(t, "the front is ready", func() bool { status, _ := f.get("/readyz"); return status == 200 })
+		if took := time.Since(began); took > 20*time.Second {
+			t.Errorf("round %d: it took %v", round, took)
+		}
+		if f.must("/table") != table {
+			t.Errorf("round %d: the table is another one", round)
+		}
+		if got := f.metric(tooLong); got < float64(round+1) {
+			t.Errorf("round %d: %v are counted", round, got)
+		}
+		if reply := s.ask(t, `{"do":"notices"}`); strings.Count(reply, `"person":"extra"`) != 60 {
+			t.Errorf("round %d: notices are %.300s", round, reply)
+		}
+	}
+}
+
+// TestBusy lets the program work for long on an edit, which is waited for, and on a question, which isn't.
+func TestBusy(t *testing.T) {
+	theProgram(t)
+	f := begin(t, t.TempDir(), "--reply-time", "2s", "--program", faked(t, "busy"))
+	f.accept(`{"do":"person.add","name":"busy"}`)
+	if status, body := f.get("/can/busy"); status != http.StatusServiceUnavailable {
+		t.Errorf("a question that takes long is answered %d %s", status, body)
+	}
+	eventually(t, "another program", func() bool { return f.metric(tooLong) > 0 && f.metric("review_front_ready") == 1 })
+	if dump := f.must("/dump"); !strings.Contains(dump, "busy") {
+		t.Errorf("the edit isn't there: %s", dump)
+	}
+}
+
+// TestHungEnds ends the front while the program hangs, with lines that wait for it and without: it ends in its time.
+func TestHungEnds(t *testing.T) {
+	for _, l := range []string{"", `{"do":"person.add","name":"more"}`} {
+		f := begin(t, t.TempDir(), "--lame", "100ms", "--drain", "2s")
+		f.accept(`{"do":"person.add","name":"extra"}`)
+		f.halt()
+		for i := 0; i < 10 && l != ""; i++ {
+			s := f.connect("/lines")
+			go func() {
+				for s.send(l) == nil {
+				}
+			}()
+		}
+		time.Sleep(100 * time.Millisecond)
+		began := time.Now()
+		status := f.stop()
+		// Behind its time and some grace it would end with another status.
+		if took := time.Since(began); took > 10*time.Second || status != 0 {
+			t.Errorf("the front ends with %d after %v:\n%s", status, took, f.log())
+		}
+	}
+}

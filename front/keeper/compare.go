@@ -1,0 +1,98 @@
+package keeper
+
+import (
+	"bufio"
+	"bytes"
+	"context"
+	"errors"
+	"fmt"
+	"io"
+	"os"
+	"os/exec"
+	"runtime"
+	"syscall"
+
+	"review-front/folder"
+)
+
+// ErrModules says that nothing is compared, since the comparison has other modules.
+var ErrModules = errors.New("what would change is told of two modules of attributes and two of policies")
+
+// compareModules is how many modules of each sort the states have that are compared.
+const compareModules = 2
+
+// The statuses with which a comparison ends that found a difference, and one with a line that is refused.
+const (
+	statusDiffers = 1
+	statusRefused = 2
+)
+
+// Compare tells what lines would change, as `review compare` does for the state of the last edit on disk, and the serial
+// of that. The program that tells it stands beside the table's and is told nothing else.
+func (k *Keeper) Compare(ctx context.Context, changes []byte) ([]byte, uint64, error) {
+	if k.Command.AttributeModules != compareModules || k.Command.PolicyModules != compareModules {
+		return nil, 0, ErrModules
+	}
+	state, lines, err := os.Pipe()
+	if err != nil {
+		return nil, 0, fmt.Errorf("a pipe for a state: %w", err)
+	}
+	var told bytes.Buffer
+	compared := exec.CommandContext(ctx, k.Command.Path, "compare", "/dev/fd/3", "-")
+	compared.ExtraFiles = []*os.File{state}
+	compared.Stdin, compared.Stdout, compared.Stderr = bytes.NewReader(changes), &told, k.Command.Faults
+	// It ends with the front, or rather with the thread that starts it.
+	compared.SysProcAttr = &syscall.SysProcAttr{Setpgid: true, Pdeathsig: syscall.SIGKILL}
+	runtime.LockOSThread()
+	defer runtime.UnlockOSThread()
+	err = compared.Start()
+	state.Close()
+	if err != nil {
+		lines.Close()
+		return nil, 0, fmt.Errorf("what would change: %w", err)
+	}
+	serial, err := k.writeState(lines)
+	lines.Close()
+	ended := compared.Wait()
+	var status *exec.ExitError
+	if errors.As(ended, &status) && told.Len() > 0 &&
+		(status.ExitCode() == statusDiffers || status.ExitCode() == statusRefused) {
+		ended = nil
+	}
+	if err == nil {
+		err = ended
+	}
+	if err != nil {
+		return nil, 0, fmt.Errorf("what would change: %w", err)
+	}
+	return told.Bytes(), serial, nil
+}
+
+// writeState writes the lines of the state of the last edit on disk, and gives its serial.
+func (k *Keeper) writeState(to io.Writer) (uint64, error) {
+	snapshot, _, err := k.Folder.Base(k.Folder.Last())
+	if err != nil {
+		return 0, err
+	}
+	out := bufio.NewWriterSize(to, 1<<16)
+	write := func(l []byte) error {
+		if _, err := out.Write(l); err != nil {
+			return err
+		}
+		return out.WriteByte('\n')
+	}
+	for _, l := range snapshot.Lines {
+		if err := write(l); err != nil {
+			return 0, err
+		}
+	}
+	serial := snapshot.Serial
+	err = k.Folder.Each(snapshot.Serial, func(entry folder.Entry, _ folder.Place) error {
+		serial = entry.Serial
+		return write(entry.Line)
+	})
+	if err == nil {
+		err = out.Flush()
+	}
+	return serial, err
+}

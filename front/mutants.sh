@@ -1,0 +1,101 @@
+#!/bin/sh
+# Takes away from the front, one by one, what a test is to miss: front/mutants.sh [PROGRAM [WORD]], by hand. PROGRAM is
+# crates/review/out/review unless it is named; with WORD only the rows that have it. Each row changes one line in a copy
+# of the front, in which the test that is named has to fail then, having passed before. A mutant that lives is told, and
+# the status is 1.
+set -eu
+here=$(realpath "$(dirname "$0")")
+REVIEW_PROGRAM=$(realpath "${1:-$here/../crates/review/out/review}")
+FRONT_PATIENCE=${FRONT_PATIENCE:-20}
+export REVIEW_PROGRAM FRONT_PATIENCE
+aside=$(mktemp -d)
+trap 'rm -rf "$aside"' EXIT
+for folder in crates examples tools; do ln -s "$here/../$folder" "$aside/$folder"; done
+mkdir "$aside/front"
+(cd "$here" && tar cf - --exclude=./out .) | tar xf - -C "$aside/front"
+cd "$aside/front"
+
+# FILE PACKAGE TEST, and what sed does. In their order: what is brought to the disk (edits, a new journal, a snapshot,
+# names, keys), what a client may take of the front (time, room, sessions, old marks and snapshots), what it is told and
+# a page of another site is not, bodies with keys and who is written down, the commands that the front knows, damage
+# of a folder, the time of a start, what listeners take, askers, edits that are made behind a serial or whole, requests
+# that are translated, AuthZEN, kept decisions, and who may what.
+grep -e "${2:-}" >"$aside/rows" <<'ROWS'
+folder/writing.go . TestOrder s/^\t\terr = f\.sync(f\.current)$/\t\terr = nil/
+folder/writing.go . TestOrder s/^\t\terr = file\.Sync()$/\t\terr = nil/
+folder/snapshot.go . TestOrder s/^\treturn file\.Sync()$/\treturn nil/
+folder/folder.go . TestOrder s/err := folder\.Sync();/err := error(nil);/
+keys/file.go . TestOrder s/err := t\.file\.Sync();/err := error(nil);/
+serve.go . TestEndlessBodies s/ReadTimeout: o\.bodyTime, //
+web/body.go . TestSlowBody s/_ = p\.conn\.SetReadDeadline(.*$//
+web/server.go . TestUnread s/_ = a\.conn\.SetWriteDeadline(.*$//
+web/lines.go . TestWindow s/^\tin\.room(ctx, next\.bytes)$//
+sessions/sessions.go . TestBorrowed s/s\.given && s\.lines == 0 &&/s.given \&\&/
+keeper/serve.go . TestStale s/^\ts\.renew()$//
+folder/snapshot.go . TestTrimmed s/range serials\[:first\]/range serials[:0]/
+web/server.go . TestRebinding s/if !s\.Hosts\.serves(r) {/if false {/
+web/hosts.go . TestPages s/r\.Header\.Get("Sec-Fetch-Site") == "cross-site"/false/
+web/notices.go . TestComesBack s/last := r\.Header\.Get("Last-Event-ID")/last := ""/
+web/notices.go . TestBeat s/_, err = w\.Write(\[\]byte(":\\n\\n"))/continue/
+web/opening.go web TestBegin s/accepted = accepted || ok/accepted = accepted \&\& ok/
+web/opening.go . TestNoneAccepted s/g\.closed = g\.closed || g\.taken == 1/g.closed = false/
+keeper/settle.go . TestKeyed s/use != nil && !line/use == nil \&\& !line/
+keys/file.go keys TestBehind s/if r\.Serial > last {/if false {/
+web/names.go . TestCertificates s/if name == "" {/if false {/
+web/questions.go web TestQuestions s/"faults", nil}/"fault", nil}/
+web/questions.go . TestPaths s/"faults", nil}/"fault", nil}/
+line/line.go line TestKinds s/"moment\.set": Edit,//
+folder/tail.go folder TestFlips s/if synced > j\.size {/if false {/
+folder/tail.go folder TestFlips s/^\t\t\tsynced = entry\.synced$/\t\t\t_ = entry/
+folder/survey.go folder TestFiles s/if part := j\.part(); \*part != c\.Part {/if false {/
+folder/survey.go folder TestFiles s/if !there\[number\] {/if false {/
+keeper/run.go . TestOldDamaged s/if damage = k\.Folder\.CheckOld(background); damage != nil {/if damage != nil {/
+keeper/settle.go . TestReplayTime s/return many || .*$/return many/
+web/notices.go . TestListenersShare s/range \[\]\[\]byte{\[\]byte(\(.*\)), data, .*{$/range [][]byte{append([]byte(\1), append(data[:len(data):len(data)], 10, 10)...)} {/
+keeper/asker.go . TestAskerOtherwise s/; !ok || said\.Serial != a\.made || said\.Changes != 0 {/; ok \&\& said.Serial == 0 {/
+keeper/asker.go keeper TestDecidesKnow s/^\ta\.follow()$//
+keeper/edits.go . TestMatches s/; serial != \*known {/; false {/
+keeper/edits.go . TestTwoEditors s/if k\.edits\.idle(limit) != nil {/if false \&\& k.edits.idle(limit) != nil {/
+folder/writing.go folder TestTogether s/if together > 1 {/if together > len(entries) {/
+web/how.go . TestWhole s/ || values\[0\] != "1" {/ {/
+line/scan.go . TestReadAsTheProgram s/^\t\t\tdo, _, named = text(l\[:to\], from)$/\t\t\tif do == "" {\n\t\t\t\tdo, _, named = text(l[:to], from)\n\t\t\t}/
+web/access.go . TestRoles s/^\tif !who\.May(command) {$/\tif false {/
+web/access.go . TestGivenAttributes s/^\t} else if err != nil {$/\t} else if false {/
+access/issuer.go access TestIssuer s/ \&\& k\.algorithm == algorithm//
+access/issuer.go access TestIssuer s/!ok || !now\.Before(ends)/!ok \&\& !now.Before(ends)/
+access/gives.go access TestGives s/; there {$/; there \&\& false {/
+profile/values.go . TestTranslated s/return moment\.UTC()\.Format(momentForm) + "Z", ""/return local + "Z", ""/
+profile/request.go . TestTranslated s/^\tif references == nil {$/\tif true {/
+profile/attribute.go . TestPlaces s/^\t\tif found\.Included {$/\t\tif false {/
+profile/elements.go . TestXMLShapes s/return nil, now\.fault("there is no document type here")/continue/
+web/asks.go . TestOneState s/= s\.Keeper\.DecideAll(ctx, lines)$/= []keeper.Reply{}; for _, l := range lines { replies = append(replies, s.Keeper.Decide(ctx, l)) }/
+web/listing.go . TestAuthzenShapes s/^\t\tl\.change(edits)$//
+authzen/search.go . TestAuthzenShapes s/if string(read\[:sha256\.Size\]) != string(s\.identity\[:\]) {/if false {/
+decisions/decisions.go decisions TestFiles s/|| isOther) {/|| false \&\& isOther) {/
+web/server.go . TestTraced s/trace != "" && a\.status/false \&\& a.status/
+ROWS
+tests=$(awk '{ print "^" $3 "$" }' "$aside/rows" | sort -u | paste -sd '|')
+./build.sh go test -count=1 -run "$tests" ./... >"$aside/said" 2>&1 || { cat "$aside/said"; exit 1; }
+
+# lives says why the mutant of a row isn't found, or nothing.
+lives() {
+    [ "$(diff "$aside/kept" "$file" | grep -c '^<')" = 1 ] || { echo 'it changes another number of lines'; return; }
+    ./build.sh go vet "./$package" >"$aside/said" 2>&1 || { echo "it can't be built: $(cat "$aside/said")"; return; }
+    ! ./build.sh go test -count=1 -run "^$test\$" "./$package" >"$aside/said" 2>&1 || { echo "$test passes"; return; }
+    grep -q "^--- FAIL: $test" "$aside/said" || echo "$test wasn't run to its end: $(cat "$aside/said")"
+}
+
+status=0
+while read -r file package test change; do
+    cp "$file" "$aside/kept"
+    sed -i "$change" "$file"
+    why=$(lives </dev/null)
+    cp "$aside/kept" "$file"
+    if [ -n "$why" ]; then
+        status=1
+        echo "LIVES: $file: $change: $why"
+    else
+        echo "$file: $test fails"
+    fi
+done <"$aside/rows"
+exit $status

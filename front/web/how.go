@@ -1,0 +1,144 @@
+package web
+
+import (
+	"fmt"
+	"net/http"
+	"net/url"
+	"strconv"
+	"strings"
+
+	"review-front/keeper"
+	"review-front/keys"
+	"review-front/sessions"
+)
+
+const (
+	// matchHeader is the field that says how many edits there are to be before one.
+	matchHeader = "If-Match"
+	// wholeLines is how many edits are made all together at most.
+	wholeLines = 1024
+)
+
+// how is in which way lines are answered.
+type how struct {
+	dry   bool    // it is only told what they would change
+	whole bool    // they are made all together, or none of them
+	known *uint64 // how many edits there are to be before them, if that is said
+}
+
+// howOf reads it from the query and the head, and answers itself where that can't be done: what is meant to change
+// nothing isn't taken for what does.
+func howOf(w http.ResponseWriter, r *http.Request) (how, bool) {
+	var asked how
+	query, err := url.ParseQuery(r.URL.RawQuery)
+	for name, values := range query {
+		known := map[string]*bool{"dry": &asked.dry, "whole": &asked.whole}[name]
+		if known == nil || len(values) != 1 || values[0] != "1" {
+			err = fmt.Errorf("the query has the key %q", name)
+			break
+		}
+		*known = true
+	}
+	if err != nil {
+		bad("lines have a query of dry=1 or whole=1").send(w)
+		return asked, false
+	}
+	var ok bool
+	if asked.known, ok = knownOf(w, r); !ok {
+		return asked, false
+	}
+	if asked.known != nil && !asked.whole {
+		bad("lines with " + matchHeader + " are made with whole=1").send(w)
+		return asked, false
+	}
+	if asked.dry && asked.whole {
+		bad("dry=1 makes nothing, whole or not").send(w)
+		return asked, false
+	}
+	return asked, true
+}
+
+// knownOf is the serial that a request says in `If-Match`, with or without quotes, or nil.
+func knownOf(w http.ResponseWriter, r *http.Request) (*uint64, bool) {
+	given := r.Header[matchHeader]
+	if len(given) == 0 {
+		return nil, true
+	}
+	known, err := strconv.ParseUint(strings.Trim(given[0], `"`), 10, 64)
+	if err != nil || len(given) > 1 {
+		bad(matchHeader + " is one serial").send(w)
+		return nil, false
+	}
+	return &known, true
+}
+
+// whole makes all edits of a body, or none.
+func (s *Server) whole(w *answered, r *http.Request, given []string, known *uint64) {
+	body, ok := s.taken(w, r)
+	if !ok {
+		return
+	}
+	edits, ok := editsOf(body, wholeLines)
+	if !ok {
+		bad(fmt.Sprintf("a body that is made whole has edits alone, from 1 to %d", wholeLines)).send(w)
+		return
+	}
+	if !s.mayAll(w, r, edits...) {
+		return
+	}
+	make := func(by string, edits [][]byte, use *keys.Use) []keeper.Reply {
+		return s.together(r, by, edits, use, known)
+	}
+	if len(given) > 0 {
+		if replies, told, ok := s.once(w, r, given, edits, make); ok {
+			sendWhole(w, replies, told)
+		}
+		return
+	}
+	by, nobody := s.who(r)
+	if nobody != nil {
+		nobody.send(w)
+		return
+	}
+	if err := s.Keeper.Await(r.Context()); err != nil {
+		problemFor(err).send(w)
+		return
+	}
+	var replies [][]byte
+	for _, reply := range make(by, edits, nil) {
+		if reply.Err != nil {
+			problemFor(reply.Err).send(w)
+			return
+		}
+		replies = append(replies, reply.Body)
+	}
+	sendWhole(w, replies, nil)
+}
+
+// sendWhole answers with the replies to all edits, or the problem for which none is made.
+func sendWhole(w *answered, replies [][]byte, told *problem) {
+	if told != nil {
+		told.send(w)
+		return
+	}
+	sendLines(w, replies, nil)
+}
+
+// together makes edits all together. Where they aren't made the one reply says why.
+func (s *Server) together(r *http.Request, by string, edits [][]byte, use *keys.Use, known *uint64) []keeper.Reply {
+	calls := make([]*keeper.Call, 0, len(edits))
+	for _, l := range edits {
+		s.Meter.Line()
+		call, err := keeper.Prepare(l, by, (*sessions.Client)(nil))
+		if err != nil {
+			return []keeper.Reply{{Err: err}}
+		}
+		call.Remember = use
+		calls = append(calls, call)
+	}
+	replies, err := s.Keeper.Whole(r.Context(), calls, known)
+	if err != nil {
+		return []keeper.Reply{{Err: err}}
+	}
+	return replies
+}

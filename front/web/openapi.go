@@ -1,0 +1,205 @@
+package web
+
+import (
+	"encoding/json"
+	"net/http"
+	"regexp"
+	"strconv"
+	"strings"
+)
+
+const jsonType = "application/json"
+
+// operation is what the OpenAPI document says of a path beside its method and keys.
+type operation struct {
+	does  string
+	takes []string // the types of a body; none: there is none
+	gives []string // the types of the answer where it is what was asked for; none: it is empty
+	done  int      // the status then; 0: 200
+	has   string   // a key that a JSON answer then has
+	query []string // keys that the query may have, each with 1
+}
+
+// operations has what is said of each path that isn't a question of the program, by its method and path.
+var operations = map[string]operation{
+	"POST /authorize": {
+		does:  "Answers a request of XACML, or several in one.",
+		takes: []string{profileType, jsonType, xmlType}, gives: []string{profileType, xmlType}, has: "Response",
+	},
+	"GET /":             telling("Lists the paths.", "paths"),
+	"GET /openapi.json": telling("Describes the paths.", "openapi"),
+	"POST /lines": {
+		does:  "Answers commands, one in each line; with dry tells what they change, with whole makes all or none.",
+		takes: []string{linesType}, gives: []string{linesType}, query: []string{"dry", "whole"},
+	},
+	"POST /commands/{command}": taking("Sends one command.", ""),
+	"GET /notices":             {does: "Tells what edits change, as it happens.", gives: []string{"text/event-stream"}},
+	"POST /sessions": {
+		does: "Opens a session.", gives: []string{jsonType}, done: http.StatusCreated, has: "session",
+	},
+	"DELETE /sessions/{session}": {does: "Ends a session.", done: http.StatusNoContent},
+	"POST /sessions/{session}/lines": {
+		does: "Answers commands within a session.", takes: []string{linesType}, gives: []string{linesType},
+	},
+	"POST /sessions/{session}/mark":          telling("Marks the table for a session.", "mark"),
+	"GET /sessions/{session}/notices":        telling("Tells what changed since a session's mark.", "notices"),
+	"GET /healthz":                           telling("Says that the front runs.", "status"),
+	"GET /readyz":                            telling("Says that lines are answered.", "status"),
+	"GET /metrics":                           {does: "Tells counts for Prometheus.", gives: []string{"text/plain"}},
+	"POST /access/v1/evaluation":             taking("Answers an evaluation of AuthZEN.", "decision"),
+	"POST /access/v1/evaluations":            taking("Answers several evaluations of AuthZEN, or one.", ""),
+	"POST /access/v1/search/subject":         taking("Finds the subjects that may do an action to a resource.", "results"),
+	"POST /access/v1/search/action":          taking("Finds the actions that a subject may do to a resource.", "results"),
+	"POST /access/v1/search/resource":        taking("Finds the resources to which a subject may do an action.", "results"),
+	"GET /.well-known/authzen-configuration": telling("Tells where AuthZEN's paths are.", "policy_decision_point"),
+}
+
+// telling is an operation that takes no body and gives JSON with a key.
+func telling(does, has string) operation {
+	return operation{does: does, gives: []string{jsonType}, has: has}
+}
+
+// taking is an operation that takes JSON and gives JSON with a key.
+func taking(does, has string) operation {
+	return operation{does: does, takes: []string{jsonType}, gives: []string{jsonType}, has: has}
+}
+
+// object is one of the document.
+type object = map[string]any
+
+// openapi describes the paths.
+func (s *Server) openapi(w *answered, _ *http.Request, _ map[string]string) {
+	written, err := json.Marshal(object{
+		"openapi": "3.0.3",
+		"info": object{
+			"title": "Entitlement review", "version": s.Keeper.Version(),
+			"description": "What an answer means stands in the pages of the project. What goes wrong is told as a problem, " +
+				"but by AuthZEN's paths as a text.",
+		},
+		"paths": s.described(),
+		"components": object{"schemas": object{"Problem": object{
+			"type": "object", "required": []string{"title", "status"},
+			"properties": object{
+				"title": object{"type": "string"}, "status": object{"type": "integer"},
+				"detail": object{"type": "string"}, "refused": object{"type": "integer"},
+				"sub": object{"type": "integer"}, "place": object{"type": "string"},
+			},
+		}}},
+	})
+	if err != nil {
+		problemFor(err).send(w)
+		return
+	}
+	sendJSON(w, written)
+}
+
+// described has what is said of each path, as they stand in the table of paths.
+func (s *Server) described() map[string]object {
+	paths := map[string]object{}
+	add := func(method, path string, keys []key, told operation) {
+		if paths[path] == nil {
+			paths[path] = object{}
+		}
+		paths[path][strings.ToLower(method)] = told.written(path, keys)
+	}
+	asked := map[string]question{}
+	for _, q := range questions {
+		asked[q.path] = q
+	}
+	add(http.MethodPost, "/authorize", nil, operations["POST /authorize"])
+	for _, route := range s.known {
+		q, isQuestion := asked[route.path]
+		told := operations[route.method+" "+route.path]
+		if isQuestion && route.method == http.MethodGet {
+			told = telling("Gives the reply to the command "+q.do+".", q.has())
+		}
+		add(route.method, route.path, q.keys, told)
+	}
+	return paths
+}
+
+// has is the key that the reply to a question has.
+func (q question) has() string {
+	if q.do == "work" {
+		return "evaluations"
+	}
+	return q.do
+}
+
+// inPath finds the keys of a path.
+var inPath = regexp.MustCompile(`\{(\w+)\}`)
+
+// written is the operation of a path with its keys.
+func (o operation) written(path string, keys []key) object {
+	var parameters []object
+	there := map[string]bool{}
+	for _, found := range inPath.FindAllStringSubmatch(path, -1) {
+		there[found[1]] = true
+		parameters = append(parameters, object{
+			"name": found[1], "in": "path", "required": true, "schema": object{"type": "string"},
+		})
+	}
+	for _, key := range keys {
+		if !there[key.name] {
+			parameters = append(parameters, key.parameter())
+		}
+	}
+	for _, name := range o.query {
+		parameters = append(parameters, object{
+			"name": name, "in": "query", "required": false, "schema": object{"type": "string", "enum": []string{"1"}},
+		})
+	}
+	success := object{"description": o.does}
+	if len(o.gives) > 0 {
+		success["content"] = contents(o.gives, o.has)
+	}
+	status := o.done
+	if status == 0 {
+		status = http.StatusOK
+	}
+	wrong := object{problemType: object{"schema": object{"$ref": "#/components/schemas/Problem"}}}
+	if strings.HasPrefix(path, "/access/") {
+		wrong = object{jsonType: object{"schema": object{"type": "string"}}}
+	}
+	told := object{
+		"summary": o.does,
+		"responses": object{
+			strconv.Itoa(status): success, "default": object{"description": "It can't be answered.", "content": wrong},
+		},
+	}
+	if len(parameters) > 0 {
+		told["parameters"] = parameters
+	}
+	if len(o.takes) > 0 {
+		told["requestBody"] = object{"content": contents(o.takes, "")}
+	}
+	return told
+}
+
+// parameter is a key of a question in its query.
+func (k key) parameter() object {
+	schema := object{"type": "string"}
+	switch k.kind {
+	case wholeOrNo:
+		schema = object{"type": "integer"}
+	case textList:
+		schema = object{"type": "array", "items": schema}
+	}
+	return object{"name": k.name, "in": "query", "required": k.kind == aText, "schema": schema}
+}
+
+// contents has what bodies of some types hold: of JSON an object, with a key if one is told.
+func contents(types []string, has string) object {
+	all := object{}
+	for _, one := range types {
+		schema := object{"type": "string"}
+		if strings.HasSuffix(one, "json") && one != linesType {
+			schema = object{"type": "object"}
+			if has != "" {
+				schema["required"] = []string{has}
+			}
+		}
+		all[one] = object{"schema": schema}
+	}
+	return all
+}

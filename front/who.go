@@ -1,0 +1,53 @@
+package main
+
+import (
+	"review-front/access"
+	"review-front/logs"
+	"review-front/program"
+	"review-front/rights"
+)
+
+// who is what says who may what, if anything does.
+type who struct {
+	gate   *access.Gate
+	rights *rights.Judge
+}
+
+// who reads it.
+func (o options) who(log *logs.Log) (*who, error) {
+	w := &who{}
+	if o.access == "" {
+		return w, nil
+	}
+	var err error
+	w.gate, err = access.Open(access.Options{File: o.access, Issuer: o.issuer, Keys: o.issuerKeys, Audience: o.audience})
+	if err == nil && o.rights != "" {
+		w.rights, err = rights.Open(program.Command{
+			Path: o.program, AttributeModules: o.attributeModules, PolicyModules: o.policyModules, Faults: log.Lines(),
+		}, o.rights, o.replyTime)
+	}
+	return w, err
+}
+
+// again reads it again. Where that fails what was read before stays.
+func (w *who) again(log *logs.Log) {
+	if w.gate == nil {
+		return
+	}
+	err := w.gate.Read()
+	if err == nil && w.rights != nil {
+		err = w.rights.Read()
+	}
+	if err != nil {
+		log.Error("who may what can't be read again, and what was read before stays", "error", err)
+		return
+	}
+	log.Info("who may what was read again")
+}
+
+// close ends what decides.
+func (w *who) close() {
+	if w.rights != nil {
+		w.rights.Close()
+	}
+}
