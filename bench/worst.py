@@ -7,12 +7,12 @@
     PROGRAM=crates/review/out/review  the program (the default, as `rt run` leaves it)
     TIMEOUT=60                        seconds after which a case is ended, and told as more than that
 
-Seconds are of CPU, of the one line that is measured, or of the whole run of `review check`. `growth` is the time at the
+Seconds are of CPU, of the one line that is measured, or of the whole run of a command. `growth` is the time at the
 larger size by that at the smaller, so 2.0 is the size itself and 4.0 its square. `stack` seeks the least `ulimit -s` at
 which the deepest lines that are within the limits have their replies.
 """
-import json, os, resource, signal, subprocess, sys, tempfile, time
-import worst_cases, worst_stack
+import json, os, resource, signal, subprocess, sys, tempfile, threading
+import worst_cases, worst_commands, worst_keys, worst_stack
 
 HERE = os.path.dirname(os.path.abspath(__file__))
 PROGRAM = os.environ.get('PROGRAM', os.path.join(HERE, '..', 'crates', 'review', 'out', 'review'))
@@ -34,8 +34,9 @@ def peak(process):
 
 
 def line_costs(name, share):
-    """What the line of a case costs: its bytes, seconds and MiB, and its reply in a few words."""
-    before, measured = worst_cases.LINES[name](share)
+    """What the line or the lines of a case cost: their bytes, seconds and MiB, and the last reply in a few words."""
+    before, measured = LINES[name](share)
+    lines = [measured] if isinstance(measured, str) else measured
     bound = BOUNDS.get(name)
     limit = (lambda: resource.setrlimit(resource.RLIMIT_AS, (bound, bound))) if bound else None
     process = subprocess.Popen([PROGRAM, 'serve'], stdin=subprocess.PIPE, stdout=subprocess.PIPE, preexec_fn=limit)
@@ -49,16 +50,19 @@ def line_costs(name, share):
                 sys.exit(f'{name}: {text[:100]}: {reply!r}')
         start = spent(process)
         signal.setitimer(signal.ITIMER_REAL, TIMEOUT)
-        process.stdin.write(measured.encode() + b'\n')
-        process.stdin.flush()
-        reply = process.stdout.readline()
+        for text in lines:
+            process.stdin.write(text.encode() + b'\n')
+            process.stdin.flush()
+            reply = process.stdout.readline()
+            if not reply:
+                break
         signal.setitimer(signal.ITIMER_REAL, 0)
         seconds = spent(process) - start if reply else None
         memory = f'{peak(process):.0f}' if reply else ''
     finally:
         process.stdin.close()
         process.wait()
-    size = max([len(measured), *map(len, before)])
+    size = max(map(len, [*lines, *before]))
     return size, seconds, memory, told(reply)
 
 
@@ -79,6 +83,40 @@ def check_costs(name, share):
     return size, seconds, '', told(reply)
 
 
+def watched(process):
+    """What a process writes, and the MiB that it has had at most, seen each hundredth of a second."""
+    reader = threading.Thread(target=lambda: written.append(process.stdout.read()))
+    written, most = [], 0
+    reader.start()
+    while reader.is_alive():
+        try:
+            most = max(most, peak(process))
+        except StopIteration:
+            pass
+        reader.join(0.01)
+    return written[0], most
+
+
+def command_costs(name, share):
+    """What a whole command costs, with the bytes of all its files."""
+    files, words = worst_commands.COMMANDS[name](share)
+    with tempfile.TemporaryDirectory() as folder:
+        for file, text in files.items():
+            with open(os.path.join(folder, file), 'w') as out:
+                out.write(text)
+        size = sum(os.path.getsize(os.path.join(folder, file)) for file in files)
+        process = subprocess.Popen([os.path.abspath(PROGRAM), *words], cwd=folder,
+                                   stdout=subprocess.PIPE, stderr=subprocess.STDOUT)
+        signal.signal(signal.SIGALRM, lambda *_: process.kill())
+        signal.setitimer(signal.ITIMER_REAL, TIMEOUT)
+        reply, memory = watched(process)
+        signal.setitimer(signal.ITIMER_REAL, 0)
+        _, status, usage = os.wait4(process.pid, 0)
+        process.returncode = 0
+    seconds = None if os.WIFSIGNALED(status) else usage.ru_utime + usage.ru_stime
+    return size, seconds, f'{memory:.0f}', told(reply)
+
+
 def told(reply):
     """A reply in a few words."""
     start = reply.decode(errors='replace').split('\n')[0]
@@ -91,7 +129,7 @@ def shown(seconds):
 
 def measure(name, shares):
     """The row of a case."""
-    costs = line_costs if name in worst_cases.LINES else check_costs
+    costs = next(costs for costs, cases in KINDS if name in cases)
     smaller, larger = [costs(name, share) for share in shares]
     known = smaller[1] is not None and larger[1] is not None
     growth = f'{larger[1] / max(smaller[1], 1e-6):.1f}' if known else ''
@@ -99,9 +137,13 @@ def measure(name, shares):
           f' {larger[2]:>8}  {larger[3]}', flush=True)
 
 
+LINES = {**worst_cases.LINES, **worst_keys.KEYS}
+KINDS = [(line_costs, LINES), (check_costs, worst_cases.CHECKS), (command_costs, worst_commands.COMMANDS)]
+
+
 def main():
     given = [argument for argument in sys.argv[1:] if not argument.startswith('--')]
-    cases = {**worst_cases.LINES, **worst_cases.CHECKS}
+    cases = {name: case for _, kind in KINDS for name, case in kind.items()}
     if '--list' in sys.argv:
         for name, case in cases.items():
             print(f'{name:18} {" ".join(case.__doc__.split())}')

@@ -243,9 +243,11 @@ def many_names_first(share):
     return over(definitions)
 
 
-def deep_among(share, argument, fault):
-    """120 definitions of 90 literals, and a condition of 15 levels of 250 such arguments, in the deepest this one last."""
-    definitions = [definition(f'v{i}', apply('and', *[value(True)] * 90)) for i in range(int(120 * share))]
+def deep_among(share, argument, fault, count=120):
+    """So many definitions of 90 literals and a small one, and a condition of 15 levels of 250 such arguments, in the
+    deepest this one last."""
+    definitions = [definition(f'v{i}', apply('and', *[value(True)] * 90)) for i in range(int(count * share))]
+    definitions.append(definition('w', value(True)))
     condition = fault
     for _ in range(14):
         condition = apply('and', *[argument] * int(250 * share), condition)
@@ -257,13 +259,14 @@ def many_arguments(share):
     return deep_among(share, variable('v1'), variable('nowhere'))
 
 
-def many_types(share):
+def many_types(share, definitions=120):
     """The same, of literals, the last of another type."""
-    return deep_among(share, value(True), value('x'))
+    return deep_among(share, value(True), value('x'), definitions)
 
 
 def all_faulty(share):
-    """254 variables that each name 80 others, each of which has the fault: so none has it but for others, and the last."""
+    """254 variables that each name 80 others, each of which has the fault: so none has it but for others, and the
+    last."""
     definitions = those_that_name(int(254 * share), 80, variable('nowhere'))
     for each in definitions[:-1]:
         each['Expression']['Apply']['Arguments'].append(variable('nowhere'))

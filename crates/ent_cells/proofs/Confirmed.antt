@@ -4,7 +4,6 @@ use Rattle.std.specs.Prelude.{IfOk, Result, Ok, Err}
 use Rattle.std.specs.Ordering.{nat_cmp, is_eq, eq_by_cmp}
 use Rattle.std.specs.List.{AllByRecursion, list_any}
 use Rattle.std.specs.List.Sorted.{IsStrictlySortedBy}
-use Rattle.std.specs.BTreeSet.{BTreeSet, contains}
 use Rattle.std.proofs.lemmas.Bool.{true≢false}
 use Rattle.std.proofs.lemmas.Bool.Decides.{eqb_tells}
 use Rattle.std.proofs.lemmas.Map.Keys.{IsDistinct-from_sorted, IsDistinct-head, sorted_tail}
@@ -14,7 +13,7 @@ use Rattle.ent_eval.specs.declared.question.Question.{Question}
 use Rattle.ent_index.proofs.Views.{cell_itself, not_cell}
 use Rattle.ent_index.specs.declared.groups.Groups.{Groups}
 use Rattle.ent_index.specs.declared.wanted.Wanted.{Wanted}
-use Rattle.ent_index.specs.Groups.{AreWanted, Covers, numbers_of}
+use Rattle.ent_index.specs.Groups.{AreWanted, Covers, is_member, numbers_of}
 use Rattle.ent_cells.proofs.StoreSteps.{get_seen}
 use Rattle.ent_cells.specs.declared.cell.Cell.{Cell}
 use Rattle.ent_cells.specs.Grid.{times}
@@ -107,21 +106,21 @@ module _ (q : List Question) (g : Groups) (s : Slab Cell) (is : IsStore q g s) (
   one_touched one = (one.0, sym (wanted_touched one.0) ∙ one.1)
 
   -- and then it is a candidate
-  covered : (cells : BTreeSet ℕ) → Covers g wanted cells → (c : ℕ) → wanted_at g wanted (get s c) ≡ true → contains nat_cmp cells c ≡ true
+  covered : (cells : List ℕ) → Covers g wanted cells → (c : ℕ) → wanted_at g wanted (get s c) ≡ true → is_member cells c ≡ true
   covered cells covers c h = by (get s c) refl h
     where
-      by : (o : Option Cell) → get s c ≡ o → wanted_at g wanted o ≡ true → contains nat_cmp cells c ≡ true
+      by : (o : Option Cell) → get s c ≡ o → wanted_at g wanted o ≡ true → is_member cells c ≡ true
       by None e h = absurd (true≢false (sym h))
       by (Some cell) e h = covers cell.who.person cell.who.action cell.who.resource cell.said.group c (is c cell e).named (is c cell e).said.there h
 
   -- each touched cell once, and no other
-  pub confirmed : (cells : BTreeSet ℕ) (kept : List ℕ) → IsStrictlySortedBy nat_cmp cells.keys → Covers g wanted cells → kept ≡ filter (λ c. wanted_at g wanted (get s c)) cells.keys
+  pub confirmed : (cells kept : List ℕ) → IsStrictlySortedBy nat_cmp cells → Covers g wanted cells → kept ≡ filter (λ c. wanted_at g wanted (get s c)) cells
       → (c : ℕ) → times c kept ≡ cond (touched_at keys (get (seen q g s) c)) 1 0
   confirmed cells kept ordered covers kept_is c =
       ap (times c) kept_is
-      ∙ times_filter (λ x. wanted_at g wanted (get s x)) c cells.keys
-      ∙ (λ i. cond (wanted_touched c i) (times_sorted cells.keys ordered c i) 0)
-      ∙ once_by (touched_at keys (get (seen q g s) c)) (contains nat_cmp cells c) (λ h. covered cells covers c (wanted_touched c ∙ h))
+      ∙ times_filter (λ x. wanted_at g wanted (get s x)) c cells
+      ∙ (λ i. cond (wanted_touched c i) (times_sorted cells ordered c i) 0)
+      ∙ once_by (touched_at keys (get (seen q g s) c)) (is_member cells c) (λ h. covered cells covers c (wanted_touched c ∙ h))
 
 -- what two facts of what came well say
 pub if_ok_both : {A E : Type 0} {P Q R : A → Type 0} (r : Result A E) → ((a : A) → P a → Q a → R a) → IfOk r P → IfOk r Q → IfOk r R

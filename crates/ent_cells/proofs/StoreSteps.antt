@@ -1,6 +1,6 @@
 -- What each step of a change makes of the cells and of their groups.
 use Rattle.std.proofs.Common.{◌≡◌, ◌≢◌, ℕ, List, [], true, Option, Some, None, map, option_map, IfSome, slice_index_or as get_or, refl, sym, ap, subst, ◌∙◌}
-use Rattle.std.specs.Prelude.{Err, IfOk, Ok, OnErr, OnOk, Result}
+use Rattle.std.specs.Prelude.{Err, Ok, OnErr, Result}
 use Rattle.std.proofs.lemmas.Option.{same_Some}
 use Rattle.slab.specs.Slab.{Slab, Updates, get}
 use Rattle.ent_eval.specs.declared.pdp.ListedEvaluation.{ListedEvaluation}
@@ -188,7 +188,3 @@ new_seen q g s none = ap (λ (slots : List (Option Cell)). record { slots = map 
 pub on_err : {T E P : Type 0} (r : Result T E) → P → OnErr r P
 on_err (Ok x) p = tt
 on_err (Err e) p = p
-
-pub if_both : {T E : Type 0} (r : Result T E) (P Q : T → Type 0) (O : Type 0) → ((x : T) → P x → O → Q x) → IfOk r P → OnOk r O → IfOk r Q
-if_both (Ok x) P Q O both p o = both x p o
-if_both (Err e) P Q O both p o = tt

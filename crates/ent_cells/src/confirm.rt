@@ -1,9 +1,7 @@
 //! Which cells read what is wanted: the groups say where to look, and a cell's own group and names decide.
 
-ghost use Rattle.std.specs.Prelude.{◌≡◌, ℕ, IfOk, IsTrue, OnOk, true};
-ghost use Rattle.std.specs.BTreeSet.{IsOrdered};
+ghost use Rattle.std.specs.Prelude.{◌≡◌, ℕ, IfOk, IsTrue, true};
 ghost use Rattle.std.specs.List.{filter};
-ghost use Rattle.std.specs.Ordering.{nat_cmp};
 ghost use Rattle.slab.specs.Slab.{get};
 ghost use Rattle.ent_cells.specs.proofs_only.Grouping.{wanted_at};
 
@@ -11,7 +9,6 @@ use crate::cell::Cell;
 use ent_index::{Groups, Wanted};
 use slab::Slab;
 use std::alloc::{AllocError, Global};
-use std::collections::BTreeSet;
 
 /// Whether there is a cell under a key, and it reads what is wanted.
 pub(crate) fn is_touched(
@@ -55,12 +52,11 @@ pub(crate) fn keep_touched(
     alloc: Global,
     cells: &Slab<Cell>,
     groups: &Groups,
-    candidates: &BTreeSet<usize>,
+    candidates: &[usize],
     wanted: &[Wanted<'_>],
 ) -> Result<Vec<usize>, AllocError>
-    ensures kept { IfOk result
-        (λ v. v.items ≡ filter (λ c. wanted_at groups.now wanted.now (get cells.now c)) candidates.now.keys) }
-    ensures ordered { OnOk result (IsOrdered nat_cmp candidates.now) }
+    ensures { IfOk result
+        (λ v. v.items ≡ filter (λ c. wanted_at groups.now wanted.now (get cells.now c)) candidates.now) }
 {
     let mut kept = Vec::with_capacity(alloc, candidates.len())?;
     for key in candidates {

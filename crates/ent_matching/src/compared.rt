@@ -7,6 +7,7 @@ ghost use Rattle.ent_matching.specs.Matching.{both_fit, is_part, is_same};
 ghost use Rattle.ent_matching.specs.Places.{places_in};
 
 use crate::fits::fits;
+use crate::likely::room_for;
 use crate::placing::push_places;
 use serde_json::Value;
 use std::alloc::{AllocError, Global};
@@ -26,6 +27,9 @@ fn value_of(alloc: Global, text: &[u8]) -> Result<Option<Value>, AllocError>
     }
 }
 
+/// A list of a text has a member for that many of its bytes at most, of those in which many are looked for.
+const BYTES_A_MEMBER: usize = 64;
+
 /// Whether both texts are JSON, and the second is what is expected: the same where the whole is wanted, and else one of
 /// which the first is a part.
 fn both_fit(alloc: Global, whole: bool, expected: &[u8], text: &[u8]) -> Result<bool, AllocError>
@@ -37,7 +41,8 @@ fn both_fit(alloc: Global, whole: bool, expected: &[u8], text: &[u8]) -> Result<
     let Some(value) = value_of(alloc, text)? else {
         return Ok(false);
     };
-    Ok(fits(whole, &expected, &value))
+    let mut room = room_for(alloc, text.len() / BYTES_A_MEMBER)?;
+    Ok(fits(whole, &expected, &value, &mut room))
 }
 
 /// Whether both texts are JSON with the same data: objects with the same keys and the same at each, in whatever order,

@@ -3,6 +3,7 @@
 
 mod compared;
 mod fits;
+mod likely;
 mod placing;
 mod told;
 

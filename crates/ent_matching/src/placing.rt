@@ -10,6 +10,7 @@ ghost use Rattle.ent_matching.specs.Places.{places, unexpected, unexpected_if};
 ghost use Rattle.ent_matching.specs.Told.{nothing};
 
 use crate::fits::{fits, is_among};
+use crate::likely::{keep_all, number_of, room_for};
 use crate::told::{tell_another, tell_needless, tell_nothing, tell_unlike};
 use itoa::Buffer;
 use serde_json::{Map, Value};
@@ -90,6 +91,28 @@ fn push_unexpected(
     Ok(())
 }
 
+/// Puts the places of the members that are expected behind others, of which none of a list's has any as a part, where
+/// these places of its members are kept.
+fn push_unlike(
+    alloc: Global,
+    place: &[u8],
+    items: &[Value],
+    others: &[Value],
+    places: &[usize],
+    told: &mut Vec<Vec<u8>>,
+) -> Result<(), AllocError>
+    ensures { OnOk result (map (λ v. v.items) told.new.items ≡ map (λ v. v.items) told.old.items
+        ++ missing 0 place.now (items_view items.now) (items_view others.now)) }
+{
+    for i in 0..items.len() {
+        let inner = below_at(alloc, place, i)?;
+        let item = &items[i];
+        let stands = is_among(item, others, places, number_of(items, item));
+        tell_unlike(alloc, stands, inner.as_slice(), item, told)?;
+    }
+    Ok(())
+}
+
 /// Puts the places of the members that are expected behind others, of which none of a list's has any as a part.
 fn push_missing(
     alloc: Global,
@@ -101,12 +124,9 @@ fn push_missing(
     ensures { OnOk result (map (λ v. v.items) told.new.items ≡ map (λ v. v.items) told.old.items
         ++ missing 0 place.now (items_view items.now) (items_view others.now)) }
 {
-    for i in 0..items.len() {
-        let inner = below_at(alloc, place, i)?;
-        let item = &items[i];
-        tell_unlike(alloc, is_among(item, others), inner.as_slice(), item, told)?;
-    }
-    Ok(())
+    let mut room = room_for(alloc, others.len())?;
+    let places = keep_all(items, others, &mut room);
+    push_unlike(alloc, place, items, others, places, told)
 }
 
 /// Puts the place of the first member of a list past so many behind others, if there is one.
@@ -157,7 +177,7 @@ pub(crate) fn push_places(
             None => tell_another(alloc, false, place, expected, value, told),
         },
         Value::Null | Value::Bool(_) | Value::Number(_) | Value::String(_) => {
-            let stands = fits(whole, expected, value);
+            let stands = fits(whole, expected, value, &mut []);
             tell_another(alloc, stands, place, expected, value, told)
         }
     }

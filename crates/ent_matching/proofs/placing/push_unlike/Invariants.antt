@@ -1,7 +1,7 @@
 use Rattle.std.proofs.Common.{◌≡◌, ◌++◌, drop, map}
 use Rattle.serde_json.specs.View.{items_view}
 use Rattle.ent_matching.specs.Places.{missing}
-use Rattle.ent_matching.proofs.placing.push_missing.Given as goal
+use Rattle.ent_matching.proofs.placing.push_unlike.Given as goal
 
 -- the places so far, and the other members are left
 abbrev pub invariant-loop-i : goal.invariant-loop-i
