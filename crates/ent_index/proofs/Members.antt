@@ -1,76 +1,46 @@
 -- Cells that stand in a group or under a name, after one joins or leaves.
-use Rattle.std.proofs.Common.{◌≡◌, ℕ, Bool, true, false, List, [], ◌∷◌, ◌++◌, map, Bor, Option, Some, None, cond, nat_eq, refl, sym, ap, subst, ◌∙◌}
+use Rattle.std.proofs.Common.{◌≡◌, ℕ, ◌+◌, ◌<◌, Bool, true, false, List, [], get_or, length, take, Option, Some, None, cond, nat_eq, refl, sym, ap, subst, ◌∙◌}
 use Rattle.std.specs.Prelude.{◌||◌, ◌&&◌, IsTrue}
 use Rattle.std.specs.Bool.{OnFalse, OnTrue}
-use Rattle.std.specs.BTreeSet.{BTreeSet, contains}
 use Rattle.std.specs.BTreeMap as tree
 use Rattle.std.specs.BTreeMap.{BTreeMap}
-use Rattle.std.specs.Cmp.{nat_cmp_total}
+use Rattle.std.specs.Cmp.{nat_eq_equiv}
 use Rattle.std.specs.Cmp.Lexicographic.{slice_cmp}
 use Rattle.std.specs.Option.{option_map_or}
 use Rattle.std.specs.Ordering.{is_eq, nat_cmp}
 use Rattle.std.proofs.lemmas.Bool.Decides.{Decides-eqb}
-use Rattle.std.proofs.lemmas.Cmp.{eq_by_cmp_equiv}
-use Rattle.std.proofs.lemmas.List.{map-append}
-use Rattle.std.proofs.lemmas.List.Folds.{list_any-append}
+use Rattle.std.proofs.lemmas.List.Folds.{list_any_more}
 use Rattle.std.proofs.lemmas.Map.Text.{is_eq-slice_cmp}
 use Rattle.std.proofs.lemmas.Slice.Eq.{bytes_eq-Decides}
 use Rattle.slab.specs.Slab.{SameValues, Slab, Updates, get}
-use Rattle.ent_index.proofs.Views.{cell_itself, not_cell}
 use Rattle.ent_index.specs.declared.group.Group.{Group}
 use Rattle.ent_index.specs.declared.groups.Groups.{Groups}
 use Rattle.ent_index.specs.declared.names.Names.{Names}
-use Rattle.ent_index.specs.Groups.{KeepsNamesBut, StayInBut, StayUnderBut, holds_in, is_member, is_pair, numbers_in}
+use Rattle.ent_index.specs.Groups.{KeepsNamesBut, StayInBut, StayUnderBut, holds_in, is_among, is_member, is_pair, numbers_in}
 use Rattle.ent_index.specs.proofs_only.Grouped.{IsEmptied, Joins, Leaves}
 use Rattle.ent_index.specs.proofs_only.Groups.{HasAll, HasMore}
 
--- ---- sets of cells
+-- ---- cells among others
 
--- one more cell is there, and the others stay
-pub put_there : (cells more : List ℕ) (cell : ℕ) → ((q : ℕ) → is_member more q ≡ cond (is_eq (nat_cmp cell q)) true (is_member cells q)) → is_member more cell ≡ true
-put_there cells more cell changed = changed cell ∙ ap (λ b. cond b true (is_member cells cell)) (cell_itself cell cell refl)
-
-pub put_stay : (cells more : List ℕ) (cell : ℕ) → ((q : ℕ) → is_member more q ≡ cond (is_eq (nat_cmp cell q)) true (is_member cells q)) → (c : ℕ) → is_member cells c ≡ true → is_member more c ≡ true
-put_stay cells more cell changed c h = changed c ∙ by (is_eq (nat_cmp cell c)) where
-  by : (b : Bool) → cond b true (is_member cells c) ≡ true
-  by true = refl
-  by false = h
-
--- where one is taken out, the others stay
-pub take_stay : (cells less : List ℕ) (cell : ℕ) → ((q : ℕ) → is_member less q ≡ cond (is_eq (nat_cmp cell q)) false (is_member cells q)) → (c : ℕ) → nat_eq c cell ≡ false → is_member less c ≡ is_member cells c
-take_stay cells less cell changed c apart = changed c ∙ ap (λ b. cond b false (is_member cells c)) (not_cell cell c (λ same. other same)) where
-  other : cell ≡ c → ⊥
-  other same =
-      let yes : nat_eq c cell ≡ true = (Decides-eqb c cell).1 (sym same) in
-      absurd (cc)
-
--- the cells that were put into a set, of those that were gone over
-pub put_more : (old now next : BTreeSet ℕ) (gone : List (Bor ℕ)) (x : Bor ℕ) → ((c : ℕ) → contains nat_cmp now c ≡ (contains nat_cmp old c || is_member (map (λ y. y.now) gone) c))
-    → ((q : ℕ) → contains nat_cmp next q ≡ cond (is_eq (nat_cmp x.now q)) true (contains nat_cmp now q)) → (c : ℕ) → contains nat_cmp next c ≡ (contains nat_cmp old c || is_member (map (λ y. y.now) (gone ++ x ∷ [])) c)
-put_more old now next gone x so_far changed c =
-    let all = is_member (map (λ y. y.now) gone) c in
-    changed c ∙ ap (λ b. cond b true (contains nat_cmp now c)) ((eq_by_cmp_equiv nat_cmp_total).symm x.now c) ∙ ap (λ b. cond (is_eq (nat_cmp c x.now)) true b) (so_far c)
-    ∙ one_more (is_eq (nat_cmp c x.now)) (contains nat_cmp old c) all
-    ∙ ap (λ b. contains nat_cmp old c || b) (sym (ap (λ ys. is_member ys c) (map-append (λ (y : Bor ℕ). y.now) gone (x ∷ [])) ∙ list_any-append (λ y. is_eq (nat_cmp c y)) (map (λ y. y.now) gone) (x.now ∷ []))) where
-      one_more : (is old all : Bool) → cond is true (old || all) ≡ (old || (all || (is || false)))
-      one_more true true all = refl
-      one_more true false true = refl
-      one_more true false false = refl
-      one_more false true all = refl
-      one_more false false true = refl
-      one_more false false false = refl
-
-pub has_all : (old new : BTreeSet ℕ) (cells : List ℕ) → ((c : ℕ) → contains nat_cmp new c ≡ (contains nat_cmp old c || is_member cells c)) → HasAll cells new
-has_all old new cells is c h = is c ∙ ap (λ b. contains nat_cmp old c || b) h ∙ or_true (contains nat_cmp old c) where
+pub has_all : (old new cells : List ℕ) → ((c : ℕ) → is_member new c ≡ (is_member old c || is_member cells c)) → HasAll cells new
+has_all old new cells is c h = is c ∙ ap (λ b. is_member old c || b) h ∙ or_true (is_member old c) where
   or_true : (b : Bool) → (b || true) ≡ true
   or_true true = refl
   or_true false = refl
 
-pub has_more : (old new : BTreeSet ℕ) (cells : List ℕ) → ((c : ℕ) → contains nat_cmp new c ≡ (contains nat_cmp old c || is_member cells c)) → HasMore old new
+pub has_more : (old new cells : List ℕ) → ((c : ℕ) → is_member new c ≡ (is_member old c || is_member cells c)) → HasMore old new
 has_more old new cells is c h = is c ∙ ap (λ b. b || is_member cells c) h
 
-pub has_same : (set : BTreeSet ℕ) → HasMore set set
-has_same set c h = h
+pub has_same : (cells : List ℕ) → HasMore cells cells
+has_same cells c h = h
+
+-- ---- numbers that are kept as a roll too
+
+pub numbered_more : (numbers : List ℕ) (i n : ℕ) (old new : List ℕ) → i < length numbers → n ≡ get_or numbers i n → ((m : ℕ) → is_member old m ≡ is_among (take i numbers) m)
+    → ((m : ℕ) → is_member new m ≡ (is_member old m || nat_eq m n)) → (m : ℕ) → is_member new m ≡ is_among (take (i + 1) numbers) m
+numbered_more numbers i n old new lt at so_far put m =
+    put m ∙ ap (λ b. b || nat_eq m n) (so_far m) ∙ ap (λ b. is_among (take i numbers) m || b) (nat_eq_equiv.symm m n) ∙ ap (λ x. is_among (take i numbers) m || nat_eq x m) at
+    ∙ sym (list_any_more (λ x. nat_eq x m) numbers i n lt)
 
 -- ---- names
 

@@ -1,11 +1,9 @@
 -- What is wanted of some keys, and the cells that read it.
 use Rattle.std.proofs.Common.{◌≡◌, ℕ, ◌+◌, ◌<◌, ◌≤◌, Bool, true, false, ◌&&◌, List, [], ◌∷◌, ◌++◌, Option, Some, None, length, get_or, slice_get, take, nat_eq, refl, sym, ap, subst, ◌∙◌, ◌⊎◌, inl, inr, arith}
 use Rattle.std.specs.Prelude.{◌||◌, eqb}
-use Rattle.std.specs.BTreeSet.{BTreeSet, contains}
 use Rattle.std.specs.Cmp.{nat_eq_equiv}
 use Rattle.std.specs.List.{Contains, IsDistinct, list_any}
 use Rattle.std.specs.Option.{option_map_or}
-use Rattle.std.specs.Ordering.{nat_cmp}
 use Rattle.std.proofs.lemmas.List.{take_all}
 use Rattle.std.proofs.lemmas.List.Folds.{list_any-append, list_any_at, list_any_more}
 use Rattle.std.proofs.lemmas.Slice.Eq.{bytes_eq-Decides}
@@ -113,9 +111,15 @@ wanted_step questions keys i k wanted more below at adds so_far person action re
 pub wanted_all : (questions : List Question) (keys : List ReadKey) (i : ℕ) (wanted : List Wanted) → length keys ≤ i → AreWanted questions (take i keys) wanted → AreWanted questions keys wanted
 wanted_all questions keys i wanted past so_far = subst (λ ks. AreWanted questions ks wanted) (take_all i keys past) so_far
 
+-- where there are no questions nothing is read
+pub nothing_read : (person action resource : List ℕ) (wanted : List Wanted) → list_any (is_wanted person action resource []) wanted ≡ false
+nothing_read person action resource [] = refl
+nothing_read person action resource (w ∷ wanted) =
+    ap (λ b. b || list_any (is_wanted person action resource []) wanted) (turned (is_reader w.readers (entity_in w.key.now) person action resource) false) ∙ nothing_read person action resource wanted
+
 -- ---- what covers
 
-pub covers_one_named : (groups : Groups) (w : Wanted) (place : Place) (k : AttrKey) (roll : Option (List ℕ)) (set : BTreeSet ℕ) → w.readers ≡ Named place → w.key.now ≡ Attr k
+pub covers_one_named : (groups : Groups) (w : Wanted) (place : Place) (k : AttrKey) (roll : Option (List ℕ)) (set : List ℕ) → w.readers ≡ Named place → w.key.now ≡ Attr k
     → roll ≡ roll_under (names_at place groups) k.entity → HasAllOf roll set → CoversOne groups w set
 covers_one_named groups w place k roll set readers key is all person action resource g c named holding wanted =
     has roll all (ap (λ o. option_map_or (λ x. is_member x c) o false) is ∙ by place (name readers key (both _ _ wanted).0)) where
@@ -129,14 +133,14 @@ covers_one_named groups w place k roll set readers key is all person action reso
       by Action e = ap (λ n. is_under groups.actions n c) e ∙ named.by_action
       by Resource e = ap (λ n. is_under groups.resources n c) e ∙ named.by_resource
 
-      has : (o : Option (List ℕ)) → HasAllOf o set → option_map_or (λ x. is_member x c) o false ≡ true → contains nat_cmp set c ≡ true
+      has : (o : Option (List ℕ)) → HasAllOf o set → option_map_or (λ x. is_member x c) o false ≡ true → is_member set c ≡ true
       has None all h = absurd (cc)
       has (Some cells) all h = all c h
 
-pub covers_one_asking : (groups : Groups) (w : Wanted) (set : BTreeSet ℕ) → HasAsking groups w.number set → CoversOne groups w set
+pub covers_one_asking : (groups : Groups) (w : Wanted) (set : List ℕ) → HasAsking groups w.number set → CoversOne groups w set
 covers_one_asking groups w set asking person action resource g c named holding wanted = asking g c holding (both _ _ wanted).1
 
-pub covers_nobody : (groups : Groups) (w : Wanted) (set : BTreeSet ℕ) → w.readers ≡ Nobody → CoversOne groups w set
+pub covers_nobody : (groups : Groups) (w : Wanted) (set : List ℕ) → w.readers ≡ Nobody → CoversOne groups w set
 covers_nobody groups w set is person action resource g c named holding wanted =
     let no : is_reader w.readers (entity_in w.key.now) person action resource ≡ false = ap (λ r. is_reader r (entity_in w.key.now) person action resource) is in
     let yes : is_reader w.readers (entity_in w.key.now) person action resource ≡ true = (both _ _ wanted).0 in
@@ -144,61 +148,61 @@ covers_nobody groups w set is person action resource g c named holding wanted =
 
 -- ---- the loop over what is wanted
 
-pub covers_none : (groups : Groups) (wanted : List Wanted) (set : BTreeSet ℕ) → Covers groups (take 0 wanted) set
+pub covers_none : (groups : Groups) (wanted : List Wanted) (set : List ℕ) → Covers groups (take 0 wanted) set
 covers_none groups wanted set person action resource g c named holding h =
     let no : false ≡ true = h in
     absurd (cc)
 
-pub covers_more : (groups : Groups) (wanted : List Wanted) (i : ℕ) (w : Wanted) (old new : BTreeSet ℕ) → i < length wanted → w ≡ get_or wanted i w → CoversOne groups w new → HasMore old new
+pub covers_more : (groups : Groups) (wanted : List Wanted) (i : ℕ) (w : Wanted) (old new : List ℕ) → i < length wanted → w ≡ get_or wanted i w → CoversOne groups w new → HasMore old new
     → Covers groups (take i wanted) old → Covers groups (take (i + 1) wanted) new
 covers_more groups wanted i w old new below at one more so_far person action resource g c named holding h =
     by (list_any q (take i wanted)) refl (sym (list_any_more q wanted i w below ∙ ap (λ x. list_any q (take i wanted) || q x) (sym at)) ∙ h) where
       q : Wanted → Bool
       q = is_wanted person action resource (numbers_of groups g)
 
-      by : (b : Bool) → list_any q (take i wanted) ≡ b → (list_any q (take i wanted) || q w) ≡ true → contains nat_cmp new c ≡ true
+      by : (b : Bool) → list_any q (take i wanted) ≡ b → (list_any q (take i wanted) || q w) ≡ true → is_member new c ≡ true
       by true e h = more c (so_far person action resource g c named holding e)
       by false e h = one person action resource g c named holding (sym (ap (λ b. b || q w) e) ∙ h)
 
-pub covers_all : (groups : Groups) (wanted : List Wanted) (i : ℕ) (set : BTreeSet ℕ) → length wanted ≤ i → Covers groups (take i wanted) set → Covers groups wanted set
+pub covers_all : (groups : Groups) (wanted : List Wanted) (i : ℕ) (set : List ℕ) → length wanted ≤ i → Covers groups (take i wanted) set → Covers groups wanted set
 covers_all groups wanted i set past so_far = subst (λ ws. Covers groups ws set) (take_all i wanted past) so_far
 
 -- ---- the loop over groups
 
 -- each cell that is to be in a set is in it, or in a group that is left
-abbrev pub AreAsking : Slab Group → ℕ → List (ℕ × Group) → BTreeSet ℕ → Type 0
-AreAsking groups n left set = (g c : ℕ) (x : Group) → get groups g ≡ Some x → is_among x.numbers n ≡ true → is_member x.cells c ≡ true → Contains left (g, x) ⊎ (contains nat_cmp set c ≡ true)
+abbrev pub AreAsking : Slab Group → ℕ → List (ℕ × Group) → List ℕ → Type 0
+AreAsking groups n left set = (g c : ℕ) (x : Group) → get groups g ≡ Some x → is_among x.numbers n ≡ true → is_member x.cells c ≡ true → Contains left (g, x) ⊎ (is_member set c ≡ true)
 
-pub asking_start : (groups : Slab Group) (n : ℕ) (left : List (ℕ × Group)) (set : BTreeSet ℕ) → left ≡ entries groups → AreAsking groups n left set
+pub asking_start : (groups : Slab Group) (n : ℕ) (left : List (ℕ × Group)) (set : List ℕ) → left ≡ entries groups → AreAsking groups n left set
 asking_start groups n left set is g c x at number member = inl (subst (λ es. Contains es (g, x)) (sym is) ((Contains-entries groups g x).1 at))
 
-pub asking_next : (groups : Slab Group) (n : ℕ) (left rest : List (ℕ × Group)) (key : ℕ) (group : Group) (old new : BTreeSet ℕ) → left ≡ (key, group) ∷ rest → (is_among group.numbers n ≡ true → HasAll group.cells new) → HasMore old new
+pub asking_next : (groups : Slab Group) (n : ℕ) (left rest : List (ℕ × Group)) (key : ℕ) (group : Group) (old new : List ℕ) → left ≡ (key, group) ∷ rest → (is_among group.numbers n ≡ true → HasAll group.cells new) → HasMore old new
     → AreAsking groups n left old → AreAsking groups n rest new
 asking_next groups n left rest key group old new is all more so_far g c x at number member = by (so_far g c x at number member) where
-  first : ◌≡◌ {A = ℕ × Group} (key, group) (g, x) → contains nat_cmp new c ≡ true
+  first : ◌≡◌ {A = ℕ × Group} (key, group) (g, x) → is_member new c ≡ true
   first same =
       let this : group ≡ x = ap (λ (e : ℕ × Group). e.1) same in
       all (ap (λ y. is_among y.numbers n) this ∙ number) c (ap (λ y. is_member y.cells c) this ∙ member)
 
-  cases : (◌≡◌ {A = ℕ × Group} (key, group) (g, x)) ⊎ Contains rest (g, x) → Contains rest (g, x) ⊎ (contains nat_cmp new c ≡ true)
+  cases : (◌≡◌ {A = ℕ × Group} (key, group) (g, x)) ⊎ Contains rest (g, x) → Contains rest (g, x) ⊎ (is_member new c ≡ true)
   cases (inl same) = inr (first same)
   cases (inr later) = inl later
 
-  by : Contains left (g, x) ⊎ (contains nat_cmp old c ≡ true) → Contains rest (g, x) ⊎ (contains nat_cmp new c ≡ true)
+  by : Contains left (g, x) ⊎ (is_member old c ≡ true) → Contains rest (g, x) ⊎ (is_member new c ≡ true)
   by (inl there) = cases (Contains-cons_cases (key, group) (g, x) rest (subst (λ es. Contains es (g, x)) is there))
   by (inr there) = inr (more c there)
 
-pub asking_all : (groups : Groups) (n : ℕ) (left : List (ℕ × Group)) (set : BTreeSet ℕ) → left ≡ [] → AreAsking groups.groups n left set → HasAsking groups n set
+pub asking_all : (groups : Groups) (n : ℕ) (left : List (ℕ × Group)) (set : List ℕ) → left ≡ [] → AreAsking groups.groups n left set → HasAsking groups n set
 asking_all groups n left set is so_far g c holding number = by (get groups.groups g) refl holding number where
-  done : (x : Group) → Contains left (g, x) ⊎ (contains nat_cmp set c ≡ true) → contains nat_cmp set c ≡ true
+  done : (x : Group) → Contains left (g, x) ⊎ (is_member set c ≡ true) → is_member set c ≡ true
   done x (inl there) = absurd (nothing (subst (λ es. Contains es (g, x)) is there)) where
     nothing : Contains {X = ℕ × Group} [] (g, x) → ⊥
     nothing e = omega (arith, e.1)
   done x (inr there) = there
 
-  by : (o : Option Group) → get groups.groups g ≡ o → option_map_or (λ x. is_member x.cells c) o false ≡ true → is_among (option_map_or (λ x. x.numbers) o []) n ≡ true → contains nat_cmp set c ≡ true
+  by : (o : Option Group) → get groups.groups g ≡ o → option_map_or (λ x. is_member x.cells c) o false ≡ true → is_among (option_map_or (λ x. x.numbers) o []) n ≡ true → is_member set c ≡ true
   by None at h k = absurd (cc)
   by (Some x) at h k = done x (so_far g c x at k h)
 
-pub more_then : (a b c : BTreeSet ℕ) → HasMore a b → HasMore b c → HasMore a c
+pub more_then : (a b c : List ℕ) → HasMore a b → HasMore b c → HasMore a c
 more_then a b c first second x h = second x (first x h)

@@ -1,15 +1,16 @@
 -- Groups of cells: those of a group read by the same questions, each by its own names.
-use Rattle.std.specs.Prelude.{◌≡◌, ℕ, List, [], Bool, true, false, ◌&&◌, nat_eq}
+use Rattle.std.specs.Prelude.{◌≡◌, ◌⊎◌, ◌<◌, ◌^◌, ℕ, List, [], Bool, true, false, ◌&&◌, nat_eq}
 use Rattle.std.specs.BTreeMap as tree
-use Rattle.std.specs.BTreeSet.{BTreeSet}
-use Rattle.std.specs.BTreeSet as set
 use Rattle.std.specs.Cmp.Lexicographic.{slice_cmp}
 use Rattle.std.specs.List.{list_any}
 use Rattle.std.specs.Option.{option_map_or}
-use Rattle.std.specs.Ordering.{is_eq, nat_cmp}
+use Rattle.std.specs.Ordering.{nat_cmp}
 use Rattle.slab.specs.Slab.{Slab, get}
 use Rattle.ent_eval.specs.declared.key.ReadKey.{ReadKey}
 use Rattle.ent_eval.specs.declared.question.Question.{Question}
+use Rattle.ent_eval.specs.declared.readers.Place.TheVariants.{Person, Action, Resource}
+use Rattle.ent_eval.specs.declared.readers.Readers.{Readers}
+use Rattle.ent_eval.specs.declared.readers.Readers.TheVariants.{Named}
 use Rattle.ent_eval.specs.Listed.{listed}
 use Rattle.ent_eval.specs.Noted.{has_key}
 use Rattle.ent_eval.specs.Questions.{AreNumbers, at_numbers, keys_at}
@@ -18,14 +19,7 @@ use Rattle.ent_index.specs.declared.group.Group.{Group}
 use Rattle.ent_index.specs.declared.groups.Groups.{Groups}
 use Rattle.ent_index.specs.declared.names.Names.{Names}
 use Rattle.ent_index.specs.declared.wanted.Wanted.{Wanted}
-
--- whether a number is among these
-abbrev pub is_among : List ℕ → ℕ → Bool
-is_among numbers n = list_any (λ x. nat_eq x n) numbers
-
--- whether a cell is among these
-abbrev pub is_member : List ℕ → ℕ → Bool
-is_member cells c = list_any (λ x. is_eq (nat_cmp c x)) cells
+pub use Rattle.ent_index.specs.Rolls.{is_among, is_member}
 
 -- ---- what is held
 
@@ -43,6 +37,10 @@ holds_in groups g c = option_map_or (λ x. is_member x.cells c) (get groups g) f
 abbrev pub holds : Groups → ℕ → ℕ → Bool
 holds groups g c = holds_in groups.groups g c
 
+-- a cell stands in a group that has the question of a number
+abbrev pub IsAsking : Groups → ℕ → ℕ → Type 0
+IsAsking groups n c = (g : ℕ) × (holds groups g c ≡ true) × (is_among (numbers_of groups g) n ≡ true)
+
 -- a cell stands under a name
 abbrev pub is_under : Names → List ℕ → ℕ → Bool
 is_under names name c = option_map_or (λ x. is_member x c) (tree.get (slice_cmp nat_cmp) names.rolls name) false
@@ -53,7 +51,28 @@ pub record IsNamed (groups : Groups) (person action resource : List ℕ) (c : �
   pub by_action : is_under groups.actions action c ≡ true
   pub by_resource : is_under groups.resources resource c ≡ true
 
+-- no cell stands under any name
+abbrev pub HasNobody : Names → Type 0
+HasNobody names = (name : List ℕ) (c : ℕ) → is_under names name c ≡ false
+
+-- no cell stands in any group or under any name
+pub record HasNoCells (groups : Groups) : Type 0 where
+  pub in_groups : (g c : ℕ) → holds groups g c ≡ false
+  pub persons : HasNobody groups.persons
+  pub actions : HasNobody groups.actions
+  pub resources : HasNobody groups.resources
+
 -- ---- changes
+
+-- a cell stands in a group no more. Cells are told by 32 bits, so a greater one never does
+abbrev pub HasLeft : Groups → ℕ → ℕ → Type 0
+HasLeft groups g c = c < 2 ^ 32 → holds groups g c ≡ false
+
+-- a cell stands under none of its names. Cells are told by 32 bits, so a greater one never does
+pub record IsUnnamed (groups : Groups) (person action resource : List ℕ) (c : ℕ) : Type 0 where
+  pub by_person : c < 2 ^ 32 → is_under groups.persons person c ≡ false
+  pub by_action : c < 2 ^ 32 → is_under groups.actions action c ≡ false
+  pub by_resource : c < 2 ^ 32 → is_under groups.resources resource c ≡ false
 
 -- each cell stays in its groups, and these keep their questions, but for those that a test tells
 abbrev pub StayInBut : (ℕ → ℕ → Bool) → Slab Group → Slab Group → Type 0
@@ -101,7 +120,18 @@ abbrev pub AreWanted : List Question → List ReadKey → List Wanted → Type 0
 AreWanted questions keys wanted = (person action resource numbers : List ℕ) → AreNumbers questions numbers
     → list_any (is_wanted person action resource numbers) wanted ≡ list_any (λ k. has_key (keys_at (listed person action resource) (at_numbers questions numbers)) k) keys
 
+-- a cell stands under a name at the place where readers have it
+abbrev pub is_named_by : Readers → Groups → List ℕ → ℕ → Bool
+is_named_by (Named Person) groups name c = is_under groups.persons name c
+is_named_by (Named Action) groups name c = is_under groups.actions name c
+is_named_by (Named Resource) groups name c = is_under groups.resources name c
+is_named_by other groups name c = false
+
+-- a cell stands under the name of what is wanted, or in a group that has its question
+abbrev pub IsLikely : Groups → Wanted → ℕ → Type 0
+IsLikely groups w c = (is_named_by w.readers groups (entity_in w.key.now) c ≡ true) ⊎ IsAsking groups w.number c
+
 -- among these is each cell that stands in a group and under its names, and reads what is wanted
-abbrev pub Covers : Groups → List Wanted → BTreeSet ℕ → Type 0
+abbrev pub Covers : Groups → List Wanted → List ℕ → Type 0
 Covers groups wanted cells = (person action resource : List ℕ) (g c : ℕ) → IsNamed groups person action resource c → holds groups g c ≡ true
-    → list_any (is_wanted person action resource (numbers_of groups g)) wanted ≡ true → set.contains nat_cmp cells c ≡ true
+    → list_any (is_wanted person action resource (numbers_of groups g)) wanted ≡ true → is_member cells c ≡ true

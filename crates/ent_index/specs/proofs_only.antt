@@ -1,5 +1,6 @@
 pub mod Asked
 pub mod Grouped
 pub mod Groups
+pub mod Rolls
 pub mod Steps
 pub mod Stored

@@ -6,15 +6,15 @@ ghost use Rattle.slab.specs.Slab.{SameValues, Updates, get};
 ghost use Rattle.ent_index.specs.Groups.{StayInBut, holds_in, is_pair, numbers_in};
 ghost use Rattle.ent_index.specs.proofs_only.Grouped.{IsEmptied, IsGroupOf, Joins, Leaves};
 
+use crate::numbers::Numbers;
 use crate::roll::Roll;
-use ent_values::Items;
 use slab::Slab;
 use std::alloc::{AllocError, Global};
 
 /// The numbers of some questions, and the cells whose answers rest on these.
 #[derive(Drop)]
 pub(crate) struct Group {
-    pub(crate) numbers: Items<u32>,
+    pub(crate) numbers: Numbers,
     pub(crate) cells: Roll,
 }
 
@@ -88,8 +88,7 @@ pub(crate) fn make_group(
 {
     let mut cells = Roll::new(alloc);
     cells.put(cell)?;
-    let copied = Vec::from_slice(alloc, numbers)?;
-    let numbers = Items::from_vec(copied);
+    let numbers = Numbers::of(alloc, numbers)?;
     let number = insert(groups, Group { numbers, cells })?;
     Ok(number)
 }
@@ -98,6 +97,7 @@ pub(crate) fn make_group(
 fn take_one(groups: &mut Slab<Group>, group: u32, cell: u32) -> bool
     ensures others { (g : ℕ) → g ≢ group → get groups.new g ≡ get groups.old g }
     ensures here { Leaves cell (get groups.old group) (get groups.new group) }
+    ensures gone { holds_in groups.new group cell ≡ false }
     ensures last { OnTrue result (IsEmptied (get groups.new group)) }
 {
     match groups.get_mut(group as usize) {
@@ -112,7 +112,8 @@ fn take_one(groups: &mut Slab<Group>, group: u32, cell: u32) -> bool
 /// Takes a cell out of a group, and the group away, if that was its last one, and gives it. The other cells stay. It
 /// takes no memory.
 pub(crate) fn take_cell(groups: &mut Slab<Group>, group: u32, cell: u32) -> Option<Group>
-    ensures { StayInBut (is_pair group cell) groups.old groups.new }
+    ensures stay { StayInBut (is_pair group cell) groups.old groups.new }
+    ensures gone { holds_in groups.new group cell ≡ false }
 {
     let is_last = take_one(groups, group, cell);
     if is_last {

@@ -1,22 +1,25 @@
 //! Cells in groups by the questions that their answers rest on, and by name.
 
-ghost use Rattle.std.specs.Prelude.{◌≡◌, IfOk, IfSome, OnOk, option_copied, true};
+ghost use Rattle.std.specs.Prelude.{◌≡◌, IfOk, IfSome, OnErr, OnOk, option_copied, true};
 ghost use Rattle.std.specs.List.{list_any};
+ghost use Rattle.std.specs.List.Sorted.{IsStrictlySortedBy};
+ghost use Rattle.std.specs.Ordering.{nat_cmp};
 ghost use Rattle.ent_eval.specs.declared.readers.Readers.TheVariants.{Named};
-ghost use Rattle.ent_index.specs.Groups.{Covers, HasSameNames, IsNamed, KeepsGroups, KeepsGroupsBut, KeepsNamesBut};
+ghost use Rattle.ent_index.specs.Groups.{Covers, HasLeft, HasNoCells, HasSameNames, IsAsking, IsLikely};
+ghost use Rattle.ent_index.specs.Groups.{IsNamed, IsUnnamed, KeepsGroups, KeepsGroupsBut, KeepsNamesBut};
 ghost use Rattle.ent_index.specs.Groups.{holds, is_among, is_wanted, numbers_of};
 ghost use Rattle.ent_index.specs.proofs_only.Grouped.{IsGroupOf, roll_under};
-ghost use Rattle.ent_index.specs.proofs_only.Groups.{CoversOne, HasAll, HasAllOf, HasAsking, HasMore, names_at};
+ghost use Rattle.ent_index.specs.proofs_only.Groups.{CoversOne, HasAll, HasAllOf, HasAsking, HasMore, IsIn, names_at};
 
 use crate::group::{Group, is_group_of, make_group, mixed, put_cell, take_cell};
 use crate::names::Names;
 use crate::roll::Roll;
-use crate::wanted::Wanted;
+use crate::wanted::{Wanted, is_one_read};
 use ent_eval::{Place, ReadKey, Readers};
 use ent_values::Text;
 use slab::Slab;
 use std::alloc::{AllocError, Global};
-use std::collections::{BTreeMap, BTreeSet};
+use std::collections::BTreeMap;
 
 /// Cells in groups: those of a group have answers that rest on the same questions. Each cell stands under its three
 /// names besides. So those that read a key are found by what it asks and by whom it names.
@@ -32,7 +35,9 @@ pub struct Groups {
 
 impl Groups {
     /// No cells, for which nothing is allocated.
-    pub fn new(alloc: Global) -> Groups {
+    pub fn new(alloc: Global) -> Groups
+        ensures { HasNoCells result }
+    {
         Groups {
             alloc,
             groups: Slab::new(alloc),
@@ -62,6 +67,7 @@ impl Groups {
         resource: &Text,
     ) -> Result<(), AllocError>
         ensures named { OnOk result (IsNamed self.new person.now action.now resource.now cell) }
+        ensures refused { OnErr result (IsUnnamed self.new person.now action.now resource.now cell) }
         ensures names { KeepsNamesBut cell self.old self.new }
         ensures groups { self.new.groups ≡ self.old.groups }
     {
@@ -95,6 +101,7 @@ impl Groups {
 
     /// Takes a cell out under its names. It takes no memory.
     pub fn exit(&mut self, cell: usize, person: &Text, action: &Text, resource: &Text)
+        ensures gone { IsUnnamed self.new person.now action.now resource.now cell }
         ensures names { KeepsNamesBut cell self.old self.new }
         ensures groups { self.new.groups ≡ self.old.groups }
     {
@@ -156,8 +163,9 @@ impl Groups {
         Ok(group)
     }
 
-    /// Takes a cell out of a group once. It takes no memory.
+    /// Takes a cell out of a group. It takes no memory.
     pub fn leave(&mut self, cell: usize, group: u32)
+        ensures gone { HasLeft self.new group cell }
         ensures groups { KeepsGroupsBut group cell self.old self.new }
         ensures names { HasSameNames self.old self.new }
     {
@@ -181,28 +189,26 @@ impl Groups {
         ensures { result
             ≡ list_any (is_wanted person.now action.now resource.now (numbers_of self.now group)) wanted.now }
     {
-        let numbers = self.numbers(group);
-        for one in wanted {
-            if one.is_read(numbers, person, action, resource) {
-                return true;
-            }
+        match self.groups.get(group as usize) {
+            Some(group) => is_one_read(wanted, &group.numbers, person, action, resource),
+            None => false,
         }
-        false
     }
 
-    /// Cells among which each is that reads what is wanted.
-    pub fn candidates(&self, wanted: &[Wanted<'_>]) -> Result<BTreeSet<usize>, AllocError>
-        ensures { IfOk result (Covers self.now wanted.now) }
+    /// Cells among which each is that reads what is wanted, each once, in rising order.
+    pub fn candidates(&self, wanted: &[Wanted<'_>]) -> Result<Vec<usize>, AllocError>
+        ensures covers { IfOk result (λ v. Covers self.now wanted.now v.items) }
+        ensures ordered { IfOk result (λ v. IsStrictlySortedBy nat_cmp v.items) }
     {
-        let mut cells = BTreeSet::new(self.alloc);
+        let mut cells = Roll::new(self.alloc);
         for one in wanted {
             self.add_readers(one, &mut cells)?;
         }
-        Ok(cells)
+        cells.to_vec(self.alloc)
     }
 
-    // Puts cells into a set among which each is that reads what is wanted.
-    fn add_readers(&self, one: &Wanted<'_>, cells: &mut BTreeSet<usize>) -> Result<(), AllocError>
+    // Puts cells into a roll among which each is that reads what is wanted.
+    fn add_readers(&self, one: &Wanted<'_>, cells: &mut Roll) -> Result<(), AllocError>
         ensures covers { OnOk result (CoversOne self.now one.now cells.new) }
         ensures more { OnOk result (HasMore cells.old cells.new) }
     {
@@ -220,12 +226,7 @@ impl Groups {
     }
 
     // The same, where they are those of a name at a place.
-    fn add_named(
-        &self,
-        place: Place,
-        one: &Wanted<'_>,
-        cells: &mut BTreeSet<usize>,
-    ) -> Result<(), AllocError>
+    fn add_named(&self, place: Place, one: &Wanted<'_>, cells: &mut Roll) -> Result<(), AllocError>
         requires { one.now.readers ≡ Named place }
         ensures covers { OnOk result (CoversOne self.now one.now cells.new) }
         ensures more { OnOk result (HasMore cells.old cells.new) }
@@ -258,7 +259,7 @@ impl Groups {
         }
         let mut asking: usize = 0;
         for (_, group) in self.groups.iter() {
-            if group.numbers.as_slice().contains(&number) {
+            if group.numbers.contains(number) {
                 asking = asking.saturating_add(group.cells.len());
             }
         }
@@ -277,7 +278,9 @@ impl Groups {
     }
 
     /// A cell that likely reads what is wanted, if there is one.
-    pub fn likely(&self, one: &Wanted<'_>) -> Option<usize> {
+    pub fn likely(&self, one: &Wanted<'_>) -> Option<usize>
+        ensures { IfSome result (λ c. IsLikely self.now one.now c) }
+    {
         match (one.readers, one.key) {
             (Readers::Nobody, _) => None,
             (Readers::Named(place), ReadKey::Attr(key)) => first_of(self.named(place, &key.entity)),
@@ -286,17 +289,19 @@ impl Groups {
     }
 
     // A cell of the first group that has the question of a number.
-    fn first_asking(&self, number: u32) -> Option<usize> {
+    fn first_asking(&self, number: u32) -> Option<usize>
+        ensures { IfSome result (λ c. IsAsking self.now number c) }
+    {
         for (_, group) in self.groups.iter() {
-            if group.numbers.as_slice().contains(&number) {
+            if group.numbers.contains(number) {
                 return first_of(Some(&group.cells));
             }
         }
         None
     }
 
-    // Puts the cells into a set whose groups have the question of a number.
-    fn add_asking(&self, number: u32, cells: &mut BTreeSet<usize>) -> Result<(), AllocError>
+    // Puts the cells into a roll whose groups have the question of a number.
+    fn add_asking(&self, number: u32, cells: &mut Roll) -> Result<(), AllocError>
         ensures asking { OnOk result (HasAsking self.now number cells.new) }
         ensures more { OnOk result (HasMore cells.old cells.new) }
     {
@@ -319,27 +324,26 @@ fn forget(found: &mut BTreeMap<u64, u32>, numbers: &[u32], group: u32) {
     }
 }
 
-// Puts the cells of a group into a set, if it has the question of a number.
-fn add_group(group: &Group, number: u32, cells: &mut BTreeSet<usize>) -> Result<(), AllocError>
+// Puts the cells of a group into a roll, if it has the question of a number.
+fn add_group(group: &Group, number: u32, cells: &mut Roll) -> Result<(), AllocError>
     ensures cells { OnOk result (is_among group.now.numbers number ≡ true → HasAll group.now.cells cells.new) }
     ensures more { OnOk result (HasMore cells.old cells.new) }
 {
-    let numbers = group.numbers.as_slice();
-    if !numbers.contains(&number) {
+    if !group.numbers.contains(number) {
         return Ok(());
     }
     group.cells.add_to(cells)?;
     Ok(())
 }
 
-// Puts cells into a set, if there are any.
-fn add_roll(roll: Option<&Roll>, set: &mut BTreeSet<usize>) -> Result<(), AllocError>
-    ensures all { OnOk result (HasAllOf (option_copied roll.entry) set.new) }
-    ensures more { OnOk result (HasMore set.old set.new) }
+// Puts cells into a roll, if there are any.
+fn add_roll(more: Option<&Roll>, cells: &mut Roll) -> Result<(), AllocError>
+    ensures all { OnOk result (HasAllOf (option_copied more.entry) cells.new) }
+    ensures more { OnOk result (HasMore cells.old cells.new) }
 {
-    match roll {
-        Some(roll) => {
-            roll.add_to(set)?;
+    match more {
+        Some(more) => {
+            more.add_to(cells)?;
             Ok(())
         }
         None => Ok(()),
@@ -347,7 +351,9 @@ fn add_roll(roll: Option<&Roll>, set: &mut BTreeSet<usize>) -> Result<(), AllocE
 }
 
 // One of the cells under a name, if there is one.
-fn first_of(roll: Option<&Roll>) -> Option<usize> {
+fn first_of(roll: Option<&Roll>) -> Option<usize>
+    ensures { IfSome result (λ c. IsIn (option_copied roll.entry) c) }
+{
     let cell = roll?.first()?;
     Some(cell as usize)
 }

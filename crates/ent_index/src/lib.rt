@@ -9,8 +9,10 @@ mod groups;
 mod index;
 mod law;
 mod names;
+mod numbers;
 mod roll;
 mod wanted;
+mod words;
 
 pub use groups::Groups;
 pub use index::Index;

@@ -2,7 +2,7 @@
 
 ghost use Rattle.std.specs.Prelude.{◌≡◌, ℕ, IfOk, OnOk, false, option_copied, true};
 ghost use Rattle.std.specs.Bool.{OnFalse, OnTrue};
-ghost use Rattle.ent_index.specs.Groups.{StayUnderBut, is_under};
+ghost use Rattle.ent_index.specs.Groups.{HasNobody, StayUnderBut, is_under};
 ghost use Rattle.ent_index.specs.proofs_only.Grouped.{roll_under};
 
 use crate::roll::Roll;
@@ -18,7 +18,9 @@ pub(crate) struct Names {
 
 impl Names {
     /// No names, for which nothing is allocated.
-    pub(crate) fn new(alloc: Global) -> Names {
+    pub(crate) fn new(alloc: Global) -> Names
+        ensures { HasNobody result }
+    {
         Names {
             rolls: BTreeMap::new(alloc),
         }
@@ -65,6 +67,7 @@ impl Names {
     // Takes a cell out under a name, and tells whether there is no other one. It takes no memory.
     fn take_one(&mut self, name: &Text, cell: u32) -> bool
         ensures stay { StayUnderBut cell self.old self.new }
+        ensures gone { is_under self.new name.now cell ≡ false }
         ensures last { OnTrue result ((c : ℕ) → is_under self.new name.now c ≡ false) }
     {
         match self.rolls.get_mut(name) {
@@ -78,7 +81,8 @@ impl Names {
 
     /// Takes a cell out under a name. The others stay. It takes no memory.
     pub(crate) fn take(&mut self, name: &Text, cell: u32)
-        ensures { StayUnderBut cell self.old self.new }
+        ensures stay { StayUnderBut cell self.old self.new }
+        ensures gone { is_under self.new name.now cell ≡ false }
     {
         let is_last = self.take_one(name, cell);
         if !is_last {

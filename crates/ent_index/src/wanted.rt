@@ -1,9 +1,11 @@
 //! What cells are sought by.
 
 ghost use Rattle.std.specs.Prelude.{◌≡◌, IfOk, OnOk};
+ghost use Rattle.std.specs.List.{list_any};
 ghost use Rattle.ent_index.specs.Groups.{AreWanted, is_wanted};
 ghost use Rattle.ent_index.specs.proofs_only.Groups.{AddsKey};
 
+use crate::numbers::Numbers;
 use ent_eval::{Question, Questions, ReadKey, Readers};
 use ent_values::Text;
 use std::alloc::{AllocError, Global};
@@ -36,7 +38,7 @@ impl<'k> Wanted<'k> {
     /// Whether a listed request that asks the questions of some numbers reads it.
     pub(crate) fn is_read(
         &self,
-        numbers: &[u32],
+        numbers: &Numbers,
         person: &Text,
         action: &Text,
         resource: &Text,
@@ -45,8 +47,26 @@ impl<'k> Wanted<'k> {
     {
         self.readers
             .have(self.key.entity(), person, action, resource)
-            && numbers.contains(&self.number)
+            && numbers.contains(self.number)
     }
+}
+
+/// Whether a listed request that asks the questions of some numbers reads one of those.
+pub(crate) fn is_one_read(
+    wanted: &[Wanted<'_>],
+    numbers: &Numbers,
+    person: &Text,
+    action: &Text,
+    resource: &Text,
+) -> bool
+    ensures { result ≡ list_any (is_wanted person.now action.now resource.now numbers.now) wanted.now }
+{
+    for one in wanted {
+        if one.is_read(numbers, person, action, resource) {
+            return true;
+        }
+    }
+    false
 }
 
 // Puts last what the readers of a key are sought by, if its question has a number.

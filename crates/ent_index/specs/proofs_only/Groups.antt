@@ -1,8 +1,6 @@
 -- Words of the contracts of groups that only their own crate needs.
 use Rattle.std.specs.Prelude.{◌≡◌, ◌||◌, ℕ, List, Option, None, Some, true}
-use Rattle.std.specs.BTreeSet.{BTreeSet, contains}
 use Rattle.std.specs.List.{list_any}
-use Rattle.std.specs.Ordering.{nat_cmp}
 use Rattle.ent_eval.specs.declared.key.ReadKey.{ReadKey}
 use Rattle.ent_eval.specs.declared.question.Question.{Question}
 use Rattle.ent_eval.specs.declared.readers.Place.{Place}
@@ -15,26 +13,31 @@ use Rattle.ent_index.specs.declared.names.Names.{Names}
 use Rattle.ent_index.specs.declared.wanted.Wanted.{Wanted}
 use Rattle.ent_index.specs.Groups.{IsNamed, holds, is_among, is_member, is_wanted, numbers_of}
 
--- a set has the cells of another
-abbrev pub HasMore : BTreeSet ℕ → BTreeSet ℕ → Type 0
-HasMore old new = (c : ℕ) → contains nat_cmp old c ≡ true → contains nat_cmp new c ≡ true
+-- each of some cells is among others
+abbrev pub HasMore : List ℕ → List ℕ → Type 0
+HasMore old new = (c : ℕ) → is_member old c ≡ true → is_member new c ≡ true
 
--- a set has these cells
-abbrev pub HasAll : List ℕ → BTreeSet ℕ → Type 0
-HasAll cells set = (c : ℕ) → is_member cells c ≡ true → contains nat_cmp set c ≡ true
+-- all these cells are there
+abbrev pub HasAll : List ℕ → List ℕ → Type 0
+HasAll cells all = (c : ℕ) → is_member cells c ≡ true → is_member all c ≡ true
 
-abbrev pub HasAllOf : Option (List ℕ) → BTreeSet ℕ → Type 0
-HasAllOf None set = Unit {0}
-HasAllOf (Some cells) set = HasAll cells set
+abbrev pub HasAllOf : Option (List ℕ) → List ℕ → Type 0
+HasAllOf None all = Unit {0}
+HasAllOf (Some cells) all = HasAll cells all
 
--- a set has the cells whose groups have the question of a number
-abbrev pub HasAsking : Groups → ℕ → BTreeSet ℕ → Type 0
-HasAsking groups n set = (g c : ℕ) → holds groups g c ≡ true → is_among (numbers_of groups g) n ≡ true → contains nat_cmp set c ≡ true
+-- a cell is one of those that there may be
+abbrev pub IsIn : Option (List ℕ) → ℕ → Type 0
+IsIn None c = ⊥
+IsIn (Some cells) c = is_member cells c ≡ true
 
--- a set has each cell that reads what is wanted
-abbrev pub CoversOne : Groups → Wanted → BTreeSet ℕ → Type 0
-CoversOne groups w set = (person action resource : List ℕ) (g c : ℕ) → IsNamed groups person action resource c → holds groups g c ≡ true
-    → is_wanted person action resource (numbers_of groups g) w ≡ true → contains nat_cmp set c ≡ true
+-- there are the cells whose groups have the question of a number
+abbrev pub HasAsking : Groups → ℕ → List ℕ → Type 0
+HasAsking groups n all = (g c : ℕ) → holds groups g c ≡ true → is_among (numbers_of groups g) n ≡ true → is_member all c ≡ true
+
+-- there is each cell that reads what is wanted
+abbrev pub CoversOne : Groups → Wanted → List ℕ → Type 0
+CoversOne groups w all = (person action resource : List ℕ) (g c : ℕ) → IsNamed groups person action resource c → holds groups g c ≡ true
+    → is_wanted person action resource (numbers_of groups g) w ≡ true → is_member all c ≡ true
 
 -- the names at a place
 abbrev pub names_at : Place → Groups → Names

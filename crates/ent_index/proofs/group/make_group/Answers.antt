@@ -10,8 +10,7 @@ returns-clause-there c = made_there c.args.groups.now c.insert.new.groups c.in_o
 
 pub returns-clause-numbers : goal.returns-clause-numbers
 returns-clause-numbers c =
-    made_numbers c.args.groups.now c.insert.new.groups c.in_ok-number.number _ c.in_ok-number.ensures.ok
-    ∙ c.from_vec-numbers.ensures ∙ c.in_ok-copied.ensures.items
+    made_numbers c.args.groups.now c.insert.new.groups c.in_ok-number.number _ c.in_ok-number.ensures.ok ∙ c.in_ok-numbers.ensures
 
 pub returns-clause-stay : goal.returns-clause-stay
 returns-clause-stay c = made_stay c.args.groups.now c.insert.new.groups c.in_ok-number.number _ c.in_ok-number.ensures.free c.in_ok-number.ensures.ok

@@ -1,11 +1,15 @@
-use Rattle.std.proofs.Common.{ap, ◌∙◌}
+use Rattle.std.proofs.Common.{ap, rules, ◌∙◌}
+use Rattle.std.specs.Prelude.{◌||◌}
+use Rattle.ent_index.proofs.Rolled.{one_cell, one_word, put_there}
 use Rattle.ent_index.specs.Groups.{is_member}
-use Rattle.ent_index.proofs.Members.{put_stay, put_there}
 use Rattle.ent_index.proofs.roll.Roll.put.Goals as goal
 
-pub returns-clause-there : goal.returns-clause-there
-returns-clause-there c = put_there c.self.inside.cells.keys c.insert.new.self.keys c.args.cell c.in_ok-insert.ensures.updates.0
+pub put_word-requires : goal.put_word-requires
+put_word-requires c = one_word c.args.cell (search rules)
 
-pub returns-clause-stay : goal.returns-clause-stay
-returns-clause-stay c =
-    λ q h. put_stay c.self.inside.cells.keys c.insert.new.self.keys c.args.cell c.in_ok-insert.ensures.updates.0 q (ap (λ cells. is_member cells q) c.self.view_is ∙ h)
+pub returns-clause-cells : goal.returns-clause-cells
+returns-clause-cells c = λ q. c.in_ok-put_word.ensures.cells q ∙ ap (λ b. is_member c.args.self.now q || b) (one_cell c.args.cell q)
+
+pub returns-clause-there : goal.returns-clause-there
+returns-clause-there c =
+    c.in_ok-put_word.ensures.cells c.args.cell ∙ ap (λ b. is_member c.args.self.now c.args.cell || b) (one_cell c.args.cell c.args.cell) ∙ put_there (is_member c.args.self.now c.args.cell) c.args.cell
