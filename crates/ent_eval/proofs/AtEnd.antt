@@ -1,9 +1,8 @@
 -- What the notes say of an evaluation at its end.
-use Rattle.std.proofs.Common.{◌≡◌, ℕ, Bool, true, false, ◌||◌, List, [], ◌∷◌, ◌++◌, refl, sym, ap, ◌∙◌, append_assoc, Option, Some, None}
+use Rattle.std.proofs.Common.{◌≡◌, ℕ, Bool, true, false, ◌||◌, List, [], ◌∷◌, ◌++◌, refl, sym, ap, ◌∙◌, Option, Some, None}
 use Rattle.std.specs.Prelude.{if◌then◌else◌}
 use Rattle.std.specs.List.{list_any}
 use Rattle.std.specs.Option.{option_or}
-use Rattle.std.proofs.lemmas.List.{append-nil}
 use Rattle.ent_eval.specs.declared.cause.Cause.{Cause}
 use Rattle.ent_eval.specs.declared.causes.Causes.{Causes}
 use Rattle.ent_eval.specs.declared.question.Question.{Question}
@@ -25,13 +24,14 @@ no_rule (Some id) = refl
 abbrev outside : List Cause → Causes
 outside told = record { path = []; rule = None; told = told }
 
--- the causes are those that were noted
-pub told_causes : (n : Notes) (told : List Cause) (ns : List Note) → n.causes ≡ Some (outside told) → (noting n ns).causes ≡ Some (outside (told ++ causes_in ns))
-told_causes n told [] is = is ∙ ap (λ cs. Some (outside cs)) (sym (append-nil told))
+-- the causes are those that were noted, each once
+pub told_causes : (n : Notes) (told : List Cause) (ns : List Note) → n.causes ≡ Some (outside told)
+    → (noting n ns).causes ≡ Some (outside (told_once told (causes_in ns)))
+told_causes n told [] is = is
 told_causes n told (asks q ∷ ns) is = told_causes (with_note n (asks q)) told ns is
 told_causes n told (fails c ∷ ns) is =
-    told_causes (with_note n (fails c)) (told ++ c ∷ []) ns (ap (λ o. with_failure o c) is ∙ ap (λ rule. Some (outside (told ++ record c { rule = rule } ∷ []))) (no_rule c.rule))
-    ∙ ap (λ cs. Some (outside cs)) (append_assoc told (c ∷ []) (causes_in ns))
+    told_causes (with_note n (fails c)) (with_cause told c) ns
+    (ap (λ o. with_failure o c) is ∙ ap (λ rule. Some (outside (with_cause told (record c { rule = rule })))) (no_rule c.rule))
 
 any_more : (x : Cause) (xs causes : List Cause) → are_any (told_once (x ∷ xs) causes) ≡ true
 any_more x xs [] = refl
@@ -58,8 +58,3 @@ failed_is n (fails c ∷ ns) = failed_is (with_note n (fails c)) ns ∙ at n.fai
 -- something failed where there is a cause
 pub told_failed : (n : Notes) (ns : List Note) → n.failed ≡ false → (noting n ns).failed ≡ are_any (told_once [] (causes_in ns))
 told_failed n ns is = failed_is n ns ∙ ap (λ b. b || are_any (causes_in ns)) is ∙ any_once (causes_in ns)
-
--- one cause more
-pub once_append : (causes first : List Cause) (last : Cause) → told_once causes (first ++ last ∷ []) ≡ with_cause (told_once causes first) last
-once_append causes [] last = refl
-once_append causes (c ∷ first) last = once_append (with_cause causes c) first last

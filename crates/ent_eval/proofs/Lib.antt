@@ -26,6 +26,7 @@ pub mod KeysAsked
 pub mod Left
 pub mod ListedBags
 pub mod Literals
+pub mod MetBefore
 pub mod NamedCauses
 pub mod NamedNodes
 pub mod Noting

@@ -11,6 +11,9 @@ use Rattle.ent_combine.specs.declared.outcome.Outcome.{Outcome}
 use Rattle.ent_combine.specs.declared.outcome.Outcome.TheVariants as outcome
 use Rattle.ent_combine.specs.contracts.outcome.IndKindPartialEq.TheImpl as inds
 use Rattle.ent_combine.specs.contracts.outcome.OutcomePartialEq.TheImpl as outcomes
+use Rattle.ent_functions.specs.declared.function.Function.{Function}
+use Rattle.ent_functions.proofs.Same.{same_function-Decides}
+use Rattle.ent_functions.specs.Same.{same_function}
 use Rattle.ent_policy.specs.declared.key.DocKey.{DocKey}
 use Rattle.ent_policy.specs.declared.key.Reference.{Reference}
 use Rattle.ent_policy.specs.Same as documents
@@ -39,12 +42,12 @@ use Rattle.ent_eval.specs.declared.cause.Cause.{Cause}
 use Rattle.ent_eval.specs.declared.key.ReadKey.{ReadKey}
 use Rattle.ent_eval.specs.contracts.key.ReadKey as key
 use Rattle.ent_eval.specs.contracts.key.ReadKeyEq.TheImpl.Laws as keys
-use Rattle.ent_eval.specs.contracts.question.Question as question
 use Rattle.ent_eval.specs.contracts.question.QuestionEq.TheImpl.Laws as questions
 use Rattle.ent_eval.specs.declared.question.Question.{Question}
 use Rattle.ent_eval.specs.Causes.{same_cause}
 use Rattle.ent_eval.specs.Same.{same_answer, same_key}
-use Rattle.ent_eval.specs.proofs_only.Telling.{asked-tells, cause-tells, path-Decides}
+use Rattle.ent_eval.specs.proofs_only.Hashed.{question-tells}
+use Rattle.ent_eval.specs.proofs_only.Telling.{cause-tells, path-Decides}
 use Rattle.ent_eval.specs.proofs_only.Noted.{same_question}
 
 -- two tests decide two facts
@@ -140,9 +143,6 @@ key-Decides = decides keys.laws-law key-tells
 
 -- ---- questions
 
-question-tells : (q : Question) → Tells same_question q
-question-tells = enum question.enum _ (last (decided same_reference-Decides), (last asked-tells, tt))
-
 pub question-Decides : (a b : Question) → Decides (same_question a b) (a ≡ b)
 question-Decides = decides questions.laws-law question-tells
 
@@ -153,3 +153,9 @@ cause-Decides = decides causes.laws-law cause-tells
 
 pub equal_references : (a b : Reference) → documents.same_reference a b ≡ true → a ≡ b
 equal_references a b h = (same_reference-Decides a b).0 h
+
+pub equal_paths : (p q : List DocKey) → pointwise documents.same_key p q ≡ true → p ≡ q
+equal_paths p q h = (path-Decides p q).0 h
+
+pub equal_functions : (f g : Function) → same_function f g ≡ true → f ≡ g
+equal_functions f g h = (same_function-Decides f g).0 h

@@ -9,6 +9,7 @@ use Rattle.ent_eval.specs.declared.cause.Cause.{Cause}
 use Rattle.ent_eval.specs.declared.causes.Causes.{Causes}
 use Rattle.ent_eval.specs.declared.walk.Walk.{Walk}
 use Rattle.ent_eval.specs.declared.request.Request.{Request}
+use Rattle.ent_eval.specs.Causes.{with_cause}
 use Rattle.ent_eval.specs.Looks.{Looks}
 use Rattle.ent_eval.specs.Note.{Note, asks, fails, note_of_rule, note_within}
 use Rattle.ent_eval.specs.Part.{Part, within}
@@ -33,7 +34,7 @@ without_last xs x =
 failed_within : (key : DocKey) (o : Option Causes) (c : Cause) → with_failure (option_map (into key) o) c ≡ option_map (into key) (with_failure o (record c { path = key ∷ c.path }))
 failed_within key None c = refl
 failed_within key (Some k) c =
-    ap (λ path. Some (record k { path = k.path ++ key ∷ []; told = k.told ++ record c { path = path; rule = option_or c.rule k.rule } ∷ [] })) (append_assoc k.path (key ∷ []) c.path)
+    ap (λ path. Some (record k { path = k.path ++ key ∷ []; told = with_cause k.told (record c { path = path; rule = option_or c.rule k.rule }) })) (append_assoc k.path (key ∷ []) c.path)
 
 noted_within : (n : Notes) (key : DocKey) (x : Note) → with_note (entering n key) x ≡ entering (with_note n (note_within key x)) key
 noted_within n key (asks q) = refl
@@ -55,7 +56,7 @@ of rule k = record k { rule = rule }
 
 failed_of : (id : List ℕ) (o : Option Causes) (c : Cause) → with_failure (option_map (of (Some id)) o) c ≡ option_map (of (Some id)) (with_failure o (record c { rule = option_or c.rule (Some id) }))
 failed_of id None c = refl
-failed_of id (Some k) c = ap (λ rule. Some (record k { rule = Some id; told = k.told ++ record c { path = k.path ++ c.path; rule = rule } ∷ [] })) (at c.rule) where
+failed_of id (Some k) c = ap (λ rule. Some (record k { rule = Some id; told = with_cause k.told (record c { path = k.path ++ c.path; rule = rule }) })) (at c.rule) where
   at : (r : Option (List ℕ)) → option_or r (Some id) ≡ option_or (option_or r (Some id)) k.rule
   at None = refl
   at (Some other) = refl

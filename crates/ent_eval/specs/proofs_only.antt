@@ -4,6 +4,7 @@ pub mod Expression
 pub mod Fed
 pub mod Gathered
 pub mod Given
+pub mod Hashed
 pub mod Hops
 pub mod Judged
 pub mod Lender
@@ -19,6 +20,5 @@ pub mod Remembered
 pub mod Sought
 pub mod Target
 pub mod Telling
-pub mod Texts
 pub mod Typed
 pub mod Uncopied

@@ -271,7 +271,7 @@ fn is_reference(questions: &IndexSet<Question>, number: usize, reference: &Refer
 
 // Whether two references are equal.
 #[tactic(auto, using(crate::proofs::Sames::equal_references))]
-fn same_reference(first: &Reference, second: &Reference) -> bool
+pub(crate) fn same_reference(first: &Reference, second: &Reference) -> bool
     ensures { IsTrue result → first.now ≡ second.now }
 {
     first == second

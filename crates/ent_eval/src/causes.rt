@@ -1,22 +1,23 @@
 //! What is told of the parts that failed.
 
-ghost use Rattle.std.specs.Prelude.{◌≡◌, ◌∷◌, ◌++◌, ◌-◌, [], None, IfOk, OnOk, length, take};
+ghost use Rattle.std.specs.Prelude.{◌≡◌, ◌∷◌, ◌++◌, ◌-◌, [], None, OnOk, length, take};
 ghost use Rattle.ent_eval.specs.Note.{status_of};
 ghost use Rattle.ent_eval.specs.proofs_only.Noted.{with_failed};
 ghost use Rattle.ent_eval.specs.proofs_only.Reason.{what_of};
 
-use crate::answer::copied_text;
-use crate::cause::{Cause, Reason};
-use ent_policy::{DocKey, Kind, Version};
-use ent_values::{Items, Text};
+use crate::cause::Reason;
+use crate::distinct::Distinct;
+use crate::trail::Trail;
+use ent_policy::{Kind, Version};
+use ent_values::Text;
 use std::alloc::{AllocError, Global};
 
-// Where an evaluation is, and what failed so far: the policies from the root on, and the rule.
+// Where an evaluation is, and what failed so far, each cause once: the policies from the root on, and the rule.
 #[derive(Drop)]
 pub(crate) struct Causes {
-    pub(crate) path: Items<DocKey>,
+    pub(crate) path: Trail,
     pub(crate) rule: Option<Text>,
-    pub(crate) told: Items<Cause>,
+    pub(crate) told: Distinct,
 }
 
 impl Causes {
@@ -25,13 +26,14 @@ impl Causes {
         ensures { result ≡ record { path = []; rule = None; told = [] } }
     {
         Causes {
-            path: Items::new(alloc),
+            path: Trail::new(alloc),
             rule: None,
-            told: Items::new(alloc),
+            told: Distinct::new(alloc),
         }
     }
 
     // Something failed.
+    #[tactic(auto, using(crate::proofs::MetBefore::failed_here))]
     pub(crate) fn add(&mut self, alloc: Global, reason: Reason<'_>) -> Result<(), AllocError>
         ensures { OnOk result (self.new ≡ with_failed self.old (record {
           path = [];
@@ -40,13 +42,8 @@ impl Causes {
           what = what_of reason.entry;
         })) }
     {
-        let cause = Cause {
-            path: copied_path(alloc, self.path.as_slice())?,
-            rule: copied_text(alloc, &self.rule)?,
-            status: reason.status(),
-            what: reason.what(alloc)?,
-        };
-        self.told.push(cause)
+        self.told.note(alloc, &self.path, &self.rule, reason)?;
+        Ok(())
     }
 
     // Goes into a policy or a set.
@@ -61,28 +58,13 @@ impl Causes {
           path = self.old.path ++ record { kind = kind; id = id.now; version = version.now } ∷ [];
         }) }
     {
-        self.path.push(DocKey {
-            kind,
-            id: id.copy(alloc)?,
-            version: version.copy(),
-        })
+        self.path.enter(alloc, kind, id, version)
     }
 
     // And out of it.
     pub(crate) fn leave(&mut self)
         ensures { self.new ≡ record self.old { path = take (length self.old.path - 1) self.old.path } }
     {
-        self.path.truncate(self.path.len().saturating_sub(1));
+        self.path.leave();
     }
-}
-
-// An equal path.
-fn copied_path(alloc: Global, path: &[DocKey]) -> Result<Items<DocKey>, AllocError>
-    ensures { IfOk result (λ p. p ≡ path.now) }
-{
-    let mut copies = Items::with_capacity(alloc, path.len())?;
-    for key in path {
-        copies.push(key.copy(alloc)?)?;
-    }
-    Ok(copies)
 }

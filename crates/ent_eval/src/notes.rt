@@ -2,7 +2,6 @@
 
 ghost use Rattle.std.specs.Prelude.{◌≡◌, [], IfOk, IfSome, OnOk, Some, None, false, if◌then◌else◌};
 ghost use Rattle.std.specs.List.{flat_map};
-ghost use Rattle.ent_eval.specs.Causes.{told_once};
 ghost use Rattle.ent_eval.specs.Note.{asks, fails, status_of};
 ghost use Rattle.ent_eval.specs.Noted.{noted};
 ghost use Rattle.ent_eval.specs.Questions.{AreNumbers, BeginsWith, at_numbers};
@@ -16,7 +15,6 @@ ghost use Rattle.ent_eval.specs.declared.question.Question.TheVariants.{Of, Ref,
 use crate::asking::Asking;
 use crate::cause::{Cause, Reason};
 use crate::causes::Causes;
-use crate::distinct::told_once;
 use crate::path::Path;
 use crate::paths::Paths;
 use crate::questions::Questions;
@@ -151,11 +149,11 @@ impl Notes {
 
     // What failed, each cause once, if that is asked for.
     pub(crate) fn take_causes(&mut self, alloc: Global) -> Result<Items<Cause>, AllocError>
-        ensures { IfOk result (λ causes. IfSome self.old.causes (λ k. causes ≡ told_once [] k.told)) }
+        ensures { IfOk result (λ causes. IfSome self.old.causes (λ k. causes ≡ k.told)) }
     {
         match mem::replace(&mut self.causes, None) {
             None => Ok(Items::new(alloc)),
-            Some(causes) => told_once(alloc, causes.told),
+            Some(causes) => causes.told.into_items(alloc),
         }
     }
 

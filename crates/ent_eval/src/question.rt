@@ -1,17 +1,15 @@
 //! What an evaluation asks.
 
-ghost use Rattle.std.specs.Hash as fed;
 ghost use Rattle.std.specs.Prelude.{◌≡◌, IfOk, IsTrue};
-ghost use Rattle.std.specs.Cmp.Rules.{hashing};
-ghost use Rattle.std.proofs.Common.{rules};
 ghost use Rattle.ent_eval.specs.QuestionOf.{of_environment, question_of};
 ghost use Rattle.ent_eval.specs.Sources.{asked_of, designator_for, key_for};
+ghost use Rattle.ent_eval.specs.proofs_only.Hashed.{question_alike, question_input};
 ghost use Rattle.ent_eval.specs.proofs_only.Sought.{designator_of};
-ghost use Rattle.ent_eval.specs.proofs_only.Texts.{text_of};
 ghost use Rattle.ent_eval.specs.declared.key.ReadKey.TheVariants.{Attr};
 ghost use Rattle.ent_eval.specs.declared.question.Question.TheVariants.{Of};
 
 use crate::answer::copied_text;
+use crate::hashed::{feed_attribute, feed_reference};
 use crate::key::ReadKey;
 use crate::own::{Sought, issuer_of, same_issuer, same_text};
 use crate::uris::{CURRENT_DATE, CURRENT_DATE_TIME, CURRENT_TIME, ENVIRONMENT};
@@ -161,25 +159,20 @@ impl Question {
             Question::Of(asked) => Ok(Question::Of(asked.copy(alloc)?)),
         }
     }
-
-    // The text that most questions differ in.
-    fn text(&self) -> &str
-        ensures { result.now ≡ text_of self.now }
-    {
-        match self {
-            Question::Root => "",
-            Question::Ref(reference) => reference.id.as_str(),
-            Question::Of(asked) => asked.attribute.as_str(),
-        }
-    }
 }
 
 impl Hash for Question {
-    ghost hash_input = { λ q. fed.str (text_of q) };
+    ghost hash_input = { question_input };
 
-    ghost respects_eq = { Prim.search (hashing, rules) };
+    ghost respects_eq = { question_alike };
 
     fn hash<H: Hasher>(&self, state: &mut H) {
-        self.text().hash(state);
+        match self {
+            Question::Root => {}
+            Question::Ref(reference) => feed_reference(reference, state),
+            Question::Of(asked) => {
+                feed_attribute(&asked.attribute, &asked.category, &asked.issuer, state);
+            }
+        }
     }
 }

@@ -12,9 +12,9 @@ ghost use Rattle.ent_polform.specs.Written.{value_written};
 ghost use Rattle.ent_held.specs.Attributes.{attributes_text, is_of_entity, module_rows, row_data, rows_of};
 ghost use Rattle.ent_held.specs.proofs_only.Walk.{attributes_data, each_tokens, filled_data};
 
-use crate::members::{begin_list, end_list, write_module, write_text};
+use crate::members::{begin_list, end_list, write_module};
 use ent_finder::{Attributes, Row, RowKey};
-use ent_json::JsonText;
+use ent_json::{JsonText, write_text};
 use ent_polform::write_value_text;
 use ent_values::{Text, Value};
 use std::alloc::{AllocError, Global};

@@ -9,11 +9,10 @@ ghost use Rattle.ent_held.specs.Causes.{asked_data, cause_data, causes_data, fau
 ghost use Rattle.ent_held.specs.Causes.{most_told, untold, what_data};
 
 use crate::attributes::write_issuer;
-use crate::members::write_text;
 use crate::paths::{status_text, write_path, write_rule};
 use ent_eval::{Asked, Cause, What};
 use ent_functions::{Fault, Function};
-use ent_json::JsonText;
+use ent_json::{JsonText, write_text};
 use ent_polform::write_reference_text;
 use ent_policy::Reference;
 use std::alloc::{AllocError, Global};
@@ -108,7 +107,7 @@ fn write_cause(alloc: Global, out: &mut JsonText, cause: &Cause) -> Result<(), A
 {
     out.begin_object()?;
     out.key("path")?;
-    write_path(alloc, out, cause.path.as_slice())?;
+    write_path(out, cause.path.as_slice())?;
     out.key("rule")?;
     write_rule(out, &cause.rule)?;
     write_text(out, "status", status_text(cause.status))?;

@@ -7,15 +7,15 @@ ghost use Rattle.ent_finder.specs.Entry.{entry_of};
 ghost use Rattle.ent_finder.specs.Slots.{held, module_at};
 ghost use Rattle.ent_json.specs.Text.{tokens_of};
 ghost use Rattle.ent_polform.specs.Written.{written};
-ghost use Rattle.ent_polform.specs.proofs_only.Texts.{optional_tokens};
+ghost use Rattle.ent_json.specs.proofs_only.Keyed.{optional_tokens};
 ghost use Rattle.ent_reach.specs.Reached.{has_place};
 ghost use Rattle.ent_held.specs.Documents.{document_data, documents, documents_text, module_documents};
 ghost use Rattle.ent_held.specs.proofs_only.Walk.{documents_data, each_tokens, is_asked, slot_data};
 
-use crate::members::{begin_list, end_list, write_module, write_text};
+use crate::members::{begin_list, end_list, write_module};
 use ent_eval::Pdp;
 use ent_finder::{Attributes, DocSlot, Policies};
-use ent_json::JsonText;
+use ent_json::{JsonText, write_text};
 use ent_polform::write_document_text;
 use ent_policy::{DocKey, Document};
 use ent_reach::{Place, Reached, reached_places};

@@ -17,10 +17,10 @@ ghost use Rattle.ent_values.specs.Types.{uri_of};
 ghost use Rattle.ent_held.specs.Facts.{fact_data, facts_data, found_data, or_null, values_data};
 
 use crate::attributes::{write_each_value, write_issuer};
-use crate::members::{write_module, write_text};
+use crate::members::write_module;
 use ent_eval::{Pdp, ReadKey, Reads};
 use ent_finder::{AttrKey, Attributes, Policies};
-use ent_json::JsonText;
+use ent_json::{JsonText, write_text};
 use ent_polform::{write_reference_text, write_value_text};
 use ent_policy::{Document, Reference};
 use ent_values::{Bag, Value};

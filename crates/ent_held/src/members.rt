@@ -6,14 +6,6 @@ ghost use Rattle.json.specs.Token as token;
 use ent_json::JsonText;
 use std::alloc::AllocError;
 
-/// Writes a text at a key.
-pub(crate) fn write_text(out: &mut JsonText, key: &str, text: &str) -> Result<(), AllocError>
-    ensures { OnOk result (out.new ≡ out.old ++ token.key key.now ∷ token.string text.now ∷ []) }
-{
-    out.key(key)?;
-    out.string(text)
-}
-
 /// Writes the number of a module at its key.
 pub(crate) fn write_module(out: &mut JsonText, number: usize) -> Result<(), AllocError>
     ensures { OnOk result (out.new ≡ out.old ++ token.key (codes "module") ∷ token.number (decimal number) ∷ []) }

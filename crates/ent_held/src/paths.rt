@@ -9,7 +9,7 @@ use ent_eval::Status;
 use ent_json::JsonText;
 use ent_policy::DocKey;
 use ent_values::Text;
-use std::alloc::{AllocError, Global};
+use std::alloc::AllocError;
 
 /// The word of a status: the last part of its identifier (appendix B.8).
 pub fn status_text(status: Status) -> &'static str
@@ -23,23 +23,22 @@ pub fn status_text(status: Status) -> &'static str
 }
 
 /// Writes a document on a path.
-fn write_key(alloc: Global, out: &mut JsonText, key: &DocKey) -> Result<(), AllocError>
+fn write_key(out: &mut JsonText, key: &DocKey) -> Result<(), AllocError>
     ensures { OnOk result (out.new ≡ out.old ++ tokens_of (key_data key.now)) }
 {
-    let version = key.version.text(alloc)?;
     out.begin_array()?;
     out.string(key.kind.word())?;
     out.string(key.id.as_str())?;
-    out.string(version.as_str())?;
+    out.dotted(key.version.numbers())?;
     out.end_array()
 }
 
 /// Writes the documents on a path, to the end of their list.
-fn write_keys(alloc: Global, out: &mut JsonText, keys: &[DocKey]) -> Result<(), AllocError>
+fn write_keys(out: &mut JsonText, keys: &[DocKey]) -> Result<(), AllocError>
     ensures { OnOk result (out.new ≡ out.old ++ items_tokens_of (map key_data keys.now)) }
 {
     for key in keys {
-        write_key(alloc, out, key)?;
+        write_key(out, key)?;
     }
     out.end_array()
 }
@@ -49,11 +48,11 @@ fn write_keys(alloc: Global, out: &mut JsonText, keys: &[DocKey]) -> Result<(), 
 /// # Errors
 ///
 /// `AllocError` if memory runs out; a front of the path may have been written.
-pub fn write_path(alloc: Global, out: &mut JsonText, keys: &[DocKey]) -> Result<(), AllocError>
+pub fn write_path(out: &mut JsonText, keys: &[DocKey]) -> Result<(), AllocError>
     ensures { OnOk result (out.new ≡ out.old ++ tokens_of (path_data keys.now)) }
 {
     out.begin_array()?;
-    write_keys(alloc, out, keys)
+    write_keys(out, keys)
 }
 
 /// Writes a rule's id, or null.

@@ -35,7 +35,7 @@ by_order p among = λ i. list_any (λ other. sym (matches_eq-law p other) i) amo
 
 -- ---- what stands among places
 
-here : (p : Place) (among : List Place) → has_place p (p ∷ among) ≡ true
+pub here : (p : Place) (among : List Place) → has_place p (p ∷ among) ≡ true
 here p among = ap (λ b. b || has_place p among) ((place-Decides p p).1 refl)
 
 there : (p x : Place) (among : List Place) → has_place p among ≡ true → has_place p (x ∷ among) ≡ true

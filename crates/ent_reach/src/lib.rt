@@ -3,6 +3,7 @@
 
 mod place;
 mod reached;
+mod search;
 mod walk;
 
 pub use place::Place;

@@ -1,13 +1,14 @@
 //! The documents to which the root leads.
 
-ghost use Rattle.std.specs.Prelude.{◌≡◌, ◌++◌, ◌||◌, IfOk, OnOk, map};
-ghost use Rattle.std.specs.List.{flat_map};
+ghost use Rattle.std.specs.Prelude.{◌≡◌, IfOk, map};
 ghost use Rattle.ent_finder.specs.Slots.{held};
-ghost use Rattle.ent_reach.specs.Reached.{has_place, is_reached, places_found, references_at, roots};
+ghost use Rattle.ent_reach.specs.Reached.{has_place, is_reached, places_found, roots};
 ghost use Rattle.ent_reach.specs.declared.place.Place.{Place};
+ghost use Rattle.ent_reach.specs.proofs_only.Search.{IsSound};
 
 use crate::place::Place;
-use crate::walk::{find, find_at};
+use crate::search::Search;
+use crate::walk::look_at_all;
 use ent_finder::Policies;
 use ent_policy::Reference;
 use std::alloc::{AllocError, Global};
@@ -41,50 +42,26 @@ impl Reached {
     }
 }
 
-/// The places of the documents that are found from those of the first set.
-fn found_from<P: Policies>(
-    alloc: Global,
-    policies: &P,
-    places: &BTreeSet<Place>,
-) -> Result<Vec<Place>, AllocError>
-    ensures { IfOk result (λ found. found.items ≡ places_found (map held (P.slots policies.now))
-        (flat_map (references_at (map held (P.slots policies.now))) places.now.keys)) }
-{
-    let mut found = Vec::new(alloc);
-    for place in places {
-        find_at(alloc, policies, place, &mut found)?;
-    }
-    Ok(found)
-}
-
-/// Adds several places to a set.
-fn add_all(places: &mut BTreeSet<Place>, found: Vec<Place>) -> Result<(), AllocError>
-    ensures { OnOk result ((place : Place)
-        → has_place place places.new.keys ≡ (has_place place places.old.keys || has_place place found.items)) }
-{
-    for place in found {
-        places.insert(place)?;
-    }
-    Ok(())
-}
-
-/// The place of the document that the root finds, if there is a root and it finds one.
+/// Looks for the document of the root, if there is a root.
 fn begin<P: Policies>(
     alloc: Global,
     policies: &P,
     root: &Option<Reference>,
-) -> Result<Vec<Place>, AllocError>
-    ensures { IfOk result (λ found. found.items ≡ places_found (map held (P.slots policies.now)) (roots root.now)) }
+) -> Result<Search, AllocError>
+    ensures sound { IfOk result (IsSound (map held (P.slots policies.now))) }
+    ensures found { IfOk result (λ s. (place : Place) → has_place place s.places.keys
+        ≡ has_place place (places_found (map held (P.slots policies.now)) (roots root.now))) }
 {
-    let mut found = Vec::new(alloc);
+    let mut search = Search::new(alloc);
     if let Some(root) = root {
-        find(alloc, policies, root, &mut found)?;
+        search.look_for(alloc, policies, root)?;
     }
-    Ok(found)
+    Ok(search)
 }
 
 /// The places of the documents to which the root leads, over at most six references in documents: it counts as none of
-/// them, as in an evaluation. Over each number of references each document is walked once at most.
+/// them, as in an evaluation. Over each number of references each document is walked once at most, and each reference
+/// is looked for once.
 ///
 /// # Errors
 ///
@@ -97,11 +74,12 @@ pub fn reached_places<P: Policies>(
     ensures { IfOk result (λ r. (place : Place)
         → has_place place r ≡ is_reached (map held (P.slots policies.now)) root.now place) }
 {
-    let mut places = BTreeSet::new(alloc);
-    add_all(&mut places, begin(alloc, policies, root)?)?;
+    let mut search = begin(alloc, policies, root)?;
     for _ in 0..MOST_HOPS {
-        let found = found_from(alloc, policies, &places)?;
-        add_all(&mut places, found)?;
+        let places = search.found(alloc)?;
+        look_at_all(alloc, policies, places.as_slice(), &mut search)?;
     }
-    Ok(Reached { places })
+    Ok(Reached {
+        places: search.places,
+    })
 }

@@ -1,5 +1,5 @@
 -- How many documents may be followed.
-use Rattle.std.proofs.Common.{◌≡◌, ◌∙◌, ◌+◌, ℕ, zero, suc, List, [], ◌∷◌, Option, Some, None, ap, sym, refl, arith, add-one, get_or, length, map}
+use Rattle.std.proofs.Common.{◌≡◌, ◌∙◌, ◌+◌, ℕ, zero, suc, List, [], ◌∷◌, Some, ap, sym, refl, arith, add-one, get_or, map}
 use Rattle.std.specs.Prelude.{min}
 use Rattle.std.specs.FinMap.{entries}
 use Rattle.std.specs.List.{sum_by}

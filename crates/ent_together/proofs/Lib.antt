@@ -5,5 +5,6 @@ pub mod Flags
 pub mod Levels
 pub mod NoneNamed
 pub mod Numbers
+pub mod Searched
 pub mod Settled
 pub mod Steps

@@ -1,3 +1,4 @@
+pub mod Found
 pub mod Level
 pub mod Root
 pub mod Rows

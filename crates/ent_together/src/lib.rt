@@ -2,6 +2,7 @@
 #![tactic(auto)]
 
 mod counts;
+mod found;
 mod held;
 mod law;
 mod links;

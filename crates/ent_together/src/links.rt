@@ -7,10 +7,12 @@ ghost use Rattle.ent_finder.specs.Finding.{most_recent, names};
 ghost use Rattle.ent_finder.specs.Slots.{held};
 ghost use Rattle.ent_together.specs.Root.{followed};
 ghost use Rattle.ent_together.specs.Together.{has_chain, is_endless};
+ghost use Rattle.ent_together.specs.proofs_only.Found.{AreFound};
 ghost use Rattle.ent_together.specs.proofs_only.Rows.{IsRow, entry_of, flags_after, is_one_set, leads, numbered};
 ghost use Rattle.ent_together.specs.proofs_only.Rows.{rows_lead};
 
 use crate::counts::counts_after;
+use crate::found::Found;
 use crate::held::{Held, held_in};
 use crate::placed::references_of;
 use ent_finder::{MapDocs, PolicyFinderModule};
@@ -29,6 +31,8 @@ pub struct Links {
     pub endless: Vec<bool>,
     /// How many documents may be followed from it over at most so many references as was asked for.
     pub followed: Vec<u64>,
+    /// Which documents the references find.
+    pub found: Found,
 }
 
 /// So many references are followed one after the other, from the document of the root on.
@@ -42,7 +46,7 @@ fn is_named(one: &Held<'_>, reference: &Reference) -> bool
 }
 
 /// The number of the document that a reference finds, if it finds one.
-fn number_found(docs: &MapDocs, all: &[Held<'_>], reference: &Reference) -> Option<usize>
+pub(crate) fn number_found(docs: &MapDocs, all: &[Held<'_>], reference: &Reference) -> Option<usize>
     requires { map entry_of all.now ≡ entries (held docs.now) }
     ensures { option_map (numbered (entries (held docs.now))) result
         ≡ option_map Some (most_recent reference.now (held docs.now)) }
@@ -72,29 +76,41 @@ fn row(
     alloc: Global,
     docs: &MapDocs,
     all: &[Held<'_>],
+    found: &mut Found,
     document: &Document,
 ) -> Result<Vec<usize>, AllocError>
-    requires { map entry_of all.now ≡ entries (held docs.now) }
-    ensures { IfOk result (λ row. IsRow (held docs.now) document.now row.items) }
+    requires listed { map entry_of all.now ≡ entries (held docs.now) }
+    requires found { AreFound (held docs.now) found.old }
+    ensures row { IfOk result (λ row. IsRow (held docs.now) document.now row.items) }
+    ensures found { OnOk result (AreFound (held docs.now) found.new) }
 {
     let placed = references_of(alloc, document)?;
     let mut row = Vec::new(alloc);
     let placed = placed.as_slice();
     for one in placed {
-        put(&mut row, number_found(docs, all, &one.reference))?;
+        let number = found.number(alloc, docs, all, &one.reference)?;
+        put(&mut row, number)?;
     }
     Ok(row)
 }
 
 /// For each document the numbers of those that its references find.
-fn rows(alloc: Global, docs: &MapDocs, all: &[Held<'_>]) -> Result<Vec<Vec<usize>>, AllocError>
-    requires { map entry_of all.now ≡ entries (held docs.now) }
-    ensures { IfOk result (λ rows.
+fn rows(
+    alloc: Global,
+    docs: &MapDocs,
+    all: &[Held<'_>],
+    found: &mut Found,
+) -> Result<Vec<Vec<usize>>, AllocError>
+    requires listed { map entry_of all.now ≡ entries (held docs.now) }
+    requires found { AreFound (held docs.now) found.old }
+    ensures rows { IfOk result (λ rows.
         rows_lead (held docs.now) (map (λ row. row.items) rows.items) ≡ leads (held docs.now)) }
+    ensures found { OnOk result (AreFound (held docs.now) found.new) }
 {
     let mut rows = Vec::new(alloc);
     for one in all {
-        rows.push(row(alloc, docs, all, one.document)?)?;
+        let row = row(alloc, docs, all, found, one.document)?;
+        rows.push(row)?;
     }
     Ok(rows)
 }
@@ -175,9 +191,11 @@ impl Links {
         ensures followed { IfOk result (λ l.
             l.followed.items
             ≡ map (λ e. min (followed (held docs.now) steps e.1) (2 ^ 64 - 1)) (entries (held docs.now))) }
+        ensures found { IfOk result (λ l. AreFound (held docs.now) l.found) }
     {
         let all = held_in(alloc, docs)?;
-        let rows = rows(alloc, docs, all.as_slice())?;
+        let mut found = Found::new(alloc);
+        let rows = rows(alloc, docs, all.as_slice(), &mut found)?;
         let long = flags_after(alloc, rows.as_slice(), hops)?;
         let endless = flags_after(alloc, rows.as_slice(), rows.len())?;
         let followed = counts_after(alloc, rows.as_slice(), steps)?;
@@ -186,6 +204,7 @@ impl Links {
             long,
             endless,
             followed,
+            found,
         })
     }
 }

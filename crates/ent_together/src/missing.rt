@@ -3,20 +3,23 @@
 ghost use Rattle.std.specs.Prelude.{◌≡◌, IfOk, map};
 ghost use Rattle.ent_finder.specs.Slots.{held};
 ghost use Rattle.ent_together.specs.Together.{finds_none, namesakes, unfound};
+ghost use Rattle.ent_together.specs.proofs_only.Found.{AreFound};
 ghost use Rattle.ent_together.specs.proofs_only.Rows.{entry_of};
 
+use crate::found::Found;
 use crate::held::Held;
 use crate::placed::{PlacedReference, references_of};
-use ent_finder::{MapDocs, PolicyFinderModule};
+use ent_finder::MapDocs;
 use ent_policy::{DocKey, Document, Kind, Reference, VersionConstraints};
 use ent_values::Items;
 use std::alloc::{AllocError, Global};
 
 /// Whether a reference finds none of the documents.
-fn finds_none(docs: &MapDocs, placed: &PlacedReference) -> bool
+fn finds_none(docs: &MapDocs, found: &Found, placed: &PlacedReference) -> bool
+    requires { AreFound (held docs.now) found.now }
     ensures { result ≡ finds_none (held docs.now) placed.now }
 {
-    docs.find_reference(&placed.reference).is_none()
+    !found.finds(docs, &placed.reference)
 }
 
 /// The references of a document that find none of the documents of a module, in the order in which they stand
@@ -32,11 +35,24 @@ pub fn unfound(
 ) -> Result<Items<PlacedReference>, AllocError>
     ensures { IfOk result (λ all. all ≡ unfound (held docs.now) document.now) }
 {
+    unfound_among(alloc, docs, &Found::new(alloc), document)
+}
+
+/// The same, where some references were looked for before.
+pub(crate) fn unfound_among(
+    alloc: Global,
+    docs: &MapDocs,
+    found: &Found,
+    document: &Document,
+) -> Result<Items<PlacedReference>, AllocError>
+    requires { AreFound (held docs.now) found.now }
+    ensures { IfOk result (λ all. all ≡ unfound (held docs.now) document.now) }
+{
     let placed = references_of(alloc, document)?;
     let mut all = Items::new(alloc);
     let placed = placed.as_slice();
     for one in placed {
-        if finds_none(docs, one) {
+        if finds_none(docs, found, one) {
             all.push(one.copy(alloc)?)?;
         }
     }

@@ -4,12 +4,13 @@ ghost use Rattle.std.specs.Prelude.{◌≡◌, ◌+◌, ◌<◌, IfOk, OnOk, fal
 ghost use Rattle.std.specs.FinMap.{entries};
 ghost use Rattle.ent_finder.specs.Slots.{held};
 ghost use Rattle.ent_together.specs.Root.{root_faults};
+ghost use Rattle.ent_together.specs.proofs_only.Found.{AreFound};
 ghost use Rattle.ent_together.specs.Together.{far, faults_together, is_endless, is_long, unfound};
 
 use crate::counts::count_at;
 use crate::held::{Held, held_in};
 use crate::links::{Links, MOST_HOPS, is_set};
-use crate::missing::unfound;
+use crate::missing::unfound_among;
 use crate::root::unreached;
 use crate::sentences::{endless_sentence, named, unfound_sentence, unreached_sentence};
 use crate::state::{State, put};
@@ -162,14 +163,16 @@ impl<'a> Together<'a> {
     fn tell_unfound(
         &self,
         all: &[Held<'_>],
+        links: &Links,
         one: &Held<'_>,
         lines: &mut Vec<String>,
     ) -> Result<(), AllocError>
+        requires { AreFound (held self.now.state.docs) links.now.found }
         ensures { OnOk result (vec_len lines.new
             ≡ vec_len lines.old + length (unfound (held self.now.state.docs) one.now.document.now)) }
     {
         let alloc = self.alloc;
-        let unfound = unfound(alloc, &self.state.docs, one.document)?;
+        let unfound = unfound_among(alloc, &self.state.docs, &links.found, one.document)?;
         for placed in unfound.as_slice() {
             let pointer = pointer(alloc, &placed.path)?;
             let sentence = unfound_sentence(alloc, all, &placed.reference)?;
@@ -228,6 +231,7 @@ impl<'a> Together<'a> {
             ≡ map (λ e. is_long (held self.now.state.docs) e.1) (entries (held self.now.state.docs)) }
         requires endless { links.now.endless.items
             ≡ map (λ e. is_endless (held self.now.state.docs) e.1) (entries (held self.now.state.docs)) }
+        requires found { AreFound (held self.now.state.docs) links.now.found }
         ensures { IfOk result (λ lines. vec_len lines
             ≡ faults_together (held self.now.state.docs) + root_faults (held self.now.state.docs) self.now.state.root) }
     {
@@ -236,7 +240,7 @@ impl<'a> Together<'a> {
         let all = held.as_slice();
         let mut lines = Vec::new(alloc);
         for (number, one) in all.iter().enumerate() {
-            self.tell_unfound(all, one, &mut lines)?;
+            self.tell_unfound(all, links, one, &mut lines)?;
             self.tell_far(all, links, number, &mut lines)?;
         }
         self.tell_root(all, &mut lines)?;

@@ -7,11 +7,13 @@ use Rattle.ent_eval.specs.declared.cause.Cause.{Cause}
 use Rattle.ent_eval.specs.declared.causes.Causes.{Causes}
 use Rattle.ent_eval.specs.declared.question.Question.{Question}
 use Rattle.ent_eval.specs.declared.question.Question.TheVariants.{Of}
+use Rattle.ent_eval.specs.Causes.{with_cause}
 use Rattle.ent_eval.specs.Note.{Note, asks, fails}
 use Rattle.ent_eval.specs.Sources.{asked_of}
 pub use Rattle.ent_eval.specs.Questions.{asked_once, is_asked, same_question, with_question}
 
--- the questions, each once so far, if they are asked for; what failed, if that is asked for; and whether anything did
+-- the questions, each once so far, if they are asked for; what failed, each once, if that is asked for; and whether
+-- anything did
 pub record Notes : Type 0 where
   pub questions : Option (List Question)
   pub causes : Option Causes
@@ -22,10 +24,10 @@ abbrev pub with_asked : Option (List Question) → Question → Option (List Que
 with_asked None question = None
 with_asked (Some questions) question = Some (with_question questions question)
 
--- what failed, with one more: it stands where the evaluation is
+-- what failed, with one more, if it isn't there yet: it stands where the evaluation is
 abbrev pub with_failed : Causes → Cause → Causes
 with_failed k cause =
-    record k { told = k.told ++ record cause { path = k.path ++ cause.path; rule = option_or cause.rule k.rule } ∷ [] }
+    record k { told = with_cause k.told (record cause { path = k.path ++ cause.path; rule = option_or cause.rule k.rule }) }
 
 -- the same, if that is asked for
 abbrev pub with_failure : Option Causes → Cause → Option Causes

@@ -6,7 +6,8 @@ use Rattle.ent_policy.specs.Key.{kind_word}
 use Rattle.ent_policy.specs.Versions.{version_text}
 use Rattle.ent_polform.proofs.TextLemmas.{ends, object_tokens}
 use Rattle.ent_polform.specs.Written.{written}
-use Rattle.ent_polform.specs.proofs_only.Texts.{Part, optional_tokens}
+use Rattle.ent_json.specs.proofs_only.Keyed.{optional_tokens}
+use Rattle.ent_polform.specs.proofs_only.Texts.{Part}
 use Rattle.ent_json.specs.Text.{tokens_of}
 use Rattle.ent_held.specs.Documents.{document_data}
 use Rattle.ent_held.proofs.documents.write_document.Goals as goal

@@ -2,7 +2,12 @@ use Rattle.std.proofs.Common.{◌≡◌, map}
 use Rattle.ent_finder.specs.Slots.{held}
 use Rattle.ent_reach.specs.Reached.{has_place, places_within}
 use Rattle.ent_reach.specs.declared.place.Place.{Place}
+use Rattle.ent_reach.specs.proofs_only.Search.{IsSound}
 use Rattle.ent_reach.proofs.reached.reached_places.Given as goal
 
 abbrev pub invariant-loop : goal.invariant-loop
-invariant-loop g l = (place : Place) → has_place place l.places.keys ≡ has_place place (places_within l.counter (map held (g.P.Policies.slots l.policies)) l.root)
+invariant-loop g l = record {
+  sound : IsSound (map held (g.P.Policies.slots l.policies)) l.search;
+  places : (place : Place) → has_place place l.search.places.keys
+      ≡ has_place place (places_within l.counter (map held (g.P.Policies.slots l.policies)) l.root);
+}

@@ -9,5 +9,9 @@ use Rattle.ent_together.proofs.links.row.Goals as goal
 pub loop-one-preserved : goal.loop-one-preserved
 loop-one-preserved c =
     let docs = held c.args.docs.now in
-    ap (map (numbered (entries docs))) c.in_ok-put.ensures
-    ∙ row_step (numbered (entries docs)) (λ p. most_recent p.reference docs) _ c.loop-one.one-index c.one-item.result c.loop-one-test.true c.one-item.is c.loop-one.row.items c.number_found.result c.number_found.ensures c.loop-one.invariant
+    record {
+      row = ap (map (numbered (entries docs))) c.in_ok-put.ensures
+          ∙ row_step (numbered (entries docs)) (λ p. most_recent p.reference docs) _ c.loop-one.one-index c.one-item.result c.loop-one-test.true c.one-item.is c.loop-one.row.items
+          c.in_ok-number.number c.in_ok-number.ensures.number c.loop-one.invariant.row;
+      found = c.in_ok-number.ensures.found;
+    }

@@ -3,9 +3,13 @@ use Rattle.std.specs.FinMap.{entries}
 use Rattle.std.specs.List.{filter_map}
 use Rattle.ent_finder.specs.Finding.{most_recent}
 use Rattle.ent_finder.specs.Slots.{held}
+use Rattle.ent_together.specs.proofs_only.Found.{AreFound}
 use Rattle.ent_together.specs.proofs_only.Rows.{numbered}
 use Rattle.ent_together.proofs.links.row.Given as goal
 
 abbrev pub invariant-loop-one : goal.invariant-loop-one
-invariant-loop-one l =
-    map (numbered (entries (held l.docs))) l.row.items ≡ map Some (filter_map (λ p. most_recent p.reference (held l.docs)) (take l.one-index l.placed))
+invariant-loop-one l = record {
+  row : map (numbered (entries (held l.docs))) l.row.items
+      ≡ map Some (filter_map (λ p. most_recent p.reference (held l.docs)) (take l.one-index l.placed));
+  found : AreFound (held l.docs) l.found;
+}

@@ -5,7 +5,7 @@ use Rattle.ent_together.proofs.Flags.{rows_all}
 use Rattle.ent_together.specs.Together.{leads_to}
 use Rattle.ent_together.proofs.links.rows.Goals as goal
 
-pub returns : goal.returns
-returns c =
-    rows_all (held c.args.docs.now) (λ row. row.items) c.loop-one.rows.items c.args.all.now c.requires
-    (c.loop-one.invariant ∙ ap (λ all. map (λ one. map Some (leads_to (held c.args.docs.now) one.document.now)) all) (take_all c.loop-one.one-index c.args.all.now c.loop-one-test.false))
+pub returns-clause-rows : goal.returns-clause-rows
+returns-clause-rows c =
+    rows_all (held c.args.docs.now) (λ row. row.items) c.loop-one.rows.items c.args.all.now c.requires.listed
+    (c.loop-one.invariant.rows ∙ ap (λ all. map (λ one. map Some (leads_to (held c.args.docs.now) one.document.now)) all) (take_all c.loop-one.one-index c.args.all.now c.loop-one-test.false))

@@ -2,7 +2,6 @@ use Rattle.std.proofs.Common.{◌≡◌, ◌∙◌, Some, [], ap, subst}
 use Rattle.std.specs.Prelude.{IfSome}
 use Rattle.std.specs.List.{flat_map}
 use Rattle.ent_eval.specs.Answer.{answer_part, asked}
-use Rattle.ent_eval.specs.Causes.{told_once}
 use Rattle.ent_eval.specs.LooksOf.{looks_of}
 use Rattle.ent_eval.specs.Noted.{noted}
 use Rattle.ent_eval.specs.Sources.{keys_of}
@@ -23,4 +22,4 @@ pub returns-clause-causes : goal.returns-clause-causes
 returns-clause-causes g c =
     let notes = (answer_part (looks_of (g.A.Attributes.sources) (g.P.Policies.slots) c.args.self.now) c.args.request.now).notes in
     let is = ap (λ n. n.causes) c.in_ok-answer.ensures.notes ∙ told_causes c.open-notes.result [] notes (ap (λ n. n.causes) c.open-notes.ensures) in
-    subst (λ o. IfSome o (λ k. c.in_ok-causes.causes ≡ told_once [] k.told)) is c.in_ok-causes.ensures
+    subst (λ o. IfSome o (λ k. c.in_ok-causes.causes ≡ k.told)) is c.in_ok-causes.ensures
