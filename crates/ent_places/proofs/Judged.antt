@@ -80,7 +80,7 @@ limits_of_policy : (p : Policy) → limit_fault (children.Policy p) ≡ policy_f
 unfolding Rattle.ent_policy.specs.declared.document.Child.TheViews.roll-Child denote.Hole.Carrier.roll
 limits_of_policy p = fold-roll-Child (Option DocFault) (Option DocFault) child_limits set_limits (Child-F.Policy p)
 
-variables_of_policy : (p : Policy) → has_variable_fault (children.Policy p) ≡ has_bad_variable p
+pub variables_of_policy : (p : Policy) → has_variable_fault (children.Policy p) ≡ has_bad_variable p
 unfolding Rattle.ent_policy.specs.declared.document.Child.TheViews.roll-Child denote.Hole.Carrier.roll
 variables_of_policy p = fold-roll-Child Bool Bool variables_of_child variables_of_set (Child-F.Policy p)
 

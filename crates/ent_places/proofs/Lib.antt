@@ -17,3 +17,8 @@ pub mod Ranks
 pub mod Resolved
 pub mod Smallest
 pub mod Telling
+pub mod Unnamed
+pub mod Passing
+pub mod Fine
+pub mod Together
+pub mod Arguing

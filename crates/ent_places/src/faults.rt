@@ -18,7 +18,7 @@ use std::alloc::{AllocError, Global};
 pub const MOST_FAULTS: usize = 100;
 
 /// The most JSON values that are judged in search of faults behind the first, each as often as it is judged.
-const MOST_JUDGED: usize = 4_000_000;
+const MOST_JUDGED: usize = 500_000;
 
 /// The faults of a document that were found.
 #[derive(Drop)]

@@ -1,6 +1,7 @@
 //! Where a fault of a document stands: the smallest part of it that has the fault.
 #![tactic(auto)]
 
+mod arguments;
 mod clear;
 mod faults;
 mod faulty;

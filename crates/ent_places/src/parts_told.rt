@@ -7,13 +7,14 @@ ghost use Rattle.ent_places.specs.Told.{definition_told, definitions_told, expre
 ghost use Rattle.ent_places.specs.Told.{reference_told, scope_told, set_told, target_part_told, target_told, told};
 ghost use Rattle.ent_places.specs.Views.{Tells, scope_of};
 
+use crate::arguments::arguments;
 use crate::leaf::leaf;
 use crate::members::list;
 use crate::outcome::found;
 use crate::part::Part;
 use crate::scope::Scope;
 use crate::surroundings::{judged, of_rules, of_target, plain_set};
-use crate::told_expressions::{argument, arguments, body, condition, expression, function};
+use crate::told_expressions::{argument, body, condition, expression, function};
 use crate::told_lists::{
     advice, all_ofs, any_ofs, assignments, children, matches, obligations, rules,
 };

@@ -6,6 +6,7 @@ ghost use Rattle.ent_places.specs.Told.{everything, nothing_given, of_advice, of
 ghost use Rattle.ent_places.specs.Told.{of_condition, of_expression, of_matches, of_obligations, of_rules, of_target};
 ghost use Rattle.ent_places.specs.Told.{plain_policy, plain_set};
 ghost use Rattle.ent_places.specs.Views.{Tells};
+ghost use Rattle.ent_places.specs.proofs_only.Together.{assigned};
 
 use ent_policy::{
     CheckFault, Effect, RawAllOf, RawAnyOf, RawAssignment, RawChild, RawDocument, RawExpression,
@@ -233,6 +234,22 @@ pub(crate) fn of_assignments(
     of_obligations(alloc, obligations, variables)
 }
 
+/// An assignment of an expression, and of nothing else.
+pub(crate) fn assigned(
+    alloc: Global,
+    expression: RawExpression,
+) -> Result<RawAssignment, AllocError>
+    ensures { IfOk result (λ a. a ≡ assigned expression) }
+{
+    let attribute = Text::from_str(alloc, "-")?;
+    Ok(RawAssignment {
+        attribute,
+        category: None,
+        issuer: None,
+        expression,
+    })
+}
+
 /// A policy of nothing but an expression, which an obligation assigns.
 #[tactic(auto, unfolding(crate::specs::Told::of_expression))]
 pub(crate) fn of_expression(
@@ -242,13 +259,6 @@ pub(crate) fn of_expression(
 ) -> Result<RawDocument, AllocError>
     ensures { IfOk result (λ d. d ≡ of_expression expression variables) }
 {
-    let attribute = Text::from_str(alloc, "-")?;
-    let assignment = RawAssignment {
-        attribute,
-        category: None,
-        issuer: None,
-        expression,
-    };
-    let assignments = Items::of_one(alloc, assignment)?;
+    let assignments = Items::of_one(alloc, assigned(alloc, expression)?)?;
     of_assignments(alloc, assignments, variables)
 }

@@ -1,12 +1,9 @@
 //! What is told of expressions and their arguments.
 
-ghost use Rattle.std.specs.Prelude.{◌≡◌, map};
-ghost use Rattle.ent_policy.specs.Limits.{length_fault};
-ghost use Rattle.ent_places.specs.Told.{argument_told, arguments_told, body_told, condition_told, function_told};
+ghost use Rattle.ent_places.specs.Told.{argument_told, body_told, condition_told, function_told};
 ghost use Rattle.ent_places.specs.Told.{whole_told};
 ghost use Rattle.ent_places.specs.Views.{Tells, scope_of};
 
-use crate::outcome::{earlier, found, told};
 use crate::scope::Scope;
 use crate::surroundings::{judged, of_condition, of_expression};
 use ent_functions::Function;
@@ -86,34 +83,4 @@ pub(crate) fn argument<J: JsonTree>(
         Some(("Function", body)) => function(alloc, body),
         Some(_) => expression(alloc, scope, json),
     }
-}
-
-/// The most members that a list may have.
-const LONGEST: usize = 256;
-
-/// The fault of a list that is too long.
-fn length_fault<J>(values: &[J]) -> Option<DocFault>
-    ensures { result ≡ length_fault values.now }
-{
-    if values.len() > LONGEST {
-        Some(DocFault::Size)
-    } else {
-        None
-    }
-}
-
-/// Judges arguments, each by itself.
-#[tactic(auto, unfolding(crate::specs::Told::arguments_told))]
-pub(crate) fn arguments<J: JsonTree>(
-    alloc: Global,
-    scope: &Scope<'_, J>,
-    values: &[J],
-) -> Result<(), CheckFault>
-    ensures { Tells result (arguments_told (scope_of J.content scope.now) (map J.content values.now)) }
-{
-    let mut first = length_fault(values);
-    for value in values {
-        first = earlier(first, found(argument(alloc, scope, value))?);
-    }
-    told(first)
 }

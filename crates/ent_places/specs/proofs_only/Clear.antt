@@ -6,7 +6,9 @@ use Rattle.ent_policy.specs.First.{place}
 use Rattle.ent_policy.specs.declared.fault.DocFault.{DocFault}
 use Rattle.ent_policy.specs.declared.fault.DocFault.TheVariants as fault
 use Rattle.ent_policy.specs.declared.raw.RawVariableDefinition.{RawVariableDefinition}
-use Rattle.ent_places.specs.Told.{Scope, nowhere, of_rules, variables_in}
+use Rattle.ent_places.specs.Told.{Scope, nowhere, of_rules, told, variables_in}
+use Rattle.ent_places.specs.declared.part.Part.{Part}
+use Rattle.ent_places.specs.declared.part.Part.TheVariants as part
 use Rattle.ent_places.specs.Views.{scope_of}
 use Rattle.ent_places.specs.declared.place.Place.{Place}
 use Rattle.ent_places.specs.declared.scope.Scope as code
@@ -58,3 +60,8 @@ IsMarkedAs content s t = t.clear ≡ true → (s.clear ≡ true) × (scope_of co
 abbrev pub AreMarked : {J : Type 0} → (J → Data) → DocFault → Option (Place J) → Type 0
 AreMarked content f None = Unit {0}
 AreMarked content f (Some p) = IsMarked content f p.scope
+
+-- a part isn't a definition, and nothing is told of it where it stands in no policy
+pub record IsFineAlone (p : Part) (d : Data) : Type 0 where
+  pub no_definition : p ≡ part.Definition → ⊥
+  pub is_fine : told p nowhere d ≡ None

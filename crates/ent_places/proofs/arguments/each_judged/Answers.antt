@@ -2,7 +2,7 @@ use Rattle.ent_policy.specs.Limits.{length_fault}
 use Rattle.ent_places.specs.Told.{argument_told}
 use Rattle.ent_places.specs.Views.{scope_of}
 use Rattle.ent_places.proofs.ArgumentLemmas.{first_from, first_goes_on, found_is}
-use Rattle.ent_places.proofs.told_expressions.arguments.Goals as goal
+use Rattle.ent_places.proofs.arguments.each_judged.Goals as goal
 
 pub loop-value-preserved : goal.loop-value-preserved
 loop-value-preserved g c =

@@ -3,7 +3,7 @@ use Rattle.ent_policy.specs.Limits.{length_fault}
 use Rattle.ent_places.specs.Told.{argument_told}
 use Rattle.ent_places.specs.Views.{scope_of}
 use Rattle.ent_places.proofs.ArgumentLemmas.{first_from}
-use Rattle.ent_places.proofs.told_expressions.arguments.Given as goal
+use Rattle.ent_places.proofs.arguments.each_judged.Given as goal
 
 abbrev pub invariant-loop-value : goal.invariant-loop-value
 invariant-loop-value g l =
