@@ -2,102 +2,29 @@
 """Keeps what the pages say of the definitions' modules, which stand in crates/*/specs.
 
     definitions.py             writes the lists of docs/DEFINITIONS.md, and the numbers of lines into docs/READING.md
-    definitions.py --check     says whether they are up to date, whether the reading list is at most 1,080 lines long,
-                               whether each word on the headline's page is defined on the list or named in the
-                               notation, whether docs/VERIFIED.md names modules that there are, and whether no module
-                               outside of proofs_only rests on one of proofs_only; fails if not
+    definitions.py --check     says whether they are up to date, whether the reading list is at most 600 lines long,
+                               whether each word on the headline's page is defined on a list or named in the notation,
+                               whether each module that holds a definition on which the page rests is on a list or
+                               under a head that says that it is the standard's evaluation, whether docs/VERIFIED.md
+                               names modules that there are, and whether no module outside of proofs_only rests on one
+                               of proofs_only; fails if not
     definitions.py --closure   prints all that the headline's page reaches by imports of modules, and what the other
                                modules reach besides
 
 Lines are counted without imports, comments and blanks; DEFINITIONS has sums alone, so that few lines of it change."""
-import pathlib
 import re
 import sys
 import textwrap
 
 sys.dont_write_bytecode = True
+from reached import CRATES, MEMBER, ROOT, TOP, USE, Followed, by_crate, closure, defined_in  # noqa: E402
+from reached import imports, is_apart, lines, modules, split, without_comments, without_imports  # noqa: E402
 from standard import citations, order, title  # noqa: E402
 
-ROOT = pathlib.Path(__file__).resolve().parents[2]
 DOCS = ROOT / 'docs'
-CRATES = ROOT / 'crates'
 HEADLINE = 'Rattle.ent_line.specs.Headline'
-MOST = 1080
-USE = re.compile(r'^\s*(pub )?use ([^\s{}]+?)(?:\.\{([^}]*)\})?(?: as (\w+))?$', re.M)
-TOP = re.compile(r'^(?:(?:pub|abbrev|unfoldable) )*(?:(?:record|data) (\w+)|([\w◌>=]+) :)', re.M)
-MEMBER = re.compile(r'^  (?:pub )?(\w+) :', re.M)
-
-
-# ---- modules
-
-def is_node(path):
-    """Whether a file only names the modules below it."""
-    return all(line.startswith('pub mod ') for line in path.read_text().split('\n') if line)
-
-
-def modules():
-    """The name of each module of definitions, with its file."""
-    found = {}
-    for specs in sorted(CRATES.glob('*/specs')):
-        for path in sorted(specs.rglob('*.antt')):
-            if not is_node(path):
-                name = '.'.join(path.relative_to(specs).with_suffix('').parts)
-                found[f'Rattle.{specs.parent.name}.specs.{name}'] = path
-    return found
-
-
-def without_comments(text):
-    return re.sub(r'(?m)^\s*--.*\n', '', text)
-
-
-def lines(path):
-    """How many lines a file has without imports, comments and blanks."""
-    return sum(1 for line in USE.sub('', without_comments(path.read_text())).split('\n') if line.strip())
-
-
-def imports(path):
-    """What a file imports: of each line the module, its words, and the name that it is given, if it is given one."""
-    found = []
-    for line in USE.finditer(without_comments(path.read_text())):
-        words = [word.strip() for word in (line[3] or '').split(',') if word.strip()]
-        found.append((line[2], words, line[4]))
-    return found
-
-
-def split(name):
-    """The crate of a module, and its name in the crate."""
-    crate, _, module = name.removeprefix('Rattle.').partition('.specs.')
-    return crate, module
-
-
-def closure(starts, known):
-    """The modules that are reached from some, and what is imported of other files on the way: each with its words."""
-    reached, others, left = set(), {}, list(starts)
-    while left:
-        name = left.pop()
-        if name in reached:
-            continue
-        reached.add(name)
-        for module, words, _ in imports(known[name]):
-            if module in known:
-                left.append(module)
-            else:
-                others.setdefault(module, set()).update(words)
-    return reached, others
-
-
-def by_crate(names):
-    """The modules of each crate."""
-    found = {}
-    for name in sorted(names):
-        crate, module = split(name)
-        found.setdefault(crate, []).append(module)
-    return found
-
-
-def is_apart(name):
-    """Whether a module has words of private contracts and of proofs alone."""
-    return '.specs.proofs_only.' in name
+EVALUATION = "The standard's evaluation"
+MOST = 600
 
 
 # ---- the map
@@ -258,19 +185,13 @@ def with_lines(page):
     return re.sub(r'^\| `(ent_\w+)` \|[^|]*\|([^|]*)\|', row_of_crate, page, flags=re.M)
 
 
-def defined(path):
-    """The words that a module defines, fields and constructors among them."""
-    text = without_comments(path.read_text())
-    return {a or b for a, b in TOP.findall(text)} | set(MEMBER.findall(text))
-
-
 def passed_on(path):
     """The words that a module passes on from others."""
     return {word for line in USE.finditer(path.read_text()) if line[1] for word in (line[3] or '').split(', ')}
 
 
 def missing(known, listed_paths, notation):
-    """The words on the headline's page that neither the list nor the notation has."""
+    """The words on the headline's page that neither a list nor the notation has."""
     page = known[HEADLINE]
     names, aliases, absent = {}, {}, []
     for module, words, alias in imports(page):
@@ -279,14 +200,15 @@ def missing(known, listed_paths, notation):
         for word in words:
             there, _, here = word.partition(' as ')
             names[here or there.strip('◌')] = (module, there.strip('◌'))
-    fields = set().union(*(defined(path) for path in listed_paths))
+    fields = set().union(*(defined_in(without_imports(path)) for path in listed_paths))
 
     def is_known(module, word):
         path = known.get(module)
-        found = path in listed_paths and (word in defined(path) or (word in passed_on(path) and word in fields))
-        return found or word in notation
+        if path not in listed_paths:
+            return word in notation
+        return word in defined_in(without_imports(path)) or word in passed_on(path) & fields or word in notation
 
-    text = USE.sub('', without_comments(page.read_text()))
+    text = without_imports(page)
     bound = {name for group in re.findall(r'(?:\(([a-z_][\w ]*?) :|λ ([a-z_][\w ]*?)\.)', text)
              for name in ' '.join(group).split()}
     own = {name for names_of in TOP.findall(text) for name in names_of} | set(MEMBER.findall(text))
@@ -304,17 +226,38 @@ def missing(known, listed_paths, notation):
     return absent
 
 
+def paths_in(text):
+    """The files of the modules in tables of one module a row."""
+    return [ROOT / path for path in re.findall(r'^\| `(crates/[^`]*\.antt)`', text, re.M)]
+
+
+def of_crates(text):
+    """The modules in tables of one crate a row."""
+    rows = re.findall(r'^\| `(ent_\w+)` \|[^|]*\|([^|]*)\|', text, re.M)
+    return {f'Rattle.{crate}.specs.{name.split()[0]}' for crate, names in rows for name in names.split(',')}
+
+
+def untold(page, known):
+    """The modules on whose definitions the headline rests, and that are in no table."""
+    listed_paths = set(paths_in(page))
+    told = {name for name in known if known[name] in listed_paths} | of_crates(page)
+    return [f'{crate} {module}' for crate, module in map(split, sorted(Followed(known).modules_from(HEADLINE) - told))]
+
+
 def check_reading(page, known):
     """Says how long the reading list is; what is wrong with it, if anything."""
-    paths = [ROOT / path for path in re.findall(r'^\| `(crates/[^`]*\.antt)`', between(page, 'reading list'), re.M)]
+    paths = paths_in(between(page, 'reading list'))
     count = sum(lines(path) for path in paths)
     print(f'docs/READING.md: {len(paths)} modules on the reading list, {count} lines')
     notation = set(re.findall(r'[A-Za-z_]\w*|[^\s\w`]+', ' '.join(re.findall(r'`([^`]*)`', between(page, 'notation')))))
-    absent = missing(known, paths, notation)
+    absent = missing(known, paths_in(page), notation)
     if count > MOST:
         sys.exit(f'docs/READING.md: the reading list has {count} lines, more than {MOST:,}')
     if absent:
-        sys.exit('docs/READING.md: neither the reading list nor the notation has ' + ', '.join(absent))
+        sys.exit('docs/READING.md: neither a list nor the notation has ' + ', '.join(absent))
+    left = untold(page, known)
+    if f'\n## {EVALUATION}\n' not in page or left:
+        sys.exit(f'docs/READING.md: no list, and no table under "{EVALUATION}", has ' + ', '.join(left))
 
 
 def main():

@@ -1,6 +1,5 @@
--- What each line and each command is answered. A reader may skip this page: the headline fixes what `respond` gives for every line (`IsHeard`) and
--- `run` for every command (`IsEdited`, `IsTold`), in the words of `Edits`, `Reports` and the crates below, and nothing else rests on the words that
--- stand here.
+-- What each line is answered: each change, question and mark. From below: `respond` is what a line is answered, `run` a
+-- command, `told` a question. A refused line leaves the world, and so does every question.
 use Rattle.std.specs.Prelude.{ℕ, List, filter, length, nat_lt, if◌then◌else◌, Option, Some, None, Result, Ok, Err}
 use Rattle.std.specs.Result.{result_ok}
 use Rattle.serde_json.specs.Data.{Data}
@@ -44,7 +43,8 @@ use Rattle.ent_line.specs.declared.refusal.Refusal.TheVariants.{BadValue, Docume
 
 -- ---- changes
 
--- an edit leads to a state, which is told with its changes while the marks stay, or is refused and leaves the world
+-- an accepted edit leads to a state, which is told by how many answers of the two fresh tables differ, and the marks
+-- stay; a refused one is told by its step's refusal
 abbrev pub settled : World → Result State EditFault → Answer × World
 settled w (Ok t) = (accepted (changes w.state t) t.serial, record w { state = t })
 settled w (Err fault) = (refused (refusal_of fault), w)
@@ -53,7 +53,9 @@ settled w (Err fault) = (refused (refusal_of fault), w)
 abbrev pub edited : World → Edit → Answer × World
 edited w edit = settled w (table.step w.state edit)
 
--- what an edit, or the lack of one, is answered. A definition of an edit is never in want of memory
+-- what a change is answered by the edit that it makes (`edit_of`, in `Edits`), or by why it makes none: by the first
+-- fault of its document or reference; or, where a version, a day, a moment or a row can't be read, by that refusal,
+-- unless one that comes before it stands. A definition of an edit is never in want of memory
 abbrev pub made : World → Result Edit NoEdit → Answer × World
 made w (Ok edit) = edited w edit
 made w (Err (no_edit.Faulty fault)) = (refused (Document fault), w)
@@ -62,7 +64,7 @@ made w (Err no_edit.Memory) = (refused Memory, w)
 
 -- ---- questions
 
--- the fresh table in list order
+-- the table: each listed request with its fresh answer, in list order
 unfoldable pub table_told : State → Answer
 table_told s = text (table_text (table_of s))
 
@@ -70,7 +72,7 @@ table_told s = text (table_text (table_of s))
 abbrev pub cell_or_refusal : Triple → Option Evaluated → Answer
 cell_or_refusal x o = text_or NotThere (λ answer. one_cell_text (x, answer)) o
 
--- the cell of a request with its fresh answer
+-- a cell: the fresh answer to a request, if it is listed
 unfoldable pub cell_told : State → Triple → Answer
 cell_told s x = cell_or_refusal x (answer_at s x)
 
@@ -78,11 +80,11 @@ cell_told s x = cell_or_refusal x (answer_at s x)
 abbrev pub response_or_refusal : State → Option Request → Answer
 response_or_refusal s o = text_or NoRequest (λ request. response_text (answer_in s request) request) o
 
--- the response to a request, by its answer in the state
+-- the response to a request of the JSON Profile, listed or not, with its fresh answer
 unfoldable pub request_answered : State → Data → Answer
 request_answered s d = response_or_refusal s (asks d)
 
--- how many cells have each decision
+-- how many cells of the fresh table have each decision
 unfoldable pub counts_told : State → Answer
 counts_told s = text (counts_text (report.counts s))
 
@@ -106,7 +108,8 @@ by_rule_told s policy rule = text (by_rule_text (report.by_rule s policy rule))
 abbrev pub notices_or_refusal : State → Option AnswerMap → Answer
 notices_or_refusal s o = text_or NoMark (λ kept. notices_text (notices kept s)) o
 
--- what changed since the mark of a session, which stays
+-- notices: the requests whose answers differ between the table that the session marked and the fresh one; the mark
+-- stays
 unfoldable pub changes_told : World → ℕ → Answer
 changes_told w session = notices_or_refusal w.state (marked_table w session)
 
@@ -114,12 +117,13 @@ changes_told w session = notices_or_refusal w.state (marked_table w session)
 unfoldable pub work_told : ℕ → Answer
 work_told n = text (work_text n)
 
--- a version that lines have, or the refusal of one that they haven't
+-- a version that lines have, 1 or 2, or the refusal of one that they haven't. No negative number is one
 unfoldable pub format_told : Option ℕ → Answer
 format_told None = refused BadValue
 format_told (Some version) = if is_version version then text (format_text version) else refused BadValue
 
--- the lines of a version that make the state anew, or the refusal where they can't tell it
+-- the lines of a version that make the state anew, or the refusal where they can't tell it: those of version 1 can't
+-- tell a moment
 unfoldable pub dump_told : Option ℕ → State → Answer
 dump_told None s = refused BadValue
 dump_told (Some version) s = if can_tell version s.held.environment then text (dump_text version s) else refused BadValue
@@ -128,11 +132,11 @@ dump_told (Some version) s = if can_tell version s.held.environment then text (d
 unfoldable pub state_told : World → Answer
 state_told w = text (state_text w)
 
--- the cells that are asked for, or the refusal where a name isn't listed
+-- the cells of the fresh table that have all that is asked for, in list order, or the refusal where a name isn't listed
 unfoldable pub cells_told : State → Wanted → Answer
 cells_told s wanted = if are_listed s.names wanted then text (cells_text (filter (is_asked wanted) (table_of s))) else refused NotThere
 
--- the values that are held of an entity, or the refusal of a category that there isn't
+-- the values that are held of an entity of a category, or the refusal of a category that is none of the three
 unfoldable pub attributes_told : State → Option (List ℕ) → List ℕ → Answer
 attributes_told s None entity = refused Reserved
 attributes_told s (Some category) entity = text (attributes_text s.held.sources category entity)
@@ -146,7 +150,8 @@ abbrev pub explanation_or_refusal : State → Triple → Option Evaluated → An
 explanation_or_refusal s x o =
     text_or NotThere (λ answer. explained_text (cell_data (x, answer)) (causes_of s.held x) (facts_of s.held x)) o
 
--- what the cell of a request is, its causes, and what it rests on
+-- an explanation of a cell: its fresh answer beside the causes of a fresh evaluation, and the look-ups that are
+-- recorded for it, each with what it gives
 unfoldable pub cell_explained : State → Triple → Answer
 cell_explained s x = explanation_or_refusal s x (answer_at s x)
 
@@ -155,11 +160,11 @@ abbrev pub request_or_refusal : State → Option Request → Answer
 request_or_refusal s o =
     text_or NoRequest (λ request. explained_text (answer_data (answer_in s request)) (causes_in s.held request) (facts s.held request)) o
 
--- what the answer to a request is, its causes, and what it rests on
+-- an explanation of the fresh answer to a request, its causes, and what it rests on
 unfoldable pub request_explained : State → Data → Answer
 request_explained s d = request_or_refusal s (asks d)
 
--- the cells of which a part failed
+-- the cells of the fresh table of which a part failed, whatever their decision, in list order
 unfoldable pub faults_told : State → Answer
 faults_told s = text (faults_text (report.faults s))
 
@@ -186,7 +191,7 @@ told n w session asked.faults = faults_told w.state
 
 -- ---- commands
 
--- the present table marked for a session
+-- a mark: the fresh table of that moment is kept for its session alone
 unfoldable pub table_marked : World → ℕ → Answer × World
 table_marked w session = (replies.marked w.state.serial, marked w session)
 
@@ -203,11 +208,11 @@ abbrev pub requested : ℕ → World → Result (ℕ × Command) Refusal → Ans
 requested n w (Ok x) = run n w x.0 x.1
 requested n w (Err refusal) = (refused refusal, w)
 
--- what was read, or the refusal of what couldn't be
+-- what a line's JSON is answered, or the refusal of a line that is none
 abbrev pub heard : ℕ → World → Option Data → Answer × World
 heard n w None = (refused NotJson, w)
 heard n w (Some d) = requested n w (command_in d)
 
--- what a line is answered after n evaluations, and the world after it
+-- what a line is answered after n evaluations, and the world after it: a line that is too long is refused unread
 unfoldable pub respond : ℕ → World → List ℕ → Answer × World
 respond n w line = if nat_lt line_limit (length line) then (refused TooLong, w) else heard n w (data_of line)

@@ -3,10 +3,9 @@
 ghost use Rattle.ent_line.specs.Headline.{IsHeadline};
 ghost use Rattle.ent_line.specs.Sessions.{SessionsAreSeparate};
 
-/// Law: each reply to a line is what the headline says: a line has its refusal or asks for a command of a session; an
-/// edit is told by the state that its step leads to, or by its refusal; the table, its cells and its reports are those
-/// of every listed request evaluated afresh (section 7), notices are the difference of two such tables, and a refused
-/// line changes nothing. Each reply is one line.
+/// Law: whatever a line is answered (`Commands` says it: an edit is told by the state that its step leads to, the
+/// table, its cells and its reports by every listed request evaluated afresh, section 7), a refused line changes
+/// nothing, and each reply is one line. Notices are the difference of two such tables.
 ///
 /// After any lines the state is where their accepted edits lead, one after the other; a session's mark is the fresh
 /// table of the state at the place of its last accepted mark among them; and no list has a name twice if none had.

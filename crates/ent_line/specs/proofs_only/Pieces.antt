@@ -21,7 +21,7 @@ TakesPiece before after old new (Ok End) = Consumes before after [] × OnSome be
 -- some bytes of the line were read, and not its newline
 TakesPiece before after old new (Ok Part) = (bytes : List ℕ) × NoNewline bytes × Consumes before after bytes × (new ≡ kept_of (old ++ bytes))
 -- the line was read to its newline
-TakesPiece before after old new (Ok Line) = (bytes : List ℕ) × NoNewline bytes × Consumes before after (ended bytes) × (new ≡ kept_of (old ++ bytes))
+TakesPiece before after old new (Ok (Line followed)) = (bytes : List ℕ) × NoNewline bytes × Consumes before after (ended bytes) × (new ≡ kept_of (old ++ bytes))
 -- the reader failed, and nothing was read
 TakesPiece before after old new (Err e) = (e ≡ Read) × Consumes before after [] × (new ≡ old)
 
