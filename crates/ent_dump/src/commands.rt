@@ -1,48 +1,19 @@
 //! The commands that make edits, written straight into a text.
 
-ghost use Rattle.std.specs.Prelude.{◌≡◌, [], ◌∷◌, ◌++◌, OnOk, Some, codes, decimal, map, option_map};
-ghost use Rattle.json.specs.Token as token;
-ghost use Rattle.serde_json.specs.Data as json;
+ghost use Rattle.std.specs.Prelude.{◌≡◌, ◌++◌, OnOk, Some, codes, map};
 ghost use Rattle.ent_json.specs.Text.{tokens_of};
 ghost use Rattle.ent_json.specs.proofs_only.Text.{items_tokens_of};
-ghost use Rattle.ent_polform.specs.proofs_only.Texts.{optional_tokens};
 ghost use Rattle.ent_polform.specs.Written.{value_written};
 ghost use Rattle.ent_dump.specs.Dumped.{format_data};
 ghost use Rattle.ent_dump.specs.Edits.{adding, day_data, document_data, moment_data, name_data, root_data, row_data};
 
 use ent_finder::RowKey;
-use ent_json::JsonText;
+use ent_json::{JsonText, write_count, write_optional, write_text};
 use ent_polform::{write_document_text, write_reference_text, write_value_text};
 use ent_policy::{Document, Reference};
 use ent_table::List;
-use ent_values::{Date, DateTime, Text, Value};
+use ent_values::{Date, DateTime, Value};
 use std::alloc::{AllocError, Global};
-
-/// Writes a text at a key.
-fn write_text(out: &mut JsonText, key: &str, text: &str) -> Result<(), AllocError>
-    ensures { OnOk result (out.new ≡ out.old ++ token.key key.now ∷ token.string text.now ∷ []) }
-{
-    out.key(key)?;
-    out.string(text)
-}
-
-/// Writes a text at a key, if there is one.
-fn write_optional(out: &mut JsonText, key: &str, text: &Option<Text>) -> Result<(), AllocError>
-    ensures { OnOk result (out.new ≡ out.old ++ optional_tokens key.now (option_map json.string text.now)) }
-{
-    match text {
-        None => Ok(()),
-        Some(text) => write_text(out, key, text.as_str()),
-    }
-}
-
-/// Writes a number at a key.
-fn write_count(out: &mut JsonText, key: &str, count: u64) -> Result<(), AllocError>
-    ensures { OnOk result (out.new ≡ out.old ++ token.key key.now ∷ token.number (decimal count) ∷ []) }
-{
-    out.key(key)?;
-    out.count(count)
-}
 
 /// Writes the command `format`.
 pub(crate) fn write_format(out: &mut JsonText, version: u64) -> Result<(), AllocError>

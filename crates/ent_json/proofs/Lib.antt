@@ -1,4 +1,7 @@
+mod DottedLemmas
 pub mod MemberLemmas
 pub mod ObjectLemmas
+mod PlainLemmas
 pub mod Reading
 pub mod TextLemmas
+mod WrittenLemmas

@@ -3,6 +3,8 @@
 #![tactic(auto)]
 
 mod borrowed;
+mod bytes;
+mod keyed;
 mod line;
 mod members;
 mod number;
@@ -12,6 +14,7 @@ mod text;
 mod tree;
 mod whole;
 
+pub use keyed::{write_count, write_optional, write_text};
 pub use line::read_json;
 pub use members::{filled, only_member, put_optional, put_text};
 pub use objects::{filled_list_at, flag_at, list_at, text_at, text_or_absent};

@@ -1,5 +1,6 @@
 pub mod ChangeLemmas
 mod CommandLemmas
+mod CommandWords
 mod ExplainedLemmas
 mod FailedLemmas
 mod HeadlineLemmas

@@ -1,5 +1,5 @@
 -- A run over bytes goes on by one piece of input at a time. Nothing here depends on what the lines mean.
-use Rattle.std.proofs.Common.{◌≡◌, ℕ, ◌+◌, min, List, [], ◌∷◌, ◌++◌, take, length, Option, Some, None, OnSome, Ok, Err, refl, sym, ap, subst, ◌∙◌, arith, append_assoc, append-nil, take_all, inl, inr}
+use Rattle.std.proofs.Common.{◌≡◌, ℕ, Bool, ◌+◌, min, List, [], ◌∷◌, ◌++◌, take, length, Option, Some, None, OnSome, Ok, Err, refl, sym, ap, subst, ◌∙◌, arith, append_assoc, append-nil, take_all, inl, inr}
 use Rattle.std.proofs.lemmas.List.{take_at, take-append-le, length-take, length-append, flat_map_more}
 use Rattle.std.proofs.lemmas.List.Elements.{All-append, All-nil, All-push}
 use Rattle.std.proofs.lemmas.Bool.{cases_lt}
@@ -137,8 +137,8 @@ module _ {W : Type 0} (A : Handling W) (long : LongLinesAlike A) where
     | inr le ↦ subst (λ l. A w l a v) (e ∙ take_all (line_limit + 1) line (omega arith)) h
   ]
 
-  pub after_line : (e : Ends W) (next then : Option (List ℕ)) (u : W) (held new : List ℕ) (n : ℕ) (done : ⊤) → Progress A e held n → TakesPiece e.left next held new (Ok Line) → AnswersLine A e.end u new e.holds then (Ok done) → Progress A (record e { end = u; left = next; holds = then }) [] (n + 1)
-  after_line e next then u held new n done p t a =
+  pub after_line : (e : Ends W) (next then : Option (List ℕ)) (u : W) (held new : List ℕ) (n : ℕ) (done : ⊤) (followed : Bool) → Progress A e held n → TakesPiece e.left next held new (Ok (Line followed)) → AnswersLine A e.end u new e.holds then (Ok done) → Progress A (record e { end = u; left = next; holds = then }) [] (n + 1)
+  after_line e next then u held new n done followed p t a =
       let line = p.rest ++ t.0 in
       let said : A e.end line a.0 u = kept_is_answered e.end u new line a.0 (kept_more held new p.rest t.0 p.kept t.3) a.1 in
       record {
@@ -200,8 +200,8 @@ module _ {W : Type 0} (A : Handling W) (long : LongLinesAlike A) where
         },
       )
 
-  pub line_breaks : (e : Ends W) (next then : Option (List ℕ)) (u : W) (held new : List ℕ) (n : ℕ) (f : ServeFault) → Progress A e held n → TakesPiece e.left next held new (Ok Line) → AnswersLine A e.end u new e.holds then (Err f) → ServesUntil A (record e { end = u; left = next; holds = then }) (Err f)
-  line_breaks e next then u held new n f p t a =
+  pub line_breaks : (e : Ends W) (next then : Option (List ℕ)) (u : W) (held new : List ℕ) (n : ℕ) (f : ServeFault) (followed : Bool) → Progress A e held n → TakesPiece e.left next held new (Ok (Line followed)) → AnswersLine A e.end u new e.holds then (Err f) → ServesUntil A (record e { end = u; left = next; holds = then }) (Err f)
+  line_breaks e next then u held new n f followed p t a =
       let line = p.rest ++ t.0 in
       subst (λ (x : ServeFault). ServesUntil A (record e { end = u; left = next; holds = then }) (Err x)) (sym a.2.0) (
         p.lines ++ line ∷ [],

@@ -34,41 +34,32 @@ pub(crate) fn decision_text(decision: Outcome) -> &'static str
 }
 
 /// Writes a rule with the path to it.
-fn write_entry(alloc: Global, out: &mut JsonText, entry: &WhyEntry) -> Result<(), AllocError>
+fn write_entry(out: &mut JsonText, entry: &WhyEntry) -> Result<(), AllocError>
     ensures { OnOk result (out.new ≡ out.old ++ tokens_of (entry_data entry.now)) }
 {
-    out.begin_object()?;
-    out.key("path")?;
-    write_path(alloc, out, entry.path.get().as_slice())?;
-    out.key("rule")?;
+    out.raw("{\"path\":")?;
+    write_path(out, entry.path.get().as_slice())?;
+    out.raw("\"rule\":")?;
     write_rule(out, &entry.rule)?;
     out.end_object()
 }
 
 /// Writes the rules that gave a decision, to the end of their list.
-fn write_entries(alloc: Global, out: &mut JsonText, entries: &[WhyEntry]) -> Result<(), AllocError>
+fn write_entries(out: &mut JsonText, entries: &[WhyEntry]) -> Result<(), AllocError>
     ensures { OnOk result (out.new ≡ out.old ++ items_tokens_of (map entry_data entries.now)) }
 {
     for entry in entries {
-        write_entry(alloc, out, entry)?;
+        write_entry(out, entry)?;
     }
     out.end_array()
 }
 
 /// Writes the list of the rules that gave a decision.
-fn write_why(alloc: Global, out: &mut JsonText, why: &[WhyEntry]) -> Result<(), AllocError>
+fn write_why(out: &mut JsonText, why: &[WhyEntry]) -> Result<(), AllocError>
     ensures { OnOk result (out.new ≡ out.old ++ tokens_of (list_data entry_data why.now)) }
 {
     out.begin_array()?;
-    write_entries(alloc, out, why)
-}
-
-/// Writes a text at a key.
-pub(crate) fn write_text(out: &mut JsonText, key: &str, text: &str) -> Result<(), AllocError>
-    ensures { OnOk result (out.new ≡ out.old ++ token.key key.now ∷ token.string text.now ∷ []) }
-{
-    out.key(key)?;
-    out.string(text)
+    write_entries(out, why)
 }
 
 /// Writes a decision at its key.
@@ -76,7 +67,8 @@ pub(crate) fn write_decision(out: &mut JsonText, decision: Outcome) -> Result<()
     ensures { OnOk result (out.new ≡ out.old
         ++ token.key (codes "decision") ∷ token.string (decision_text decision) ∷ []) }
 {
-    write_text(out, "decision", decision_text(decision))
+    out.raw("\"decision\":")?;
+    out.string(decision_text(decision))
 }
 
 /// Writes a status at its key.
@@ -84,7 +76,8 @@ fn write_status(out: &mut JsonText, status: Status) -> Result<(), AllocError>
     ensures { OnOk result (out.new ≡ out.old
         ++ token.key (codes "status") ∷ token.string (status_text status) ∷ []) }
 {
-    write_text(out, "status", status_text(status))
+    out.raw("\"status\":")?;
+    out.string(status_text(status))
 }
 
 /// Begins a cell: its action and its advice.
@@ -98,9 +91,9 @@ fn write_action(
         ∷ token.key (codes "action") ∷ token.string action.now
         ∷ token.key (codes "advice") ∷ tokens_of (list_data given_written advice.now)) }
 {
-    out.begin_object()?;
-    write_text(out, "action", action)?;
-    out.key("advice")?;
+    out.raw("{\"action\":")?;
+    out.string(action)?;
+    out.raw("\"advice\":")?;
     write_given_text(alloc, out, advice)
 }
 
@@ -116,7 +109,7 @@ pub(crate) fn write_decided(
         ∷ token.key (codes "obligations") ∷ tokens_of (list_data given_written obligations.now)) }
 {
     write_decision(out, decision)?;
-    out.key("obligations")?;
+    out.raw("\"obligations\":")?;
     write_given_text(alloc, out, obligations)
 }
 
@@ -130,14 +123,14 @@ pub(crate) fn write_names(
         ++ token.key (codes "person") ∷ token.string person.now
         ∷ token.key (codes "resource") ∷ token.string resource.now ∷ []) }
 {
-    write_text(out, "person", person)?;
-    out.key("resource")?;
+    out.raw("\"person\":")?;
+    out.string(person)?;
+    out.raw("\"resource\":")?;
     out.string(resource)
 }
 
 /// Ends a cell with its status and the rules that gave its decision.
 pub(crate) fn write_reason(
-    alloc: Global,
     out: &mut JsonText,
     status: Status,
     why: &[WhyEntry],
@@ -147,8 +140,8 @@ pub(crate) fn write_reason(
         ∷ token.key (codes "why") ∷ (tokens_of (list_data entry_data why.now) ++ token.end_object ∷ [])) }
 {
     write_status(out, status)?;
-    out.key("why")?;
-    write_why(alloc, out, why)?;
+    out.raw("\"why\":")?;
+    write_why(out, why)?;
     out.end_object()
 }
 
@@ -167,7 +160,7 @@ pub(crate) fn write_cell(
     write_action(alloc, out, action, answer.advice.as_slice())?;
     write_decided(alloc, out, answer.decision, answer.obligations.as_slice())?;
     write_names(out, person, resource)?;
-    write_reason(alloc, out, answer.status, answer.why.as_slice())
+    write_reason(out, answer.status, answer.why.as_slice())
 }
 
 /// Writes the cells that are left, to the end of their list.
@@ -193,8 +186,7 @@ fn write_table(alloc: Global, out: &mut JsonText, cells: Cells<'_>) -> Result<()
     ensures { OnOk result (out.new ≡ out.old
         ++ tokens_of (reply_data (codes "table") (list_data cell_data (cells_left cells.entry)))) }
 {
-    out.begin_object()?;
-    out.key("table")?;
+    out.raw("{\"table\":")?;
     write_list(alloc, out, cells)?;
     out.end_object()
 }
@@ -212,8 +204,7 @@ fn write_one_cell(
         ++ tokens_of (reply_data (codes "cell")
         (cell_data (triple_of person.now action.now resource.now, answer.now)))) }
 {
-    out.begin_object()?;
-    out.key("cell")?;
+    out.raw("{\"cell\":")?;
     write_cell(alloc, out, person, action, resource, answer)?;
     out.end_object()
 }

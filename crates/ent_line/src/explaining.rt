@@ -18,12 +18,11 @@ ghost use Rattle.ent_line.specs.proofs_only.Replying.{Keeps, Replies, Works};
 use crate::cell::{write_cell, write_decided, write_reason};
 use crate::refusal::Refusal;
 use crate::reply::Reply;
-use crate::reports::write_count;
 use crate::service::Service;
 use ent_eval::{Answer, Cause, Explained, Pdp, Reads, Request};
 use ent_finder::{Attributes, Policies};
 use ent_held::{untold, write_causes, write_facts};
-use ent_json::{JsonText, JsonTree};
+use ent_json::{JsonText, JsonTree, write_count};
 use ent_profile::{RequestFault, read_request, write_given_text};
 use std::alloc::{AllocError, Global};
 
@@ -35,7 +34,7 @@ fn write_answer(alloc: Global, out: &mut JsonText, answer: &Answer) -> Result<()
     out.key("advice")?;
     write_given_text(alloc, out, answer.advice.as_slice())?;
     write_decided(alloc, out, answer.decision, answer.obligations.as_slice())?;
-    write_reason(alloc, out, answer.status, answer.why.as_slice())
+    write_reason(out, answer.status, answer.why.as_slice())
 }
 
 /// Begins the reply, to where its answer stands.

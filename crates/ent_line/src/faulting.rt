@@ -12,13 +12,13 @@ ghost use Rattle.ent_line.specs.World.{IsReady};
 ghost use Rattle.ent_line.specs.proofs_only.Failing.{failed_in};
 ghost use Rattle.ent_line.specs.proofs_only.Replying.{Tells};
 
-use crate::cell::{write_decision, write_names, write_text};
+use crate::cell::{write_decision, write_names};
 use crate::reply::Reply;
 use crate::reports::begin_list;
 use crate::service::Service;
 use ent_eval::Answer;
 use ent_finder::{Attributes, Policies};
-use ent_json::JsonText;
+use ent_json::{JsonText, write_text};
 use ent_table::Judged;
 use std::alloc::{AllocError, Global};
 

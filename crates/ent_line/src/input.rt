@@ -18,8 +18,9 @@ pub(crate) enum Piece {
     End,
     /// A part of a line.
     Part,
-    /// The last part of a line, with its newline.
-    Line,
+    /// The last part of a line, with its newline; and whether another whole line is shown behind it, so that the next
+    /// look doesn't wait for input.
+    Line(bool),
 }
 
 /// The index of the first newline, or the length.
@@ -60,8 +61,10 @@ pub(crate) fn take_piece<R: BufRead>(
     let kept = room.min(end);
     line.extend_from_slice(&available[..kept]).unwrap();
     if end < shown {
+        let others = &available[end + 1..];
+        let is_followed = newline_at(others) < others.len();
         reader.consume(end + 1);
-        Ok(Piece::Line)
+        Ok(Piece::Line(is_followed))
     } else {
         reader.consume(end);
         Ok(Piece::Part)

@@ -27,6 +27,7 @@ mod service;
 mod serving;
 mod standing;
 mod wanted;
+mod words;
 
 pub use answering::Answering;
 pub use ent_dump::{LinesFault, dump_lines};
@@ -39,3 +40,4 @@ pub use refusal::Refusal;
 pub use reply::Reply;
 pub use service::Service;
 pub use serving::{serve, serve_review, serve_within};
+pub use words::command_words;

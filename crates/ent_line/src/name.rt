@@ -54,7 +54,7 @@ pub(crate) enum Name {
 
 impl Name {
     /// Every name.
-    const ALL: &'static [Name] = &[
+    pub(crate) const ALL: &'static [Name] = &[
         Name::PersonAdd,
         Name::ActionAdd,
         Name::ResourceAdd,
@@ -98,7 +98,7 @@ impl Name {
 
     /// Its word, which stands at `do`.
     #[tactic(auto, unfolding(crate::specs::Asked::form_of))]
-    fn word(self) -> &'static str
+    pub(crate) fn word(self) -> &'static str
         ensures { result.now ≡ (form_of self).word }
     {
         match self {

@@ -1,6 +1,6 @@
 //! The JSON of reports and notices.
 
-ghost use Rattle.std.specs.Prelude.{◌≡◌, [], ◌∷◌, ◌++◌, IfOk, OnOk, codes, decimal, map, string_bytes};
+ghost use Rattle.std.specs.Prelude.{◌≡◌, [], ◌∷◌, ◌++◌, IfOk, OnOk, codes, map, string_bytes};
 ghost use Rattle.json.specs.Token as token;
 ghost use Rattle.serde_json.specs.Data as json;
 ghost use Rattle.ent_json.specs.Text.{tokens_of};
@@ -9,21 +9,13 @@ ghost use Rattle.ent_line.specs.Cells.{list_data, reply_data};
 ghost use Rattle.ent_line.specs.Reports.{counts_data, decision_data, notice_data, pair_data, triple_data};
 ghost use Rattle.ent_line.specs.Reports.{by_rule_text, can_text, counts_text, notices_text, who_text, work_text};
 
-use crate::cell::{decision_text, write_text};
+use crate::cell::decision_text;
 use ent_combine::Outcome;
-use ent_json::JsonText;
+use ent_json::{JsonText, write_count, write_text};
 use ent_report::{Counts, Notice};
 use ent_values::Text;
 use itoa::Buffer;
 use std::alloc::{AllocError, Global};
-
-/// Writes a number at a key.
-pub(crate) fn write_count(out: &mut JsonText, key: &str, count: u64) -> Result<(), AllocError>
-    ensures { OnOk result (out.new ≡ out.old ++ token.key key.now ∷ token.number (decimal count) ∷ []) }
-{
-    out.key(key)?;
-    out.count(count)
-}
 
 /// Writes how many cells have each decision.
 fn write_counts(out: &mut JsonText, counts: Counts) -> Result<(), AllocError>
@@ -63,15 +55,10 @@ fn write_triple(
     out.end_object()
 }
 
-/// Writes a decision at a key, null for a request that isn't listed.
-fn write_optional(
-    out: &mut JsonText,
-    key: &str,
-    decision: Option<Outcome>,
-) -> Result<(), AllocError>
-    ensures { OnOk result (out.new ≡ out.old ++ token.key key.now ∷ tokens_of (decision_data decision)) }
+/// Writes a decision, null for a request that isn't listed.
+fn write_decision(out: &mut JsonText, decision: Option<Outcome>) -> Result<(), AllocError>
+    ensures { OnOk result (out.new ≡ out.old ++ tokens_of (decision_data decision)) }
 {
-    out.key(key)?;
     match decision {
         None => out.null(),
         Some(decision) => out.string(decision_text(decision)),
@@ -85,10 +72,12 @@ fn write_decisions(out: &mut JsonText, notice: &Notice) -> Result<(), AllocError
         ∷ token.key (codes "after") ∷ (tokens_of (decision_data notice.now.after)
         ++ token.key (codes "before") ∷ tokens_of (decision_data notice.now.before))) }
 {
-    out.begin_object()?;
-    write_text(out, "action", notice.action.as_str())?;
-    write_optional(out, "after", notice.after)?;
-    write_optional(out, "before", notice.before)
+    out.raw("{\"action\":")?;
+    out.string(notice.action.as_str())?;
+    out.raw("\"after\":")?;
+    write_decision(out, notice.after)?;
+    out.raw("\"before\":")?;
+    write_decision(out, notice.before)
 }
 
 /// Writes a notice.
@@ -96,8 +85,10 @@ fn write_notice(out: &mut JsonText, notice: &Notice) -> Result<(), AllocError>
     ensures { OnOk result (out.new ≡ out.old ++ tokens_of (notice_data notice.now)) }
 {
     write_decisions(out, notice)?;
-    write_text(out, "person", notice.person.as_str())?;
-    write_text(out, "resource", notice.resource.as_str())?;
+    out.raw("\"person\":")?;
+    out.string(notice.person.as_str())?;
+    out.raw("\"resource\":")?;
+    out.string(notice.resource.as_str())?;
     out.end_object()
 }
 

@@ -1,6 +1,6 @@
 //! The service: a desk that answers lines.
 
-ghost use Rattle.std.specs.Prelude.{◌≡◌, ◌<◌, Ok};
+ghost use Rattle.std.specs.Prelude.{◌≡◌, ◌<◌, OnOk, Ok, vec_len};
 ghost use Rattle.std.specs.Result.{result_ok};
 ghost use Rattle.ent_table.specs.Names.{triple_of};
 ghost use Rattle.ent_report.specs.Desk as held;
@@ -30,6 +30,7 @@ use ent_report::Desk;
 use ent_table::{Edit, EditFault, LAST_SERIAL};
 use json::Scratch;
 use std::alloc::{AllocError, Global};
+use std::mem;
 
 /// A desk whose edits, reports and marks are asked for by lines of JSON.
 ///
@@ -41,6 +42,18 @@ use std::alloc::{AllocError, Global};
 pub struct Service<A = AttributeFinder, P = PolicyFinder> {
     pub(crate) alloc: Global,
     pub(crate) desk: Desk<A, P>,
+    scratch: Vec<Scratch>,
+}
+
+/// Puts a scratch into a list that has none.
+fn fill(alloc: Global, scratch: &mut Vec<Scratch>) -> Result<(), AllocError>
+    ensures { OnOk result (0 < vec_len scratch.new) }
+{
+    if !scratch.is_empty() {
+        return Ok(());
+    }
+    scratch.push(Scratch::new(alloc))?;
+    Ok(())
 }
 
 impl<A: Attributes, P: Policies> Service<A, P> {
@@ -51,7 +64,11 @@ impl<A: Attributes, P: Policies> Service<A, P> {
         ensures world { world_of A.sources P.slots result ≡ held.world_of A.sources P.slots desk }
         ensures count { count_of result ≡ desk.review.pdp.evaluations }
     {
-        Service { alloc, desk }
+        Service {
+            alloc,
+            desk,
+            scratch: Vec::new(alloc),
+        }
     }
 
     /// Makes an edit.
@@ -227,7 +244,23 @@ impl<A: Attributes, P: Policies> Service<A, P> {
         }
     }
 
-    /// Does what a line asks for that isn't too long.
+    /// Does what a line asks for whose JSON is read over that scratch.
+    fn respond_over(&mut self, line: &[u8], scratch: &mut Scratch) -> Result<Reply, AllocError>
+        requires { IsReady A.sources P.slots self.old }
+        ensures ready { IsReady A.sources P.slots self.new }
+        ensures reply { Replies A.sources P.slots (λ w. heard (count_of self.old) w (data_of line.now))
+            self.old self.new result }
+        ensures work { Works A.sources P.slots (λ s. asked_work s (asked_by line.now)) self.old self.new result }
+        ensures remembered { RemembersBy A.sources P.slots self.old self.new result }
+    {
+        match read_json(self.alloc, line, scratch)? {
+            Some(value) => self.answer(&value),
+            None => Ok(Reply::Refused(Refusal::NotJson)),
+        }
+    }
+
+    /// Does what a line asks for that isn't too long. One scratch is kept from line to line, since a new one costs
+    /// as much as a short line.
     fn respond(&mut self, line: &[u8]) -> Result<Reply, AllocError>
         requires { IsReady A.sources P.slots self.old }
         ensures ready { IsReady A.sources P.slots self.new }
@@ -236,11 +269,11 @@ impl<A: Attributes, P: Policies> Service<A, P> {
         ensures work { Works A.sources P.slots (λ s. asked_work s (asked_by line.now)) self.old self.new result }
         ensures remembered { RemembersBy A.sources P.slots self.old self.new result }
     {
-        let mut scratch = Scratch::new(self.alloc);
-        match read_json(self.alloc, line, &mut scratch)? {
-            Some(value) => self.answer(&value),
-            None => Ok(Reply::Refused(Refusal::NotJson)),
-        }
+        let mut scratch = mem::replace(&mut self.scratch, Vec::new(self.alloc));
+        fill(self.alloc, &mut scratch)?;
+        let reply = self.respond_over(line, &mut scratch[0]);
+        self.scratch = scratch;
+        reply
     }
 }
 

@@ -1,6 +1,6 @@
 //! Lines from a reader, and their replies to a writer.
 
-ghost use Rattle.std.specs.Prelude.{◌≡◌, ◌≤◌, IfOk};
+ghost use Rattle.std.specs.Prelude.{◌≡◌, ◌-◌, ◌≤◌, ◌&&◌, IfOk, nat_lt};
 ghost use Rattle.ent_line.specs.Headline.{Headline};
 ghost use Rattle.ent_line.specs.Serving.{ServesUntil};
 ghost use Rattle.ent_line.specs.proofs_only.Pieces.{AnswersLine};
@@ -16,10 +16,12 @@ use ent_finder::{Attributes, Policies};
 use std::alloc::Global;
 use std::io::{BufRead, Write};
 
-/// Handles a line, and writes its reply with one flush, or a front of it.
+/// Handles a line, and writes its reply, or a front of it. The writer is flushed unless the call goes on to a line that
+/// is at hand, so that a reply waits for lines that came already, and never for input.
 fn answer_line<S: Answering, W: Write>(
     service: &mut S,
     line: &[u8],
+    goes_on: bool,
     writer: &mut W,
 ) -> Result<(), ServeFault>
     requires { S.is_ready service.old }
@@ -29,19 +31,30 @@ fn answer_line<S: Answering, W: Write>(
 {
     let reply = service.handle(line);
     send_reply(writer, &reply)?;
+    if goes_on {
+        return Ok(());
+    }
     match writer.flush() {
         Ok(()) => Ok(()),
         Err(_) => Err(ServeFault::Write),
     }
 }
 
+/// Whether another look comes behind this one, and shows a whole line without waiting for input.
+fn is_at_hand(is_followed: bool, look: u32, looks: u32) -> bool
+    ensures { result ≡ (is_followed && nat_lt 1 (looks - look)) }
+{
+    is_followed && looks.saturating_sub(look) > 1
+}
+
 /// Answers each line of the reader by one line into the writer, and gives their number, after so many looks at the
 /// reader's buffer at most.
 ///
 /// A line ends at a newline, or at the end of the input if it has a byte. A line of more than `LINE_LIMIT` bytes is
-/// read to its end and handled as a line that is too long. The writer is flushed after each reply. The line buffer is
-/// taken at the start, and `Memory` comes only there. Where the last look doesn't show the end the call ends with
-/// `Read`. A look shows no more than one line, so no more lines than looks are answered.
+/// read to its end and handled as a line that is too long. The writer is flushed before a look that may wait for
+/// input, before a read fault is told, and at the end. The line buffer is taken at the start, and `Memory` comes only
+/// there. Where the last look doesn't show the end the call ends with `Read`. A look shows no more than one line, so
+/// no more lines than looks are answered.
 pub fn serve_within<S: Answering, R: BufRead, W: Write>(
     alloc: Global,
     service: &mut S,
@@ -65,19 +78,20 @@ pub fn serve_within<S: Answering, R: BufRead, W: Write>(
         return Err(ServeFault::Memory);
     };
     let mut count = 0;
-    for _ in 0..looks {
+    for look in 0..looks {
         let piece = take_piece(reader, &mut line)?;
         match piece {
             Piece::End => {
                 if line.is_empty() {
                     return Ok(count);
                 }
-                answer_line(service, line.as_slice(), writer)?;
+                answer_line(service, line.as_slice(), false, writer)?;
                 return Ok(count + 1);
             }
             Piece::Part => {}
-            Piece::Line => {
-                answer_line(service, line.as_slice(), writer)?;
+            Piece::Line(is_followed) => {
+                let goes_on = is_at_hand(is_followed, look, looks);
+                answer_line(service, line.as_slice(), goes_on, writer)?;
                 line.clear();
                 count += 1;
             }

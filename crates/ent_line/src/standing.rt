@@ -20,13 +20,11 @@ ghost use Rattle.ent_line.specs.proofs_only.Standing.{marked_from, row_count};
 ghost use Rattle.ent_line.specs.World.{IsReady};
 ghost use Rattle.ent_line.specs.proofs_only.Replying.{Tells};
 
-use crate::cell::write_text;
 use crate::reply::Reply;
-use crate::reports::write_count;
 use crate::service::Service;
 use ent_eval::Environment;
 use ent_finder::{Attributes, Policies, Row};
-use ent_json::JsonText;
+use ent_json::{JsonText, write_count, write_text};
 use ent_polform::write_reference_text;
 use ent_policy::Reference;
 use ent_report::Desk;

@@ -10,8 +10,9 @@ use Rattle.serde_json.specs.Find.{of_integer}
 use Rattle.serde_json.specs.Written.{members_outline}
 use Rattle.ent_json.specs.Members.{filled_list, only_member, optional, put_optional}
 use Rattle.ent_json.specs.Text.{tokens_of}
+use Rattle.ent_json.specs.proofs_only.Keyed.{optional_tokens}
 use Rattle.ent_json.specs.proofs_only.Text.{items_tokens_of}
-use Rattle.ent_polform.specs.proofs_only.Texts.{Part, optional_tokens, parts, parts_tokens}
+use Rattle.ent_polform.specs.proofs_only.Texts.{Part, parts, parts_tokens}
 
 -- ---- what is appended
 

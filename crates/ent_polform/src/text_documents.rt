@@ -3,8 +3,8 @@
 ghost use Rattle.std.specs.Prelude.{◌≡◌, ◌++◌, OnOk, codes, map, option_map};
 ghost use Rattle.ent_json.specs.Members.{filled_list, only_member};
 ghost use Rattle.ent_json.specs.Text.{tokens_of};
+ghost use Rattle.ent_json.specs.proofs_only.Keyed.{optional_tokens};
 ghost use Rattle.ent_json.specs.proofs_only.Text.{items_tokens_of};
-ghost use Rattle.ent_polform.specs.proofs_only.Texts.{optional_tokens};
 ghost use Rattle.ent_polform.specs.Written.{child_written, definition_written, pattern_written, policy_written};
 ghost use Rattle.ent_polform.specs.Written.{reference_body, reference_written, rule_written, written};
 ghost use Rattle.ent_polform.specs.proofs_only.Written.{set_written};
@@ -13,9 +13,8 @@ use crate::reference::reference_key;
 use crate::text_expressions::{write_condition, write_expression};
 use crate::text_given::{write_advice, write_obligations};
 use crate::text_targets::write_target;
-use crate::text_values::write_text;
 use crate::written_given::effect_word;
-use ent_json::JsonText;
+use ent_json::{JsonText, write_text};
 use ent_policy::{
     Child, Document, Policy, PolicySet, Reference, Rule, Tree, VariableDefinition, VersionMatch,
 };

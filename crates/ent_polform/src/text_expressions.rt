@@ -5,13 +5,13 @@ ghost use Rattle.serde_json.specs.Data as json;
 ghost use Rattle.ent_functions.specs.Identifiers.{id_of};
 ghost use Rattle.ent_json.specs.Members.{filled_list, only_member};
 ghost use Rattle.ent_json.specs.Text.{tokens_of};
+ghost use Rattle.ent_json.specs.proofs_only.Keyed.{optional_tokens};
 ghost use Rattle.ent_json.specs.proofs_only.Text.{items_tokens_of};
-ghost use Rattle.ent_polform.specs.proofs_only.Texts.{optional_tokens};
 ghost use Rattle.ent_polform.specs.Written.{apply_written, designator_written, expression_written, literal_written};
 
-use crate::text_values::{write_designator, write_literal, write_text};
+use crate::text_values::{write_designator, write_literal};
 use ent_functions::Function;
-use ent_json::JsonText;
+use ent_json::{JsonText, write_text};
 use ent_policy::{Designator, Expression};
 use ent_values::Value;
 use std::alloc::{AllocError, Global};

@@ -3,15 +3,14 @@
 ghost use Rattle.std.specs.Prelude.{◌≡◌, ◌++◌, OnOk, codes, map};
 ghost use Rattle.ent_json.specs.Members.{filled_list};
 ghost use Rattle.ent_json.specs.Text.{tokens_of};
+ghost use Rattle.ent_json.specs.proofs_only.Keyed.{optional_tokens};
 ghost use Rattle.ent_json.specs.proofs_only.Text.{items_tokens_of};
-ghost use Rattle.ent_polform.specs.proofs_only.Texts.{optional_tokens};
 ghost use Rattle.ent_polform.specs.Written.{advice_written, assignment_written, given_written};
 ghost use Rattle.ent_polform.specs.Written.{obligations_written};
 
 use crate::text_expressions::write_expression;
-use crate::text_values::{write_optional, write_text};
 use crate::written_given::effect_word;
-use ent_json::JsonText;
+use ent_json::{JsonText, write_optional, write_text};
 use ent_policy::{AssignmentExpression, GivenExpression, GivenExpressions};
 use std::alloc::{AllocError, Global};
 

@@ -2,12 +2,12 @@
 
 ghost use Rattle.std.specs.Prelude.{◌≡◌, ◌++◌, OnOk, codes, map};
 ghost use Rattle.ent_json.specs.Text.{tokens_of};
+ghost use Rattle.ent_json.specs.proofs_only.Keyed.{optional_tokens};
 ghost use Rattle.ent_json.specs.proofs_only.Text.{items_tokens_of};
-ghost use Rattle.ent_polform.specs.proofs_only.Texts.{optional_tokens};
 ghost use Rattle.ent_polform.specs.Written.{all_of_written, any_of_written, match_written, target_written};
 
-use crate::text_values::{write_designator, write_literal, write_text};
-use ent_json::JsonText;
+use crate::text_values::{write_designator, write_literal};
+use ent_json::{JsonText, write_text};
 use ent_policy::{AllOf, AnyOf, Match, Target};
 use std::alloc::{AllocError, Global};
 

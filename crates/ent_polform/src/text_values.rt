@@ -1,38 +1,13 @@
 //! Values and attribute designators, written straight into a text.
 
-ghost use Rattle.std.specs.Prelude.{◌≡◌, [], ◌∷◌, ◌++◌, OnOk, option_map};
-ghost use Rattle.json.specs.Token as token;
-ghost use Rattle.serde_json.specs.Data as json;
+ghost use Rattle.std.specs.Prelude.{◌≡◌, ◌++◌, OnOk};
 ghost use Rattle.ent_json.specs.Text.{tokens_of};
-ghost use Rattle.ent_polform.specs.proofs_only.Texts.{optional_tokens};
 ghost use Rattle.ent_polform.specs.Written.{designator_written, literal_written, value_written};
 
-use ent_json::JsonText;
+use ent_json::{JsonText, write_optional, write_text};
 use ent_policy::Designator;
-use ent_values::{Text, Value};
+use ent_values::Value;
 use std::alloc::{AllocError, Global};
-
-/// Writes a text at a key.
-pub(crate) fn write_text(out: &mut JsonText, key: &str, text: &str) -> Result<(), AllocError>
-    ensures { OnOk result (out.new ≡ out.old ++ token.key key.now ∷ token.string text.now ∷ []) }
-{
-    out.key(key)?;
-    out.string(text)
-}
-
-/// Writes a text at a key, if there is one.
-pub(crate) fn write_optional(
-    out: &mut JsonText,
-    key: &str,
-    text: &Option<Text>,
-) -> Result<(), AllocError>
-    ensures { OnOk result (out.new ≡ out.old ++ optional_tokens key.now (option_map json.string text.now)) }
-{
-    match text {
-        None => Ok(()),
-        Some(text) => write_text(out, key, text.as_str()),
-    }
-}
 
 /// Writes a value as [`crate::write_value`] has it: an integer as a number, a boolean as a boolean, every other value
 /// as its written text.

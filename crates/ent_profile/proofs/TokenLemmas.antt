@@ -9,6 +9,7 @@ use Rattle.serde_json.specs.Data.{Data, Members}
 use Rattle.serde_json.specs.Written.{members_outline}
 use Rattle.ent_values.specs.Types.{datatype_of, uri_of}
 use Rattle.ent_json.specs.Text.{tokens_of}
+use Rattle.ent_json.specs.proofs_only.Keyed.{optional_tokens}
 use Rattle.ent_json.specs.proofs_only.Text.{items_tokens_of}
 use Rattle.ent_json.specs.Members.{filled_list, optional}
 use Rattle.ent_polform.specs.Written.{value_written}
@@ -19,7 +20,7 @@ use Rattle.ent_eval.specs.declared.request.Attribute.{Attribute}
 use Rattle.ent_eval.specs.declared.request.Category.{Category}
 use Rattle.ent_eval.specs.declared.request.Request.{Request}
 use Rattle.ent_profile.specs.Response.{assignment_written, attribute_written, category_with, category_written, decision_word, given_written, included, response, result_written, status_written, values_written}
-use Rattle.ent_profile.specs.proofs_only.Written.{optional_tokens, tokens_if_any}
+use Rattle.ent_profile.specs.proofs_only.Written.{tokens_if_any}
 
 -- ---- members
 

@@ -1,41 +1,16 @@
 //! Obligations and advice, written straight into a text.
 
-ghost use Rattle.std.specs.Prelude.{◌≡◌, [], ◌∷◌, ◌++◌, OnOk, map, option_map};
-ghost use Rattle.json.specs.Token as token;
+ghost use Rattle.std.specs.Prelude.{◌≡◌, ◌++◌, OnOk, map};
 ghost use Rattle.serde_json.specs.Data as json;
 ghost use Rattle.serde_json.specs.View.{items_of};
 ghost use Rattle.ent_json.specs.Text.{tokens_of};
 ghost use Rattle.ent_json.specs.proofs_only.Text.{items_tokens_of};
 ghost use Rattle.ent_profile.specs.Response.{assignment_written, given_written};
-ghost use Rattle.ent_profile.specs.proofs_only.Written.{optional_tokens};
 
 use ent_eval::{Assignment, Given};
-use ent_json::JsonText;
+use ent_json::{JsonText, write_optional, write_text};
 use ent_polform::write_value_text;
-use ent_values::Text;
 use std::alloc::{AllocError, Global};
-
-/// Writes a text at a key.
-pub(crate) fn write_text(out: &mut JsonText, key: &str, text: &str) -> Result<(), AllocError>
-    ensures { OnOk result (out.new ≡ out.old ++ token.key key.now ∷ token.string text.now ∷ []) }
-{
-    out.key(key)?;
-    out.string(text)
-}
-
-/// Writes a text at a key, if there is one.
-pub(crate) fn write_optional(
-    out: &mut JsonText,
-    key: &str,
-    text: &Option<Text>,
-) -> Result<(), AllocError>
-    ensures { OnOk result (out.new ≡ out.old ++ optional_tokens key.now (option_map json.string text.now)) }
-{
-    match text {
-        None => Ok(()),
-        Some(text) => write_text(out, key, text.as_str()),
-    }
-}
 
 /// Writes an AttributeAssignment.
 fn write_assignment(

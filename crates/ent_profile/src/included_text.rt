@@ -3,15 +3,15 @@
 ghost use Rattle.std.specs.Prelude.{◌≡◌, ◌++◌, OnOk, codes, filter_map, map};
 ghost use Rattle.std.specs.List.{list_any};
 ghost use Rattle.ent_json.specs.Text.{tokens_of};
+ghost use Rattle.ent_json.specs.proofs_only.Keyed.{optional_tokens};
 ghost use Rattle.ent_json.specs.proofs_only.Text.{items_tokens_of};
 ghost use Rattle.ent_json.specs.Members.{filled_list};
 ghost use Rattle.ent_polform.specs.Written.{value_written};
 ghost use Rattle.ent_profile.specs.Response.{attribute_written, category_written, included, values_written};
-ghost use Rattle.ent_profile.specs.proofs_only.Written.{optional_tokens, tokens_if_any};
+ghost use Rattle.ent_profile.specs.proofs_only.Written.{tokens_if_any};
 
-use crate::given_text::{write_optional, write_text};
 use ent_eval::{Attribute, Category};
-use ent_json::JsonText;
+use ent_json::{JsonText, write_optional, write_text};
 use ent_polform::write_value_text;
 use ent_values::Value;
 use std::alloc::{AllocError, Global};

@@ -5,9 +5,9 @@ ghost use Rattle.serde_json.specs.Written.{compact_text};
 ghost use Rattle.ent_json.specs.Text.{tokens_of};
 ghost use Rattle.ent_json.specs.Members.{filled_list};
 ghost use Rattle.ent_profile.specs.Response.{given_written, response, result_written, status_written};
-ghost use Rattle.ent_profile.specs.proofs_only.Written.{optional_tokens};
+ghost use Rattle.ent_json.specs.proofs_only.Keyed.{optional_tokens};
 
-use crate::given_text::{write_given_text, write_text};
+use crate::given_text::write_given_text;
 use crate::included_text::write_categories;
 use crate::response::{decision_word, status_uri};
 use ent_eval::{Answer, Given, Request, Status};
@@ -34,10 +34,8 @@ fn write_some_given(
 fn write_status(out: &mut JsonText, status: Status) -> Result<(), AllocError>
     ensures { OnOk result (out.new ≡ out.old ++ tokens_of (status_written status)) }
 {
-    out.begin_object()?;
-    out.key("StatusCode")?;
-    out.begin_object()?;
-    write_text(out, "Value", status_uri(status))?;
+    out.raw("{\"StatusCode\":{\"Value\":")?;
+    out.string(status_uri(status))?;
     out.end_object()?;
     out.end_object()
 }
@@ -54,9 +52,10 @@ fn write_result(
     out.begin_object()?;
     write_some_given(alloc, out, "AssociatedAdvice", answer.advice.as_slice())?;
     write_categories(alloc, out, request.categories.as_slice())?;
-    write_text(out, "Decision", decision_word(answer.decision))?;
+    out.raw("\"Decision\":")?;
+    out.string(decision_word(answer.decision))?;
     write_some_given(alloc, out, "Obligations", answer.obligations.as_slice())?;
-    out.key("Status")?;
+    out.raw("\"Status\":")?;
     write_status(out, answer.status)?;
     out.end_object()
 }
@@ -70,9 +69,7 @@ fn write_whole(
 ) -> Result<(), AllocError>
     ensures { OnOk result (out.new ≡ out.old ++ tokens_of (response answer.now request.now)) }
 {
-    out.begin_object()?;
-    out.key("Response")?;
-    out.begin_array()?;
+    out.raw("{\"Response\":[")?;
     write_result(alloc, out, answer, request)?;
     out.end_array()?;
     out.end_object()

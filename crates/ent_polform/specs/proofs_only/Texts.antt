@@ -1,16 +1,11 @@
 -- What is written straight into a text, a token at a time.
-use Rattle.std.specs.Prelude.{ℕ, List, [], ◌∷◌, ◌++◌, Option, Some, None}
+use Rattle.std.specs.Prelude.{ℕ, List, [], ◌∷◌, ◌++◌, Option}
 use Rattle.json.specs.Token as token
 use Rattle.json.specs.Token.{Token}
 use Rattle.serde_json.specs.Data as json
 use Rattle.serde_json.specs.Data.{Data, Members}
 use Rattle.ent_json.specs.Members.{optional}
-use Rattle.ent_json.specs.Text.{tokens_of}
-
--- the tokens of a member that may be absent
-abbrev pub optional_tokens : List ℕ → Option Data → List Token
-optional_tokens key None = []
-optional_tokens key (Some d) = token.key key ∷ tokens_of d
+use Rattle.ent_json.specs.proofs_only.Keyed.{optional_tokens}
 
 -- a key, and what stands at it, if it is there
 abbrev pub Part : Type 0

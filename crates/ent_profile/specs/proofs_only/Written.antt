@@ -1,5 +1,5 @@
 -- What is written into a text a token at a time.
-use Rattle.std.specs.Prelude.{ℕ, List, [], ◌∷◌, Option, Some, None}
+use Rattle.std.specs.Prelude.{List, [], Option, Some, None}
 use Rattle.json.specs.Token as token
 use Rattle.json.specs.Token.{Token}
 use Rattle.serde_json.specs.Data.{Data}
@@ -9,8 +9,3 @@ use Rattle.ent_json.specs.Text.{tokens_of}
 abbrev pub tokens_if_any : Option Data → List Token
 tokens_if_any None = []
 tokens_if_any (Some d) = tokens_of d
-
--- the tokens of a member that may be absent
-abbrev pub optional_tokens : List ℕ → Option Data → List Token
-optional_tokens key None = []
-optional_tokens key (Some d) = token.key key ∷ tokens_of d

@@ -1,10 +1,11 @@
 use Rattle.std.proofs.Common.{List, Some, [], codes, decimal, map, option_map, ◌∷◌}
 use Rattle.json.specs.Token as token
 use Rattle.serde_json.specs.Data as json
+use Rattle.ent_json.specs.proofs_only.Keyed.{optional_tokens}
 use Rattle.ent_json.specs.proofs_only.Text.{items_tokens_of}
 use Rattle.ent_polform.proofs.TextLemmas.{ends, object_tokens}
 use Rattle.ent_polform.specs.Written.{value_written}
-use Rattle.ent_polform.specs.proofs_only.Texts.{Part, optional_tokens}
+use Rattle.ent_polform.specs.proofs_only.Texts.{Part}
 use Rattle.ent_values.specs.Types.{uri_of}
 use Rattle.serde_json.specs.View.{items_of}
 use Rattle.ent_dump.proofs.commands.write_row.Goals as goal

@@ -5,7 +5,8 @@ use Rattle.ent_combine.specs.Identifiers.{policy_id_of}
 use Rattle.ent_json.specs.Members.{filled_list}
 use Rattle.ent_json.specs.Text.{tokens_of}
 use Rattle.ent_polform.proofs.TextLemmas.{ends, object_tokens}
-use Rattle.ent_polform.specs.proofs_only.Texts.{Part, optional_tokens}
+use Rattle.ent_json.specs.proofs_only.Keyed.{optional_tokens}
+use Rattle.ent_polform.specs.proofs_only.Texts.{Part}
 use Rattle.ent_polform.specs.Written.{advice_written, child_written, obligations_written, target_written}
 use Rattle.ent_polform.specs.proofs_only.Written.{set_written}
 use Rattle.ent_policy.specs.Versions.{version_text}

@@ -4,7 +4,8 @@ use Rattle.serde_json.specs.Data as json
 use Rattle.ent_combine.specs.Identifiers.{rule_id_of}
 use Rattle.ent_json.specs.Members.{filled_list}
 use Rattle.ent_polform.proofs.TextLemmas.{ends, object_tokens}
-use Rattle.ent_polform.specs.proofs_only.Texts.{Part, optional_tokens}
+use Rattle.ent_json.specs.proofs_only.Keyed.{optional_tokens}
+use Rattle.ent_polform.specs.proofs_only.Texts.{Part}
 use Rattle.ent_polform.specs.Written.{advice_written, definition_written, obligations_written, policy_written, rule_written, target_written}
 use Rattle.ent_policy.specs.Versions.{version_text}
 use Rattle.ent_polform.proofs.text_documents.write_policy.Goals as goal

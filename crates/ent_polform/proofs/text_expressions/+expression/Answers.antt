@@ -5,7 +5,8 @@ use Rattle.ent_functions.specs.Identifiers.{id_of}
 use Rattle.ent_json.specs.Members.{filled_list}
 use Rattle.ent_json.specs.Text.{tokens_of}
 use Rattle.ent_polform.proofs.TextLemmas.{ends, object_tokens}
-use Rattle.ent_polform.specs.proofs_only.Texts.{Part, optional_tokens}
+use Rattle.ent_json.specs.proofs_only.Keyed.{optional_tokens}
+use Rattle.ent_polform.specs.proofs_only.Texts.{Part}
 use Rattle.ent_polform.specs.Written.{apply_written, expression_written}
 use Rattle.ent_polform.proofs.text_expressions.+expression.Goals as goal
 

@@ -3,7 +3,8 @@ use Rattle.json.specs.Token as token
 use Rattle.serde_json.specs.Data as json
 use Rattle.ent_json.specs.Text.{tokens_of}
 use Rattle.ent_polform.proofs.TextLemmas.{ends, object_tokens}
-use Rattle.ent_polform.specs.proofs_only.Texts.{Part, optional_tokens}
+use Rattle.ent_json.specs.proofs_only.Keyed.{optional_tokens}
+use Rattle.ent_polform.specs.proofs_only.Texts.{Part}
 use Rattle.ent_polform.specs.Written.{assignment_written, expression_written}
 use Rattle.ent_polform.proofs.text_given.write_assignment.Goals as goal
 

@@ -3,7 +3,8 @@ use Rattle.json.specs.Token as token
 use Rattle.serde_json.specs.Data as json
 use Rattle.ent_json.specs.Members.{filled_list}
 use Rattle.ent_polform.proofs.TextLemmas.{ends, object_tokens, obligation_members}
-use Rattle.ent_polform.specs.proofs_only.Texts.{Part, optional_tokens}
+use Rattle.ent_json.specs.proofs_only.Keyed.{optional_tokens}
+use Rattle.ent_polform.specs.proofs_only.Texts.{Part}
 use Rattle.ent_polform.specs.Written.{assignment_written, effect_word, given_written}
 use Rattle.ent_polform.proofs.text_given.write_obligation.Goals as goal
 

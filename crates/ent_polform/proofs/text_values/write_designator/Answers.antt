@@ -2,7 +2,8 @@ use Rattle.std.proofs.Common.{List, Some, [], codes, option_map, ◌∷◌}
 use Rattle.json.specs.Token as token
 use Rattle.serde_json.specs.Data as json
 use Rattle.ent_polform.proofs.TextLemmas.{ends, object_tokens}
-use Rattle.ent_polform.specs.proofs_only.Texts.{Part, optional_tokens}
+use Rattle.ent_json.specs.proofs_only.Keyed.{optional_tokens}
+use Rattle.ent_polform.specs.proofs_only.Texts.{Part}
 use Rattle.ent_polform.specs.Written.{designator_written}
 use Rattle.ent_values.specs.Types.{uri_of}
 use Rattle.ent_polform.proofs.text_values.write_designator.Goals as goal

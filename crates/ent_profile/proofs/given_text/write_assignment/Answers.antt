@@ -3,7 +3,7 @@ use Rattle.json.specs.Token as token
 use Rattle.serde_json.specs.Data as json
 use Rattle.ent_json.specs.Text.{tokens_of}
 use Rattle.ent_polform.specs.Written.{value_written}
-use Rattle.ent_profile.specs.proofs_only.Written.{optional_tokens}
+use Rattle.ent_json.specs.proofs_only.Keyed.{optional_tokens}
 use Rattle.ent_profile.proofs.TextLemmas.{ends}
 use Rattle.ent_profile.proofs.TokenLemmas.{assignment_tokens, text_tokens}
 use Rattle.ent_profile.proofs.given_text.write_assignment.Goals as goal

@@ -1,0 +1,17 @@
+use Rattle.std.proofs.Common.{[], ◌∷◌, codes, refl}
+use Rattle.json.specs.Lex.{lex, punctuate}
+use Rattle.json.specs.Print.{escape_byte, print_from}
+use Rattle.json.specs.Text.{content}
+use Rattle.json.specs.Token as token
+use Rattle.ent_line.proofs.TextLemmas.{ends}
+use Rattle.ent_line.proofs.cell.write_decision.Goals as goal
+
+pub raw-requires : goal.raw-requires
+unfolding lex punctuate content print_from escape_byte
+raw-requires c = refl
+
+pub returns : goal.returns
+unfolding lex punctuate content
+returns c =
+    rw (← c.decision_text.ensures)
+    (ends _ _ _ _ (token.key (codes "decision") ∷ []) (token.string c.decision_text.result.now ∷ []) c.in_ok-raw.ensures.ok c.string.ensures.ok)
