@@ -116,7 +116,7 @@ impl<'a> Machine<'a> {
 }
 
 /// Puts bytes behind the others.
-fn put(all: &RefCell<Vec<u8>>, bytes: &[u8]) -> io::Result<()> {
+pub(crate) fn put(all: &RefCell<Vec<u8>>, bytes: &[u8]) -> io::Result<()> {
     let Ok(mut all) = all.try_borrow_mut() else {
         return Err(unsupported());
     };

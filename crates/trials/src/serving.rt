@@ -1,9 +1,11 @@
 //! Serving readers and writers of several kinds, and what faults are called.
 
+use crate::machine::{is_all, put};
 use ent_line::{Answering, LINE_LIMIT, Refusal, Reply, ServeFault, serve, serve_within};
 use ent_policy::DocFault;
 use ent_table::Accepted;
 use std::alloc::Global;
+use std::cell::RefCell;
 use std::io;
 use std::io::{BufRead, ErrorKind, Read, Write};
 use std::test::Fail;
@@ -207,12 +209,12 @@ fn narrowed(
 }
 
 /// How many bytes a writer takes and whether it can be flushed, with how many it holds in the end, and how many lines
-/// were handled.
+/// were handled. One that can't be flushed holds the replies to all three, of which none is waited for.
 const ROOMS: &[(usize, bool, usize, u64)] = &[
     (24, true, 24, 1),
     (25, true, 25, 2),
     (30, true, 30, 2),
-    (90, false, 25, 1),
+    (90, false, 75, 3),
 ];
 
 /// Whether a writer that takes so many bytes ends with a write fault, a front of the replies and so many lines handled.
@@ -222,8 +224,9 @@ fn is_cut(alloc: Global, room: usize, flushes: bool, written: usize, number: u64
     is_front && lines == Err(ServeFault::Write) && handled == number
 }
 
-/// The replies to the first two of those lines.
-const REPLIES: &str = "{\"changes\":3,\"serial\":1}\n{\"changes\":3,\"serial\":2}\n";
+/// The replies to those lines.
+const REPLIES: &str =
+    "{\"changes\":3,\"serial\":1}\n{\"changes\":3,\"serial\":2}\n{\"changes\":3,\"serial\":3}\n";
 
 #[test]
 fn stops_at_a_write_fault(rt: HostRuntime) {
@@ -233,6 +236,96 @@ fn stops_at_a_write_fault(rt: HostRuntime) {
             "{room}"
         );
     }
+}
+
+/// A reader that shows its text in pieces of `step` bytes, each when the one before is used up. It notes whether it was
+/// asked for one while replies were held back.
+#[derive(Drop)]
+struct Waiting<'a> {
+    text: &'a [u8],
+    step: usize,
+    left: usize,
+    held: &'a RefCell<Vec<u8>>,
+    is_late: bool,
+}
+
+impl Read for Waiting<'_> {
+    fn read(&mut self, _buf: &mut [u8]) -> io::Result<usize> {
+        Ok(0)
+    }
+}
+
+impl BufRead for Waiting<'_> {
+    fn fill_buf(&mut self) -> io::Result<&[u8]> {
+        if self.left == 0 {
+            self.is_late |= !is_all(self.held, "");
+            self.left = self.step;
+        }
+        let n = self.left.min(self.text.len());
+        Ok(&self.text[..n])
+    }
+
+    fn consume(&mut self, amount: usize) {
+        let n = amount.min(self.left).min(self.text.len());
+        self.text = &self.text[n..];
+        self.left -= n;
+    }
+}
+
+/// A writer that shows the bytes that weren't flushed.
+#[derive(Drop)]
+struct Holding<'a> {
+    held: &'a RefCell<Vec<u8>>,
+}
+
+impl Write for Holding<'_> {
+    fn write(&mut self, buf: &[u8]) -> io::Result<usize> {
+        put(self.held, buf)?;
+        Ok(buf.len())
+    }
+
+    fn flush(&mut self) -> io::Result<()> {
+        match self.held.try_borrow_mut() {
+            Ok(mut held) => {
+                held.clear();
+                Ok(())
+            }
+            Err(_) => Err(io::Error::from(ErrorKind::BrokenPipe)),
+        }
+    }
+}
+
+/// Whether all replies to a text, shown in pieces of `step` bytes, left before the next piece was waited for, and before
+/// the call ended, and how many lines they have.
+fn is_in_time(alloc: Global, text: &str, step: usize, looks: u32) -> (bool, u64) {
+    let held = RefCell::new(Vec::new(alloc));
+    let mut tally = Tally { alloc, lines: 0 };
+    let mut reader = Waiting {
+        text: text.as_bytes(),
+        step,
+        left: 0,
+        held: &held,
+        is_late: false,
+    };
+    let mut writer = Holding { held: &held };
+    let _ = serve_within(alloc, &mut tally, &mut reader, &mut writer, looks);
+    (!reader.is_late && is_all(&held, ""), tally.lines)
+}
+
+/// Texts with the bytes of a piece and the number of lines. A whole line and a part of the next, lines that fill a piece,
+/// one that no newline ends, and pieces of a byte.
+const PIECES: &[(&str, usize, u64)] = &[
+    ("abc\ndef\n", 6, 2),
+    ("abc\ndef\nghi\njkl\nmn", 8, 5),
+    ("\n\n\na", 1, 4),
+];
+
+#[test]
+fn replies_leave_before_a_wait(rt: HostRuntime) {
+    for &(text, step, number) in PIECES {
+        assert!(rt; is_in_time(rt.alloc(), text, step, 100) == (true, number));
+    }
+    assert!(rt; is_in_time(rt.alloc(), "abc\ndef\nghi\n", 12, 2) == (true, 2));
 }
 
 /// Faults with what each is called.
