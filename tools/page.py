@@ -1,14 +1,16 @@
 #!/usr/bin/python3
 """Writes one page that shows a review table: people by resources, with a tab for each action.
 
-    page.py [--older FILE] [--title TEXT] [--output FILE] [FILE ..]
+    page.py [--older FILE ..] [--title TEXT] [--output FILE] [FILE ..]
 
 It reads replies of `review serve`, one JSON object a line, from the files or from standard input, and takes the last
-table, the last counts and the last notices among them; every other line is passed over. What differs from the table
-in the older file is marked; without one, what the notices tell. The page is one file that asks for nothing from
-anywhere. It is written to standard output unless --output names a file.
+table, the last counts and the last notices of each; every other line is passed over. Tables of several files are shown
+as one, and no cell may stand in two of them. What differs from the tables in the older files is marked, --older naming
+one each time; without one, what the notices tell. The page is one file that asks for nothing from anywhere. It is
+written to standard output unless --output names a file.
 
-The status is 0; 1 where the replies have no table, or something in them can't be read, which is said on standard error.
+The status is 0; 1 where a file's replies have no table, a cell stands twice, or something can't be read, which is said
+on standard error.
 """
 import argparse
 import base64
@@ -56,24 +58,29 @@ def replies(name, lines):
                 raise Fault(f'{name}:{count}: this is no JSON ({cause})') from None
 
 
-def latest(names):
-    """The last table, counts and notices in the files of these names, each with its place, by its key."""
-    found = {}
-    for name in names:
-        try:
-            file = sys.stdin.buffer if name == '-' else open(name, 'rb')
-        except OSError as cause:
-            raise Fault(f'{name}: {cause.strerror}') from None
-        with file:
-            for place, reply in replies('standard input' if name == '-' else name, file):
-                found.update({key: (place, reply[key]) for key in ('table', 'counts', 'notices') if key in reply})
-    return found
-
-
 def require(condition, place, words):
     """Ends with a fault where a condition isn't met."""
     if not condition:
         raise Fault(f'{place}: {words}')
+
+
+def called(name):
+    """What a file is called."""
+    return 'standard input' if name == '-' else name
+
+
+def latest(name):
+    """The last table, counts and notices in the file of that name, each with its place, by its key."""
+    found = {}
+    try:
+        file = sys.stdin.buffer if name == '-' else open(name, 'rb')
+    except OSError as cause:
+        raise Fault(f'{name}: {cause.strerror}') from None
+    with file:
+        for place, reply in replies(called(name), file):
+            found.update({key: (place, reply[key]) for key in ('table', 'counts', 'notices') if key in reply})
+    require('table' in found, called(name), 'no reply has a table: send {"do":"table"}')
+    return found
 
 
 def names_of(place, entry):
@@ -126,7 +133,24 @@ class Answers:
 def table_of(place, cells, answers):
     """A table as its requests with the numbers of their answers, in its order."""
     require(isinstance(cells, list), place, 'a table is no list')
-    return {names_of(place, cell): answers.number(place, cell) for cell in cells}
+    table = {}
+    for cell in cells:
+        names = names_of(place, cell)
+        require(names not in table, place, f'the cell {json.dumps(names, ensure_ascii=False)} stands twice')
+        table[names] = answers.number(place, cell)
+    return table
+
+
+def joined(tables):
+    """Tables, each with its place, as one."""
+    whole = {}
+    for number, (place, table) in enumerate(tables):
+        for names in table:
+            if names in whole:
+                other = next(place for place, table in tables[:number] if names in table)
+                raise Fault(f'{place}: the cell {json.dumps(names, ensure_ascii=False)} stands in {other} too')
+        whole |= table
+    return whole
 
 
 def differences(table, older):
@@ -206,30 +230,46 @@ def page(title, data, counts, warnings):
         script=markupsafe.Markup(script), script_digest=markupsafe.Markup(digest(script)))
 
 
+def warned(name, table, found, answers):
+    """What is to be warned of, of a file's replies beside its table."""
+    warnings = []
+    if 'notices' in found and other_notices(table, found['notices'][1], answers):
+        warnings.append(f'The notices in {called(name)} are of another table than the one there.')
+    if 'counts' in found and other_counts(counted(table, answers), found['counts'][1]):
+        warnings.append(f'The counts in {called(name)} are of another table than the one there.')
+    return warnings
+
+
+def read(names, answers):
+    """The tables in files, each with its place, the cells that notices tell of, and what is warned of."""
+    tables, changed, warnings = [], None, []
+    for name in names:
+        found = latest(name)
+        place, cells = found['table']
+        table = table_of(place, cells, answers)
+        tables.append((place, table))
+        if 'notices' in found:
+            changed = (changed or {}) | told(*found['notices'], answers)
+        warnings += warned(name, table, found, answers)
+    return tables, changed, warnings
+
+
 def made(options):
     """The page for what the command line asks."""
-    found, answers, warnings = latest(options.files or ['-']), Answers(), []
-    if 'table' not in found:
-        raise Fault('no reply has a table: send {"do":"table"}')
-    table, changed = table_of(*found['table'], answers), None
-    if options.older is not None:
-        older = latest([options.older])
-        require('table' in older, options.older, 'no reply has a table')
-        changed = differences(table, table_of(*older['table'], answers))
-    elif 'notices' in found:
-        changed = told(*found['notices'], answers)
-        if other_notices(table, found['notices'][1], answers):
-            warnings.append('The notices that were given are of another table than this one.')
-    counts = counted(table, answers)
-    if 'counts' in found and other_counts(counts, found['counts'][1]):
-        warnings.append('The counts that were given are of another table than this one.')
-    return page(options.title, grid(table, changed, answers), counts, warnings)
+    answers = Answers()
+    tables, changed, warnings = read(options.files or ['-'], answers)
+    table = joined(tables)
+    if options.older:
+        older, _, _ = read(options.older, answers)
+        changed = differences(table, joined(older))
+    return page(options.title, grid(table, changed, answers), counted(table, answers), warnings)
 
 
 def main():
     parser = argparse.ArgumentParser(description='Writes one page that shows a review table.')
     parser.add_argument('files', nargs='*', metavar='FILE', help='replies, one a line; standard input if there is none')
-    parser.add_argument('--older', metavar='FILE', help='replies with an older table: what differs is marked')
+    parser.add_argument('--older', action='append', metavar='FILE',
+                        help='replies with an older table, once for each: what differs is marked')
     parser.add_argument('--title', default='Review table', metavar='TEXT', help='the heading of the page')
     parser.add_argument('--output', metavar='FILE', help='where the page is written; else to standard output')
     options = parser.parse_args()

@@ -102,11 +102,21 @@ class Trial:
 
     def open(self, name, lines, *options):
         """Makes the page of the replies to lines, and opens it."""
+        self.show(name, self.replies(lines), *options)
+
+    def show(self, name, sent, *options):
+        """Makes the page of these replies, or of those that the options name, and opens it."""
         path = self.folder / 'page.html'
         made = [str(HERE / 'page.py'), '--title', name, '--output', str(path), *options]
-        subprocess.run(made, input=self.replies(lines), check=True)
+        subprocess.run(made, input=sent, check=True)
         self.browser.get(path.as_uri())
         self.settle()
+
+    def file(self, name, lines):
+        """The name of a file with the replies to lines."""
+        path = self.folder / name
+        path.write_bytes(self.replies(lines))
+        return str(path)
 
     def settle(self):
         """Waits until what was asked for is drawn."""
@@ -266,11 +276,10 @@ def try_changes(trial):
     told = trial.text('cell').splitlines()
     trial.see('a cell and what it was', [told[0], told[1], 'Before' in told, 'Permit' in told],
               ['bruno · prescribe · cabinet-ward', 'NotApplicable', True, True])
-    older = trial.folder / 'older.jsonl'
-    older.write_bytes(trial.replies(clinic() + [line(do='table')]))
+    older = trial.file('older.jsonl', clinic() + [line(do='table')])
     edits = [line(do='person.drop', name='gus'), line(do='person.add', name='ines')]
     edits += [line(do='counts'), line(do='table')]
-    trial.open('older', clinic() + changes[:3] + edits, '--older', str(older))
+    trial.open('older', clinic() + changes[:3] + edits, '--older', older)
     trial.see('changes against an older table', trial.text('list').splitlines()[0], 'Changed cells: 72')
     trial.see('no longer listed', trial.text('gone').splitlines()[0], 'No longer listed: 60')
     trial.choose('decision', 'NotApplicable')
@@ -308,6 +317,41 @@ def try_full(trial):
     trial.see('cells of four actions', (trial.text('matches'), len(trial.tabs())), ('65536 cells', 4))
 
 
+def block(trial, people, things, name):
+    """The name of a file with the table and the counts of these people and resources under two actions."""
+    return trial.file(name, world(people, ['read', 'write'], things) + [line(do='counts'), line(do='table')])
+
+
+def try_joined(trial):
+    """400 people and 180 resources in nine tables, three by three; and two tables that have no name in common."""
+    names = [f'{sort}-{number:03}' for sort in ('person', 'thing') for number in range(400)]
+    people = [names[:134], names[134:267], names[267:400]]
+    things = [names[400:460], names[460:520], names[520:580]]
+    files = [block(trial, rows, columns, f'{place}-{number}.jsonl')
+             for place, rows in enumerate(people) for number, columns in enumerate(things)]
+    trial.show('nine', b'', *files)
+    trial.see('cells of nine tables', trial.text('matches'), '144000 cells')
+    trial.see('rows and columns of nine tables', trial.shown(), [400, 180])
+    heads = trial.browser.find_elements(By.CSS_SELECTOR, '#legend li > b')
+    trial.see('the heads count all of them', sum(int(head.text) for head in heads[:6]), 144000)
+    trial.see('no warning', trial.browser.find_elements(By.CSS_SELECTOR, '.warning[role=alert]'), [])
+    trial.get('scroller').click()
+    trial.press_with_control(Keys.END)
+    trial.see('the last cell of nine tables', trial.text('note').splitlines()[0], 'person-399 · read · thing-179')
+    trial.get('whole').click()
+    trial.picture('nine')
+    apart = [files[0], block(trial, people[1][:9], things[1][:7], 'apart.jsonl')]
+    trial.show('apart', b'', *apart, '--older', files[0])
+    trial.see('cells of two tables', (trial.text('matches'), trial.shown()), ('16206 cells', [143, 67]))
+    trial.see('what the second brings is new', trial.text('list').splitlines()[0], 'Changed cells: 126')
+    trial.get('person').send_keys('person-140')
+    trial.settle()
+    trial.see('the resources of one person', trial.shown(), [1, 7])
+    twice = subprocess.run([str(HERE / 'page.py'), files[0], files[1], files[0]], capture_output=True, check=False)
+    told = twice.stderr.decode()
+    trial.see(f'a table twice ({told})', [twice.returncode, twice.stdout, told.count(' stands in ')], [1, b'', 1])
+
+
 def try_hostile(trial):
     """Names that would be markup, script, or invisible."""
     trial.open('</title><script>alert(1)</script>', world(HOSTILE, HOSTILE, HOSTILE) + [line(do='table')])
@@ -323,7 +367,10 @@ def try_hostile(trial):
 
 def try_refused(trial):
     """Replies of which no page can be made."""
-    rows = [('{"changes":0,"serial":1}', 'no reply has a table: send {"do":"table"}'),
+    cell = '{"person":"a","action":"b","resource":"c","decision":"Deny","status":"ok","why":[],"obligations":[],'
+    cell += '"advice":[]}'
+    rows = [('{"changes":0,"serial":1}', 'standard input: no reply has a table: send {"do":"table"}'),
+            (f'{{"table":[{cell},{cell}]}}', 'standard input:1: the cell ["a", "b", "c"] stands twice'),
             ('{"table":[]}\n{', 'standard input:2: this is no JSON (Expecting property name enclosed in double quotes: '
              'line 1 column 2 (char 1))'),
             ('{"table":[{"person":"a"}]}', 'standard input:1: a cell or a notice has no person, action and resource'),
@@ -365,7 +412,7 @@ def main():
         print(f'tools/try_page.py was not run: there is no {", ".join(missing)}')
         return 3
     faults = []
-    for attempt in (try_clinic, try_keys, try_changes, try_full, try_hostile, try_refused):
+    for attempt in (try_clinic, try_keys, try_changes, try_full, try_joined, try_hostile, try_refused):
         found = attempted(attempt, options.program, options.pictures)
         if found is None:
             print('tools/try_page.py was not run to its end: no browser starts')

@@ -4,3 +4,4 @@ mod Readings
 mod Names
 mod Places
 mod Walks
+mod Values

@@ -1,3 +1,4 @@
 pub mod Found
 pub mod Placed
 pub mod Settings
+pub mod Values

@@ -3,6 +3,7 @@
 ghost use Rattle.std.specs.Prelude.{◌≡◌, IfOk, option_map};
 ghost use Rattle.ent_declared.specs.Asked.{asked, finds, finds_one, is_wanted};
 
+use crate::known::Known;
 use ent_json::{JsonTree, text_at};
 use ent_values::{DataType, Items, Text, Value};
 use std::alloc::{AllocError, Global};
@@ -81,11 +82,13 @@ pub(crate) fn asked<J: JsonTree>(
 }
 
 /// Whether values of one of the attributes are asked for.
-pub(crate) fn finds_one(attributes: &[Attribute], wanted: &Option<Attribute>) -> bool
+pub(crate) fn finds_one(attributes: &[Known<'_>], wanted: &Option<Attribute>) -> bool
     ensures { result ≡ finds_one attributes.now wanted.now }
 {
     match wanted {
         None => false,
-        Some(wanted) => attributes.iter().any(|attribute| wanted.finds(attribute)),
+        Some(wanted) => attributes
+            .iter()
+            .any(|known| wanted.finds(known.attribute())),
     }
 }

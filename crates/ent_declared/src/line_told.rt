@@ -7,7 +7,7 @@ use crate::always::{ACTION, RESOURCE};
 use crate::attribute::Attribute;
 use crate::lines::{FaultyLine, LineFault, values_at};
 use crate::listed::{Listed, Named};
-use crate::said::name;
+use crate::said::{name, said};
 use crate::stray::value_in;
 use crate::told::{undeclared_sentence, value_sentence};
 use ent_explain::one_line;
@@ -40,7 +40,7 @@ fn value_told<J: JsonTree>(
     if value_in(alloc, attribute.datatype, value)?.is_some() {
         return value_sentence(alloc, attribute, text.as_str(), attributes);
     }
-    let shown = text.escape_debug();
+    let shown = said(alloc, text.as_str())?;
     let name = name(alloc, attribute)?;
     format!(in alloc; "`{shown}` is no value of {name}")
 }
@@ -78,11 +78,11 @@ fn word(category: &str) -> &'static str {
 /// That a name isn't listed, and which is near.
 fn unlisted_sentence(alloc: Global, wanted: &Named, listed: &Listed) -> Result<String, AllocError> {
     let word = word(wanted.category.as_str());
-    let name = wanted.name.as_str().escape_debug();
+    let name = said(alloc, wanted.name.as_str())?;
     match listed.nearest(alloc, wanted)? {
         None => format!(in alloc; "no {word} `{name}` is listed"),
         Some(near) => {
-            let near = near.name.as_str().escape_debug();
+            let near = near.as_str().escape_debug();
             format!(in alloc; "no {word} `{name}` is listed; did you mean `{near}`?")
         }
     }

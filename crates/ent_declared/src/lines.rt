@@ -11,6 +11,7 @@ ghost use Rattle.ent_declared.specs.proofs_only.Settings.{setting_view};
 
 use crate::always::{ACCESS_SUBJECT, ACTION, RESOURCE};
 use crate::attribute::{Attribute, owned};
+use crate::known::{Known, with_sets};
 use crate::listed::{Listed, Named};
 use crate::stray::{is_foreign, value_in};
 use ent_json::{JsonTree, read_json, text_at, text_or_absent};
@@ -122,16 +123,18 @@ fn is_set_as(set: &Attribute, declared: &Attribute) -> bool
 }
 
 /// Whether one of the attributes is declared as this one is set.
-fn is_declared(attributes: &[Attribute], set: &Attribute) -> bool
+fn is_declared(attributes: &[Known<'_>], set: &Attribute) -> bool
     ensures { result ≡ list_any (is_set_as set.now) attributes.now }
 {
-    attributes.iter().any(|attribute| is_set_as(set, attribute))
+    attributes
+        .iter()
+        .any(|known| is_set_as(set, known.attribute()))
 }
 
 /// Whether a value isn't one of the attribute's type, or isn't among those that are listed.
 fn is_bad_value<J: JsonTree>(
     alloc: Global,
-    attributes: &[Attribute],
+    attributes: &[Known<'_>],
     set: &Attribute,
     json: &J,
 ) -> Result<bool, AllocError>
@@ -146,7 +149,7 @@ fn is_bad_value<J: JsonTree>(
 /// The number of the first such value.
 fn bad_value<J: JsonTree>(
     alloc: Global,
-    attributes: &[Attribute],
+    attributes: &[Known<'_>],
     set: &Attribute,
     values: &[J],
 ) -> Result<Option<usize>, AllocError>
@@ -163,7 +166,7 @@ fn bad_value<J: JsonTree>(
 /// What is wrong with what a line sets.
 fn fault_of_setting<J: JsonTree>(
     alloc: Global,
-    attributes: &[Attribute],
+    attributes: &[Known<'_>],
     listed: &Listed,
     setting: Setting<'_, J>,
 ) -> Result<Option<LineFault>, AllocError>
@@ -199,7 +202,7 @@ fn is_setting<J: JsonTree>(line: &J) -> bool
 /// What is wrong with the JSON of a line.
 fn fault_of_data<J: JsonTree>(
     alloc: Global,
-    attributes: &[Attribute],
+    attributes: &[Known<'_>],
     listed: &Listed,
     line: &J,
 ) -> Result<Option<LineFault>, AllocError>
@@ -217,7 +220,7 @@ fn fault_of_data<J: JsonTree>(
 /// What is wrong with a line.
 fn fault_of(
     alloc: Global,
-    attributes: &[Attribute],
+    attributes: &[Known<'_>],
     listed: &Listed,
     line: &[u8],
 ) -> Result<Option<LineFault>, AllocError>
@@ -231,6 +234,25 @@ fn fault_of(
         None => Ok(Some(LineFault::NotJson)),
         Some(json) => fault_of_data(alloc, attributes, listed, &json),
     }
+}
+
+/// The lines that have a fault by attributes with their sets.
+fn faulty_among(
+    alloc: Global,
+    attributes: &[Known<'_>],
+    listed: &Listed,
+    lines: &[&[u8]],
+) -> Result<Vec<FaultyLine>, AllocError>
+    ensures { IfOk result (λ all. all.items ≡ faulty_from attributes.now listed.now 1 (map (λ l. l.now) lines.now)) }
+{
+    let mut all = Vec::new(alloc);
+    for (index, line) in lines.iter().enumerate() {
+        if let Some(fault) = fault_of(alloc, attributes, listed, line)? {
+            let number = index + 1;
+            all.push(FaultyLine { number, fault })?;
+        }
+    }
+    Ok(all)
 }
 
 /// The lines that set values which aren't declared so: those that aren't JSON; those of `attr.set` that can't be read,
@@ -248,12 +270,6 @@ pub fn faulty_lines(
 ) -> Result<Vec<FaultyLine>, AllocError>
     ensures { IfOk result (λ all. all.items ≡ faulty_from attributes.now listed.now 1 (map (λ l. l.now) lines.now)) }
 {
-    let mut all = Vec::new(alloc);
-    for (index, line) in lines.iter().enumerate() {
-        if let Some(fault) = fault_of(alloc, attributes, listed, line)? {
-            let number = index + 1;
-            all.push(FaultyLine { number, fault })?;
-        }
-    }
-    Ok(all)
+    let known = with_sets(alloc, attributes)?;
+    faulty_among(alloc, known.as_slice(), listed, lines)
 }

@@ -7,7 +7,7 @@ ghost use Rattle.ent_json.specs.Line.{data_of};
 ghost use Rattle.ent_declared.specs.declared.listed.Named.{Named};
 
 use crate::always::{ACCESS_SUBJECT, ACTION, RESOURCE};
-use crate::nearest::few_edits;
+use crate::near::Candidates;
 use ent_json::{JsonTree, read_json, text_at};
 use ent_values::Text;
 use json::Scratch;
@@ -132,24 +132,19 @@ impl Listed {
     {
         add_all(alloc, &mut self.names, lines)
     }
+
     /// The name of the same category that is nearest to one that isn't among them, if one is near.
     pub(crate) fn nearest(
         &self,
         alloc: Global,
         wanted: &Named,
-    ) -> Result<Option<&Named>, AllocError> {
-        let mut nearest = None;
-        let mut least = usize::MAX;
+    ) -> Result<Option<Text>, AllocError> {
+        let mut candidates = Candidates::new(alloc, wanted.name.as_str());
         for name in &self.names {
             if name.category == wanted.category {
-                if let Some(edits) = few_edits(alloc, wanted.name.as_str(), name.name.as_str())? {
-                    if edits < least {
-                        least = edits;
-                        nearest = Some(name);
-                    }
-                }
+                candidates.take(alloc, name.name.as_str())?;
             }
         }
-        Ok(nearest)
+        candidates.nearest(alloc)
     }
 }

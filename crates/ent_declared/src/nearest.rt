@@ -4,9 +4,9 @@ ghost use Rattle.std.specs.Prelude.{IfOk, IfSome};
 ghost use Rattle.std.specs.List.{Contains};
 
 use crate::attribute::Attribute;
+use crate::near::{Candidates, MOST_COMPARED, few_edits};
 use ent_values::{Text, Value};
 use std::alloc::{AllocError, Global};
-use strsim::osa_distance;
 
 /// What stands behind the last colon of an id.
 fn last_word(id: &str) -> &str {
@@ -16,25 +16,16 @@ fn last_word(id: &str) -> &str {
     }
 }
 
-/// How many edits lead from one word to the other, if they are few: at most one for three bytes.
-pub(crate) fn few_edits(
+/// How far the id of an attribute is from the one that is wanted, as a whole or else by its last word.
+fn id_distance(
     alloc: Global,
     wanted: &str,
-    word: &str,
+    id: &str,
+    left: &mut usize,
 ) -> Result<Option<usize>, AllocError> {
-    let most = (wanted.len() / 3).max(1);
-    if wanted.len().abs_diff(word.len()) > most {
-        return Ok(None);
-    }
-    let edits = osa_distance(alloc, wanted, word)?;
-    Ok((edits <= most).then_some(edits))
-}
-
-/// How far the id of an attribute is from the one that is wanted, as a whole or else by its last word.
-fn id_distance(alloc: Global, wanted: &str, id: &str) -> Result<Option<usize>, AllocError> {
-    match few_edits(alloc, wanted, id)? {
+    match few_edits(alloc, wanted, id, left)? {
         Some(edits) => Ok(Some(edits)),
-        None => few_edits(alloc, last_word(wanted), last_word(id)),
+        None => few_edits(alloc, last_word(wanted), last_word(id), left),
     }
 }
 
@@ -44,6 +35,7 @@ fn distance(
     alloc: Global,
     wanted: &Attribute,
     attribute: &Attribute,
+    left: &mut usize,
 ) -> Result<Option<usize>, AllocError> {
     let same_category = wanted.category == attribute.category;
     if wanted.id == attribute.id {
@@ -55,7 +47,7 @@ fn distance(
             (false, false) => 3,
         }));
     }
-    let edits = id_distance(alloc, wanted.id.as_str(), attribute.id.as_str())?;
+    let edits = id_distance(alloc, wanted.id.as_str(), attribute.id.as_str(), left)?;
     let first = if same_category { 4 } else { 5 };
     Ok(edits.map(|edits| edits.saturating_mul(2).saturating_add(first)))
 }
@@ -70,8 +62,9 @@ pub(crate) fn nearest<'a>(
 {
     let mut nearest = None;
     let mut least = usize::MAX;
+    let mut left = MOST_COMPARED;
     for attribute in attributes {
-        if let Some(distance) = distance(alloc, wanted, attribute)? {
+        if let Some(distance) = distance(alloc, wanted, attribute, &mut left)? {
             if distance < least {
                 least = distance;
                 nearest = Some(attribute);
@@ -81,23 +74,18 @@ pub(crate) fn nearest<'a>(
     Ok(nearest)
 }
 
-/// Takes the text of the value of these that is nearest to a text, if one is nearer than the nearest so far, and has
-/// something in common with it.
-fn take_nearer(
+/// Takes the texts of these values that may be near.
+fn take_values(
     alloc: Global,
-    text: &str,
     values: &[Value],
-    nearest: &mut Option<(usize, Text)>,
+    candidates: &mut Candidates<'_>,
 ) -> Result<(), AllocError> {
     for value in values {
-        let listed = value.text(alloc)?;
-        if let Some(edits) = few_edits(alloc, text, listed.as_str())? {
-            let is_nearer = match nearest {
-                None => true,
-                Some((least, _)) => edits < *least,
-            };
-            if is_nearer && edits < text.len() {
-                *nearest = Some((edits, listed));
+        match value {
+            Value::Text(text) | Value::AnyUri(text) => candidates.take(alloc, text.as_str())?,
+            _ => {
+                let text = value.text(alloc)?;
+                candidates.take(alloc, text.as_str())?;
             }
         }
     }
@@ -111,13 +99,13 @@ pub(crate) fn nearest_value(
     text: &str,
     attributes: &[Attribute],
 ) -> Result<Option<Text>, AllocError> {
-    let mut nearest = None;
+    let mut candidates = Candidates::new(alloc, text);
     for attribute in attributes {
         if wanted.finds(attribute) {
             if let Some(values) = &attribute.values {
-                take_nearer(alloc, text, values.as_slice(), &mut nearest)?;
+                take_values(alloc, values.as_slice(), &mut candidates)?;
             }
         }
     }
-    Ok(nearest.map(|(_, text)| text))
+    candidates.nearest(alloc)
 }

@@ -2,6 +2,7 @@
 
 use crate::always::{ACCESS_SUBJECT, ACTION, ENVIRONMENT, RESOURCE};
 use crate::attribute::Attribute;
+use ent_explain::shortened;
 use std::alloc::{AllocError, Global};
 
 /// A category as people write it: the last word of the four that requests have, and others as they stand.
@@ -21,15 +22,22 @@ fn category_word(category: &str) -> &str {
     category
 }
 
+/// A text that a file gives, as it is said: cut where it is long, and with its control characters escaped.
+pub(crate) fn said(alloc: Global, text: &str) -> Result<String, AllocError> {
+    let shown = shortened(alloc, text)?;
+    let shown = shown.as_str().escape_debug();
+    format!(in alloc; "{shown}")
+}
+
 /// An attribute as it is asked for: id, data type, issuer and category.
 pub(crate) fn name(alloc: Global, attribute: &Attribute) -> Result<String, AllocError> {
-    let id = attribute.id.as_str().escape_debug();
+    let id = said(alloc, attribute.id.as_str())?;
     let datatype = attribute.datatype.short_name();
-    let category = category_word(attribute.category.as_str()).escape_debug();
+    let category = said(alloc, category_word(attribute.category.as_str()))?;
     match &attribute.issuer {
         None => format!(in alloc; "`{id}` ({datatype}) of {category}"),
         Some(issuer) => {
-            let issuer = issuer.as_str().escape_debug();
+            let issuer = said(alloc, issuer.as_str())?;
             format!(in alloc; "`{id}` ({datatype}, issuer `{issuer}`) of {category}")
         }
     }

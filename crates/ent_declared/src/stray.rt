@@ -2,7 +2,6 @@
 
 ghost use Rattle.std.specs.Prelude.{◌≡◌, ◌&&◌, IfOk};
 ghost use Rattle.std.specs.List.{list_any};
-ghost use Rattle.ent_values.specs.Same.{same_value};
 ghost use Rattle.ent_polform.specs.Values.{value_in};
 ghost use Rattle.ent_declared.specs.Asked.{finds};
 ghost use Rattle.ent_declared.specs.Compared.{designators, is_foreign, lists, lists_values, literal_as, literals};
@@ -12,52 +11,29 @@ ghost use Rattle.ent_declared.specs.proofs_only.Placed.{place_of, places_of};
 use crate::attribute::{Attribute, asked};
 use crate::compared::{Placed, compared};
 use crate::designator::Undeclared;
+use crate::known::Known;
 use ent_json::JsonTree;
 use ent_places::Part;
 use ent_polform::read_value;
 use ent_values::{DataType, Text, Value, ValueFault};
 use std::alloc::{AllocError, Global};
 
-/// Whether the values of an attribute are listed.
-fn lists_values(attribute: &Attribute) -> bool
-    ensures { result ≡ lists_values attribute.now }
-{
-    attribute.values.is_some()
-}
-
-/// Whether a value is one of these.
-fn is_among(values: &[Value], value: &Value) -> bool
-    ensures { result ≡ list_any (same_value value.now) values.now }
-{
-    values.iter().any(|listed| value == listed)
-}
-
-/// Whether a value is among those of an attribute that are listed.
-fn lists(attribute: &Attribute, value: &Value) -> bool
-    ensures { result ≡ lists value.now attribute.now }
-{
-    match &attribute.values {
-        None => false,
-        Some(values) => is_among(values.as_slice(), value),
-    }
-}
-
 /// Whether an attribute is asked for whose values are listed.
-fn finds_listing(wanted: &Attribute, attribute: &Attribute) -> bool
+fn finds_listing(wanted: &Attribute, attribute: &Known<'_>) -> bool
     ensures { result ≡ (finds wanted.now attribute.now && lists_values attribute.now) }
 {
-    wanted.finds(attribute) && lists_values(attribute)
+    wanted.finds(attribute.attribute()) && attribute.lists_values()
 }
 
 /// Whether an attribute is asked for that lists a value.
-fn finds_value(wanted: &Attribute, attribute: &Attribute, value: &Value) -> bool
+fn finds_value(wanted: &Attribute, attribute: &Known<'_>, value: &Value) -> bool
     ensures { result ≡ (finds wanted.now attribute.now && lists value.now attribute.now) }
 {
-    wanted.finds(attribute) && lists(attribute, value)
+    wanted.finds(attribute.attribute()) && attribute.lists(value)
 }
 
 /// Whether values are listed for what is wanted.
-fn is_listing(attributes: &[Attribute], wanted: &Attribute) -> bool
+fn is_listing(attributes: &[Known<'_>], wanted: &Attribute) -> bool
     ensures { result ≡ list_any (λ a. finds wanted.now a && lists_values a) attributes.now }
 {
     attributes
@@ -66,7 +42,7 @@ fn is_listing(attributes: &[Attribute], wanted: &Attribute) -> bool
 }
 
 /// Whether a value is among those that are listed for what is wanted.
-fn is_listed(attributes: &[Attribute], wanted: &Attribute, value: &Value) -> bool
+fn is_listed(attributes: &[Known<'_>], wanted: &Attribute, value: &Value) -> bool
     ensures { result ≡ list_any (λ a. finds wanted.now a && lists value.now a) attributes.now }
 {
     attributes
@@ -75,7 +51,7 @@ fn is_listed(attributes: &[Attribute], wanted: &Attribute, value: &Value) -> boo
 }
 
 /// Whether values are listed for what is wanted, and this one is none of them.
-pub(crate) fn is_foreign(attributes: &[Attribute], wanted: &Attribute, value: &Value) -> bool
+pub(crate) fn is_foreign(attributes: &[Known<'_>], wanted: &Attribute, value: &Value) -> bool
     ensures { result ≡ is_foreign attributes.now wanted.now value.now }
 {
     is_listing(attributes, wanted) && !is_listed(attributes, wanted, value)
@@ -113,7 +89,7 @@ fn literal_as<J: JsonTree>(
 /// What is told of a literal that is compared with a designator, if it is none of the values that are listed for it.
 fn stray<J: JsonTree>(
     alloc: Global,
-    attributes: &[Attribute],
+    attributes: &[Known<'_>],
     designator: &Placed<'_, J>,
     literal: &Placed<'_, J>,
 ) -> Result<Option<Undeclared>, AllocError>
@@ -139,7 +115,7 @@ fn stray<J: JsonTree>(
 /// The first of these designators for which a literal is none of the values that are listed.
 fn stray_of<J: JsonTree>(
     alloc: Global,
-    attributes: &[Attribute],
+    attributes: &[Known<'_>],
     designators: &[Placed<'_, J>],
     literal: &Placed<'_, J>,
 ) -> Result<Option<Undeclared>, AllocError>
@@ -157,7 +133,7 @@ fn stray_of<J: JsonTree>(
 /// The first of these literals that is none of the values that are listed for one of the designators.
 fn first_stray<J: JsonTree>(
     alloc: Global,
-    attributes: &[Attribute],
+    attributes: &[Known<'_>],
     designators: &[Placed<'_, J>],
     literals: &[Placed<'_, J>],
 ) -> Result<Option<Undeclared>, AllocError>
@@ -178,7 +154,7 @@ pub(crate) fn stray_in<J: JsonTree>(
     pointer: &str,
     part: Part,
     json: &J,
-    attributes: &[Attribute],
+    attributes: &[Known<'_>],
 ) -> Result<Option<Undeclared>, AllocError>
     ensures { IfOk result (λ o. StraysIn attributes.now (literals part (pointer.now, J.content json.now))
         (designators part (pointer.now, J.content json.now)) o) }

@@ -9,7 +9,7 @@ use crate::attribute::Attribute;
 use crate::designator::Undeclared;
 use crate::fault::{AttributeFault, AttributesFault};
 use crate::nearest::{nearest, nearest_value};
-use crate::said::{hint, name};
+use crate::said::{hint, name, said};
 use ent_explain::{one_line, placed};
 use std::alloc::{AllocError, Global};
 
@@ -55,7 +55,7 @@ pub(crate) fn value_sentence(
     attributes: &[Attribute],
 ) -> Result<String, AllocError> {
     let name = name(alloc, wanted)?;
-    let shown = text.escape_debug();
+    let shown = said(alloc, text)?;
     match nearest_value(alloc, wanted, text, attributes)? {
         None => format!(in alloc; "`{shown}` isn't among the values of {name}"),
         Some(near) => {
@@ -182,10 +182,10 @@ impl AttributesFault {
     {
         let step = escaped(alloc, key)?;
         let step = step.as_str();
-        let shown = key.escape_debug();
+        let shown = said(alloc, key)?;
         let at = position_text(alloc, position)?;
         let at = at.as_str();
-        let said = match self {
+        let told = match self {
             AttributesFault::NoList => {
                 format!(in alloc; "/{step}: {at}no key `{shown}` is known here, only Attributes")?
             }
@@ -193,6 +193,6 @@ impl AttributesFault {
                 "/Attributes/{number}/{step}: {at}no key `{shown}` is known here, only {KEYS}"
             )?,
         };
-        one_line(alloc, said.as_str())
+        one_line(alloc, told.as_str())
     }
 }

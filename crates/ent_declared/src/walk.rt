@@ -10,6 +10,7 @@ ghost use Rattle.ent_declared.specs.proofs_only.Found.{FindsDesignator};
 
 use crate::attribute::{Attribute, asked, finds_one};
 use crate::designator::Undeclared;
+use crate::known::{Known, with_sets};
 use crate::stray::stray_in;
 use ent_json::JsonTree;
 use ent_places::Part;
@@ -29,7 +30,7 @@ fn undeclared_here<J: JsonTree>(
     pointer: &str,
     part: Part,
     json: &J,
-    attributes: &[Attribute],
+    attributes: &[Known<'_>],
 ) -> Result<Option<Undeclared>, AllocError>
     ensures { IfOk result (λ o. (scope : Scope)
         → FindsDesignator attributes.now (spot pointer.now part scope (J.content json.now)) o) }
@@ -55,7 +56,7 @@ fn here<J: JsonTree>(
     pointer: &str,
     part: Part,
     json: &J,
-    attributes: &[Attribute],
+    attributes: &[Known<'_>],
 ) -> Result<Option<Undeclared>, AllocError>
     ensures { IfOk result (λ o. (scope : Scope)
         → FindsHere attributes.now (spot pointer.now part scope (J.content json.now)) o) }
@@ -73,7 +74,7 @@ fn in_part<J: JsonTree>(
     pointer: &str,
     part: Part,
     json: &J,
-    attributes: &[Attribute],
+    attributes: &[Known<'_>],
 ) -> Result<Option<Undeclared>, AllocError>
     ensures { IfOk result (λ o. (scope : Scope)
         → Finds attributes.now (spot pointer.now part scope (J.content json.now)) o) }
@@ -94,7 +95,7 @@ fn at_keys<J: JsonTree>(
     pointer: &str,
     part: Part,
     json: &J,
-    attributes: &[Attribute],
+    attributes: &[Known<'_>],
 ) -> Result<Option<Undeclared>, AllocError>
     ensures { IfOk result (λ o. (scope : Scope)
         → FindsIn attributes.now (at_keys (spot pointer.now part scope (J.content json.now))) o) }
@@ -115,7 +116,7 @@ fn at_key<J: JsonTree>(
     row: (&str, Part),
     part: Part,
     json: &J,
-    attributes: &[Attribute],
+    attributes: &[Known<'_>],
 ) -> Result<Option<Undeclared>, AllocError>
     ensures { IfOk result (λ o. (scope : Scope) → FindsIn attributes.now
         (at_key (spot pointer.now part scope (J.content json.now)) (row.entry.0.now, row.entry.1)
@@ -138,7 +139,7 @@ fn in_list<J: JsonTree>(
     pointer: &str,
     part: Part,
     json: &J,
-    attributes: &[Attribute],
+    attributes: &[Known<'_>],
 ) -> Result<Option<Undeclared>, AllocError>
     ensures { IfOk result (λ o. (scope : Scope) → FindsIn attributes.now
         (in_list (spot pointer.now part scope (J.content json.now)) (item part)) o) }
@@ -165,13 +166,24 @@ fn at_number<J: JsonTree>(
     number: usize,
     part: Part,
     json: &J,
-    attributes: &[Attribute],
+    attributes: &[Known<'_>],
 ) -> Result<Option<Undeclared>, AllocError>
     ensures { IfOk result (λ o. (scope : Scope) → Finds attributes.now
         (spot (pointer.now ++ codes "/" ++ decimal number) part scope (J.content json.now)) o) }
 {
     let inner = format!(in alloc; "{pointer}/{number}")?;
     in_part(alloc, inner.as_str(), part, json, attributes)
+}
+
+/// What is first wrong with a document by attributes with their sets.
+fn undeclared_in<J: JsonTree>(
+    alloc: Global,
+    json: &J,
+    attributes: &[Known<'_>],
+) -> Result<Option<Undeclared>, AllocError>
+    ensures { IfOk result (λ o. Finds attributes.now (whole (J.content json.now)) o) }
+{
+    in_part(alloc, "", Part::Document, json, attributes)
 }
 
 /// What is first wrong with a document by the attributes: a designator that asks for values of none of them, or a
@@ -188,5 +200,6 @@ pub fn undeclared<J: JsonTree>(
 ) -> Result<Option<Undeclared>, AllocError>
     ensures { IfOk result (λ o. Finds attributes.now (whole (J.content json.now)) o) }
 {
-    in_part(alloc, "", Part::Document, json, attributes)
+    let known = with_sets(alloc, attributes)?;
+    undeclared_in(alloc, json, known.as_slice())
 }

@@ -1,5 +1,6 @@
 //! Rules that stand behind one that always decides.
 
+use crate::never::note_never;
 use crate::position::{position_of, text_at};
 use crate::words::quoted;
 use ent_combine::RuleAlg;
@@ -101,7 +102,8 @@ fn note_in_policy<J: JsonTree>(
     Ok(())
 }
 
-/// The same of the policies in a document or in a child of a set, looked into that many levels deep.
+/// The same of the policies in a document or in a child of a set, looked into so many levels deep; and what is told of
+/// their obligations and advice.
 #[cycle(note_behind)]
 pub(crate) fn note_behind<J: JsonTree>(
     alloc: Global,
@@ -116,7 +118,8 @@ pub(crate) fn note_behind<J: JsonTree>(
     }
     if let Some(policy) = json.get("Policy") {
         let inner = format!(in alloc; "{pointer}/Policy")?;
-        return note_in_policy(alloc, text, inner.as_str(), policy, told);
+        note_in_policy(alloc, text, inner.as_str(), policy, told)?;
+        return note_never(alloc, text, inner.as_str(), policy, told);
     }
     match json.get("PolicySet") {
         Some(set) => note_in_children(alloc, text, pointer, set, levels - 1, told),

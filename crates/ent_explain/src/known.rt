@@ -1,6 +1,6 @@
 //! Which known identifier is nearest to one that isn't known. Identifiers are compared by their last words.
 
-use crate::near::{near, nearest};
+use crate::near::{Search, nearest};
 use crate::words::last_word;
 use ent_combine::{PolicyAlg, RuleAlg};
 use ent_functions::{Comparison, Element, Function, Ordered};
@@ -113,19 +113,15 @@ pub(crate) fn nearest_function(
     id: &str,
     in_match: bool,
 ) -> Result<Option<Text>, AllocError> {
-    let word = last_word(id);
+    let mut search = Search::new(last_word(id));
     let mut best = None;
-    let mut least = usize::MAX;
     let candidates = if in_match {
         match_ids(alloc)?
     } else {
         function_ids(alloc)?
     };
     for candidate in candidates {
-        if let Some(far) = near(alloc, word, last_word(candidate.as_str()))?
-            && far < least
-        {
-            least = far;
+        if search.is_nearer(alloc, last_word(candidate.as_str()))? {
             best = Some(candidate);
         }
     }
@@ -148,14 +144,10 @@ fn nearest_id(
     id: &str,
     known: &[&'static str],
 ) -> Result<Option<&'static str>, AllocError> {
-    let word = last_word(id);
+    let mut search = Search::new(last_word(id));
     let mut best = None;
-    let mut least = usize::MAX;
     for candidate in known {
-        if let Some(far) = near(alloc, word, last_word(candidate))?
-            && far < least
-        {
-            least = far;
+        if search.is_nearer(alloc, last_word(candidate))? {
             best = Some(*candidate);
         }
     }

@@ -1,5 +1,6 @@
 //! What is wrong with a text that isn't JSON.
 
+use crate::merge::marker_in;
 use crate::position::position_behind;
 use crate::scan::too_deep_at;
 use crate::words::quoted;
@@ -34,6 +35,10 @@ fn found_in(alloc: Global, text: &[u8]) -> Result<Cause, AllocError> {
     if let Some(sentence) = encoding_sentence(text) {
         return Cause::new(alloc, sentence, 0);
     }
+    if let Some(behind) = marker_in(text) {
+        let sentence = "a merge left its marker here: of these lines two versions stand, keep one";
+        return Cause::new(alloc, sentence, behind);
+    }
     match str::from_utf8(text) {
         Ok(text) => syntax_cause(alloc, text),
         Err(fault) => Cause::new(alloc, "the bytes here aren't UTF-8", fault.valid_up_to()),
@@ -52,7 +57,8 @@ fn encoding_sentence(text: &[u8]) -> Option<&'static str> {
     if text.starts_with(&[0xFE, 0xFF]) || text.starts_with(&[0xFF, 0xFE]) || front.contains(&0) {
         return Some("the file is UTF-16 or UTF-32; save it as UTF-8");
     }
-    if text.trim_ascii_start().starts_with(b"<") {
+    let front = text.trim_ascii_start();
+    if front.starts_with(b"<") && !front.starts_with(b"<<<<<<<") {
         return Some("the file is XML; a document is written as JSON here");
     }
     None

@@ -34,8 +34,8 @@ fn found_in(alloc: Global, text: &[u8]) -> Result<Vec<(String, String)>, AllocEr
 }
 
 /// What is told of the text of a document beside its faults, one line each: a key that stands again in an object, where
-/// both stand, and a rule behind one that always decides. Nothing is told of a text that isn't JSON, and of at most 16
-/// keys.
+/// both stand, a rule behind one that always decides, and an obligation or an advice for an effect that its rule or its
+/// policy never gives. Nothing is told of a text that isn't JSON, and of at most 16 keys.
 ///
 /// # Errors
 ///

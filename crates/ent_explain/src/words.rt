@@ -9,9 +9,13 @@ use std::alloc::{AllocError, Global};
 /// How many characters of a word are shown.
 const MOST_SHOWN: usize = 80;
 
-/// The word in quotes, cut where it is long.
-pub(crate) fn quoted(alloc: Global, word: &str) -> Result<String, AllocError> {
-    let mut shown = String::from_str(alloc, "`")?;
+/// The word as sentences have it: cut behind its first eighty characters where it is longer, which two dots show.
+///
+/// # Errors
+///
+/// `AllocError` if memory runs out.
+pub fn shortened(alloc: Global, word: &str) -> Result<String, AllocError> {
+    let mut shown = String::new(alloc);
     for (number, character) in word.chars().enumerate() {
         if number == MOST_SHOWN {
             shown.push_str("..")?;
@@ -19,8 +23,14 @@ pub(crate) fn quoted(alloc: Global, word: &str) -> Result<String, AllocError> {
         }
         shown.push(character)?;
     }
-    shown.push('`')?;
     Ok(shown)
+}
+
+/// The word in quotes, cut where it is long.
+pub(crate) fn quoted(alloc: Global, word: &str) -> Result<String, AllocError> {
+    let shown = shortened(alloc, word)?;
+    let shown = shown.as_str();
+    format!(in alloc; "`{shown}`")
 }
 
 /// The words with commas between them, and `or` before the last.

@@ -2,52 +2,67 @@
 
 use crate::acting::tell_unread;
 use crate::sources::Source;
-use std::io::Read;
+use std::alloc::Global;
+use std::io::{ErrorKind, Read};
 use std::rt::Files;
 use std::{io, str};
 
 /// What the names of documents in a folder end in.
 const ENDING: &str = ".json";
 
-/// Whether a word names a folder.
-fn is_folder(rt: &impl Files, word: &str) -> bool {
-    match rt.metadata(word) {
+/// How much room each read of a listing gets: a system refuses to read where the next name doesn't fit.
+const ROOM: usize = 65_536;
+
+/// Whether a path names a folder.
+fn is_folder(rt: &impl Files, path: &str) -> bool {
+    match rt.metadata(path) {
         Ok(metadata) => metadata.is_dir(),
         Err(_) => false,
     }
 }
 
-/// The names in a folder that end as those of documents do, in the order of their bytes.
-fn names_in<R: Files + AllocGlobal>(rt: &R, folder: &str) -> io::Result<Vec<String>> {
-    let alloc = rt.alloc();
+/// The names of a listing, each ended by a zero byte.
+fn listed<D: Read>(alloc: Global, listing: &mut D) -> io::Result<Vec<u8>> {
+    let mut room = vec![in alloc; 0; ROOM]?;
     let mut names = Vec::new(alloc);
-    let mut listing = Vec::new(alloc);
-    let mut open = rt.open_dir(folder)?;
-    open.read_to_end(&mut listing)?;
-    for name in listing.as_slice().split(|byte| *byte == 0) {
-        if let Ok(name) = std::str::from_utf8(name) {
-            if name.ends_with(ENDING) {
-                names.push(String::from_str(alloc, name)?)?;
-            }
+    for _ in 0..u64::MAX {
+        match listing.read(room.as_mut_slice()) {
+            Ok(0) => return Ok(names),
+            Ok(n) => names.extend_from_slice(&room[..n])?,
+            Err(e) if e.kind() == ErrorKind::Interrupted => {}
+            Err(e) => return Err(e),
+        }
+    }
+    Ok(names)
+}
+
+/// The names in a listing that end as those of documents do, in the order of their bytes. One of them that isn't UTF-8
+/// is a fault, since it can't be told.
+fn names_in<D: Read>(alloc: Global, listing: &mut D) -> io::Result<Vec<String>> {
+    let mut names = Vec::new(alloc);
+    let listed = listed(alloc, listing)?;
+    for name in listed.as_slice().split(|byte| *byte == 0) {
+        if name.ends_with(ENDING.as_bytes()) {
+            let Ok(name) = str::from_utf8(name) else {
+                return Err(io::Error::from(ErrorKind::InvalidFilename));
+            };
+            names.push(String::from_str(alloc, name)?)?;
         }
     }
     names.sort()?;
     Ok(names)
 }
 
-/// Puts the paths of the documents in a folder last.
+/// Puts the paths of the documents in a listing last, of the folder whose path with a slash behind it stands around
+/// them.
 fn put_folder<R: Files + AllocGlobal>(
     rt: &R,
-    folder: &str,
+    around: &str,
+    listing: &mut R::Dir,
     paths: &mut Vec<String>,
 ) -> io::Result<()> {
     let alloc = rt.alloc();
-    let mut around = String::from_str(alloc, folder)?;
-    if !folder.ends_with('/') {
-        around.push('/')?;
-    }
-    for name in &names_in(rt, around.as_str())? {
-        let around = around.as_str();
+    for name in &names_in(alloc, listing)? {
         let path = format!(in alloc; "{around}{name}")?;
         if !is_folder(rt, path.as_str()) {
             paths.push(path)?;
@@ -56,15 +71,28 @@ fn put_folder<R: Files + AllocGlobal>(
     Ok(())
 }
 
-/// Puts what a word names last: the documents of a folder, or the word itself.
+/// A path with a slash behind it, by which a link to a folder is followed too.
+fn with_slash(alloc: Global, path: &str) -> io::Result<String> {
+    let mut around = String::from_str(alloc, path)?;
+    if !path.ends_with('/') {
+        around.push('/')?;
+    }
+    Ok(around)
+}
+
+/// Puts what a word names last: the documents of a folder that can be opened, or the word itself.
 fn put_word<R: Files + AllocGlobal>(rt: &R, word: &str, paths: &mut Vec<String>) -> io::Result<()> {
-    match Source::named(word) {
-        Source::File(path) if is_folder(rt, path) => put_folder(rt, path, paths),
-        _ => {
-            paths.push(String::from_str(rt.alloc(), word)?)?;
-            Ok(())
+    let alloc = rt.alloc();
+    if let Source::File(path) = Source::named(word) {
+        let around = with_slash(alloc, path)?;
+        if !path.is_empty() {
+            if let Ok(mut listing) = rt.open_dir(around.as_str()) {
+                return put_folder(rt, around.as_str(), &mut listing, paths);
+            }
         }
     }
+    paths.push(String::from_str(alloc, word)?)?;
+    Ok(())
 }
 
 /// The words, with the paths of its documents in the place of each folder, in the order of the bytes of their names; or

@@ -1,6 +1,6 @@
 use Rattle.std.proofs.Common.{◌≡◌, ◌++◌, suc, drop, map}
 use Rattle.ent_declared.specs.Lines.{faulty_from}
-use Rattle.ent_declared.proofs.lines.faulty_lines.Given as goal
+use Rattle.ent_declared.proofs.lines.faulty_among.Given as goal
 
 -- what is left is put behind what was
 abbrev pub invariant-loop-index : goal.invariant-loop-index
