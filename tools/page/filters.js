@@ -68,7 +68,7 @@ function filtered() {
       found[action] += 1;
     }
   }
-  return { passes, found, isPerson, isResource, asked: rule !== '' || decision !== '' || only };
+  return { passes, found, asked: rule !== '' || decision !== '' || only };
 }
 
 // The numbers of the people and of the resources that have a cell to show under an action.
@@ -76,8 +76,7 @@ function shownNames(filter, action) {
   const rows = new Set(), columns = new Set();
   for (let person = 0; person < people; person += 1) {
     for (let resource = 0; resource < resources; resource += 1) {
-      const isNamed = filter.isPerson[person] && filter.isResource[resource];
-      if (isNamed && (!filter.asked || filter.passes[cellOf(person, action, resource)])) {
+      if (filter.passes[cellOf(person, action, resource)]) {
         rows.add(person);
         columns.add(resource);
       }

@@ -40,8 +40,8 @@ function makeTabs() {
 function filter() {
   view.filter = filtered();
   const all = view.filter.found.reduce((sum, count) => sum + count, 0);
-  const isAll = all === data.cells.length;
-  const cells = data.cells.length === 1 ? '1 cell' : `${data.cells.length} cells`;
+  const isAll = all === listed;
+  const cells = listed === 1 ? '1 cell' : `${listed} cells`;
   field('matches').textContent = isAll ? cells : `${all} of ${cells}`;
   for (const [number, tab] of [...field('tabs').children].entries()) {
     tab.textContent = cut(data.actions[number], TAB) + (isAll ? '' : ` (${view.filter.found[number]})`);

@@ -3,6 +3,9 @@
 const data = JSON.parse(document.getElementById('data').textContent);
 const people = data.people.length, actions = data.actions.length, resources = data.resources.length;
 
+// How many cells there are: tables that stand side by side needn't have each person with each resource.
+const listed = data.cells.reduce((sum, number) => sum + Number(number >= 0), 0);
+
 // Each changed cell's answer before, by the cell's number; -1 where the request wasn't listed.
 const changed = new Map(data.changed || []);
 const comparing = data.changed !== null;
