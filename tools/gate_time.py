@@ -21,7 +21,7 @@ TOP = pathlib.Path(__file__).resolve().parents[1]
 PAGE = TOP / 'CONTRIBUTING.md'
 TABLE = re.compile(r'(<!-- gate -->\n).*?(<!-- end of gate -->)', re.S)
 TICKS = os.sysconf('SC_CLK_TCK')
-KINDS = ['proofs', 'tests', 'wrong', 'other']
+KINDS = ['proof', 'tests', 'edits', 'other']
 KEPT = TOP / 'out' / 'gate.txt'
 PASSED = re.compile(rb'.*\d+ passed, \d+ failed')
 
@@ -55,8 +55,8 @@ def work_of(number):
         return '-', 'other'
     crate = words[words.index('--crate-name') + 1]
     if '/wrong-' in folder:
-        return crate, 'wrong'
-    return crate, 'tests' if '--test' in words else 'proofs'
+        return crate, 'edits'
+    return crate, 'tests' if '--test' in words else 'proof'
 
 
 def table(spent, seconds):

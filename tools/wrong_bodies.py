@@ -9,6 +9,8 @@
 
     --jobs N      so many checks side by side, else as many as RT_JOBS says or as fit    --anew   takes nothing kept
     --json FILE   the verdicts as JSON                                           --heads  writes `by:` where none stands
+    --behind COMMAND ..   runs a command that proves crates (rt ci), and tries the wrong bodies of each as soon as it says
+                          that the crate is proved; where the command fails, so does this, with its status
 
 crates/NAME/wrong/PLAIN-NAME.edit has lines `by: GOAL`, `file: PATH`, `old: TEXT`, `new: TEXT`, and may have a
 `control: TEXT`: what stands there in a right body of the same shape, which must not be refused. The last line is
@@ -16,13 +18,14 @@ crates/NAME/wrong/PLAIN-NAME.edit has lines `by: GOAL`, `file: PATH`, `old: TEXT
 wasn't tried."""
 import argparse
 import concurrent.futures
+import contextlib
 import json
 import os
 import pathlib
 import subprocess
 import sys
 
-from wrong import batches, edits, functions, kept, pages, trying, verdicts
+from wrong import behind, edits, pages, trial, trying
 
 TOP = pathlib.Path(__file__).resolve().parents[1]
 
@@ -46,103 +49,59 @@ def changed_crates(base, libraries):
     return changed | {below for name in changed if name in libraries.named for below in libraries.named[name]}
 
 
-class Trial:
-    """Tries the wrong bodies of crates, and gathers what became of each body."""
-
-    def __init__(self, libraries, is_anew):
-        self.libraries, self.is_anew = libraries, is_anew
-        self.version = subprocess.run(['rt', 'version'], capture_output=True, text=True, check=True).stdout.strip()
-        self.told = []
-
-    def tell(self, body, verdict):
-        """Prints what became of a body."""
-        by = f' ({", ".join(verdict.by)})' if verdict.by else f': {verdict.said}' if verdict.said else ''
-        right = is_right(body, verdict)
-        asked = '' if right or body.as_control or not verdict.by else f'; its head says {body.edit.by or "nothing"}'
-        place = body.function or 'no function'
-        print(f'{"ok    " if right else "FAILED"} {body.label} in {place}: {verdict.kind}{by}{asked}', flush=True)
-        self.told.append((body, verdict))
-
-    def crate(self, crate, found):
-        """Tries these edits of a crate, and their controls."""
-        try:
-            named = functions.Functions(crate)
-            memory = kept.Kept(kept.sum_of_crate(crate, self.libraries, self.version), self.is_anew)
-        except (edits.Fault, OSError) as fault:
-            for edit in found:
-                self.tell(batches.Body(edit, False, ''), verdicts.Verdict(verdicts.NOT_TRIED, [], str(fault)))
-            return
-        fresh = []
-        for edit in found:
-            for as_control in [False, True][:1 + edit.has_control]:
-                try:
-                    body = batches.body_of(edit, named, as_control)
-                except edits.Fault as fault:
-                    self.tell(batches.Body(edit, as_control, ''), verdicts.Verdict(verdicts.BAD, [], str(fault)))
-                    continue
-                known = memory.get(body)
-                if known:
-                    self.tell(body, verdicts.Verdict(*known))
-                else:
-                    fresh.append(body)
-        if fresh:
-            with trying.Room(crate, named, self.libraries) as room:
-                for batch in batches.in_batches(crate, fresh, named):
-                    self.batch(room, batch, memory)
-
-    def batch(self, room, batch, memory):
-        """Tries a batch. A text that can't be read shows nothing of the others: they are tried again in halves."""
-        status, lines = room.check(batch)
-        unseen = []
-        for body in batch.bodies:
-            verdict = verdicts.of(lines, room.crate.name, *room.functions.proved_with(body.function), status)
-            if verdict.kind in (verdicts.BAD, verdicts.NOT_TRIED) and len(batch.bodies) > 1:
-                unseen.append(body)
-                continue
-            if verdict.kind != verdicts.NOT_TRIED:
-                memory.put(body, [verdict.kind, verdict.by, verdict.said])
-            self.tell(body, verdict)
-        middle = (len(unseen) + 1) // 2
-        for half in filter(None, (unseen[:middle], unseen[middle:])):
-            for smaller in batches.in_batches(room.crate, half, room.functions):
-                self.batch(room, smaller, memory)
-
-
-def is_right(body, verdict):
-    """Whether a body was refused by what its head says, or a control not at all."""
-    if body.as_control:
-        return verdict.kind == verdicts.NOT_REFUSED
-    return verdict.kind in verdicts.REFUSED and body.edit.by in verdict.by
-
-
 def as_rows(told):
     """The verdicts as JSON has them."""
     return [{'crate': body.edit.crate.name, 'name': body.edit.name, 'control': body.as_control, 'by': verdict.by,
              'function': body.function, 'verdict': verdict.kind, 'said': verdict.said, 'head': body.edit.by,
-             'passed': is_right(body, verdict)}
+             'passed': trial.is_right(body, verdict)}
             for body, verdict in told]
 
 
 def try_all(found, options):
-    """Tries these edits, crates side by side, and counts; the status of the program."""
+    """Tries these edits, the longest batches first, and counts; the status of the program."""
     by_crate = {}
     for edit in found:
-        by_crate.setdefault(edit.crate, []).append(edit)
+        by_crate.setdefault(edit.crate.name, []).append(edit)
     libraries = trying.Libraries(TOP)
-    trial = Trial(libraries, options.anew)
-    jobs = options.jobs or int(os.environ.get('RT_JOBS') or trying.fitting_jobs())
-    order = sorted(by_crate, key=lambda crate: -len(by_crate[crate]) * len(libraries.below(crate.name)))
-    with concurrent.futures.ThreadPoolExecutor(jobs) as pool:
-        for done in [pool.submit(trial.crate, crate, by_crate[crate]) for crate in order]:
-            done.result()
+    jobs = options.jobs or int(os.environ.get('RT_JOBS') or behind.fitting_jobs())
+    waiting = behind.Waiting()
+    with contextlib.ExitStack() as stack:
+        proving = stack.enter_context(behind.Proving(options.behind, libraries)) if options.behind else None
+        run = trial.Trial(libraries, behind.Lanes(jobs, proving), waiting, options.anew, bodies_in(found))
+        pool = stack.enter_context(concurrent.futures.ThreadPoolExecutor(jobs))
+        workers = [pool.submit(waiting.work) for _ in range(jobs)]
+        try:
+            for name in proving.proved() if proving else by_crate:
+                if name is None:
+                    waiting.drop()
+                elif waiting.is_open and name in by_crate:
+                    run.of_crate(TOP / 'crates' / name, by_crate[name])
+        finally:
+            waiting.close()
+        for worker in workers:
+            worker.result()
+    if proving and proving.process.returncode:
+        print(proving.last.decode(errors='replace'), end='', flush=True)
+        return proving.process.returncode
+    return counted(run.told, found, options)
+
+
+def bodies_in(found):
+    """How many bodies there are in edits, controls among them."""
+    return sum(1 + edit.has_control for edit in found)
+
+
+def counted(told, found, options):
+    """Writes what was asked for, and counts; the status of the program."""
     if options.heads:
-        for body, verdict in trial.told:
+        for body, verdict in told:
             if not body.edit.by and not body.as_control and verdict.by:
                 pages.write_head(body.edit, verdict)
     if options.json:
-        pathlib.Path(options.json).write_text(json.dumps(as_rows(trial.told), indent=1), encoding='utf-8')
-    failed = sum(not is_right(*one) for one in trial.told)
-    print(f'wrong bodies: {len(trial.told) - failed} passed, {failed} failed')
+        pathlib.Path(options.json).write_text(json.dumps(as_rows(told), indent=1), encoding='utf-8')
+    passed = sum(trial.is_right(*one) for one in told)
+    failed = bodies_in(found) - passed
+    print(f'wrong bodies: {passed} passed, {failed} failed')
     return 1 if failed else 0
 
 
@@ -153,6 +112,7 @@ def main():
     parser.add_argument('--changed', nargs='?', const='main')
     parser.add_argument('--jobs', type=int)
     parser.add_argument('--json')
+    parser.add_argument('--behind', nargs=argparse.REMAINDER)
     for name in ['--check', '--pages', '--anew', '--heads']:
         parser.add_argument(name, action='store_true')
     options = parser.parse_args()

@@ -58,6 +58,14 @@ class Batch:
         return True
 
 
+def alone(body):
+    """The batch of one body."""
+    batch = Batch(body.edit.crate)
+    batch.made = body.edit.applied(batch.text, body.as_control)
+    batch.bodies = [body]
+    return batch
+
+
 def in_batches(crate, bodies, functions):
     """The bodies in as few checks as a look at one after another gives."""
     batches = []

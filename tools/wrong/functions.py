@@ -13,17 +13,23 @@ CYCLE = re.compile(r'^ *#\[cycle\((\w+)\)\]')
 class Functions:
     """What a built library says of the functions of its crate: their names, as a check prints them, less the crate's."""
 
-    def __init__(self, crate):
+    def __init__(self, crate, library):
         self.crate = crate
-        made = crate / 'out' / 'rlib' / f'{crate.name}.rlib' / 'toolchain' / 'mir.json'
+        made = library / 'toolchain' / 'mir.json'
         if not made.is_file():
             raise Fault(f'{crate.name} has no library yet: rt lib {crate.name}')
-        self.bodies = {}
+        own = re.compile(rf'"{crate.name}::([^"]+)"')
+        self.named = {}
         for name, *body in json.loads(made.read_text(encoding='utf-8')):
             if name.startswith(f'{crate.name}::') and not name.endswith('+decl'):
-                self.bodies[name.removeprefix(f'{crate.name}::')] = json.dumps(body)
-        self.named = {name: set(re.findall(rf'"{crate.name}::([^"]+)"', body)) for name, body in self.bodies.items()}
-        self.cycles, self.written, self.heads = {}, [], {}
+                self.named[name.removeprefix(f'{crate.name}::')] = set(own.findall(json.dumps(body)))
+        self.closures, self.ends, self.called = {}, {}, {}
+        for name in self.named:
+            for around in re.findall(r'fn::([^:]+)::', name):
+                self.closures.setdefault(around, []).append(name)
+            if '+' not in name:
+                self.ends.setdefault(name.split('::')[-1], []).append(name)
+        self.cycles, self.written, self.heads, self.read = {}, [], {}, {}
         self._look_through()
         self._name_recursions()
 
@@ -63,17 +69,29 @@ class Functions:
                 there = [one for one in named if (self.crate / 'proofs' / one.replace('::', '/')).is_dir()]
                 self.cycles |= {other: (there or named)[0] for other in members}
 
+    def texts(self):
+        """The texts of the crate's files that a check reads, by path."""
+        if not self.read:
+            files = (path for part in ['src', 'specs', 'proofs'] for path in (self.crate / part).rglob('*'))
+            self.read = {str(path.relative_to(self.crate)): path.read_text(encoding='utf-8')
+                         for path in sorted(files) if path.is_file()}
+        return self.read
+
     def reached_from(self, name):
         """The functions to which calls of a function lead."""
         found, todo = set(), [name]
         while todo:
-            last = todo.pop()
-            closures = f'fn::{last.split("::")[-1]}::'
-            calls = set().union(*(self.named[each] for each in self.bodies if each == last or closures in each))
-            calls &= set(self.bodies)
-            todo += calls - found
+            calls = self.called_by(todo.pop()) - found
+            todo += calls
             found |= calls
         return found
+
+    def called_by(self, name):
+        """The functions that a function's own code names, itself or by a closure of its own."""
+        if name not in self.called:
+            bodies = [name, *self.closures.get(name.split('::')[-1], [])]
+            self.called[name] = set().union(*(self.named.get(each, ()) for each in bodies)) & self.named.keys()
+        return self.called[name]
 
     def at(self, path, lines, number):
         """The function in which a line of a file stands."""
@@ -85,8 +103,7 @@ class Functions:
         if lines[head].startswith(' '):
             blocks = (IMPL.match(lines[above]) for above in range(head, -1, -1))
             around = next((block[1] for block in blocks if block), None)
-        named = [other for other in self.bodies if '+' not in other]
-        found = [other for other in named if fits(other.split('::'), name, around, path.stem)]
+        found = [other for other in self.ends.get(name, ()) if fits(other.split('::'), around, path.stem)]
         near = [other for other in found if other.split('::')[0] == path.stem]
         if len(found) != 1 and len(near) != 1:
             raise Fault(f'{path.name}: it is not plain which function is `{name}`: {" ".join(found) or "none"}')
@@ -99,12 +116,11 @@ class Functions:
     def proved_with(self, name):
         """The name of what is proved with a function, and the functions that it is."""
         proof = self.proof_of(name)
-        return proof, [other for other in self.bodies if self.proof_of(other) == proof]
+        return proof, [other for other in self.named if self.proof_of(other) == proof]
 
     def calls(self, name, other):
-        """Whether a function's own code names another, itself or by a closure of its own."""
-        closures = f'fn::{name.split("::")[-1]}::'
-        return any(other in self.named[each] for each in self.bodies if each == name or closures in each)
+        """Whether a function's own code names another."""
+        return other in self.called_by(name)
 
 
 def body_at(lines, head):
@@ -120,10 +136,9 @@ def body_at(lines, head):
     return None
 
 
-def fits(parts, name, around, stem):
-    """Whether a function's name may be that of a head in a file: of a method the type and the trait around it are asked for."""
-    if parts[-1] != name:
-        return False
+def fits(parts, around, stem):
+    """Whether a function of a head's name may be that of the head in a file: of a method the type and the trait around
+    it are asked for."""
     if around is None:
         return len(parts) == 1 or parts[-2] == stem
     kind, asked = implemented(around)

@@ -4,36 +4,30 @@ import json
 import os
 import pathlib
 
-# What of this script a verdict rests on.
-READERS = ['trying.py', 'verdicts.py']
+from . import batches, trying
+
 FOLDER = pathlib.Path(os.environ.get('XDG_CACHE_HOME') or pathlib.Path.home() / '.cache') / 'review-wrong-bodies'
 
 
-def sum_of_files(folder):
-    """A sum of the names and contents of a folder's files."""
-    made = hashlib.sha256()
-    for path in sorted(folder.rglob('*')):
-        if path.is_file():
-            made.update(f'{path.relative_to(folder)}\0{hashlib.sha256(path.read_bytes()).hexdigest()}\n'.encode())
-    return made.hexdigest()
-
-
-def sum_of_crate(crate, libraries, version):
-    """A sum of the prover, of what tries and reads, of what a crate says, and of the libraries below it as they were built."""
-    said = [version, *((pathlib.Path(__file__).parent / name).read_text(encoding='utf-8') for name in READERS)]
-    said += [sum_of_files(crate / part) for part in ['src', 'specs', 'proofs'] if (crate / part).is_dir()]
-    said += [(libraries.built(name) / 'format').read_text(encoding='utf-8') for name in libraries.below(crate.name)]
+def sum_below(crate, libraries, version):
+    """A sum of the prover, of what reads its words, and of the libraries below a crate as they were built."""
+    reader = pathlib.Path(__file__).parent / 'verdicts.py'
+    said = [version, *libraries.named[crate], reader.read_text(encoding='utf-8')]
+    said += [(libraries.built(name) / 'format').read_text(encoding='utf-8') for name in libraries.below(crate)]
     return hashlib.sha256('\n'.join(said).encode()).hexdigest()
 
 
 class Kept:
-    """The verdicts of a crate that stands as it is."""
+    """The verdicts on bodies of a crate, each by a sum of the copy in which the body is tried alone. So an edit of another
+    function, of its proof, or of a page loses none."""
 
-    def __init__(self, total, is_anew):
-        self.total, self.is_anew = total, is_anew
+    def __init__(self, functions, below, is_anew):
+        self.functions, self.below, self.is_anew = functions, below, is_anew
 
     def _path(self, body):
-        said = f'{self.total}\0{body.as_control}\0{body.edit.pairs}'
+        texts = trying.copied(self.functions, batches.alone(body))
+        proved = self.functions.proved_with(body.function)
+        said = json.dumps([self.below, self.functions.crate.name, body.function, proved, sorted(texts.items())])
         return FOLDER / hashlib.sha256(said.encode()).hexdigest()
 
     def get(self, body):

@@ -5,13 +5,13 @@ proof of each function that isn't edited is a hole, which `rattle check --allow-
 proved again but what is edited."""
 import os
 import pathlib
-import shutil
 import subprocess
 import tempfile
 
 from .functions import CYCLE, body_at
 
 KIT = pathlib.Path(subprocess.run(['rt', 'doc'], capture_output=True, text=True, check=True).stdout.strip()).parent
+# The proof of a function that is taken at its contract.
 HOLE = 'use Rattle.{crate}.proofs.{place}.Statement as stated\n\n' \
     'pub {name}_spec : {{M : Type 1}} → stated.statement M\n{name}_spec = ?\n'
 
@@ -21,7 +21,7 @@ class Libraries:
 
     def __init__(self, top):
         self.top = top
-        self.named = {}
+        self.named, self.elsewhere = {}, {}
         for line in (top / 'crates.txt').read_text(encoding='utf-8').split('\n'):
             name, colon, rest = line.partition(':')
             if colon and not line.startswith('#'):
@@ -37,7 +37,8 @@ class Libraries:
         return sorted(found)
 
     def built(self, name):
-        return self.top / 'crates' / name / 'out' / 'rlib' / f'{name}.rlib'
+        """Where a library stands: in its crate, or where it was kept from there."""
+        return self.elsewhere.get(name) or self.top / 'crates' / name / 'out' / 'rlib' / f'{name}.rlib'
 
     def words(self, name):
         """How `rattle check` is told of a library's root and of what it stands on."""
@@ -50,76 +51,67 @@ class Libraries:
         return [*words, '--links', f'{name}=', '--jobs', '1']
 
 
-class Room:
-    """A copy of a crate, for one check after another."""
+def copied(functions, batch):
+    """The texts of a copy of a crate in which bodies are tried, by path: all that their check reads of the crate."""
+    edited = {functions.proof_of(body.function) for body in batch.bodies}
+    others = [name for name in functions.written if functions.proof_of(name) not in edited]
+    proofs = {'/'.join(['proofs', *functions.proof_of(name).split('::')]) for name in others}
+    texts = {path: text for path, text in (functions.texts() | batch.made).items()
+             if not any(str(above) in proofs for above in pathlib.PurePosixPath(path).parents)}
+    for path, names in in_files(functions, others).items():
+        lines = texts[path].split('\n')
+        for name in names:
+            _, head, before = functions.heads[name]
+            same = [at for at, line in enumerate(lines) if line == head]
+            if before < len(same):
+                empty(lines, same[before])
+        texts[path] = '\n'.join(lines)
+    for name in others:
+        parts = name.split('::')
+        hole = HOLE.format(crate=functions.crate.name, place='.'.join(parts), name=parts[-1])
+        texts['/'.join(['proofs', *parts, 'Proof.antt'])] = hole
+    return texts
 
-    def __init__(self, crate, functions, libraries):
-        self.crate, self.functions, self.libraries = crate, functions, libraries
-        self.folder = pathlib.Path(tempfile.mkdtemp(prefix=f'wrong-{crate.name}-'))
 
-    def __enter__(self):
-        return self
+def in_files(functions, names):
+    """Functions by the files in which they stand."""
+    found = {}
+    for name in names:
+        found.setdefault(str(functions.heads[name][0]), []).append(name)
+    return found
 
-    def __exit__(self, *_):
-        shutil.rmtree(self.folder, ignore_errors=True)
 
-    def check(self, batch):
-        """What a check says of a batch of bodies: its status and its lines."""
-        copy = self.folder / 'crate'
-        shutil.rmtree(copy, ignore_errors=True)
-        for part in ['src', 'specs', 'proofs']:
-            if (self.crate / part).is_dir():
-                shutil.copytree(self.crate / part, copy / part)
-        edited = {self.functions.proof_of(body.function) for body in batch.bodies}
-        for path, text in batch.made.items():
-            (copy / path).write_text(text, encoding='utf-8')
-        for name in self.functions.written:
-            if self.functions.proof_of(name) not in edited:
-                self._empty(copy, name)
-                shutil.rmtree(copy.joinpath('proofs', *self.functions.proof_of(name).split('::')), ignore_errors=True)
-                self._leave_open(copy, name)
+def check(functions, libraries, batch, is_beside=False):
+    """What a check says of a batch of bodies: its status and its lines. Beside proofs it takes what they leave."""
+    crate = functions.crate.name
+    with tempfile.TemporaryDirectory(prefix=f'wrong-{crate}-') as room:
+        for path, text in copied(functions, batch).items():
+            place = pathlib.Path(room, path)
+            place.parent.mkdir(parents=True, exist_ok=True)
+            place.write_text(text, encoding='utf-8')
         # (No work is kept from check to check: where it is, what fails is tried twice.)
-        words = [f'{KIT}/bin/rattle', 'check', *self.libraries.words(self.crate.name), '--allow-holes']
+        words = [f'{KIT}/bin/rattle', 'check', *libraries.words(crate), '--allow-holes']
         for body in batch.bodies:
             words += ['--only', body.function]
-        ran = subprocess.run(words, cwd=copy, stdin=subprocess.DEVNULL, stdout=subprocess.PIPE, text=True, errors='replace',
-                             stderr=subprocess.STDOUT, preexec_fn=first_to_go)
+        ran = subprocess.run(words, cwd=room, stdin=subprocess.DEVNULL, stdout=subprocess.PIPE, text=True,
+                             errors='replace', stderr=subprocess.STDOUT, preexec_fn=lambda: first_to_go(is_beside))
         return ran.returncode, ran.stdout.split('\n')
 
-    def _empty(self, copy, name):
-        """Takes the body of a function away: nobody looks at it, and what it calls is not looked at for its sake."""
-        path, head, before = self.functions.heads[name]
-        lines = (copy / path).read_text(encoding='utf-8').split('\n')
-        same = [at for at, line in enumerate(lines) if line == head]
-        place = body_at(lines, same[before]) if before < len(same) else None
-        if place:
-            begins, ends = place
-            lines[begins + 1:ends] = ['    loop {}']
-            # (It calls nobody any more, so it is in no cycle of calls.)
-            cycle = next((at for at in range(same[before], -1, -1) if not lines[at].strip() or CYCLE.match(lines[at])), 0)
-            if CYCLE.match(lines[cycle]):
-                lines[cycle] = ''
-            (copy / path).write_text('\n'.join(lines), encoding='utf-8')
 
-    def _leave_open(self, copy, name):
-        """Has a hole as the proof of a function."""
-        parts = name.split('::')
-        place = copy.joinpath('proofs', *parts)
-        place.mkdir(parents=True, exist_ok=True)
-        hole = HOLE.format(crate=self.crate.name, place='.'.join(parts), name=parts[-1])
-        (place / 'Proof.antt').write_text(hole, encoding='utf-8')
+def empty(lines, head):
+    """Takes the body of the function with a head away, and the name of its cycle: nobody looks at what it calls."""
+    if place := body_at(lines, head):
+        begins, ends = place
+        lines[begins + 1:ends] = ['    loop {}']
+        cycle = next((at for at in range(head, -1, -1) if not lines[at].strip() or CYCLE.match(lines[at])), 0)
+        if CYCLE.match(lines[cycle]):
+            lines[cycle] = ''
 
 
-def first_to_go():
-    """Where memory runs out, a check goes before whoever waits for it."""
+def first_to_go(is_beside):
+    """Where memory runs out, a check goes before whoever waits for it; beside proofs it takes the processors last."""
+    os.nice(5 if is_beside else 0)
     try:
         pathlib.Path('/proc/self/oom_score_adj').write_text('500', encoding='ascii')
     except OSError:
         pass
-
-
-def fitting_jobs():
-    """As many checks as there are processors, and 3 GB of memory for each."""
-    said = pathlib.Path('/proc/meminfo').read_text(encoding='ascii')
-    free = int(said.partition('MemAvailable:')[2].split()[0])
-    return max(1, min(len(os.sched_getaffinity(0)), free // 3_000_000))
