@@ -10,6 +10,8 @@ ln -sfn ../../.. out/go/src/review-front
 GOPATH="$PWD/out/go:/usr/share/gocode"
 GO111MODULE=off
 GOFLAGS=${GOFLAGS:-}
+# The client of NATS is Debian's golang-github-nats-io-go-nats-dev; without it the front is built without --log.
+if [ -d /usr/share/gocode/src/github.com/nats-io/nats.go ]; then GOFLAGS="$GOFLAGS -tags=nats"; fi
 export GOPATH GO111MODULE GOFLAGS
 cd out/go/src/review-front
 if [ $# -gt 0 ]; then exec "$@"; fi

@@ -229,7 +229,6 @@ func TestTraced(t *testing.T) {
 		answer.Body.Close()
 		return answer.StatusCode == http.StatusServiceUnavailable
 	})
-	if !strings.Contains(f.log(), `"path":"/readyz","status":503,"traceparent":"`+parent+`"`) {
-		t.Errorf("it isn't logged:\n%s", f.log())
-	}
+	line := `"path":"/readyz","status":503,"traceparent":"` + parent + `"`
+	eventually(t, "it is logged", func() bool { return strings.Contains(f.log(), line) })
 }

@@ -7,8 +7,8 @@ import (
 	"testing"
 )
 
-// TestEnding ends the front while somebody listens and somebody sends lines: both are told the end, lines that came
-// whole have their replies, and a snapshot is left from which the next start begins.
+// TestEnding ends the front while somebody listens, who has heard all, and somebody sends lines: both are told the end,
+// lines that came whole have their replies, and a snapshot is left from which the next start begins.
 func TestEnding(t *testing.T) {
 	path := t.TempDir()
 	f := begin(t, path)
@@ -19,6 +19,7 @@ func TestEnding(t *testing.T) {
 	if _, ok := accepted(s.ask(t, `{"do":"person.add","name":"extra"}`)); !ok {
 		t.Fatal("an edit isn't accepted")
 	}
+	heard.next(t)
 	table := f.must("/table")
 	if status := f.stop(); status != 0 {
 		t.Fatalf("the front ends with %d:\n%s", status, f.log())

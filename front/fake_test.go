@@ -20,9 +20,10 @@ const slowTime = 20 * time.Millisecond
 // busyTime is longer than a line has in tests of it.
 const busyTime = 3 * time.Second
 
-// fake stands before the program, and answers some lines itself: of `memory` each tenth line of a process is
-// answered 15 once, of `dump` a process that is told the lines of a dump tells another one, of `busy` a line that says
-// so takes long, of `slow` a while, of `otherwise` an edit of the rota is refused where requests were asked.
+// fake stands before the program, and answers some lines itself: of `memory` each tenth line of a process is answered
+// 15 once, of `short` a line that says so as long as its file is there, of `astray` such a line is taken for another
+// one, of `dump` a process that is told the lines of a dump tells another one, of `busy` a line that says so takes
+// long, of `slow` a while, of `otherwise` an edit of the rota is refused where requests were asked.
 func fake(how string, words []string) int {
 	behind := exec.Command(os.Getenv("REVIEW_PROGRAM"), words...)
 	behind.Stderr = os.Stderr
@@ -51,7 +52,7 @@ func fake(how string, words []string) int {
 			continue
 		}
 		second = second || strings.Contains(l, `"format"`)
-		if how == "memory" && count%10 == 0 {
+		if how == "memory" && count%10 == 0 || how == "short" && strings.Contains(l, "scarce") && isScarce() {
 			fmt.Println(`{"refused":15}`)
 			continue
 		}
@@ -60,6 +61,9 @@ func fake(how string, words []string) int {
 		}
 		if how == "busy" && strings.Contains(l, "busy") {
 			work(l)
+		}
+		if how == "astray" && strings.Contains(l, "astray") && isScarce() {
+			l = strings.Replace(l, `"values":[1]`, `"values":[2]`, 1)
 		}
 		_, _ = io.WriteString(input, l)
 		reply, err := replies.ReadString('\n')
@@ -72,6 +76,12 @@ func fake(how string, words []string) int {
 		fmt.Print(reply)
 	}
 }
+
+// scarce names a file that says that the program has no memory for the next line that asks for it.
+const scarce = "REVIEW_FRONT_SCARCE"
+
+// isScarce says whether the file is there, and takes it away.
+func isScarce() bool { return os.Remove(os.Getenv(scarce)) == nil }
 
 // work works for long, on a question for very long.
 func work(l string) {
@@ -156,8 +166,8 @@ func TestDumpTooLong(t *testing.T) {
 	}
 }
 
-// TestReplayTime edits by lines that take a while: a snapshot is made as soon as they took so long, not by their number,
-// and a start behind them replays no more of them.
+// TestReplayTime edits by lines that take a while: a snapshot is made as soon as they took so long, not by their
+// number, and a start behind them replays no more of them.
 func TestReplayTime(t *testing.T) {
 	theProgram(t)
 	path := t.TempDir()

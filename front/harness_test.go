@@ -86,8 +86,14 @@ func launch(t testing.TB, folder string, more ...string) *front {
 // launchBy starts a front by a shell that does something before.
 func launchBy(t testing.TB, before, folder string, more ...string) *front {
 	t.Helper()
+	return started(t, before, folder, append([]string{"--journal", folder}, more...))
+}
+
+// started is a front that a shell starts by words, after it did something else if there is that.
+func started(t testing.TB, before, folder string, more []string) *front {
+	t.Helper()
 	f := &front{t: t, folder: folder, ended: make(chan struct{})}
-	words := []string{"--program", theProgram(t), "--journal", folder, "--listen", "127.0.0.1:0", "--lame", "50ms"}
+	words := []string{"--program", theProgram(t), "--listen", "127.0.0.1:0", "--lame", "50ms"}
 	words = append(words, more...)
 	if before == "" {
 		f.process = exec.Command(os.Args[0], words...)

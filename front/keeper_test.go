@@ -10,6 +10,7 @@ import (
 
 	"review-front/folder"
 	"review-front/keeper"
+	"review-front/ladder"
 	"review-front/measure"
 	"review-front/program"
 	"review-front/sessions"
@@ -28,7 +29,7 @@ func kept(t *testing.T, sync func(*os.File) error) *keeper.Keeper {
 	k := keeper.New(keeper.Options{
 		Command: program.Command{Path: theProgram(t), AttributeModules: 2, PolicyModules: 2},
 		Folder:  held, Meter: measure.New(), Queue: 16, Patience: time.Second, EndingTime: patient,
-		Spool: spool.New(path, 1<<30),
+		Spool: spool.New(path, 1<<30), Kept: ladder.Bounds{Changes: 1 << 20}, MostSessions: 9,
 	})
 	ctx, cancel := context.WithCancel(context.Background())
 	started, err := k.Start(ctx)
@@ -50,7 +51,7 @@ func kept(t *testing.T, sync func(*os.File) error) *keeper.Keeper {
 // submitted is a line on its way.
 func submitted(t *testing.T, k *keeper.Keeper, l string) <-chan keeper.Reply {
 	t.Helper()
-	call, err := keeper.Prepare([]byte(l), "a test", sessions.NewTable().NewClient())
+	call, err := keeper.Prepare([]byte(l), "a test", sessions.NewTable(9).NewClient())
 	if err != nil {
 		t.Fatal(err)
 	}

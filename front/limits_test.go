@@ -58,48 +58,101 @@ func TestPages(t *testing.T) {
 	}
 }
 
-// TestComesBack listens again after an event: who heard all goes on, who missed something reads anew.
+// TestComesBack listens again after an event: who heard all goes on, who missed something is told it, and of whom it
+// isn't known what he heard reads anew.
 func TestComesBack(t *testing.T) {
 	f := begin(t, t.TempDir())
-	f.accept(`{"do":"person.add","name":"ann"}`, `{"do":"person.add","name":"ben"}`)
-	for last, want := range map[string]string{"": "from", "2": "from", "1": "anew", "9": "anew"} {
+	f.accept(`{"do":"person.add","name":"ann"}`, `{"do":"person.add","name":"ben"}`, `{"do":"action.add","name":"read"}`)
+	f.accept(`{"do":"resource.add","name":"plan"}`, `{"do":"person.drop","name":"ben"}`)
+	for last, want := range map[string]string{
+		"": "from", "5": "from", "4": "notices", "3": "notices", "9": "anew", "x": "anew",
+	} {
 		heard := f.listenBehind(last)
-		if e := heard.next(t); e.kind != want || e.id != "2" {
+		e := heard.next(t)
+		if e.kind != want || e.id != "5" {
 			t.Errorf("who comes back behind %q is told %v", last, e)
+		}
+		if anns, bens := strings.Count(e.data, `"ann"`), strings.Count(e.data, `"ben"`); want == "notices" {
+			if anns != map[string]int{"4": 0, "3": 1}[last] || bens != map[string]int{"4": 1, "3": 0}[last] {
+				t.Errorf("who comes back behind %q is told of %d and %d: %s", last, anns, bens, e.data)
+			}
 		}
 	}
 }
 
-// TestStale marks in a session, leaves it, and edits more than the program has to keep for a mark: the mark that nobody
-// needs is made anew.
+// oldest is the serial of the program's oldest mark.
+func (f *front) oldest() int {
+	f.t.Helper()
+	var told struct {
+		State struct {
+			Marks []struct{ Serial, Session int }
+		}
+	}
+	if err := json.Unmarshal([]byte(f.must("/state")), &told); err != nil || len(told.State.Marks) == 0 {
+		f.t.Fatalf("there is no mark: %v", told)
+	}
+	oldest := told.State.Marks[0].Serial
+	for _, mark := range told.State.Marks {
+		if mark.Serial < oldest {
+			oldest = mark.Serial
+		}
+	}
+	return oldest
+}
+
+// TestStale marks, and edits much: what changed since is kept while the mark counts, and goes then.
 func TestStale(t *testing.T) {
-	f := begin(t, t.TempDir())
+	f := begin(t, t.TempDir(), "--session-idle", "1ms")
 	s := f.connect("/lines")
 	if reply := s.ask(t, `{"do":"mark"}`); reply != `{"mark":0}` {
 		t.Fatalf("a mark is answered %s", reply)
 	}
-	s.conn.Close()
-	eventually(t, "the session is given back", func() bool { return f.metric("review_front_sessions") == 0 })
-	for i := 0; i < 300; i++ {
-		f.accept(fmt.Sprintf(`{"do":"day.set","day":"2026-03-%02d"}`, 1+i%28))
+	edits := func() {
+		var lines []string
+		for i := 0; i < 600; i++ {
+			lines = append(lines, fmt.Sprintf(`{"do":"day.set","day":"2026-03-%02d"}`, 1+i%28))
+		}
+		f.accept(lines...)
+		f.accept(lines[1])
 	}
-	eventually(t, "the mark is made anew", func() bool {
-		var told struct {
-			State struct {
-				Marks []struct{ Serial, Session int }
-			}
-		}
-		if err := json.Unmarshal([]byte(f.must("/state")), &told); err != nil {
-			t.Fatal(err)
-		}
-		for _, mark := range told.State.Marks {
-			if mark.Session == 1 {
-				return mark.Serial >= 256
-			}
-		}
-		t.Fatalf("there is no mark: %v", told)
-		return false
+	edits()
+	if oldest := f.oldest(); oldest != 0 {
+		t.Errorf("the program's oldest mark is at serial %d, and a client's at 0", oldest)
+	}
+	if reply := s.ask(t, `{"do":"notices"}`); reply != `{"notices":[]}` {
+		t.Errorf("notices are %s", reply)
+	}
+	s.conn.Close()
+	eventually(t, "the session ends", func() bool { return f.metric("review_front_sessions") == 0 })
+	edits()
+	eventually(t, "the program keeps no more than is needed", func() bool { return f.oldest() > 600 })
+}
+
+// TestTooOld marks and listens, and edits more than is kept: the mark is too old, and who comes back reads anew.
+func TestTooOld(t *testing.T) {
+	f := begin(t, t.TempDir(), "--keep-changes", "300")
+	f.accept(clinic(t)...)
+	s := f.connect("/lines")
+	mark := s.ask(t, `{"do":"mark"}`)
+	for i := 0; i < 12; i++ {
+		f.accept(`{"do":"person.add","name":"extra"}`, `{"do":"person.drop","name":"extra"}`)
+	}
+	eventually(t, "the mark is too old", func() bool { return s.ask(t, `{"do":"notices"}`) == unmarked })
+	f.accept(`{"do":"day.set","day":"2027-01-01"}`)
+	eventually(t, "nothing is kept for it", func() bool {
+		f.accept(`{"do":"day.set","day":"2027-01-02"}`)
+		return float64(f.oldest()) > f.metric("review_front_serial")-10
 	})
+	if e := f.listenBehind(strings.Trim(mark, `{"mark:}`)).next(t); e.kind != "anew" {
+		t.Errorf("who comes back is told %v", e)
+	}
+	if reply := s.ask(t, `{"do":"mark"}`); !strings.HasPrefix(reply, `{"mark":`) {
+		t.Errorf("a mark is answered %s", reply)
+	}
+	f.accept(`{"do":"person.add","name":"extra"}`)
+	if reply := s.ask(t, `{"do":"notices"}`); strings.Count(reply, `"person":"extra"`) != 60 {
+		t.Errorf("notices are %.300s", reply)
+	}
 }
 
 // snapshots waits until there were so many snapshots.

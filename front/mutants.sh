@@ -16,7 +16,7 @@ mkdir "$aside/front"
 cd "$aside/front"
 
 # FILE PACKAGE TEST, and what sed does. In their order: what is brought to the disk (edits, a new journal, a snapshot,
-# names, keys), what a client may take of the front (time, room, sessions, old marks and snapshots), what it is told and
+# names, marks, keys), what a client may take of the front (time, room, marks, how much is kept), what it is told and
 # a page of another site is not, bodies with keys and who is written down, the commands that the front knows, damage
 # of a folder, the time of a start, what listeners take, askers, edits that are made behind a serial or whole, requests
 # that are translated, AuthZEN, kept decisions, and who may what.
@@ -25,17 +25,24 @@ folder/writing.go . TestOrder s/^\t\terr = f\.sync(f\.current)$/\t\terr = nil/
 folder/writing.go . TestOrder s/^\t\terr = file\.Sync()$/\t\terr = nil/
 folder/snapshot.go . TestOrder s/^\treturn file\.Sync()$/\treturn nil/
 folder/folder.go . TestOrder s/err := folder\.Sync();/err := error(nil);/
+marks/marks.go . TestOrder s/err = b\.file\.Sync()/err = nil/
 keys/file.go . TestOrder s/err := t\.file\.Sync();/err := error(nil);/
 serve.go . TestEndlessBodies s/ReadTimeout: o\.bodyTime, //
 web/body.go . TestSlowBody s/_ = p\.conn\.SetReadDeadline(.*$//
 web/server.go . TestUnread s/_ = a\.conn\.SetWriteDeadline(.*$//
 web/lines.go . TestWindow s/^\tin\.room(ctx, next\.bytes)$//
-sessions/sessions.go . TestBorrowed s/s\.given && s\.lines == 0 &&/s.given \&\&/
-keeper/serve.go . TestStale s/^\ts\.renew()$//
+sessions/sessions.go sessions TestDue s/if due == 0 {/if due >= 0 {/
+sessions/sessions.go sessions TestMarks s/if s\.marked && s\.at == t\.oldest {/if false {/
+keeper/settle.go . TestMarksStay s/^\tk\.mark(batch)$//
+marks/marks.go marks TestTorn s/ || knownBehind(rest, place) {/ {/
+ladder/ladder.go ladder TestNeeded s/ && floor > need && / \&\& /
+ladder/ladder.go ladder TestNeeded s/ && l\.spent\.Changes-rungs\[i\]\.Changes <= l\.bounds\.Changes;/;/
+keeper/marks.go . TestStale s/k\.ladder\.Due(k\.need())/k.ladder.Due(0)/
+keeper/settle.go . TestUnreadTables s/if call\.IsLong() {/if false {/
 folder/snapshot.go . TestTrimmed s/range serials\[:first\]/range serials[:0]/
 web/server.go . TestRebinding s/if !s\.Hosts\.serves(r) {/if false {/
 web/hosts.go . TestPages s/r\.Header\.Get("Sec-Fetch-Site") == "cross-site"/false/
-web/notices.go . TestComesBack s/last := r\.Header\.Get("Last-Event-ID")/last := ""/
+web/notices.go . TestComesBack s/s\.listener(r\.Header\.Get("Last-Event-ID"))/s.listener("")/
 web/notices.go . TestBeat s/_, err = w\.Write(\[\]byte(":\\n\\n"))/continue/
 web/opening.go web TestBegin s/accepted = accepted || ok/accepted = accepted \&\& ok/
 web/opening.go . TestNoneAccepted s/g\.closed = g\.closed || g\.taken == 1/g.closed = false/
@@ -46,19 +53,19 @@ web/questions.go web TestQuestions s/"faults", nil}/"fault", nil}/
 web/questions.go . TestPaths s/"faults", nil}/"fault", nil}/
 line/line.go line TestKinds s/"moment\.set": Edit,//
 folder/tail.go folder TestFlips s/if synced > j\.size {/if false {/
-folder/tail.go folder TestFlips s/^\t\t\tsynced = entry\.synced$/\t\t\t_ = entry/
+folder/tail.go folder TestFlips s/^\t\t\tsynced = entries\[0\]\.synced$/\t\t\t_ = entries/
 folder/survey.go folder TestFiles s/if part := j\.part(); \*part != c\.Part {/if false {/
 folder/survey.go folder TestFiles s/if !there\[number\] {/if false {/
 keeper/run.go . TestOldDamaged s/if damage = k\.Folder\.CheckOld(background); damage != nil {/if damage != nil {/
 keeper/settle.go . TestReplayTime s/return many || .*$/return many/
-web/notices.go . TestListenersShare s/range \[\]\[\]byte{\[\]byte(\(.*\)), data, .*{$/range [][]byte{append([]byte(\1), append(data[:len(data):len(data)], 10, 10)...)} {/
+web/notices.go . TestListenersShare s/data = event\.Data$/data = append([]byte(nil), event.Data...)/
 keeper/asker.go . TestAskerOtherwise s/; !ok || said\.Serial != a\.made || said\.Changes != 0 {/; ok \&\& said.Serial == 0 {/
 keeper/asker.go keeper TestDecidesKnow s/^\ta\.follow()$//
 keeper/edits.go . TestMatches s/; serial != \*known {/; false {/
 keeper/edits.go . TestTwoEditors s/if k\.edits\.idle(limit) != nil {/if false \&\& k.edits.idle(limit) != nil {/
 folder/writing.go folder TestTogether s/if together > 1 {/if together > len(entries) {/
 web/how.go . TestWhole s/ || values\[0\] != "1" {/ {/
-line/scan.go . TestReadAsTheProgram s/^\t\t\tdo, _, named = text(l\[:to\], from)$/\t\t\tif do == "" {\n\t\t\t\tdo, _, named = text(l[:to], from)\n\t\t\t}/
+line/scan.go . TestReadAsTheProgram s/^\t\t\tr\.do, _, named = text(l\[:to\], from)$/\t\t\tif r.do == "" {\n\t\t\t\tr.do, _, named = text(l[:to], from)\n\t\t\t}/
 web/access.go . TestRoles s/^\tif !who\.May(command) {$/\tif false {/
 web/access.go . TestGivenAttributes s/^\t} else if err != nil {$/\t} else if false {/
 access/issuer.go access TestIssuer s/ \&\& k\.algorithm == algorithm//

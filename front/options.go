@@ -7,6 +7,8 @@ import (
 	"io"
 	"strings"
 	"time"
+
+	"review-front/jetstream"
 )
 
 // options is what the words of the command line say.
@@ -15,6 +17,11 @@ type options struct {
 	attributeModules int
 	policyModules    int
 	journal          string
+	stream           jetstream.Options
+	copied           string
+	others           list
+	othersToken      string
+	checkEvery       uint64
 	listen           string
 	admin            string
 	certificate      string
@@ -37,6 +44,8 @@ type options struct {
 	connections      int
 	each             int
 	sessionIdle      time.Duration
+	sessions         int
+	keepChanges      uint64
 	bodyTime         time.Duration
 	streamIdle       time.Duration
 	writeTime        time.Duration
@@ -71,6 +80,7 @@ func (l *list) Set(one string) error {
 const usage = `Serves the program review to many clients over HTTP, and keeps what they edit.
 
 Usage: review-front --program PROGRAM --journal FOLDER [OPTION ..]
+       review-front --program PROGRAM --log nats://.. --stream NAME [OPTION ..]
        review-front history --journal FOLDER [--since TIME] [--until TIME] [--by NAME]
        review-front verify --journal FOLDER
        review-front repair --journal FOLDER OUT
@@ -107,6 +117,18 @@ func (o *options) name(set *flag.FlagSet) {
 	set.IntVar(&o.attributeModules, "attribute-modules", 2, "how many modules of attributes the program has")
 	set.IntVar(&o.policyModules, "policy-modules", 2, "how many modules of policies the program has")
 	set.StringVar(&o.journal, "journal", "", "the `folder` of journals and snapshots, which is made if it isn't there")
+	set.StringVar(&o.stream.Servers, "log", "", "in place of --journal: the `addresses` of servers of NATS, with commas "+
+		"between, that keep the edits of several fronts in one order")
+	set.StringVar(&o.stream.Stream, "stream", "", "the `name` of the stream of edits there, which is made if it isn't there")
+	set.IntVar(&o.stream.Replicas, "stream-replicas", 1, "how many servers keep a stream that is made")
+	set.StringVar(&o.stream.Credentials, "log-credentials", "", "a `file` by which those servers know the front")
+	set.StringVar(&o.stream.Authority, "log-authority", "", "a `file` with certificates that sign those of these servers")
+	set.StringVar(&o.copied, "copy", "", "with --log, the `folder` of this front's journals and snapshots; "+
+		"else one that goes with the front")
+	set.Var(&o.others, "snapshot-from", "with --log, the `address` of another front, as http://host:8080, whose newest "+
+		"snapshot a new one begins with; may stand several times")
+	set.Uint64Var(&o.checkEvery, "check-every", 10_000, "with --log, fronts compare their states after so many edits; 0: never")
+	set.StringVar(&o.othersToken, "snapshot-token", "", "a `file` with the token by which those fronts know this one")
 	set.StringVar(&o.listen, "listen", "127.0.0.1:8080", "the `address` at which clients are answered, or unix: and "+
 		"the file of a socket")
 	set.StringVar(&o.admin, "admin", "", "an `address` at which /healthz, /readyz and /metrics are answered too, without TLS, "+
@@ -142,7 +164,10 @@ func (o *options) name(set *flag.FlagSet) {
 	set.IntVar(&o.connections, "connections", 1024, "how many connections are answered at a time; others wait")
 	set.IntVar(&o.each, "connections-each", 0, "how many connections one address has at most, others of it are closed; "+
 		"0: fifteen of sixteen of --connections, so that none has all")
-	set.DurationVar(&o.sessionIdle, "session-idle", 10*time.Minute, "a session is given back that nobody used for so long")
+	set.DurationVar(&o.sessionIdle, "session-idle", 10*time.Minute, "a session ends that nobody used for so long")
+	set.IntVar(&o.sessions, "sessions", 100_000, "how many sessions and marks clients have at most")
+	set.Uint64Var(&o.keepChanges, "keep-changes", 500_000, "how many changed answers and edits the program keeps at "+
+		"most, for marks and for who comes back")
 	set.DurationVar(&o.bodyTime, "body-time", 30*time.Second, "how long a body may take to come, for each 64 KiB of it")
 	set.DurationVar(&o.streamIdle, "stream-idle", time.Hour, "how long a stream of lines may say nothing")
 	set.DurationVar(&o.writeTime, "write-time", 30*time.Second, "how long a client may read nothing of what he is sent")
@@ -164,7 +189,7 @@ func (o options) wrong(rest []string) string {
 		return fmt.Sprintf("the word %q isn't known", rest[0])
 	case o.program == "":
 		return "--program is missing"
-	case o.journal == "":
+	case o.journal == "" && o.stream.Servers == "":
 		return "--journal is missing"
 	case (o.certificate == "") != (o.key == ""):
 		return "--certificate and --key go together"
@@ -188,12 +213,34 @@ func (o options) wrong(rest []string) string {
 		return "--decisions-size is at least 1"
 	case o.askers < 0 || o.tryTime < 0 || o.dryTime <= 0:
 		return "--askers and --try-time are at least 0, and --dry-time is more"
+	case o.sessions < 1:
+		return "--sessions is at least 1"
 	case o.spoolBytes < 1<<20:
 		return "--spool-bytes is at least 1048576"
 	case o.replayTime < 0:
 		return "--replay-time is at least 0"
 	case o.replyTime < 0 || o.lame < 0 || o.drain <= o.lame:
 		return "--reply-time and --lame are at least 0, and --drain is more than --lame"
+	}
+	return o.wrongLog()
+}
+
+// wrongLog says what is wrong with those of a log, or nothing.
+func (o options) wrongLog() string {
+	switch {
+	case o.stream.Servers == "" && (o.stream.Stream != "" || o.copied != "" || o.stream.Credentials != "" ||
+		o.stream.Authority != "" || len(o.others) > 0):
+		return "--stream, --copy, --snapshot-from, --log-credentials and --log-authority need --log"
+	case o.stream.Servers == "":
+		return ""
+	case o.journal != "":
+		return "--log stands in place of --journal"
+	case o.stream.Stream == "" || strings.ContainsAny(o.stream.Stream, " \t\r\n.*>/\\"):
+		return "--log needs --stream, a name without blanks and . * > / \\"
+	case o.stream.Replicas < 1 || o.stream.Replicas > 5:
+		return "--stream-replicas is from 1 to 5"
+	case o.tryTime > 0:
+		return "--try-time isn't there with --log"
 	}
 	return ""
 }

@@ -19,6 +19,7 @@ type order struct {
 	unnamed map[string]bool
 	last    string // the journal that was written last
 	acks    int
+	marks   int            // how many marks were answered
 	renamed map[string]int // by the kind of file
 }
 
@@ -81,7 +82,10 @@ func (o *order) see(l string) {
 	case name == "fsync":
 		delete(o.dirty, file)
 	case strings.Contains(name, "write") && inside:
-		o.dirty[file] = true
+		// Of the marks those of the program needn't be on disk.
+		if kindOf(file) != "marks" || strings.Contains(found[2], `\"mark\":{`) {
+			o.dirty[file] = true
+		}
 		if kindOf(file) == "journal" && !strings.HasSuffix(file, ".aside") {
 			o.last = file
 		}
@@ -92,6 +96,11 @@ func (o *order) see(l string) {
 		}
 		if keys := filepath.Join(o.folder, "keys"); o.dirty[keys] || o.unnamed[keys] {
 			o.t.Errorf("an edit is acknowledged before its key is on disk: %s", l)
+		}
+	case name == "write" && strings.HasPrefix(file, "socket:") && strings.Contains(found[2], `{\"mark\":`):
+		o.marks++
+		if marks := filepath.Join(o.folder, "marks"); o.dirty[marks] || o.unnamed[marks] {
+			o.t.Errorf("a mark is answered before it is on disk: %s", l)
 		}
 	}
 }
@@ -108,8 +117,8 @@ func (o *order) rename(l string, names []string) {
 	o.renamed[kindOf(names[2])]++
 }
 
-// TestOrder edits, with and without keys, while snapshots are made and journals begun: no reply leaves before the edit
-// is on disk, and the name of its journal, and no file gets its name before that.
+// TestOrder edits, with and without keys, and marks, while snapshots are made and journals begun: no reply leaves
+// before the edit or the mark is on disk, and the name of its journal, and no file gets its name before that.
 func TestOrder(t *testing.T) {
 	theProgram(t)
 	path, trace := t.TempDir(), filepath.Join(t.TempDir(), "trace")
@@ -121,7 +130,11 @@ func TestOrder(t *testing.T) {
 	strace := fmt.Sprintf(`exec strace -D -f -y -qq -s 400 -e trace=%s -o %s "$0" "$@"`, calls, trace)
 	f := launchBy(t, strace, path, "--snapshot-every", "3")
 	f.await()
+	session := f.session()
 	for i := 0; i < 6; i++ {
+		if status, said := f.post(session+"/mark", ""); status != http.StatusOK {
+			t.Fatalf("a mark is answered %d %s", status, said)
+		}
 		f.accept(fmt.Sprintf(`{"do":"person.add","name":"person-%d"}`, i))
 		status, said := f.keyed(fmt.Sprint(i), fmt.Sprintf(`{"do":"action.add","name":"action-%d"}`, i))
 		if status != http.StatusOK {
@@ -140,8 +153,8 @@ func TestOrder(t *testing.T) {
 	for _, l := range whole(string(content)) {
 		o.see(l)
 	}
-	if o.acks != 12 || o.renamed["journal"] < 2 || o.renamed["snapshot"] < 2 || o.renamed["keys"] != 1 {
-		t.Errorf("%d replies left, and %v got names", o.acks, o.renamed)
+	if o.acks != 12 || o.marks != 6 || o.renamed["journal"] < 2 || o.renamed["snapshot"] < 2 || o.renamed["keys"] != 1 {
+		t.Errorf("%d replies left, and %d to marks, and %v got names", o.acks, o.marks, o.renamed)
 	}
 	if len(o.dirty)+len(o.unnamed) > 0 {
 		t.Errorf("%v and the names %v aren't on disk at the end", o.dirty, o.unnamed)

@@ -24,6 +24,7 @@ var samples = map[string][2]string{
 	"/documents":                            {"/documents?id=records", `{"documents":[{`},
 	"/attributes":                           {"/attributes?category=AccessSubject&entity=ada", `{"attributes":[{`},
 	"/cells":                                {"/cells?person=hana&decisions=Deny&decisions=Permit", `{"cells":[{`},
+	"/changes":                              {"/changes?since=69", `{"changes":[],"serial":69}`},
 	"/faults":                               {"/faults", `{"faults":[`},
 	"/explain/{person}/{action}/{resource}": {"/explain/hana/write/record-moss", `{"explain":{"answer":{`},
 	"/healthz":                              {"/healthz", `{"status":"ok"}`},

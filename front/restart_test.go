@@ -140,18 +140,98 @@ func TestPlanned(t *testing.T) {
 	}
 }
 
-// TestListenersAnew sees that who listens is told to read anew when the program has died, and hears on then.
-func TestListenersAnew(t *testing.T) {
+// TestListenersHearOn sees that who listens hears on when the program has died, and nothing twice.
+func TestListenersHearOn(t *testing.T) {
 	f := begin(t, t.TempDir())
 	f.accept(clinic(t)...)
 	heard := f.listen()
 	heard.next(t)
-	f.killProgram()
-	if e := heard.next(t); e.kind != "anew" || e.id != fmt.Sprint(len(clinic(t))) {
-		t.Fatalf("a listener is told %v", e)
+	for i := 0; i < 3; i++ {
+		name := fmt.Sprintf("extra-%d", i)
+		f.accept(fmt.Sprintf(`{"do":"person.add","name":%q}`, name))
+		before := len(f.programs())
+		f.killProgram()
+		e := heard.next(t)
+		if e.kind != "notices" || strings.Count(e.data, `"person":"extra-`) != 60 || !strings.Contains(e.data, name) {
+			t.Fatalf("a listener is told %v", e)
+		}
+		f.another(before)
 	}
-	f.accept(`{"do":"person.add","name":"extra"}`)
-	if e := heard.next(t); e.kind != "notices" || strings.Count(e.data, `"person":"extra"`) != 60 {
-		t.Fatalf("a listener is told %v", e)
+}
+
+// TestComesBackLate has somebody come back who missed many edits while the front was killed, or ended gently, and then
+// began anew and told others: what he missed was kept for him.
+func TestComesBackLate(t *testing.T) {
+	path := t.TempDir()
+	f := begin(t, path)
+	f.accept(clinic(t)...)
+	for round, gently := range []bool{false, true} {
+		heard := f.listenBehind("")
+		behind := heard.next(t).id
+		if gently {
+			heard.leave() // else he is told all before the end
+			eventually(t, "he has gone", func() bool { return f.metric("review_front_listeners") == 0 })
+		}
+		lines := []string{fmt.Sprintf(`{"do":"person.add","name":"late-%d"}`, round)}
+		for i := 0; i < 700; i++ {
+			lines = append(lines, fmt.Sprintf(`{"do":"day.set","day":"2026-03-%02d"}`, 1+i%28))
+		}
+		f.accept(lines...)
+		if !gently {
+			f.kill()
+		} else if status := f.stop(); status != 0 {
+			t.Fatalf("the front ends with %d", status)
+		}
+		f = begin(t, path)
+		f.accept(lines[1])
+		f.accept(lines[2])
+		again := f.listenBehind(behind)
+		e := again.next(t)
+		again.leave()
+		if e.kind != "notices" || strings.Count(e.data, fmt.Sprintf(`"person":"late-%d"`, round)) != 60 {
+			t.Fatalf("who comes back behind serial %s, ended gently %v, is told %s %.300s", behind, gently, e.kind, e.data)
+		}
+	}
+}
+
+// TestMarksStay kills the front, and ends it gently: sessions that marked are there again, with their marks.
+func TestMarksStay(t *testing.T) {
+	path := t.TempDir()
+	f := begin(t, path, "--snapshot-every", "10")
+	f.accept(clinic(t)...)
+	first, second, ended := f.session(), f.session(), f.session()
+	for _, session := range []string{first, ended} {
+		if status, body := f.post(session+"/mark", ""); status != 200 {
+			t.Fatalf("a mark is %d %s", status, body)
+		}
+	}
+	f.end(ended)
+	for round := 0; round < 4; round++ {
+		f.accept(fmt.Sprintf(`{"do":"person.add","name":"extra-%d"}`, round))
+		if round == 1 {
+			f.post(second+"/lines", `{"do":"mark","session":5}`)
+		}
+		if round%2 == 0 {
+			f.kill()
+		} else if status := f.stop(); status != 0 {
+			t.Fatalf("the front ends with %d", status)
+		}
+		f = begin(t, path, "--snapshot-every", "10")
+		if body := f.must(first + "/notices"); strings.Count(body, `"person":"extra-`) != 60*(round+1) {
+			t.Fatalf("round %d: notices are %.300s", round, body)
+		}
+		if status, _ := f.get(ended + "/notices"); status != 404 {
+			t.Errorf("round %d: a session that has ended is answered %d", round, status)
+		}
+		if round < 1 {
+			continue
+		}
+		_, body := f.post(second+"/lines", `{"do":"notices","session":5}`)
+		if strings.Count(body, `"person":"extra-`) != 60*(round-1) {
+			t.Fatalf("round %d: notices are %.300s", round, body)
+		}
+	}
+	if status, _ := f.get(second + "/notices"); status != 409 {
+		t.Errorf("notices of a number without a mark are %d", status)
 	}
 }

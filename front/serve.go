@@ -12,10 +12,12 @@ import (
 
 	"review-front/folder"
 	"review-front/keeper"
+	"review-front/ladder"
 	"review-front/line"
 	"review-front/logs"
 	"review-front/measure"
 	"review-front/program"
+	"review-front/replicated"
 	"review-front/spool"
 	"review-front/web"
 )
@@ -24,6 +26,7 @@ const (
 	headTime  = 10 * time.Second
 	idleTime  = 2 * time.Minute
 	headBytes = 32 << 10
+	returning = time.Minute // how long who listened may take to come back at most
 	askTime   = time.Second // how long the counts wait for the program
 	// adminPlaces is how many connections there are at a time at the address of --admin.
 	adminPlaces = 16
@@ -32,17 +35,32 @@ const (
 // serve serves until the context is done, or until there is no state to serve. Certificates are read again whenever
 // `again` says so.
 func serve(ctx context.Context, again <-chan os.Signal, o options, log *logs.Log) error {
+	o, clear, err := o.placed()
+	if err != nil {
+		return err
+	}
+	defer clear()
 	held, err := folder.Open(o.journal)
 	if err != nil {
 		return err
 	}
 	defer held.Close()
+	edits, err := o.edits(ctx, log)
+	if ctx.Err() != nil {
+		return nil // it was told to end before the stream was reached
+	}
+	if err != nil {
+		return err
+	}
+	if edits != nil {
+		defer edits.Close()
+	}
 	kept := o.kept()
 	if err := kept.Clear(); err != nil {
 		return err
 	}
 	meter := measure.New()
-	k := keeper.New(o.keeping(held, kept, log, meter))
+	k := keeper.New(o.keeping(held, edits, kept, log, meter))
 	watch(meter, k)
 	mapping, book, err := o.beside(log, meter)
 	if err != nil {
@@ -120,15 +138,28 @@ func (o options) kept() *spool.Spool {
 	return spool.New(o.spool, o.spoolBytes)
 }
 
+// returnTime is how long who listened may take to come back.
+func (o options) returnTime() time.Duration {
+	if o.sessionIdle < returning {
+		return o.sessionIdle
+	}
+	return returning
+}
+
 // keeping is what the keeper of a folder works with.
-func (o options) keeping(held *folder.Folder, kept *spool.Spool, log *logs.Log, meter *measure.Meter) keeper.Options {
+func (o options) keeping(
+	held *folder.Folder, edits replicated.Log, kept *spool.Spool, log *logs.Log, meter *measure.Meter,
+) keeper.Options {
 	return keeper.Options{
+		Others: o.otherFronts(), CheckEvery: o.checkEvery,
 		Command: program.Command{
 			Path: o.program, AttributeModules: o.attributeModules, PolicyModules: o.policyModules, Faults: log.Lines(),
 		},
-		Folder: held, Spool: kept, Log: log, Meter: meter, Queue: o.queue, Patience: o.patience,
+		Folder: held, Stream: edits, Spool: kept, Log: log, Meter: meter, Queue: o.queue, Patience: o.patience,
 		SnapshotEvery: o.snapshotEvery, ReplayTime: o.replayTime, Keep: o.keep, Reads: o.reads,
 		ReplyTime: o.replyTime, EndingTime: o.half(), Askers: o.askers, TryTime: o.tryTime,
+		Kept:         ladder.Bounds{Changes: o.keepChanges, Took: o.replayTime / 2, Recent: o.returnTime()},
+		MostSessions: o.sessions,
 	}
 }
 

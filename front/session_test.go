@@ -4,18 +4,28 @@ import (
 	"encoding/json"
 	"fmt"
 	"net/http"
+	"net/http/httptest"
+	"os"
+	"path/filepath"
 	"strings"
 	"testing"
+	"time"
+
+	"review-front/folder"
+	"review-front/keeper"
+	"review-front/measure"
+	"review-front/web"
 )
 
 const unmarked = `{"refused":12}`
 
-// TestSessions gives fifteen clients a session each; the sixteenth gets 503 until one goes.
+// TestSessions gives many clients a session each, more than the program has.
 func TestSessions(t *testing.T) {
+	const clients = 40
 	f := begin(t, t.TempDir())
 	f.accept(clinic(t)...)
 	var streams []*stream
-	for i := 0; i < 15; i++ {
+	for i := 0; i < clients; i++ {
 		s := f.connect("/lines")
 		if reply := s.ask(t, `{"do":"notices","session":7}`); reply != unmarked {
 			t.Fatalf("client %d: notices before a mark are %s", i, reply)
@@ -27,26 +37,39 @@ func TestSessions(t *testing.T) {
 		streams = append(streams, s)
 	}
 	for i, s := range streams {
-		if reply := s.ask(t, `{"do":"notices","session":7}`); strings.Count(reply, `"person":"extra-`) != 60*(15-i) {
+		if reply := s.ask(t, `{"do":"notices","session":7}`); strings.Count(reply, `"person":"extra-`) != 60*(clients-i) {
 			t.Errorf("client %d hears of %d", i, strings.Count(reply, `"person":"extra-`))
 		}
 	}
-	late := f.connect("/lines")
-	if err := late.send(`{"do":"mark"}`); err != nil {
-		t.Fatal(err)
-	}
-	reply, err := late.receive()
-	if err != nil || late.answer.StatusCode != http.StatusServiceUnavailable || late.answer.Header.Get("Retry-After") == "" {
-		t.Errorf("the sixteenth gets %d, %s, %v", late.answer.StatusCode, reply, err)
-	}
-	if status, _ := f.post("/sessions", ""); status != http.StatusServiceUnavailable {
-		t.Errorf("the sixteenth session is %d", status)
+	if got := f.metric("review_front_sessions"); got != clients {
+		t.Errorf("%v sessions are counted", got)
 	}
 	streams[3].conn.Close()
-	eventually(t, "a session is free", func() bool {
-		reply := f.lines(`{"do":"notices"}`, `{"do":"mark"}`, `{"do":"notices"}`)
-		return reply[0] == unmarked && strings.HasPrefix(reply[1], `{"mark":`) && reply[2] == `{"notices":[]}`
-	})
+	eventually(t, "a session ends with its stream", func() bool { return f.metric("review_front_sessions") == clients-1 })
+	reply := f.lines(`{"do":"notices"}`, `{"do":"mark"}`, `{"do":"notices"}`)
+	if reply[0] != unmarked || !strings.HasPrefix(reply[1], `{"mark":`) || reply[2] != `{"notices":[]}` {
+		t.Errorf("a mark and notices together are answered %s", reply)
+	}
+}
+
+// TestSessionsWait asks for a session before there is a state: it isn't opened, so that those of before aren't forgotten.
+func TestSessionsWait(t *testing.T) {
+	path := t.TempDir()
+	held, err := folder.Open(path)
+	if err != nil {
+		t.Fatal(err)
+	}
+	defer held.Close()
+	k := keeper.New(keeper.Options{Folder: held, Meter: measure.New(), Queue: 1, MostSessions: 9})
+	site := web.New(web.Options{Keeper: k, Meter: measure.New(), SessionIdle: time.Minute})
+	answer := httptest.NewRecorder()
+	site.ServeHTTP(answer, httptest.NewRequest(http.MethodPost, "http://localhost/sessions", nil))
+	if answer.Code != http.StatusServiceUnavailable {
+		t.Errorf("it is answered %d %s", answer.Code, answer.Body)
+	}
+	if _, err := os.Stat(filepath.Join(path, "marks")); !os.IsNotExist(err) {
+		t.Errorf("marks are written: %v", err)
+	}
 }
 
 // TestMarksOutlive sees that marks outlive the program, also behind snapshots that are newer.
@@ -117,4 +140,20 @@ func (f *front) session() string {
 		f.t.Fatalf("a session is %d %s", status, body)
 	}
 	return "/sessions/" + opened.Session
+}
+
+// end ends a session.
+func (f *front) end(path string) {
+	f.t.Helper()
+	request, err := http.NewRequest(http.MethodDelete, f.url(path), nil)
+	if err != nil {
+		f.t.Fatal(err)
+	}
+	answer, err := http.DefaultClient.Do(request)
+	if err != nil {
+		f.t.Fatal(err)
+	}
+	if status, body := bodyOf(f.t, answer); status != http.StatusNoContent {
+		f.t.Fatalf("a session is ended by %d %s", status, body)
+	}
 }

@@ -15,8 +15,7 @@ type stored struct {
 	lines, replies []string
 }
 
-// storedSessions reads the gate's sessions but those that write lines by repetition, and those that mark all sixteen
-// sessions: one of them is the front's.
+// storedSessions reads the gate's sessions but those that write lines by repetition.
 func storedSessions(t *testing.T) []stored {
 	t.Helper()
 	content, err := os.ReadFile(filepath.Join("..", "crates", "conformance", "stdin"))
@@ -25,7 +24,7 @@ func storedSessions(t *testing.T) []stored {
 	}
 	var all []stored
 	for _, part := range strings.Split("\n"+string(content), "\n# ")[1:] {
-		if strings.Contains(part, "«") || strings.Contains(part, "\n* ") || strings.Contains(part, "sixteen_se") {
+		if strings.Contains(part, "«") || strings.Contains(part, "\n* ") {
 			continue
 		}
 		lines := strings.Split(part, "\n")
@@ -62,8 +61,9 @@ func TestStoredSessions(t *testing.T) {
 		words := []string{"--attribute-modules", s.modules, "--policy-modules", s.modules}
 		f := begin(t, path, words...)
 		for i, reply := range f.lines(s.lines...) {
-			if strings.Contains(s.lines[i], `"do":"state"`) {
-				continue // it tells marks by sessions of the program, which the front gives to clients
+			since := strings.Contains(s.lines[i], `"do":"changes"`) && s.replies[i] == unmarked
+			if since || strings.Contains(s.lines[i], `"do":"state"`) {
+				continue // the program's marks are the front's, by which more can be asked than by a client's
 			}
 			if s.replies[i] != "" && reply != s.replies[i] {
 				t.Fatalf("%s: %s is answered %s, and not %s", s.name, s.lines[i], reply, s.replies[i])
@@ -99,7 +99,10 @@ func asked(t *testing.T, f *front, s stored) {
 				t.Errorf("%s: %s is answered %d %s", s.name, s.lines[i], status, body)
 			}
 		case s.replies[i] == `{"refused":14}` && status != http.StatusBadRequest:
-			t.Errorf("%s: %s is answered %d %s", s.name, s.lines[i], status, body)
+			// (What the program refuses as one request may be several in one, which the front answers.)
+			if status != http.StatusOK || strings.Count(body, `"Decision"`) < 2 {
+				t.Errorf("%s: %s is answered %d %s", s.name, s.lines[i], status, body)
+			}
 		}
 	}
 }

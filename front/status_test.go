@@ -10,10 +10,8 @@ import (
 // TestNoneAccepted sends a mark for which there is no session and an edit behind it: the status is 503, so the edit
 // isn't made, whether the body comes whole or as it is written.
 func TestNoneAccepted(t *testing.T) {
-	f := begin(t, t.TempDir())
-	for i := 0; i < 15; i++ {
-		f.session()
-	}
+	f := begin(t, t.TempDir(), "--sessions", "1")
+	f.session()
 	const edit = `{"do":"person.add","name":"ann"}`
 	status, body := f.post("/lines", "{\"do\":\"mark\"}\n"+edit+"\n"+edit)
 	if status != http.StatusServiceUnavailable || strings.Contains(body, `"changes"`) {

@@ -1,7 +1,8 @@
 #!/bin/sh
 # Tests the front over a program: front/test.sh [PROGRAM [all]]; PROGRAM is crates/review/out/review unless it is named.
 # With `all` it kills the front and the program 200 times each, stops the front 30 times, and sends all of the gate's
-# sessions; without it 8 times, 4 times, and each eighth session.
+# sessions, and ends servers of NATS 9 times under 8 fronts; without it 8 times, 4 times, each eighth session, and once
+# under 3. Where nats-server or its client isn't there, tests of a log are skipped with a word.
 # Where Go, its client of Prometheus or a C compiler (for the race detector) isn't there, it says so and ends with status 3;
 # where strace isn't there, or may not look at processes, it does so when all tests but that of system calls have passed.
 set -eu
@@ -23,12 +24,16 @@ if ! strace -o /dev/null true 2>/dev/null; then
     FRONT_UNTRACED=1
     export FRONT_UNTRACED
 fi
+command -v nats-server >/dev/null && [ -d /usr/share/gocode/src/github.com/nats-io/nats.go ] ||
+    echo "front/test.sh: there is no nats-server, or no client of it: tests of a log are passed over"
 ./build.sh
 ./build.sh go vet ./...
 (cd .. && GO111MODULE=off go vet ./bench/front)
 if [ "${2:-}" = all ]; then
-    FRONT_KILLS=200 FRONT_STOPS=30 FRONT_SESSIONS=1 FRONT_TABLES=200
-    export FRONT_KILLS FRONT_STOPS FRONT_SESSIONS FRONT_TABLES
+    FRONT_KILLS=200 FRONT_STOPS=30 FRONT_SESSIONS=1 FRONT_TABLES=200 FRONT_SERVERS=9 FRONT_REPLICAS=8 FRONT_ALL=1
+    FRONT_LINES=200000 FRONT_LISTENERS=500 FRONT_RETURNS=100
+    export FRONT_KILLS FRONT_STOPS FRONT_SESSIONS FRONT_TABLES FRONT_SERVERS FRONT_REPLICAS FRONT_ALL
+    export FRONT_LINES FRONT_LISTENERS FRONT_RETURNS
 fi
 REVIEW_PROGRAM=$program ./build.sh go test -race -count=1 -timeout 60m ./...
 [ -z "${FRONT_UNTRACED:-}" ] || exit 3

@@ -6,6 +6,7 @@ import (
 	"os"
 	"regexp"
 	"strconv"
+	"strings"
 	"sync/atomic"
 	"testing"
 	"time"
@@ -25,6 +26,9 @@ func most(t *testing.T, process int) int {
 	kilobytes, _ := strconv.Atoi(string(found[1]))
 	return kilobytes << 10
 }
+
+// held is how much memory a reply takes at most that isn't read; under the race detector that is some times as much.
+const held = 1 << 20
 
 // TestListenersShare has listeners who read nothing while an edit changes the whole table: they wait for one text.
 func TestListenersShare(t *testing.T) {
@@ -67,13 +71,10 @@ func (f *front) bare(path string) net.Conn {
 	return conn
 }
 
-// TestUnreadTables asks for tables and reads none: they wait in files, and a question in between is answered before
-// most of them have come.
-func TestUnreadTables(t *testing.T) {
-	tables := number("FRONT_TABLES", 40)
-	f := begin(t, t.TempDir())
-	f.accept(clinic(t)...)
-	var names []string
+// wide makes a table of many cells.
+func (f *front) wide() {
+	f.t.Helper()
+	names := clinic(f.t)
 	for i := 0; i < 240; i++ {
 		names = append(names, fmt.Sprintf(`{"do":"person.add","name":"person-%d"}`, i))
 	}
@@ -81,6 +82,51 @@ func TestUnreadTables(t *testing.T) {
 		names = append(names, fmt.Sprintf(`{"do":"resource.add","name":"resource-%d"}`, i))
 	}
 	f.accept(names...)
+}
+
+// TestLongNotices asks what an edit of many cells changed, in all ways: it is the same, and waits in no file
+// afterwards.
+func TestLongNotices(t *testing.T) {
+	f := begin(t, t.TempDir())
+	f.wide()
+	session := f.session()
+	_, mark := f.post(session+"/mark", "")
+	since := strings.Trim(mark, `{"mark:}`)
+	heard := f.listen()
+	heard.next(t)
+	f.accept(`{"do":"action.add","name":"another"}`)
+	told := heard.next(t)
+	if len(told.data) < held/2 || told.kind != "notices" {
+		t.Fatalf("a listener is told %s of %d bytes", told.kind, len(told.data))
+	}
+	if said := f.must(session + "/notices"); said != told.data {
+		t.Errorf("notices are %.200s .. %s", said, said[len(said)-50:])
+	}
+	if e := f.listenBehind(since).next(t); e.kind != told.kind || e.data != told.data || e.id != told.id {
+		t.Errorf("who comes back is told %s %s, %.200s", e.kind, e.id, e.data)
+	}
+	want := asChanges(told.data, told.id)
+	if said := f.lines(`{"do":"changes","since":` + since + `}`)[0]; said != want {
+		t.Errorf("changes are %.200s .. %s", said, said[len(said)-50:])
+	}
+	some, err := f.hear(since, "?persons=person-7&persons=person-23*")
+	if err != nil {
+		t.Fatal(err)
+	}
+	defer some.leave()
+	// Of 248 people twelve are wanted.
+	if e := some.next(t); strings.Count(e.data, `"person":`) != strings.Count(told.data, `"person":`)*12/248 {
+		t.Errorf("who wants to hear of some is told of %d, %.300s", strings.Count(e.data, `"person":`), e.data)
+	}
+	eventually(t, "nothing waits any more", func() bool { return f.metric("review_front_spool_bytes") == 0 })
+}
+
+// TestUnreadTables asks for tables and reads none: they wait in files, and a question in between is answered before
+// most of them have come.
+func TestUnreadTables(t *testing.T) {
+	tables := number("FRONT_TABLES", 40)
+	f := begin(t, t.TempDir())
+	f.wide()
 	table := f.must("/table")
 	before := most(t, f.process.Process.Pid)
 	var begun atomic.Int64
@@ -103,7 +149,7 @@ func TestUnreadTables(t *testing.T) {
 	waiting := f.metric("review_front_spool_bytes")
 	grown := most(t, f.process.Process.Pid) - before
 	t.Logf("%d unread tables of %d bytes take %d of memory and %.0f of files", tables, len(table), grown, waiting)
-	if grown > tables*len(table)/4 {
+	if grown > tables*held {
 		t.Error("they wait in memory")
 	}
 	if f.must("/table") != table {

@@ -27,7 +27,12 @@ type started struct {
 
 // start starts a front over a folder, and waits until it answers.
 func (r run) start(folder string, more ...string) (*started, error) {
-	words := append([]string{"--program", r.program, "--journal", folder, "--listen", address}, more...)
+	return r.startAt(address, append([]string{"--journal", folder}, more...)...)
+}
+
+// startAt starts a front at an address by words, and waits until it answers.
+func (r run) startAt(address string, more ...string) (*started, error) {
+	words := append([]string{"--program", r.program, "--listen", address}, more...)
 	process := exec.Command(r.front, words...)
 	process.Stderr = io.Discard
 	began := time.Now()
@@ -61,7 +66,10 @@ func (s *started) stop(gently bool) error {
 }
 
 // post sends lines and gives the replies.
-func post(lines []byte) ([]byte, error) {
+func post(lines []byte) ([]byte, error) { return postAt(address, lines) }
+
+// postAt sends lines to an address.
+func postAt(address string, lines []byte) ([]byte, error) {
 	answer, err := kept.Post("http://"+address+"/lines", "application/x-ndjson", bytes.NewReader(lines))
 	if err != nil {
 		return nil, err
@@ -99,7 +107,8 @@ func (r run) measure(only string) error {
 	for _, part := range []struct {
 		name string
 		call func() error
-	}{{"asks", r.asks}, {"edits", r.someEdits}, {"starts", r.starts}, {"snapshots", r.snapshots}, {"beside", r.beside}} {
+	}{{"asks", r.asks}, {"edits", r.someEdits}, {"starts", r.starts}, {"snapshots", r.snapshots}, {"beside", r.beside},
+		{"log", r.log}} {
 		if strings.Contains(only, part.name) {
 			if err := part.call(); err != nil {
 				return fmt.Errorf("%s: %w", part.name, err)

@@ -10,7 +10,7 @@ var Roles = map[string][]string{
 		"table", "cell", "counts", "can", "who", "by_rule", "cells", "documents", "attributes", "explain", "faults", "state",
 		"work", "format",
 	},
-	"audit": {"mark", "notices"},
+	"audit": {"mark", "notices", "changes"},
 	"edit": {
 		"person.add", "person.drop", "action.add", "action.drop", "resource.add", "resource.drop", "policy.add",
 		"policy.replace", "policy.withdraw", "root.set", "attr.set", "day.set", "moment.set",

@@ -212,6 +212,7 @@ func (p *plan) write(s *survey, to string) error {
 	f.last = p.Begins
 	if err := f.Begin(Head{
 		Program: p.head.Program, AttributeModules: p.head.AttributeModules, PolicyModules: p.head.PolicyModules,
+		Stream: p.head.Stream,
 	}); err != nil {
 		return err
 	}

@@ -25,12 +25,20 @@ type Head struct {
 	Program          string    `json:"program"`
 	AttributeModules int       `json:"attribute_modules"`
 	PolicyModules    int       `json:"policy_modules"`
+	// Stream is of which stream the edits are, whose sequences are their serials; without one each serial follows the
+	// last.
+	Stream string `json:"stream,omitempty"`
 	// After is, of a journal, the serial before its first edit, and of a snapshot that which it stands for.
 	After uint64 `json:"after"`
 	// Lines is, of a snapshot, how many lines it has.
 	Lines int `json:"lines,omitempty"`
 	// Before is, of a journal, the one before it, and of a snapshot the journal that it was made of.
 	Before *Part `json:"before,omitempty"`
+}
+
+// goesOn says whether an edit may follow the one before it. In a stream stand edits that aren't accepted, too.
+func (h Head) goesOn(last, serial uint64) bool {
+	return serial == last+1 || h.Stream != "" && serial > last
 }
 
 // Part is the beginning of a journal, up to an edit.

@@ -49,6 +49,7 @@ type Folder struct {
 	before  *Part  // the end of the journal that has the last edit, or where it begins that of the one before
 	first   uint64 // the number of the first journal that has to stand
 	checked uint64 // from which journal on Recover has read them
+	stream  string // of which the newest journal's edits are, or nothing
 	chained bool   // whether each journal that stood has its predecessor's checksum
 	last    uint64 // the serial of the last edit that is on disk
 	broken  error  // why nothing can be written, if so
@@ -135,6 +136,9 @@ func (f *Folder) First() uint64 {
 
 // Chained says whether each journal that stood has its predecessor's checksum. Those of the first format have none.
 func (f *Folder) Chained() bool { return f.chained }
+
+// Stream is of which stream the edits of the newest journal are, or nothing.
+func (f *Folder) Stream() string { return f.stream }
 
 // numbered lists the numbers of the files of a kind, in their order.
 func numbered(path, kind string) ([]uint64, error) {

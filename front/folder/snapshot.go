@@ -49,11 +49,17 @@ func (f *Folder) read(serial uint64) (*Snapshot, Head, error) {
 	}
 	defer file.Close()
 	records := frame.NewReader(file, name)
-	head, err := readHead(records, "snapshot")
+	snapshot, head, err := readSnapshot(records)
 	if err == nil && head.After != serial {
-		err = records.Damage("its head has another serial than its name")
+		return nil, Head{}, records.Damage("its head has another serial than its name")
 	}
-	snapshot := &Snapshot{Serial: serial}
+	return snapshot, head, err
+}
+
+// readSnapshot reads the file of a snapshot.
+func readSnapshot(records *frame.Reader) (*Snapshot, Head, error) {
+	head, err := readHead(records, "snapshot")
+	snapshot := &Snapshot{Serial: head.After}
 	for err == nil && len(snapshot.Lines) < head.Lines {
 		var line []byte
 		if line, err = records.Next(); err == nil {

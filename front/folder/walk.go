@@ -90,7 +90,7 @@ func walk(path string, number uint64, most int64, call func(*journal, Entry, Pla
 
 // next takes an edit of a record that stands at a place and ends at a byte.
 func (j *journal) next(entry Entry, place Place, end int64, call func(*journal, Entry, Place) error) error {
-	if entry.Serial != j.last+1 {
+	if !j.head.goesOn(j.last, entry.Serial) {
 		return j.damage("serial %d follows %d", entry.Serial, j.last)
 	}
 	if entry.synced > place.Byte {

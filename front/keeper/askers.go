@@ -2,6 +2,7 @@ package keeper
 
 import (
 	"context"
+	"sort"
 	"sync"
 	"sync/atomic"
 	"time"
@@ -12,8 +13,8 @@ import (
 // waitingAsks is how many requests wait for an asker at most.
 const waitingAsks = 4096
 
-// askers are programs that answer requests beside the table's. They are told the same edits once these are on disk, but
-// no names: none of them has a cell, so that an edit which changes the whole table takes them no time.
+// askers are programs that answer requests beside the table's. They are told the same edits once these are on disk,
+// but no names: none of them has a cell, so that an edit which changes the whole table takes them no time.
 type askers struct {
 	keeper *Keeper
 	count  int
@@ -189,7 +190,7 @@ func (s *askers) enter(a *asker) {
 		s.before, s.edits = s.keeper.Folder.Last(), nil
 	}
 	s.all[a] = true
-	a.told = s.before + uint64(len(s.edits))
+	a.told = s.last()
 	a.latest.Store(a.told)
 }
 
@@ -208,7 +209,7 @@ func (s *askers) tell(edits []folder.Entry) {
 	if len(s.all) == 0 {
 		return
 	}
-	for len(edits) > 0 && edits[0].Serial <= s.before+uint64(len(s.edits)) {
+	for len(edits) > 0 && edits[0].Serial <= s.last() {
 		edits = edits[1:] // an asker that began just now has it from the disk
 	}
 	if len(edits) == 0 {
@@ -228,23 +229,36 @@ func (s *askers) tell(edits []folder.Entry) {
 func (s *askers) news(a *asker) []folder.Entry {
 	s.mutex.Lock()
 	defer s.mutex.Unlock()
-	edits := s.edits[a.told-s.before:]
-	a.told += uint64(len(edits))
+	edits := s.edits[s.behind(a.told):]
+	a.told = s.last()
 	s.trim()
 	return edits
 }
 
+// last is the serial of the last edit that they are told.
+func (s *askers) last() uint64 {
+	if len(s.edits) == 0 {
+		return s.before
+	}
+	return s.edits[len(s.edits)-1].Serial
+}
+
+// behind is where the edits behind a serial begin.
+func (s *askers) behind(serial uint64) int {
+	return sort.Search(len(s.edits), func(i int) bool { return s.edits[i].Serial > serial })
+}
+
 // trim forgets the edits that all were told.
 func (s *askers) trim() {
-	least := s.before + uint64(len(s.edits))
+	least := s.last()
 	for a := range s.all {
 		if a.told < least {
 			least = a.told
 		}
 	}
-	if told := least - s.before; told == uint64(len(s.edits)) {
+	if told := s.behind(least); told == len(s.edits) {
 		s.edits, s.before = nil, least
-	} else if told > uint64(len(s.edits))/2 {
+	} else if told > len(s.edits)/2 {
 		s.edits, s.before = append([]folder.Entry(nil), s.edits[told:]...), least
 	}
 }

@@ -172,19 +172,28 @@ func TestDumps(t *testing.T) {
 	t.Logf("compared at %d serials up to %d", len(compared), k.Serial())
 }
 
-// TestDecidesKnow asks as soon as an edit has its reply: each answer knows of it.
+// TestDecidesKnow has several ask as soon as their edits have their replies: each answer knows of its edit, also where
+// the asker has requests of others to send.
 func TestDecidesKnow(t *testing.T) {
 	k := keeping(t, func(o *Options) { o.Askers = 1 })
 	for until := time.Now().Add(time.Minute); k.Askers() == 0 && time.Now().Before(until); {
 		time.Sleep(time.Millisecond)
 	}
-	for i := 0; i < 500; i++ {
-		k.edit(t, fmt.Sprintf(`{"do":"attr.set","category":"Action","entity":"x","attribute":"n","type":"integer","values":[%d]}`, i))
-		reply := k.Decide(context.Background(), []byte(`{"do":"attributes","category":"Action","entity":"x"}`))
-		if reply.Err != nil || !strings.Contains(string(reply.Body), fmt.Sprintf(`"values":[%d]`, i)) {
-			t.Fatalf("behind edit %d it is answered %s of %d, %v", i+1, reply.Body, reply.Serial, reply.Err)
-		}
+	var all sync.WaitGroup
+	for editor := 0; editor < 8; editor++ {
+		all.Add(1)
+		go func(of string) {
+			defer all.Done()
+			for i := 0; i < 200 && !t.Failed(); i++ {
+				k.edit(t, fmt.Sprintf(`{"do":"attr.set",%s,"attribute":"n","type":"integer","values":[%d]}`, of, i))
+				reply := k.Decide(context.Background(), []byte(`{"do":"attributes",`+of+`}`))
+				if reply.Err != nil || !strings.Contains(string(reply.Body), fmt.Sprintf(`"values":[%d]`, i)) {
+					t.Errorf("behind edit %d it is answered %s of %d, %v", i+1, reply.Body, reply.Serial, reply.Err)
+				}
+			}
+		}(fmt.Sprintf(`"category":"Action","entity":"x-%d"`, editor))
 	}
+	all.Wait()
 }
 
 // TestRun asks requests that are to be answered at one serial, while others edit and askers end.

@@ -14,9 +14,10 @@ import (
 // running is a program that has a state.
 type running struct {
 	*watched
-	offset uint64        // what is added to a serial of the program
-	serial uint64        // how many edits stand behind its state; for the goroutine that reads replies
-	took   time.Duration // how long the edits behind a snapshot took
+	numbers *numbers       // which serials its edits have
+	serial  uint64         // that of the last edit behind its state; for the goroutine that reads replies
+	took    time.Duration  // how long the edits behind a snapshot took
+	marks   map[int]uint64 // that it had at first, by session
 }
 
 // build starts a program and brings it to the state of the last edit on disk, with the marks that are wanted where
@@ -63,7 +64,7 @@ func (k *Keeper) try(ctx context.Context, marks map[int]uint64, careful bool) (*
 		}
 		return nil, 0, err
 	}
-	k.Sessions.Anew(kept)
+	r.marks = kept
 	return r, r.serial - snapshot.Serial, nil
 }
 
@@ -87,7 +88,7 @@ func (k *Keeper) replay(
 ) (map[int]uint64, error) {
 	kept := map[int]uint64{}
 	edits, err := replay.snapshotLines(snapshot, nil)
-	r.offset = snapshot.Serial - edits
+	r.numbers = from(edits, snapshot.Serial)
 	due := inOrder(marks)
 	mark := func() error {
 		for ; len(due) > 0 && marks[due[0]] <= r.serial; due = due[1:] {
@@ -107,9 +108,7 @@ func (k *Keeper) replay(
 	}
 	if err == nil {
 		err = k.Folder.Each(snapshot.Serial, func(entry folder.Entry, place folder.Place) error {
-			r.serial = entry.Serial
-			check := isSame(entry.Changes, entry.Serial-r.offset)
-			if err := replay.send(expected{line: entry.Line, place: place, check: check}); err != nil {
+			if err := r.tell(replay, entry, place); err != nil {
 				return err
 			}
 			return mark()
@@ -118,6 +117,21 @@ func (k *Keeper) replay(
 	err = replay.end(err)
 	r.took = time.Since(replay.read)
 	return kept, err
+}
+
+// tell tells the program the next edit of a journal.
+func (r *running) tell(replay *replay, entry folder.Entry, place folder.Place) error {
+	r.serial = entry.Serial
+	r.numbers.add(entry.Serial)
+	return replay.send(expected{line: entry.Line, place: place, check: isSame(entry.Changes, r.numbers.own)})
+}
+
+// numbered is a reply of the program with the serials that stand for its own.
+func (r *running) numbered(reply []byte) []byte {
+	if r.numbers.isSame() {
+		return reply
+	}
+	return line.Renumber(reply, r.numbers.of)
 }
 
 // oldest is the serial of the oldest mark, or else a given one.

@@ -5,15 +5,19 @@ package keeper
 import (
 	"context"
 	"errors"
+	"io"
 	"sync/atomic"
 	"time"
 
 	"review-front/folder"
 	"review-front/keys"
+	"review-front/ladder"
 	"review-front/line"
 	"review-front/logs"
+	"review-front/marks"
 	"review-front/notices"
 	"review-front/program"
+	"review-front/replicated"
 	"review-front/sessions"
 	"review-front/spool"
 )
@@ -34,8 +38,10 @@ var (
 	ErrAfter    = &Unavailable{Why: "an earlier edit couldn't be kept; the program is started anew", After: time.Second}
 	ErrNotReady = &Unavailable{Why: "the program hasn't its state yet", After: time.Second}
 	ErrBusy     = &Unavailable{Why: "too many lines are waiting", After: time.Second}
+	ErrMark     = &Unavailable{Why: "the mark can't be kept", After: 5 * time.Second}
 	ErrStopping = &Unavailable{Why: "the front is stopping", After: 5 * time.Second}
 	ErrSpare    = &Unavailable{Why: "there is no spare program yet on which an edit can be tried", After: time.Second}
+	ErrStream   = &Unavailable{Why: "the edit can't be appended: the stream can't be reached", After: time.Second}
 	ErrBehind   = &Unavailable{Why: "there aren't so many edits", After: time.Second}
 )
 
@@ -66,7 +72,15 @@ type Options struct {
 	Askers        int                  // how many programs beside the table's answer requests
 	TryTime       time.Duration        // how long an edit may take in a spare program; 0: there is none
 	Spool         *spool.Spool         // where long replies wait until they are read
+	Kept          ladder.Bounds        // how much of what changed can be asked
+	MostSessions  int                  // how many sessions and marks clients have at most
+	Stream        replicated.Log       // through which edits go that several fronts make; nil: this front alone has them
+	Others        []Other              // fronts of the same stream
+	CheckEvery    uint64               // after so many edits of a stream fronts compare their states; 0: never
 }
+
+// Other is another front, which gives the file of its newest snapshot.
+type Other func(ctx context.Context) (io.ReadCloser, error)
 
 // Call is a line on its way.
 type Call struct {
@@ -77,6 +91,13 @@ type Call struct {
 	// Known, if there is one, is how many edits there are to be before this one.
 	Known *uint64
 	kind  line.Kind
+	// session is whose mark this is, or whose notices these are.
+	session *sessions.Session
+	// since is from which serial on changes are asked, if asks says so; unknown that the program has none of it.
+	since   uint64
+	asks    bool
+	unknown bool
+	own     bool // it is the front's own, whose reply isn't kept in a file
 	// settle, if there is one, sees the reply when it is handed out, in the order of replies, and may change it.
 	settle  func(*Reply)
 	context context.Context
@@ -86,10 +107,18 @@ type Call struct {
 	ended   int     // how many askers ended over it
 	group   *group  // the edits that are made with this one, or not at all
 	tried   []byte  // what a spare program answered to it
-	// differs, if a spare program was told it that more are told, says whether that has another state than the table's.
+	// differs, if a spare program was told it that more are told, says whether that has another state than the
+	// table's.
 	differs *atomic.Bool
 	turn    chan struct{} // of a long reply, what the next one waits for
 	left    atomic.Bool   // nobody waits for the reply any more
+	// sequence, of an edit that a stream brought, is its place there, at the time of which it was appended, and fed is
+	// closed once it stands among the lines for the program.
+	sequence uint64
+	at       time.Time
+	fed      chan struct{}
+	doubted  uint64       // where it stands if it is appended, of which nobody is sure; 0: that is no question
+	answer   atomic.Int32 // whether its client has an answer
 }
 
 // Keeper owns the program.
@@ -98,7 +127,10 @@ type Keeper struct {
 	Sessions *sessions.Table
 	Notices  *notices.Hub
 	Keys     *keys.Table
+	Marks    *marks.Book
+	ladder   *ladder.Ladder
 
+	streamed *streamed // nil without a stream
 	askers   *askers
 	edits    *edits
 	spare    *spare
@@ -122,11 +154,13 @@ type Keeper struct {
 // New makes a keeper. Nothing is started before Open.
 func New(options Options) *Keeper {
 	k := &Keeper{
-		Options: options, Sessions: sessions.NewTable(), Notices: notices.NewHub(), Keys: keys.New(options.Folder),
+		Options: options, Sessions: sessions.NewTable(options.MostSessions), Notices: notices.NewHub(options.Kept.Recent),
+		Keys: keys.New(options.Folder), Marks: marks.New(options.Folder), ladder: ladder.New(options.Kept),
 		ready: newReadiness(), queue: make(chan *Call, options.Queue),
 		edited: make(chan struct{}, 1), asked: make(chan struct{}, 1), reached: &progress{}, long: make(chan struct{}, 1),
 	}
 	k.askers, k.edits, k.spare = newAskers(k, options.Askers), newEdits(), newSpare(k)
+	k.streamed = newStreamed(k, options.Stream)
 	return k
 }
 
@@ -153,16 +187,21 @@ func (k *Keeper) Await(ctx context.Context) error {
 	}
 }
 
+// has says whether so many edits are on disk; of a stream, whether all up to that sequence are applied.
+func (k *Keeper) has(serial uint64) bool {
+	return k.serial.Load() >= serial || k.streamed != nil && k.streamed.applied.Load() >= serial
+}
+
 // Reach waits a while until so many edits are on disk.
 func (k *Keeper) Reach(ctx context.Context, serial uint64) error {
-	if k.serial.Load() >= serial {
+	if k.has(serial) {
 		return nil
 	}
 	timer := time.NewTimer(k.Patience)
 	defer timer.Stop()
 	for {
 		grown := k.reached.next()
-		if k.serial.Load() >= serial {
+		if k.has(serial) {
 			return nil
 		}
 		select {
@@ -184,52 +223,19 @@ func (k *Keeper) Version() string { return k.version }
 // Waiting is how many lines wait.
 func (k *Keeper) Waiting() int { return len(k.queue) }
 
-// Prepare makes a call of a line. A mark, and notices, go to the session of the program that the client has for the
-// number in the line.
-func Prepare(l []byte, by string, client *sessions.Client) (*Call, error) {
-	kind, number := line.Read(l)
-	call := &Call{Line: l, By: by, kind: kind}
-	switch kind {
-	case line.Mark:
-		session, err := client.Marking(number)
-		if err != nil {
-			return nil, err
-		}
-		call.Line = line.Marking(session.Number())
-		call.settle = func(reply *Reply) {
-			_, marked := line.ReadMark(reply.Body)
-			session.Settled(reply.Serial, marked && reply.Err == nil)
-		}
-	case line.Notices:
-		if session, ok := client.Noticing(number); ok {
-			call.Line = line.Noticing(session.Number())
-			call.settle = func(*Reply) { session.Answered() }
-			break
-		}
-		// The program may know a mark of somebody before: what it says of the line is asked with a session that has one.
-		call.Line = line.Noticing(sessions.Own)
-		call.settle = func(reply *Reply) {
-			if line.IsNotices(reply.Body) {
-				reply.Drop()
-				reply.Body, reply.Rest = []byte(line.NoMark), nil
-			}
-		}
-	}
-	return call, nil
-}
-
 // Submit puts a call on its way. Its reply comes on the channel, whatever happens; an error says that there is no
 // way. The call's line isn't sent any more once the context is done.
 func (k *Keeper) Submit(ctx context.Context, call *Call) (<-chan Reply, error) {
+	if call.kind == line.Edit && k.streamed != nil {
+		return k.streamed.submit(ctx, call)
+	}
 	if call.kind == line.Edit {
 		return k.submitEdit(ctx, call)
 	}
-	if call.IsLong() {
-		if err := k.turn(ctx, call); err != nil {
-			call.reply = make(chan Reply, 1)
-			call.finish(Reply{Err: err})
-			return nil, err
-		}
+	if err := k.turn(ctx, call); err != nil {
+		call.reply = make(chan Reply, 1)
+		call.finish(Reply{Err: err})
+		return nil, err
 	}
 	return k.submit(ctx, k.queue, call)
 }
@@ -264,8 +270,7 @@ func (k *Keeper) Ask(ctx context.Context, l []byte) Reply {
 
 // Report submits a line that needs no session and whose reply may be long, and waits for it.
 func (k *Keeper) Report(ctx context.Context, l []byte) Reply {
-	kind, _ := line.Read(l)
-	return k.Send(ctx, &Call{Line: l, kind: kind})
+	return k.Send(ctx, question(l))
 }
 
 // Send submits a call, and waits for its reply.
@@ -290,13 +295,21 @@ func (c *Call) wait(ctx context.Context, err error) Reply {
 
 // Listen begins to tell somebody what edits change.
 func (k *Keeper) Listen() *notices.Listener {
-	listener := k.Notices.Listen()
-	k.changed()
-	return listener
+	defer k.changed()
+	return k.Notices.Listen()
+}
+
+// Return begins to tell somebody what edits change who has heard all up to a serial.
+func (k *Keeper) Return(heard uint64) *notices.Listener {
+	defer k.changed()
+	return k.Notices.Return(heard)
 }
 
 // end tells why a line isn't sent, and those behind it.
 func (c *Call) end(why error) {
+	if c.sequence != 0 {
+		why = ErrAppended
+	}
 	c.finish(Reply{Err: why})
 	for _, next := range c.behind {
 		next.finish(Reply{Err: why})

@@ -39,11 +39,17 @@ func (r Reply) Drop() {
 	}
 }
 
-// IsLong says whether the reply may be as long as the table.
-func (c *Call) IsLong() bool { return c.kind == line.Report || c.kind == line.Notices }
+// IsLong says whether the reply may be as long as the table, and waits in a file.
+func (c *Call) IsLong() bool {
+	return !c.own && (c.kind == line.Report || c.kind == line.Notices || c.kind == line.Changes)
+}
 
-// turn waits until no other long reply is due, and there is room to keep one: others come between two of them.
+// turn waits until it is known what a line asks, and of a long reply until no other is due, and there is room to keep
+// one: others come between two of them.
 func (k *Keeper) turn(ctx context.Context, call *Call) error {
+	if err := call.known(ctx); err != nil || !call.IsLong() {
+		return err
+	}
 	select {
 	case k.long <- struct{}{}:
 	case <-ctx.Done():
@@ -61,7 +67,9 @@ func (c *Call) finish(reply Reply) {
 	if c.turn != nil {
 		<-c.turn
 	}
-	c.reply <- reply
+	if c.sequence == 0 && c.fed == nil || c.isAnswered() {
+		c.reply <- reply
+	}
 	if c.left.Load() {
 		c.drop()
 	}

@@ -9,7 +9,6 @@ import (
 	"review-front/folder"
 	"review-front/frame"
 	"review-front/line"
-	"review-front/sessions"
 )
 
 const (
@@ -19,9 +18,52 @@ const (
 
 // Start brings a first program to the state of the folder, or says why there is none, with file and place.
 func (k *Keeper) Start(ctx context.Context) (*Started, error) {
-	snapshots, err := k.Folder.Snapshots()
+	err := k.recover()
 	if err != nil {
 		return nil, err
+	}
+	name := ""
+	if k.streamed != nil {
+		if name, err = k.streamed.begin(ctx); err != nil {
+			return nil, err
+		}
+	}
+	if err := k.Keys.Recover(k.Folder.Last()); err != nil {
+		return nil, err
+	}
+	if err := k.resume(k.Folder.Last()); err != nil {
+		return nil, err
+	}
+	if k.version, err = k.says(ctx); err != nil {
+		return nil, err
+	}
+	r, err := k.build(ctx, k.ladder.Marks(0))
+	if err != nil {
+		return nil, err
+	}
+	k.serial.Store(r.serial)
+	k.ladder.Anew(r.marks)
+	for _, rung := range k.ladder.Rungs() {
+		k.stood(rung)
+	}
+	k.changed()
+	k.reached.moved()
+	k.want()
+	err = k.Folder.Begin(folder.Head{
+		Program: k.version, AttributeModules: k.Command.AttributeModules, PolicyModules: k.Command.PolicyModules,
+		Stream: name,
+	})
+	if err != nil {
+		k.Log.Error("edits are refused until a journal can be written", "error", err)
+	}
+	return &Started{keeper: k, first: r}, nil
+}
+
+// recover reads the folder up to its last edit.
+func (k *Keeper) recover() error {
+	snapshots, err := k.Folder.Snapshots()
+	if err != nil {
+		return err
 	}
 	newest := uint64(0)
 	if len(snapshots) > 0 {
@@ -31,35 +73,20 @@ func (k *Keeper) Start(ctx context.Context) (*Started, error) {
 	k.tried.Store(newest)
 	torn, err := k.Folder.Recover(newest)
 	if err != nil {
-		return nil, err
+		return err
 	}
-	if torn != nil {
-		k.Log.Info("what a crash left behind the last edit is dropped", "file", torn.File, "byte", torn.Place,
-			"bytes", torn.Bytes, "what", torn.What)
-	}
+	k.tellTorn(torn, "what a crash left behind the last edit is dropped")
 	if !k.Folder.Chained() {
 		k.Log.Info("some journals are of the first format, in which no change of an old one can be seen")
 	}
-	if err := k.Keys.Recover(k.Folder.Last()); err != nil {
-		return nil, err
+	return nil
+}
+
+// tellTorn logs what was dropped, if something was.
+func (k *Keeper) tellTorn(torn *folder.Torn, what string) {
+	if torn != nil {
+		k.Log.Info(what, "file", torn.File, "byte", torn.Place, "bytes", torn.Bytes, "what", torn.What)
 	}
-	if k.version, err = k.says(ctx); err != nil {
-		return nil, err
-	}
-	r, err := k.build(ctx, map[int]uint64{sessions.Own: k.Folder.Last()})
-	if err != nil {
-		return nil, err
-	}
-	k.serial.Store(r.serial)
-	k.reached.moved()
-	k.want()
-	err = k.Folder.Begin(folder.Head{
-		Program: k.version, AttributeModules: k.Command.AttributeModules, PolicyModules: k.Command.PolicyModules,
-	})
-	if err != nil {
-		k.Log.Error("edits are refused until a journal can be written", "error", err)
-	}
-	return &Started{keeper: k, first: r}, nil
 }
 
 // says is what the program says of its version, in the time of a reply.
@@ -83,13 +110,25 @@ type Started struct {
 func (s *Started) Run(ctx context.Context) error {
 	k, r := s.keeper, s.first
 	defer k.Keys.Close()
+	defer k.Marks.Close()
 	limit, over := later(ctx, k.EndingTime)
 	defer over()
 	ctx, stop := context.WithCancel(ctx)
 	defer stop()
 	background, cancel := context.WithCancel(ctx)
 	var done sync.WaitGroup
-	done.Add(4)
+	done.Add(6)
+	var differs error
+	go func() {
+		defer done.Done()
+		if differs = k.streamed.compares(background); differs != nil {
+			stop()
+		}
+	}()
+	go func() {
+		defer done.Done()
+		k.streamed.run(background)
+	}()
 	go func() {
 		defer done.Done()
 		k.spare.run(background)
@@ -115,6 +154,11 @@ func (s *Started) Run(ctx context.Context) error {
 		case stopped:
 			cancel()
 			done.Wait()
+			if differs != nil {
+				r.Discard() // no snapshot is made of that
+				k.refuse()
+				return differs
+			}
 			// What is damaged is old: a snapshot of the state may still be what it is rescued by.
 			if err := k.finish(limit, r); err != nil || damage == nil {
 				return err
@@ -128,6 +172,9 @@ func (s *Started) Run(ctx context.Context) error {
 	}
 	cancel()
 	done.Wait()
+	if differs != nil {
+		return differs
+	}
 	if damage != nil {
 		return damage
 	}
@@ -157,7 +204,8 @@ func later(ctx context.Context, while time.Duration) (context.Context, context.C
 	return limit, over
 }
 
-// again brings a new program to the state of the journal after one has ended, and tells those who listen.
+// again brings a new program to the state of the journal after one has ended. It has the marks of the one before, so
+// that who listens hears on.
 func (k *Keeper) again(ctx context.Context, old *running) (*running, error) {
 	why := "the program ended"
 	if k.Folder.Broken() != nil || k.Keys.Broken() != nil {
@@ -169,19 +217,22 @@ func (k *Keeper) again(ctx context.Context, old *running) (*running, error) {
 	k.Meter.Restarted(why)
 	k.Log.Error("the program is started anew", "why", why, "ended", old.Ended(), "process", old.ID())
 	k.shifted = 0
+	if err := k.streamed.rests(ctx); err != nil {
+		return nil, err
+	}
 	for pause := firstPause; ; pause = longer(pause) {
-		marks := k.Sessions.Marks()
-		marks[sessions.Own] = k.Folder.Last()
-		r, err := k.build(ctx, marks)
+		r, err := k.build(ctx, k.ladder.Marks(k.need()))
 		if err == nil {
+			k.ladder.Anew(r.marks)
 			k.serial.Store(r.serial)
-			k.Notices.Anew(r.serial)
+			k.changed()
 			return r, nil
 		}
 		var damage *frame.Damage
 		if ctx.Err() != nil || errors.Is(err, errDamage) || errors.As(err, &damage) {
 			return nil, err
 		}
+		k.streamed.leaveAll()
 		k.Log.Error("the program couldn't be brought to its state, and is started again", "error", err, "after", pause)
 		select {
 		case <-time.After(pause):
@@ -203,7 +254,7 @@ func longer(pause time.Duration) time.Duration {
 // stay, and the count of evaluations goes on, so that no client sees it. Where that can't be done the old one
 // serves on, for as many looks again.
 func (k *Keeper) exchange(ctx context.Context, old *running) *running {
-	r, err := k.build(ctx, k.Sessions.Marks())
+	r, err := k.build(ctx, k.ladder.Marks(k.need()))
 	if err == nil && r.Looks() >= k.Reads {
 		r.Discard()
 		err = errors.New("the journal alone takes as many looks")
@@ -213,6 +264,7 @@ func (k *Keeper) exchange(ctx context.Context, old *running) *running {
 		old.Rest()
 		return old
 	}
+	k.ladder.Anew(r.marks)
 	before, ok1 := evaluations(ctx, old)
 	now, ok2 := evaluations(ctx, r)
 	if ok1 && ok2 {
@@ -241,6 +293,9 @@ func (k *Keeper) finish(limit context.Context, r *running) error {
 	defer stop()
 	defer r.Close()
 	k.Notices.Close()
+	if err := k.Marks.Listens(k.Notices.Missed(r.serial)); err != nil {
+		k.Log.Error("whether somebody missed something can't be written", "error", err)
+	}
 	k.refuse()
 	if r.serial == k.snapshot.Load() {
 		return nil
@@ -259,7 +314,7 @@ func (k *Keeper) finish(limit context.Context, r *running) error {
 
 // refuse tells all lines that wait that the front is stopping.
 func (k *Keeper) refuse() {
-	for _, call := range k.held {
+	for _, call := range append(k.streamed.takeAgain(), k.held...) {
 		call.end(ErrStopping)
 	}
 	k.held = nil

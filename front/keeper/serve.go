@@ -8,15 +8,13 @@ import (
 
 	"review-front/folder"
 	"review-front/line"
-	"review-front/sessions"
 )
 
 const (
 	inFlight    = 1024 // how many lines the program has at most
 	together    = 1024 // how many replies are settled, and lines are sent, at once
-	renewal     = 256  // after so many edits the marks of those who have gone are made anew
 	repairPause = time.Second
-	tellPause   = time.Second // after a mark that was refused
+	tellPause   = time.Second // after listeners couldn't be told
 )
 
 // reason is why a program isn't served any more.
@@ -40,7 +38,9 @@ type serving struct {
 	over      atomic.Bool // no line is sent any more: the program ended or is being killed
 	telling   atomic.Bool // notices are on their way
 	sent      bool        // a line was sent since it was looked
-	renewed   uint64      // the serial at which old marks were made anew
+	// unkept and unanswered are edits of a stream whose replies couldn't be kept, and that have none.
+	unkept, unanswered []*Call
+	stopping           <-chan struct{} // closed when the front ends
 }
 
 // settled is a reply that was read.
@@ -51,13 +51,14 @@ type settled struct {
 	parts []settled     // those of edits that are made all together, of which it is the first
 }
 
-// serve serves lines by a program until there is a reason not to. Then none of its lines is without a reply. Where the
-// program doesn't answer it is killed once `limit` is done.
+// serve serves lines by a program until there is a reason not to. Then none of its lines is without a reply. Where
+// the program doesn't answer it is killed once `limit` is done.
 func (k *Keeper) serve(ctx, limit context.Context, r *running) reason {
 	stop := killWith(limit, r.watched)
 	defer stop()
 	s := &serving{
-		keeper: k, program: r, flight: make(chan *Call, inFlight), replies: make(chan settled, inFlight), renewed: r.serial,
+		keeper: k, program: r, flight: make(chan *Call, inFlight), replies: make(chan settled, inFlight),
+		stopping: ctx.Done(),
 	}
 	var both sync.WaitGroup
 	both.Add(2)
@@ -70,12 +71,15 @@ func (k *Keeper) serve(ctx, limit context.Context, r *running) reason {
 		s.commit()
 	}()
 	k.serving.Store(r.watched)
-	k.ready.set(true)
+	k.ready.set(k.streamed == nil || k.streamed.caught.Load())
 	why := s.feed(ctx)
 	close(s.flight)
 	both.Wait()
 	k.ready.set(false)
 	k.serving.Store(nil)
+	if k.streamed != nil {
+		k.streamed.again = append(s.unkept, s.unanswered...)
+	}
 	return why
 }
 
@@ -91,7 +95,7 @@ func (s *serving) idle() (<-chan time.Time, func()) {
 // feed sends lines until there is a reason not to.
 func (s *serving) feed(ctx context.Context) reason {
 	k := s.keeper
-	held := k.held
+	held := append(k.streamed.takeAgain(), k.held...)
 	k.held = nil
 	for _, call := range held {
 		s.take(call)
@@ -152,7 +156,9 @@ func (s *serving) take(call *Call) {
 		call.end(call.context.Err())
 		return
 	}
-	if call.kind == line.Edit && !s.keeper.mayEdit() {
+	if call.sequence != 0 {
+		s.awaitJournal()
+	} else if call.kind == line.Edit && !s.keeper.mayEdit() {
 		call.end(ErrJournal)
 		return
 	}
@@ -160,6 +166,28 @@ func (s *serving) take(call *Call) {
 	for _, next := range call.behind {
 		s.send(next)
 	}
+	if call.sequence != 0 && s.keeper.streamed.sums.isDue(call.sequence) {
+		s.own(dumping, func(reply *Reply) { s.keeper.streamed.sums.add(call.sequence, reply.Body) })
+	}
+}
+
+// awaitJournal waits until an edit of a stream can be kept. Nothing is answered meanwhile: others may be ahead.
+func (s *serving) awaitJournal() {
+	k := s.keeper
+	if k.mayEdit() {
+		return
+	}
+	k.ready.set(false)
+	for !k.mayEdit() {
+		select {
+		case <-time.After(firstPause):
+		case <-s.program.Done():
+			return
+		case <-s.stopping:
+			return
+		}
+	}
+	k.ready.set(k.streamed.caught.Load())
 }
 
 // mayEdit says whether the journal and the keys can be written. Where they couldn't, that is tried again from time to
@@ -187,6 +215,7 @@ func (k *Keeper) mayEdit() bool {
 
 // send puts a call among those that wait for replies, and its line into the pipe.
 func (s *serving) send(call *Call) {
+	s.address(call)
 	select {
 	case s.flight <- call:
 	default:
@@ -196,50 +225,6 @@ func (s *serving) send(call *Call) {
 	s.sent = true
 	// If the pipe is closed the reader finds no reply, and says so.
 	_ = s.program.Send(call.Line)
-}
-
-// tell asks what changed since the last time, for those who listen, and marks again. No edit comes between the two.
-func (s *serving) tell() {
-	if s.over.Load() || s.telling.Swap(true) {
-		return // what changed since is told when this is
-	}
-	k := s.keeper
-	joined, any := k.Notices.Joining()
-	told := []byte(nil)
-	if any {
-		s.own(line.Noticing(sessions.Own), func(reply *Reply) {
-			if line.IsNotices(reply.Body) {
-				told = reply.Body
-			}
-		})
-	}
-	k.Sessions.Front().Marking()
-	s.own(line.Marking(sessions.Own), func(reply *Reply) {
-		at, marked := line.ReadMark(reply.Body)
-		k.Sessions.Front().Settled(at, marked)
-		if marked {
-			k.Notices.Tell(at, told, joined)
-		}
-		s.telling.Store(false)
-		if !marked {
-			time.AfterFunc(tellPause, k.changed)
-		} else if k.serial.Load() != at || k.Notices.Waits() {
-			k.changed()
-		}
-	})
-	s.renew()
-}
-
-// renew makes anew the marks of those who have gone, so that the program doesn't keep what only they needed.
-func (s *serving) renew() {
-	serial := s.keeper.serial.Load()
-	if serial-s.renewed < renewal {
-		return
-	}
-	s.renewed = serial
-	for _, number := range s.keeper.Sessions.Stale() {
-		s.own(line.Marking(number), nil)
-	}
 }
 
 // own sends a line of the front itself.

@@ -1,6 +1,7 @@
 package keeper
 
 import (
+	"errors"
 	"fmt"
 	"time"
 
@@ -17,7 +18,7 @@ func (s *serving) receive() {
 	dead := false
 	for call := range s.flight {
 		if dead {
-			call.finish(Reply{Err: ErrEnded})
+			s.lose(call)
 			continue
 		}
 		s.program.call.Store(call)
@@ -32,9 +33,21 @@ func (s *serving) receive() {
 			s.program.Kill()
 			dead = true
 			call.group.abandon()
-			call.finish(Reply{Err: ErrEnded})
+			if call.sequence != 0 {
+				s.keeper.streamed.ended(call.sequence, errors.Is(err, errMemory))
+			}
+			s.lose(call)
 		}
 	}
+}
+
+// lose is for a line to which the program gives no reply. An edit of a stream is told to the next program.
+func (s *serving) lose(call *Call) {
+	if call.sequence == 0 {
+		call.finish(Reply{Err: ErrEnded})
+		return
+	}
+	s.unanswered = append(s.unanswered, call)
 }
 
 // await waits for the reply to a line.
@@ -48,36 +61,30 @@ func (s *serving) await(call *Call) (program.Reply, error) {
 
 // read hands a reply on, which took so long: at once where no edit before it waits for the disk.
 func (s *serving) read(call *Call, said program.Reply, took time.Duration) error {
-	k, body := s.keeper, said.Body
+	k := s.keeper
 	next := settled{call: call}
-	if said, ok := line.ReadAccepted(body); ok {
-		serial := s.program.serial + 1
-		if said.Serial+s.program.offset != serial {
-			return fmt.Errorf("edit %d is told as %d: %w", serial, said.Serial+s.program.offset, errDamage)
+	if accepted, ok := line.ReadAccepted(said.Body); ok {
+		if err := s.number(call, accepted); err != nil {
+			return err
 		}
-		s.program.serial = serial
 		k.took.Add(int64(took))
-		next.entry = &folder.Entry{Time: time.Now(), By: call.By, Serial: serial, Changes: said.Changes, Line: call.Line}
+		k.ladder.Accepted(s.program.serial, accepted.Changes, took)
+		next.entry = call.entry(s.program.serial, accepted.Changes)
+	} else if call.sequence != 0 && line.NoMemory(said.Body) {
+		return errMemory // others may have had it
 	}
-	body = line.Shift(body, s.program.offset)
-	if count, ok := line.ReadEvaluations(body); ok && k.shifted != 0 {
-		body = line.EvaluationsReply(count + k.shifted)
-	}
-	next.reply = Reply{Body: body, Rest: said.Rest, Serial: s.program.serial}
-	if said.Lost != nil {
-		k.Log.Error("a reply is given up", "error", said.Lost)
-		next.reply = Reply{Err: ErrSpool, Serial: s.program.serial}
-	}
+	next.reply = s.told(call, said)
 	if call.group != nil {
 		if next.entry == nil {
-			return fmt.Errorf("one of %d edits that a spare program accepted is answered %.200s", call.group.count, body)
+			return fmt.Errorf("one of %d edits that a spare program accepted is answered %.200s", call.group.count, said.Body)
 		}
 		var whole bool
 		if next, whole = call.group.add(next); !whole {
 			return nil
 		}
 	}
-	// Once an edit couldn't be kept, what the program still says knows of it: that goes the way on which it is dropped.
+	// Once an edit couldn't be kept, what the program still says knows of it: that goes the way on which it is
+	// dropped.
 	if !next.isKept() && s.unsettled.Load() == 0 && !s.over.Load() {
 		call.finish(next.reply)
 		return nil
@@ -85,6 +92,49 @@ func (s *serving) read(call *Call, said program.Reply, took time.Duration) error
 	s.unsettled.Add(1)
 	s.replies <- next
 	return nil
+}
+
+// told makes what the program said the reply to a call.
+func (s *serving) told(call *Call, said program.Reply) Reply {
+	said, err := s.client(call, said)
+	if err != nil {
+		said.Lose(err)
+	}
+	if said.Lost != nil {
+		s.keeper.Log.Error("a reply is given up", "error", said.Lost)
+		return Reply{Err: ErrSpool, Serial: s.program.serial}
+	}
+	body := s.program.numbered(said.Body)
+	if count, ok := line.ReadEvaluations(body); ok && s.keeper.shifted != 0 {
+		body = line.EvaluationsReply(count + s.keeper.shifted)
+	}
+	return Reply{Body: body, Rest: said.Rest, Serial: s.program.serial}
+}
+
+// number gives an edit that the program accepted its serial.
+func (s *serving) number(call *Call, said line.Accepted) error {
+	r := s.program
+	serial := r.serial + 1
+	if s.keeper.streamed != nil {
+		if serial = call.sequence; serial == 0 {
+			return fmt.Errorf("a line that isn't of the stream is accepted: %w", errDamage)
+		}
+	}
+	if said.Serial != r.numbers.own+1 {
+		return fmt.Errorf("edit %d of the program is told as %d: %w", r.numbers.own+1, said.Serial, errDamage)
+	}
+	r.serial = serial
+	r.numbers.add(serial)
+	return nil
+}
+
+// entry is the edit as the journal has it.
+func (c *Call) entry(serial, changes uint64) *folder.Entry {
+	at := c.at
+	if c.sequence == 0 {
+		at = time.Now()
+	}
+	return &folder.Entry{Time: at, By: c.By, Serial: serial, Changes: changes, Line: c.Line}
 }
 
 // commit sees that edits are on disk, as many together as there are, and hands replies out in their order.
@@ -96,7 +146,7 @@ func (s *serving) commit() {
 		if !failed {
 			failed = !s.settle(batch)
 		} else {
-			fail(batch)
+			s.fail(batch)
 		}
 		s.unsettled.Add(-int64(len(batch)))
 	}
@@ -118,12 +168,15 @@ func (s *serving) batch(batch []settled) []settled {
 	return batch
 }
 
-// isKept says whether something of a reply has to be on disk before it leaves.
-func (s settled) isKept() bool { return s.entry != nil || s.call.Remember != nil }
+// isKept says whether something of a reply has to be on disk before it leaves, or known in its order.
+func (s settled) isKept() bool {
+	_, marked := s.isMark()
+	return marked || s.entry != nil || s.call.Remember != nil || s.call.sequence != 0
+}
 
 // settle writes the edits of a batch, and replies that are remembered, and hands its replies out. Those before the
-// first of these don't wait for the disk. Where writing fails, no reply leaves that knows of an edit which isn't kept,
-// and the program is killed.
+// first of these don't wait for the disk. Where writing fails, no reply leaves that knows of an edit which isn't
+// kept, and the program is killed.
 func (s *serving) settle(batch []settled) bool {
 	k := s.keeper
 	for len(batch) > 0 && !batch[0].isKept() {
@@ -139,13 +192,23 @@ func (s *serving) settle(batch []settled) bool {
 		k.repaired.Store(time.Now().UnixNano())
 		s.over.Store(true)
 		s.program.Kill()
-		fail(batch)
+		s.fail(batch)
 		return false
 	}
+	k.mark(batch)
+	k.streamed.applies(batch)
 	for _, next := range batch {
 		next.each(func(one settled) { one.call.finish(one.reply) })
 	}
 	return true
+}
+
+// remembered is the body with a key whose next line this is, if somebody still waits for its reply.
+func (c *Call) remembered() *keys.Use {
+	if c.sequence != 0 && !c.isAnswered() {
+		return nil
+	}
+	return c.Remember
 }
 
 // write brings the edits of a batch to the disk, and before them the replies that are remembered.
@@ -158,7 +221,7 @@ func (k *Keeper) write(batch []settled) error {
 			if one.entry != nil {
 				entries = append(entries, *one.entry)
 			}
-			if use := one.call.Remember; use != nil && !line.NoMemory(one.reply.Body) {
+			if use := one.call.remembered(); use != nil && !line.NoMemory(one.reply.Body) {
 				told = append(told, keys.Told{Use: use, Reply: one.reply.Body, Serial: one.reply.Serial})
 			}
 		})
@@ -204,18 +267,23 @@ func (k *Keeper) want() {
 	}
 }
 
-// wants says whether there were so many edits since the last snapshot, or such that took so long, that another is made.
+// wants says whether there were so many edits since the last snapshot, or such that took so long, that another is
+// made.
 func (k *Keeper) wants() bool {
 	edits := k.serial.Load() - k.tried.Load()
 	many := k.SnapshotEvery != 0 && edits >= k.SnapshotEvery
 	return many || k.ReplayTime != 0 && edits > 0 && k.took.Load() > int64(k.ReplayTime)
 }
 
-// fail tells the clients of a batch that their lines have no reply.
-func fail(batch []settled) {
+// fail tells the clients of a batch that their lines have no reply. Edits of a stream are told to the next program.
+func (s *serving) fail(batch []settled) {
 	for _, next := range batch {
 		next.each(func(one settled) {
 			one.reply.Drop()
+			if one.call.sequence != 0 {
+				s.unkept = append(s.unkept, one.call)
+				return
+			}
 			reply := Reply{Err: ErrAfter}
 			if one.entry != nil {
 				reply.Err = ErrJournal

@@ -90,7 +90,7 @@ func (k *Keeper) keep(ctx context.Context, reply Reply) error {
 	if k.Keep != 0 {
 		before = time.Now().Add(-k.Keep)
 	}
-	if err := k.Folder.Trim(oldest(k.Sessions.Marks(), reply.Serial), before); err != nil {
+	if err := k.Folder.Trim(k.ladder.Floor(k.need()), before); err != nil {
 		k.Log.Error("what is old couldn't be taken away", "error", err)
 	}
 	return nil

@@ -157,8 +157,7 @@ func (k *Keeper) another(ctx context.Context, start func() (*watched, error)) (*
 func (k *Keeper) follow(ctx context.Context, r *running) error {
 	replay := begin(ctx, r.watched, false)
 	err := k.Folder.Each(r.serial, func(entry folder.Entry, place folder.Place) error {
-		r.serial = entry.Serial
-		return replay.send(expected{line: entry.Line, place: place, check: isSame(entry.Changes, entry.Serial-r.offset)})
+		return r.tell(replay, entry, place)
 	})
 	return replay.end(err)
 }
@@ -191,10 +190,11 @@ func (r *running) try(call *Call, limit time.Duration) (bool, error) {
 			"line", string(beginning(call.Line)))
 		return false, &Tried{Took: time.Since(began), Ended: !late.Load()}
 	}
-	call.tried = line.Shift(body, r.offset)
-	said, ok := line.ReadAccepted(call.tried)
+	_, ok := line.ReadAccepted(body)
 	if ok {
-		r.serial = said.Serial
+		r.serial++
+		r.numbers.add(r.serial)
 	}
+	call.tried = r.numbered(body)
 	return ok, nil
 }

@@ -59,6 +59,9 @@ func (s settled) each(call func(settled)) {
 // Whole makes edits all together, as one record of the journal, or none of them: first they are tried on a spare program
 // that has the state of the table's. `known`, if there is one, is how many edits there are to be before them.
 func (k *Keeper) Whole(ctx context.Context, calls []*Call, known *uint64) ([]Reply, error) {
+	if k.streamed != nil {
+		return nil, ErrWhole
+	}
 	beside, err := k.besideForOne(ctx)
 	if err != nil {
 		return nil, err

@@ -1,10 +1,12 @@
-// Package keys remembers what bodies of edits that have a key were answered, so that one which comes again is answered
-// as at first, and edits nothing twice.
+// Package keys remembers what bodies of edits that have a key were answered, so that one which comes again is
+// answered as at first, and edits nothing twice.
 package keys
 
 import (
 	"context"
 	"crypto/sha256"
+	"encoding/binary"
+	"encoding/hex"
 	"errors"
 	"os"
 	"sync"
@@ -64,6 +66,7 @@ func New(folder Folder) *Table {
 type Use struct {
 	table *Table
 	body  *body
+	next  int // which line Next is for
 }
 
 // Begin waits until nobody else answers a body with this key, and has it. It is an error where that is another body.
@@ -107,6 +110,20 @@ func (u *Use) Replies() [][]byte {
 	u.table.mutex.Lock()
 	defer u.table.mutex.Unlock()
 	return append([][]byte(nil), u.body.replies...)
+}
+
+// Next is a word for the next line of the body, the same wherever that is asked and for no other line. It is asked
+// once for each line that is sent.
+func (u *Use) Next() string {
+	u.table.mutex.Lock()
+	defer u.table.mutex.Unlock()
+	if u.next < len(u.body.replies) {
+		u.next = len(u.body.replies)
+	}
+	all := append(append([]byte(nil), u.body.key[:]...), u.body.sum[:]...)
+	sum := sha256.Sum256(binary.BigEndian.AppendUint64(all, uint64(u.next)))
+	u.next++
+	return hex.EncodeToString(sum[:])
 }
 
 // End lets others have the body.

@@ -11,6 +11,6 @@ func Do(l []byte) (string, bool) {
 	if !utf8.Valid(l) || !json.Valid(l) {
 		return "", false
 	}
-	do, _, _, ok := keys(l)
-	return do, ok
+	read, ok := keys(l)
+	return read.do, ok
 }

@@ -28,6 +28,7 @@ const (
 	Edit                 // a command that changes what is held, if it is accepted
 	Mark                 // marks the table for a session
 	Notices              // asks what changed since a session's mark
+	Changes              // asks what changed since a serial
 	Report               // a question whose reply may be as long as the table or all that is held
 )
 
@@ -38,28 +39,42 @@ var kinds = map[string]Kind{
 	"resource.add": Edit, "resource.drop": Edit,
 	"policy.add": Edit, "policy.replace": Edit, "policy.withdraw": Edit,
 	"root.set": Edit, "attr.set": Edit, "day.set": Edit, "moment.set": Edit,
-	"mark": Mark, "notices": Notices,
+	"mark": Mark, "notices": Notices, "changes": Changes,
 	"table": Report, "by_rule": Report, "dump": Report,
 	"documents": Report, "attributes": Report, "cells": Report, "faults": Report,
 }
 
-// Read says what kind of command a line is, and for a mark or notices the session that it names. A line that isn't
-// well formed is a question: the program refuses it. The last of several keys that are equal counts, as in the
-// program.
-func Read(l []byte) (Kind, int) {
-	do, session, others, ok := keys(l)
+// Read says what kind of command a line is, for a mark or notices the session that it names, and for changes the
+// serial. A line that isn't well formed is a question: the program refuses it. The last of several keys that are equal
+// counts, as in the program.
+func Read(l []byte) (Kind, uint64) {
+	read, ok := keys(l)
 	if !ok {
 		return Question, 0
 	}
-	kind := kinds[do]
-	if kind != Mark && kind != Notices {
+	kind := kinds[read.do]
+	var number uint64
+	switch kind {
+	case Mark, Notices:
+		number, ok = sessionOf(read.session)
+		ok = ok && read.since == nil
+	case Changes:
+		number, ok = serialOf(read.since)
+		_, fits := sessionOf(read.session)
+		ok = ok && fits
+	default:
 		return kind, 0
 	}
-	number, ok := sessionOf(session)
-	if others || !ok || !json.Valid(l) {
+	if read.others || !ok || !json.Valid(l) {
 		return Question, 0
 	}
 	return kind, number
+}
+
+// serialOf reads a serial as the program does: a whole number of at most 63 bits.
+func serialOf(written []byte) (uint64, bool) {
+	number, err := strconv.ParseUint(string(written), 10, 63)
+	return number, err == nil && strconv.FormatUint(number, 10) == string(written)
 }
 
 // names has the commands that list names, and take them from a list.
@@ -70,29 +85,26 @@ var names = map[string]bool{
 
 // IsName says whether a line lists a name, or takes it from a list.
 func IsName(l []byte) bool {
-	do, _, _, ok := keys(l)
-	return ok && names[do]
+	read, ok := keys(l)
+	return ok && names[read.do]
 }
 
 // Command is which command a line names, or nothing where it isn't well formed.
 func Command(l []byte) string {
-	do, _, _, ok := keys(l)
+	read, ok := keys(l)
 	if !ok {
 		return ""
 	}
-	return do
+	return read.do
 }
 
 // sessionOf reads a session's number as the program does: a whole number from 0 to 15; absent it is 0.
-func sessionOf(written []byte) (int, bool) {
+func sessionOf(written []byte) (uint64, bool) {
 	if written == nil {
 		return 0, true
 	}
-	number, err := strconv.Atoi(string(written))
-	if err != nil || number < 0 || number >= Sessions || strconv.Itoa(number) != string(written) {
-		return 0, false
-	}
-	return number, true
+	number, ok := serialOf(written)
+	return number, ok && number < Sessions
 }
 
 // Marking is the line that marks the table for a session of the program.
@@ -100,7 +112,7 @@ func Marking(session int) []byte {
 	return []byte(`{"do":"mark","session":` + strconv.Itoa(session) + `}`)
 }
 
-// Noticing is the line that asks what changed since the mark of a session of the program.
-func Noticing(session int) []byte {
-	return []byte(`{"do":"notices","session":` + strconv.Itoa(session) + `}`)
+// Changing is the line that asks what changed since a serial.
+func Changing(since uint64) []byte {
+	return []byte(`{"do":"changes","since":` + strconv.FormatUint(since, 10) + `}`)
 }

@@ -10,8 +10,8 @@ import (
 
 func TestRead(t *testing.T) {
 	for l, want := range map[string]struct {
-		kind    Kind
-		session int
+		kind   Kind
+		number uint64
 	}{
 		`{"do":"mark"}`:                                  {Mark, 0},
 		` { "do" : "mark" , "session" : 15 } `:           {Mark, 15},
@@ -21,6 +21,13 @@ func TestRead(t *testing.T) {
 		`{"d\u006f":"m\u0061rk"}`:                        {Mark, 0},
 		`{"do":"notices","session":3}`:                   {Notices, 3},
 		`{"do":"mark","session":16}`:                     {Question, 0},
+		`{"do":"mark","since":3}`:                        {Question, 0},
+		`{"do":"changes","since":70}`:                    {Changes, 70},
+		`{"since":70,"session":3,"do":"changes"}`:        {Changes, 70},
+		`{"do":"changes"}`:                               {Question, 0},
+		`{"do":"changes","since":070}`:                   {Question, 0},
+		`{"do":"changes","since":-1}`:                    {Question, 0},
+		`{"do":"changes","since":1,"session":16}`:        {Question, 0},
 		`{"do":"mark","session":-0}`:                     {Question, 0},
 		`{"do":"mark","session":1e0}`:                    {Question, 0},
 		`{"do":"mark","session":null}`:                   {Question, 0},
@@ -39,8 +46,8 @@ func TestRead(t *testing.T) {
 		`{"a":}`:                                         {Question, 0},
 		`{"do":"mark\`:                                   {Question, 0},
 	} {
-		if kind, session := Read([]byte(l)); kind != want.kind || session != want.session {
-			t.Errorf("%s is read as %d of session %d", l, kind, session)
+		if kind, number := Read([]byte(l)); kind != want.kind || number != want.number {
+			t.Errorf("%s is read as %d of number %d", l, kind, number)
 		}
 	}
 }
@@ -87,7 +94,7 @@ func TestCommanding(t *testing.T) {
 	}
 }
 
-func TestShift(t *testing.T) {
+func TestRenumber(t *testing.T) {
 	for reply, want := range map[string]string{
 		`{"changes":3,"serial":4}`: `{"changes":3,"serial":104}`,
 		`{"mark":0}`:               `{"mark":100}`,
@@ -96,12 +103,46 @@ func TestShift(t *testing.T) {
 		`{"evaluations":7}`:                              `{"evaluations":7}`,
 		`{"dump":["{\"do\":\"format\",\"version\":2}"]}`: `{"dump":["{\"do\":\"format\",\"version\":2}"]}`,
 	} {
-		if got := string(Shift([]byte(reply), 100)); got != want {
+		if got := string(Renumber([]byte(reply), func(n uint64) uint64 { return n + 100 })); got != want {
 			t.Errorf("%s becomes %s", reply, got)
 		}
-		if got := string(Shift([]byte(reply), 0)); got != reply {
+		if got := string(Renumber([]byte(reply), func(n uint64) uint64 { return n })); got != reply {
 			t.Errorf("%s becomes %s", reply, got)
 		}
+	}
+}
+
+// TestEnds changes the ends of replies to `changes`.
+func TestEnds(t *testing.T) {
+	for end, want := range map[string][2]string{
+		`{"changes":[],"serial":7}`:      {`{"changes":[]}`, `{"changes":[],"serial":107}`},
+		`ple"}],"serial":0}`:             {`ple"}]}`, `ple"}],"serial":100}`},
+		`"serial\":9"}],"serial":5}`:     {`"serial\":9"}]}`, `"serial\":9"}],"serial":105}`},
+		`{"changes":[]}`:                 {},
+		`{"changes":[],"serial":7,"a":1`: {},
+		``:                               {},
+	} {
+		for i, changed := range []func([]byte) (int, []byte, bool){
+			CutSerial, func(end []byte) (int, []byte, bool) {
+				return RenumberSerial(end, func(n uint64) uint64 { return n + 100 })
+			},
+		} {
+			stay, behind, ok := changed([]byte(end))
+			if ok != (want[i] != "") || ok && end[:stay]+string(behind) != want[i] {
+				t.Errorf("%s becomes %s%s, %v", end, end[:stay], behind, ok)
+			}
+		}
+	}
+}
+
+// TestAsNotices has the reply to `changes` begin as that to `notices`.
+func TestAsNotices(t *testing.T) {
+	reply := []byte(`{"changes":[{"a`)
+	if IsNotices(reply) || !IsChanges(reply) || IsChanges([]byte(`{"changes":1,"serial":2}`)) {
+		t.Error("replies are told apart otherwise")
+	}
+	if AsNotices(reply); string(reply) != `{"notices":[{"a` {
+		t.Errorf("it becomes %s", reply)
 	}
 }
 

@@ -19,6 +19,7 @@ var (
 	marked      = []byte(`{"mark":`)
 	state       = []byte(`{"state":`)
 	told        = []byte(`{"notices":`)
+	listed      = []byte(`{"changes":[`)
 	refused     = []byte(`{"refused":`)
 	sub         = []byte(`,"sub":`)
 	evaluations = []byte(`{"evaluations":`)
@@ -65,6 +66,38 @@ func EvaluationsReply(count uint64) []byte { return one(evaluations, count) }
 // IsNotices says whether a reply lists notices.
 func IsNotices(reply []byte) bool { return bytes.HasPrefix(reply, told) }
 
+// IsChanges says whether a reply lists what changed since a serial.
+func IsChanges(reply []byte) bool { return bytes.HasPrefix(reply, listed) }
+
+// AsNotices has the beginning of a reply to `changes` be that of one to `notices`: they are as long, and the rest
+// stays.
+func AsNotices(reply []byte) { copy(reply, told) }
+
+// SerialBytes is how long the end of a reply is at most that says a serial.
+const SerialBytes = len(`,"serial":18446744073709551615}`)
+
+// CutSerial is the end of a reply to `changes` without its serial: as that to `notices` ends. What is given is the
+// reply or its last bytes, of which it says how many stay and what stands behind them.
+func CutSerial(end []byte) (stay int, behind []byte, ok bool) {
+	at, _, ok := serialAt(end)
+	return at, []byte("}"), ok
+}
+
+// RenumberSerial is the end of a reply to `changes` with the number that stands for its serial, as CutSerial has it.
+func RenumberSerial(end []byte, of func(serial uint64) uint64) (stay int, behind []byte, ok bool) {
+	at, n, ok := serialAt(end)
+	return at, append(strconv.AppendUint(append([]byte(nil), serial...), of(n), 10), '}'), ok
+}
+
+// serialAt is where the serial at the end of a reply begins, and what it is.
+func serialAt(end []byte) (at int, n uint64, ok bool) {
+	if at = bytes.LastIndex(end, serial); at < 0 {
+		return 0, 0, false
+	}
+	n, ok = only(end[at:], serial)
+	return at, n, ok
+}
+
 // ReadRefusal reads the number of a refusal, and its sub-code, which is 0 where there is none.
 func ReadRefusal(reply []byte) (refusal, subcode int, ok bool) {
 	rest, ok := after(reply, refused)
@@ -94,28 +127,25 @@ func NoMemory(reply []byte) bool {
 	return ok && number == noMemory
 }
 
-// Shift adds to each serial that a reply says: of `mark`, of an accepted edit, and of `state`. Other replies stay as
-// they are.
-func Shift(reply []byte, by uint64) []byte {
-	if by == 0 {
-		return reply
-	}
+// Renumber has another number stand for each serial that a reply says: of `mark`, of an accepted edit, and of
+// `state`. Other replies stay as they are.
+func Renumber(reply []byte, of func(serial uint64) uint64) []byte {
 	if at, ok := ReadMark(reply); ok {
-		return MarkReply(at + by)
+		return MarkReply(of(at))
 	}
 	if edit, ok := ReadAccepted(reply); ok {
-		edit.Serial += by
+		edit.Serial = of(edit.Serial)
 		return edit.Reply()
 	}
 	if bytes.HasPrefix(reply, state) {
-		return shiftKeys(reply, by)
+		return renumberKeys(reply, of)
 	}
 	return reply
 }
 
-// shiftKeys adds to the number at each key `serial`. In a text of the reply its quotes would be escaped, so that
-// what is found is a key.
-func shiftKeys(reply []byte, by uint64) []byte {
+// renumberKeys does so with the number at each key `serial`. In a text of the reply its quotes would be escaped, so
+// that what is found is a key.
+func renumberKeys(reply []byte, of func(uint64) uint64) []byte {
 	key := serial[1:]
 	shifted := make([]byte, 0, len(reply)+32)
 	for {
@@ -127,7 +157,7 @@ func shiftKeys(reply []byte, by uint64) []byte {
 		shifted = append(shifted, reply[:at]...)
 		reply = reply[at:]
 		if n, rest, ok := number(reply); ok {
-			shifted = strconv.AppendUint(shifted, n+by, 10)
+			shifted = strconv.AppendUint(shifted, of(n), 10)
 			reply = rest
 		}
 	}

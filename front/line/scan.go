@@ -2,43 +2,52 @@ package line
 
 import "encoding/json"
 
-// keys reads the top level of an object: the text at `do`, what is written at `session` (nil where it is absent),
-// whether there is another key, and whether this is an object with a text at `do` at all.
-func keys(l []byte) (do string, session []byte, others, ok bool) {
+// read is the top level of an object.
+type read struct {
+	do      string
+	session []byte // as it is written; nil where it is absent
+	since   []byte // the same
+	others  bool   // whether there is another key
+}
+
+// keys reads the top level of an object, and is false where it has no text at `do`.
+func keys(l []byte) (r read, ok bool) {
 	at := space(l, 0)
 	if at >= len(l) || l[at] != '{' {
-		return "", nil, false, false
+		return read{}, false
 	}
 	named := false
 	at = space(l, at+1)
 	for at < len(l) && l[at] != '}' {
-		key, next, read := text(l, at)
-		if !read {
-			return "", nil, false, false
+		key, next, ok := text(l, at)
+		if !ok {
+			return read{}, false
 		}
 		at = space(l, next)
 		if at >= len(l) || l[at] != ':' {
-			return "", nil, false, false
+			return read{}, false
 		}
 		from := space(l, at+1)
-		to, read := skip(l, from)
-		if !read {
-			return "", nil, false, false
+		to, ok := skip(l, from)
+		if !ok {
+			return read{}, false
 		}
 		switch key {
 		case "do":
-			do, _, named = text(l[:to], from)
+			r.do, _, named = text(l[:to], from)
 		case "session":
-			session = l[from:to]
+			r.session = l[from:to]
+		case "since":
+			r.since = l[from:to]
 		default:
-			others = true
+			r.others = true
 		}
 		at = space(l, to)
 		if at < len(l) && l[at] == ',' {
 			at = space(l, at+1)
 		}
 	}
-	return do, session, others, named && at < len(l)
+	return r, named && at < len(l)
 }
 
 // space is the first place from `at` on that is no white space.

@@ -189,11 +189,29 @@ func (p *Program) ReceiveLong(to *spool.Spool) (Reply, error) {
 		part, err = p.reader.ReadSlice('\n')
 	}
 	if err = ending(err); err != nil {
-		reply.lose(err)
+		reply.Lose(err)
 		return Reply{}, err
 	}
 	reply.add(part[:len(part)-1])
 	return reply, nil
+}
+
+// End changes the end of a reply: of its last bytes as many as they are at most, `change` says how many stay and what
+// stands behind them.
+func (r Reply) End(most int, change func(end []byte) (stay int, behind []byte, ok bool)) (Reply, error) {
+	if r.Rest != nil {
+		return r, r.Rest.End(most, change)
+	}
+	from := len(r.Body) - most
+	if from < 0 {
+		from = 0
+	}
+	stay, behind, ok := change(r.Body[from:])
+	if !ok {
+		return r, errors.New("the end of a reply isn't as it is known")
+	}
+	r.Body = append(r.Body[:from+stay], behind...)
+	return r, nil
 }
 
 // add puts a part into the file. Where that can't be done the reply is read on, and given up.
@@ -202,12 +220,12 @@ func (r *Reply) add(part []byte) {
 		return
 	}
 	if _, err := r.Rest.Write(part); err != nil {
-		r.lose(fmt.Errorf("a reply that is long: %w", err))
+		r.Lose(fmt.Errorf("a reply that is long: %w", err))
 	}
 }
 
-// lose gives a reply up.
-func (r *Reply) lose(why error) {
+// Lose gives a reply up.
+func (r *Reply) Lose(why error) {
 	r.Lost = why
 	if r.Rest != nil {
 		r.Rest.Close()

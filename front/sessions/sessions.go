@@ -1,173 +1,214 @@
-// Package sessions says who has which of the program's sessions, and at which serial each marked the table.
+// Package sessions says who marked the table, and at which serial. A mark is no more than that: the program isn't asked
+// to keep it, and there may be any number.
 package sessions
 
 import (
+	"context"
+	"errors"
+	"math"
 	"sync"
-
-	"review-front/line"
 )
 
-// Own is the session of the front itself.
-const Own = 0
+// The reasons why a client has no session.
+var (
+	ErrTaken = errors.New("all sessions are taken")
+	ErrGone  = errors.New("the session has ended")
+)
 
-// Table is who has which of the program's sessions.
+// Table has all clients' marks.
 type Table struct {
 	mutex sync.Mutex
-	taken [line.Sessions]*Session
-	stale [line.Sessions]bool // the program still has a mark of who had the session before
+	most  int
+	held  map[*Session]struct{}
+	back  map[string]*Client // who was there before a start, and hasn't been asked for since
+	// oldest is the serial of the oldest mark, if that is known: looking for it takes time with the sessions.
+	oldest uint64
+	known  bool
 }
 
-// Session is one of the program's sessions that somebody has. Who gives it back while lines of his are on their way
-// has it until the last of them is answered: else a line would find the mark of whoever has the session next.
+// NewTable is a table without a mark, which has so many marks, and sessions that may mark, at most.
+func NewTable(most int) *Table {
+	return &Table{most: most, held: map[*Session]struct{}{}, back: map[string]*Client{}}
+}
+
+// Client is somebody whose lines name sessions by numbers of his own.
+type Client struct {
+	table *Table
+	name  string // of one who stays over a start of the front
+	own   map[int]*Session
+	gone  bool
+}
+
+// Session is a number of a client, at which he marked or may mark.
 type Session struct {
-	table  *Table
+	client *Client
 	number int
 	marked bool
 	at     uint64 // the serial of the mark
 	marks  int    // marks that have no reply yet
-	lines  int    // lines that have no reply yet, marks among them
-	given  bool   // it was given back, and no more lines are sent to it
+	moved  chan struct{}
 }
 
-// NewTable is a table in which the front has its own session, and nobody else any.
-func NewTable() *Table {
-	t := &Table{}
-	t.taken[Own] = &Session{table: t, number: Own}
-	return t
+// NewClient is a client who goes with his connection, without any session.
+func (t *Table) NewClient() *Client { return t.NewNamed("") }
+
+// NewNamed is a client who stays, known by a name.
+func (t *Table) NewNamed(name string) *Client {
+	return &Client{table: t, name: name, own: map[int]*Session{}}
 }
 
-// Front is the session of the front itself.
-func (t *Table) Front() *Session { return t.taken[Own] }
+// Restore has the clients of before a start, with their marks by number.
+func (t *Table) Restore(clients map[string]map[int]uint64) {
+	for name, marks := range clients {
+		client := t.NewNamed(name)
+		_, _ = client.Take(0) // where there are too many, he has none before others go
+		for number, at := range marks {
+			if session, err := client.Take(number); err == nil {
+				session.marked, session.at = true, at
+			}
+		}
+		t.mutex.Lock()
+		t.known = false
+		t.back[name] = client
+		t.mutex.Unlock()
+	}
+}
 
-// Take gives a session that nobody has, and is false where all are taken.
-func (t *Table) Take() (*Session, bool) {
+// Restored gives the clients of before a start, once.
+func (t *Table) Restored() map[string]*Client {
 	t.mutex.Lock()
 	defer t.mutex.Unlock()
-	for number, session := range t.taken {
-		if session == nil {
-			taken := &Session{table: t, number: number}
-			t.taken[number] = taken
-			return taken, true
-		}
-	}
-	return nil, false
+	back := t.back
+	t.back = map[string]*Client{}
+	return back
 }
 
-// Taken is how many sessions are taken, the front's not counted.
+// Taken is how many marks, and sessions that may mark, clients have.
 func (t *Table) Taken() int {
 	t.mutex.Lock()
 	defer t.mutex.Unlock()
-	count := 0
-	for _, session := range t.taken[Own+1:] {
-		if session != nil {
-			count++
-		}
-	}
-	return count
+	return len(t.held)
 }
 
-// Marks has the serial of each mark that somebody's session has.
-func (t *Table) Marks() map[int]uint64 {
+// Oldest is the serial of the oldest mark that isn't older than `from`, or else a given one. What is asked for once goes
+// on from there.
+func (t *Table) Oldest(from, otherwise uint64) uint64 {
 	t.mutex.Lock()
 	defer t.mutex.Unlock()
-	marks := map[int]uint64{}
-	for number, session := range t.taken {
-		if session != nil && session.marked {
-			marks[number] = session.at
+	if !t.known || t.oldest < from {
+		t.known, t.oldest = true, math.MaxUint64
+		for session := range t.held {
+			if session.marked && session.at >= from && session.at < t.oldest {
+				t.oldest = session.at
+			}
 		}
 	}
-	return marks
-}
-
-// Stale are the sessions in which the program still has a mark of somebody who has gone.
-func (t *Table) Stale() []int {
-	t.mutex.Lock()
-	defer t.mutex.Unlock()
-	var numbers []int
-	for number, stale := range t.stale {
-		if stale && t.taken[number] == nil {
-			numbers = append(numbers, number)
-		}
+	if t.oldest < otherwise {
+		return t.oldest
 	}
-	return numbers
+	return otherwise
 }
 
-// Anew says that the program is a new one, which has the marks of `kept` and no others.
-func (t *Table) Anew(kept map[int]uint64) {
-	t.mutex.Lock()
-	defer t.mutex.Unlock()
-	t.stale = [line.Sessions]bool{}
-	for number, session := range t.taken {
-		if session != nil {
-			session.at, session.marked = kept[number], has(kept, number)
-		} else {
-			t.stale[number] = has(kept, number)
-		}
+// leave says that a session's mark goes or moves.
+func (t *Table) leave(s *Session) {
+	if s.marked && s.at == t.oldest {
+		t.known = false
 	}
 }
 
-func has(marks map[int]uint64, number int) bool {
-	_, ok := marks[number]
-	return ok
+// Take gets a session for a number of the client, if he has none.
+func (c *Client) Take(number int) (*Session, error) {
+	c.table.mutex.Lock()
+	defer c.table.mutex.Unlock()
+	return c.take(number)
 }
 
-// Number is the session's number in the program.
-func (s *Session) Number() int { return s.number }
-
-// Sending says that a line for the session is on its way.
-func (s *Session) Sending() {
-	s.table.mutex.Lock()
-	defer s.table.mutex.Unlock()
-	s.lines++
+func (c *Client) take(number int) (*Session, error) {
+	if session := c.own[number]; session != nil {
+		return session, nil
+	}
+	if c.gone {
+		return nil, ErrGone
+	}
+	if len(c.table.held) >= c.table.most {
+		return nil, ErrTaken
+	}
+	session := &Session{client: c, number: number, moved: make(chan struct{})}
+	c.own[number] = session
+	c.table.held[session] = struct{}{}
+	return session, nil
 }
 
-// Answered says that a line for the session has its reply, or gets none.
-func (s *Session) Answered() {
-	s.table.mutex.Lock()
-	defer s.table.mutex.Unlock()
-	s.lines--
-	s.free()
+// Marking is the session for a mark at a number of the client, of which a mark is on its way.
+func (c *Client) Marking(number int) (*Session, error) {
+	c.table.mutex.Lock()
+	defer c.table.mutex.Unlock()
+	session, err := c.take(number)
+	if err == nil {
+		session.marks++
+	}
+	return session, err
 }
 
-// Marking says that a mark is on its way.
-func (s *Session) Marking() {
-	s.table.mutex.Lock()
-	defer s.table.mutex.Unlock()
-	s.lines++
-	s.marks++
+// Noticing is the session for notices at a number of the client, or nil where he has none.
+func (c *Client) Noticing(number int) *Session {
+	c.table.mutex.Lock()
+	defer c.table.mutex.Unlock()
+	return c.own[number]
+}
+
+// Close ends the sessions of a client.
+func (c *Client) Close() {
+	c.table.mutex.Lock()
+	defer c.table.mutex.Unlock()
+	c.gone = true
+	for number, session := range c.own {
+		c.table.leave(session)
+		delete(c.own, number)
+		delete(c.table.held, session)
+	}
+}
+
+// Stays says by which name a session that stays over a start of the front is known, and by which number. It is false
+// for any other, and for one that has ended.
+func (s *Session) Stays() (name string, number int, ok bool) {
+	s.client.table.mutex.Lock()
+	defer s.client.table.mutex.Unlock()
+	return s.client.name, s.number, s.client.name != "" && !s.client.gone
 }
 
 // Settled says that a mark has its reply, a serial or none, or gets none.
 func (s *Session) Settled(at uint64, marked bool) {
-	s.table.mutex.Lock()
-	defer s.table.mutex.Unlock()
-	s.lines--
+	s.client.table.mutex.Lock()
+	defer s.client.table.mutex.Unlock()
 	s.marks--
 	if marked {
+		s.client.table.leave(s)
 		s.marked, s.at = true, at
+		if _, held := s.client.table.held[s]; held && at < s.client.table.oldest {
+			s.client.table.oldest = at
+		}
 	}
-	s.free()
+	if s.marks == 0 {
+		close(s.moved)
+		s.moved = make(chan struct{})
+	}
 }
 
-// HasMark says whether the program has, or is about to have, a mark of this session.
-func (s *Session) HasMark() bool {
-	s.table.mutex.Lock()
-	defer s.table.mutex.Unlock()
-	return s.marked || s.marks > 0
-}
-
-// Give gives the session back, once no line of it is on its way.
-func (s *Session) Give() {
-	s.table.mutex.Lock()
-	defer s.table.mutex.Unlock()
-	s.given = true
-	s.free()
-}
-
-// free lets others have the session, if it was given back and all its lines are answered.
-func (s *Session) free() {
-	if s.given && s.lines == 0 && s.table.taken[s.number] == s {
-		s.table.taken[s.number] = nil
-		s.table.stale[s.number] = s.table.stale[s.number] || s.marked
+// At is the serial of the mark, once all that are on their way have their replies. It is false where there is none.
+func (s *Session) At(ctx context.Context) (at uint64, marked bool, err error) {
+	for {
+		s.client.table.mutex.Lock()
+		at, marked := s.at, s.marked
+		due, moved := s.marks, s.moved
+		s.client.table.mutex.Unlock()
+		if due == 0 {
+			return at, marked, nil
+		}
+		select {
+		case <-moved:
+		case <-ctx.Done():
+			return 0, false, ctx.Err()
+		}
 	}
 }

@@ -1,99 +1,137 @@
 package sessions
 
 import (
+	"context"
 	"errors"
 	"testing"
 	"time"
-
-	"review-front/line"
 )
 
-// marking is the session for a mark of a client, which has to have one.
-func marking(t *testing.T, client *Client) *Session {
+// marked marks for a client at a serial.
+func marked(t *testing.T, client *Client, number int, at uint64) *Session {
 	t.Helper()
-	session, err := client.Marking(0)
+	session, err := client.Marking(number)
 	if err != nil {
 		t.Fatal(err)
 	}
+	session.Settled(at, true)
 	return session
 }
 
-// TestGiven gives a session back while a mark and notices of it are on their way: nobody else gets its number before
-// the last of them is answered, and then the program has a mark there that nobody needs.
-func TestGiven(t *testing.T) {
-	table := NewTable()
+// at sees at which serial a client marked, or that he didn't.
+func at(t *testing.T, client *Client, number int, serial uint64, there bool) {
+	t.Helper()
+	session := client.Noticing(number)
+	if session == nil {
+		if there {
+			t.Errorf("at number %d there is no session", number)
+		}
+		return
+	}
+	if got, marked, err := session.At(context.Background()); err != nil || marked != there || marked && got != serial {
+		t.Errorf("at number %d the mark is %d, %v, %v", number, got, marked, err)
+	}
+}
+
+// TestMarks marks for two clients at the same number: each has his own mark, and the oldest counts until it goes.
+func TestMarks(t *testing.T) {
+	table := NewTable(99)
 	first, second := table.NewClient(), table.NewClient()
-	session := marking(t, first)
-	if again, ok := first.Noticing(0); !ok || again != session {
-		t.Fatal("notices behind a mark have another session")
+	if table.Oldest(0, 99) != 99 {
+		t.Error("there is a mark")
+	}
+	marked(t, first, 3, 7)
+	marked(t, second, 3, 5)
+	marked(t, second, 4, 9)
+	at(t, first, 3, 7, true)
+	at(t, second, 3, 5, true)
+	at(t, first, 4, 0, false)
+	if table.Oldest(0, 99) != 5 || table.Taken() != 3 {
+		t.Errorf("the oldest of %d is %d", table.Taken(), table.Oldest(0, 99))
+	}
+	marked(t, second, 3, 10)
+	if table.Oldest(0, 99) != 7 {
+		t.Errorf("the oldest is %d", table.Oldest(0, 99))
 	}
 	first.Close()
-	if other := marking(t, second); other.Number() == session.Number() {
-		t.Fatal("the session is had by another while its lines are on their way")
+	if table.Oldest(0, 99) != 9 || table.Taken() != 2 {
+		t.Errorf("the oldest of %d is %d", table.Taken(), table.Oldest(0, 99))
 	}
-	session.Settled(7, true)
-	if table.Taken() != 2 {
-		t.Fatalf("%d sessions are taken while notices are on their way", table.Taken())
-	}
-	session.Answered()
-	if stale := table.Stale(); table.Taken() != 1 || len(stale) != 1 || stale[0] != session.Number() {
-		t.Fatalf("%d sessions are taken, and %v are stale", table.Taken(), stale)
-	}
-	if _, err := first.Marking(0); !errors.Is(err, ErrGone) {
+	if _, err := first.Marking(3); !errors.Is(err, ErrGone) {
 		t.Errorf("who has gone marks: %v", err)
 	}
-	if _, ok := first.Noticing(0); ok {
-		t.Error("who has gone asks for notices")
-	}
-	third := marking(t, table.NewClient())
-	if third.Number() != session.Number() || len(table.Stale()) != 0 {
-		t.Errorf("the session that is free is %d, and %v are stale", third.Number(), table.Stale())
+	for _, one := range [][2]uint64{{8, 9}, {10, 10}, {11, 99}} {
+		if oldest := table.Oldest(one[0], 99); oldest != one[1] {
+			t.Errorf("from serial %d on the oldest is %d", one[0], oldest)
+		}
 	}
 }
 
-// TestAll takes all sessions; one that is given back is had by the next.
-func TestAll(t *testing.T) {
-	table := NewTable()
-	var clients []*Client
-	for number := Own + 1; number < line.Sessions; number++ {
-		clients = append(clients, table.NewClient())
-		marking(t, clients[len(clients)-1]).Settled(uint64(number), true)
+// TestDue asks for a mark that is on its way: it is waited for, and one that gets no reply leaves the one before.
+func TestDue(t *testing.T) {
+	client := NewTable(99).NewClient()
+	session := marked(t, client, 0, 3)
+	if _, err := client.Marking(0); err != nil {
+		t.Fatal(err)
 	}
-	late := table.NewClient()
+	short, cancel := context.WithTimeout(context.Background(), 20*time.Millisecond)
+	defer cancel()
+	if _, _, err := session.At(short); !errors.Is(err, context.DeadlineExceeded) {
+		t.Errorf("a mark on its way isn't waited for: %v", err)
+	}
+	go session.Settled(0, false)
+	at(t, client, 0, 3, true)
+}
+
+// TestMost takes as many sessions as there are; one that is given back is had by the next.
+func TestMost(t *testing.T) {
+	table := NewTable(2)
+	first, late := table.NewClient(), table.NewClient()
+	marked(t, first, 0, 1)
+	marked(t, first, 1, 1)
 	if _, err := late.Marking(3); !errors.Is(err, ErrTaken) {
-		t.Fatalf("a sixteenth session is given: %v", err)
+		t.Fatalf("one more is given: %v", err)
 	}
-	if marks := table.Marks(); len(marks) != len(clients) || marks[4] != 4 {
-		t.Errorf("the marks are %v", marks)
-	}
-	clients[5].Close()
-	if session, err := late.Marking(3); err != nil || session.Number() != 6 {
-		t.Errorf("the session that is free is %v, %v", session, err)
+	first.Close()
+	if _, err := late.Marking(3); err != nil {
+		t.Error(err)
 	}
 }
 
-// TestAnew tells of a new program, which has one mark of somebody, one of nobody, and lacks one: sessions say so.
-func TestAnew(t *testing.T) {
-	table := NewTable()
-	kept, lost := table.NewClient(), table.NewClient()
-	marking(t, kept).Settled(3, true)
-	marking(t, lost).Settled(4, true)
-	table.Anew(map[int]uint64{1: 3, 9: 5})
-	if _, ok := kept.Noticing(0); !ok {
-		t.Error("the mark that the program has isn't there")
+// memory remembers who came and went.
+type memory struct{ came, gone []string }
+
+func (m *memory) Remember(name string) { m.came = append(m.came, name) }
+
+func (m *memory) Forget(name string) { m.gone = append(m.gone, name) }
+
+// TestRestore has clients of before a start: they stay, for a while, and whoever never marked isn't there.
+func TestRestore(t *testing.T) {
+	table := NewTable(99)
+	var kept memory
+	leases := NewLeases(table, 20*time.Millisecond, &kept)
+	table.Restore(map[string]map[int]uint64{"a": {0: 5, 3: 6}})
+	client, done, ok := leases.Use("a")
+	if !ok {
+		t.Fatal("who was there isn't")
 	}
-	if _, ok := lost.Noticing(0); ok {
-		t.Error("a mark is there that the program hasn't")
+	at(t, client, 0, 5, true)
+	at(t, client, 3, 6, true)
+	if name, number, stays := client.Noticing(3).Stays(); name != "a" || number != 3 || !stays || table.Oldest(0, 9) != 5 {
+		t.Errorf("he is %s, %d, %v", name, number, stays)
 	}
-	if stale := table.Stale(); len(stale) != 1 || stale[0] != 9 {
-		t.Errorf("%v are stale", stale)
+	done()
+	time.Sleep(40 * time.Millisecond)
+	if leases.Sweep(); len(kept.gone) != 1 || kept.gone[0] != "a" || table.Taken() != 0 {
+		t.Errorf("%v have gone", kept.gone)
 	}
 }
 
 // TestLeases opens a lease, uses it past its time, leaves it idle, and ends another.
 func TestLeases(t *testing.T) {
-	table := NewTable()
-	leases := NewLeases(table, 20*time.Millisecond)
+	table := NewTable(99)
+	var kept memory
+	leases := NewLeases(table, 20*time.Millisecond, &kept)
 	name, err := leases.Open()
 	if err != nil {
 		t.Fatal(err)
@@ -117,7 +155,7 @@ func TestLeases(t *testing.T) {
 	if err != nil || other == name {
 		t.Fatalf("another lease has the name %s, %v", other, err)
 	}
-	if !leases.End(other) || leases.End(other) || table.Taken() != 0 {
-		t.Error("a lease isn't ended once")
+	if !leases.End(other) || leases.End(other) || table.Taken() != 0 || len(kept.came) != 2 || len(kept.gone) != 2 {
+		t.Errorf("a lease isn't ended once, %v", kept)
 	}
 }

@@ -63,6 +63,9 @@ func (s *Spool) Await(ctx context.Context) error {
 	}
 }
 
+// Full says whether there is no room for one more.
+func (s *Spool) Full() bool { return s.Used() >= s.most }
+
 // Used is how many bytes wait in files.
 func (s *Spool) Used() int64 {
 	s.mutex.Lock()
@@ -120,6 +123,27 @@ func (f *File) Write(b []byte) (int, error) {
 
 // Size is how many bytes were written.
 func (f *File) Size() int64 { return f.size }
+
+// End changes the end of the file, before anybody reads it: of its last bytes as many as they are at most, `change`
+// says how many stay and what stands behind them.
+func (f *File) End(most int, change func(end []byte) (stay int, behind []byte, ok bool)) error {
+	from := f.size - int64(most)
+	if from < 0 {
+		from = 0
+	}
+	end := make([]byte, f.size-from)
+	if _, err := f.file.ReadAt(end, from); err != nil {
+		return fmt.Errorf("the end of a reply: %w", err)
+	}
+	stay, behind, ok := change(end)
+	if !ok {
+		return errors.New("the end of a reply isn't as it is known")
+	}
+	f.spool.take(from + int64(stay) - f.size)
+	f.size = from + int64(stay)
+	_, err := f.Write(behind)
+	return err
+}
 
 // Reader reads all from its beginning on.
 func (f *File) Reader() io.Reader { return io.NewSectionReader(f.file, 0, f.size) }

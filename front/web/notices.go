@@ -1,7 +1,6 @@
 package web
 
 import (
-	"bytes"
 	"io"
 	"net/http"
 	"strconv"
@@ -31,7 +30,7 @@ func (s *Server) notices(w *answered, r *http.Request, _ map[string]string) {
 	if r.Method == http.MethodHead {
 		return
 	}
-	listener := s.Keeper.Listen()
+	listener := s.listener(r.Header.Get("Last-Event-ID"))
 	defer listener.Leave()
 	s.tell(w, r, listener, hears)
 }
@@ -40,7 +39,6 @@ func (s *Server) notices(w *answered, r *http.Request, _ map[string]string) {
 func (s *Server) tell(w *answered, r *http.Request, listener *notices.Listener, hears *wanted) {
 	tick := time.NewTicker(s.Beat)
 	defer tick.Stop()
-	last := r.Header.Get("Last-Event-ID")
 	for {
 		var err error
 		select {
@@ -48,7 +46,7 @@ func (s *Server) tell(w *answered, r *http.Request, listener *notices.Listener, 
 			if !open {
 				return
 			}
-			err = sendEvent(w, event, last, hears)
+			err = sendEvent(w, event, hears)
 			listener.Took(event)
 		case <-tick.C:
 			_, err = w.Write([]byte(":\n\n"))
@@ -64,25 +62,38 @@ func (s *Server) tell(w *answered, r *http.Request, listener *notices.Listener, 
 	}
 }
 
-// sendEvent sends an event. Who comes back, and heard all up to this serial before, needs to read nothing anew. What all
-// listeners are told is one text, of which none has a copy.
-func sendEvent(w io.Writer, event notices.Event, last string, hears *wanted) error {
+// listener listens from now on, or from the last event that one heard who comes back.
+func (s *Server) listener(last string) *notices.Listener {
+	if last == "" {
+		return s.Keeper.Listen()
+	}
+	heard, err := strconv.ParseUint(last, 10, 64)
+	if err != nil {
+		heard = notices.Unknown
+	}
+	return s.Keeper.Return(heard)
+}
+
+// sendEvent sends an event. What all listeners are told is one text, of which none has a copy.
+func sendEvent(w io.Writer, event notices.Event, hears *wanted) error {
 	serial := strconv.FormatUint(event.Serial, 10)
-	kind := event.Kind
-	if kind == notices.From && last != "" && last != serial {
-		kind = notices.Anew
+	data := []byte(`{"serial":` + serial + `}`)
+	if event.Kind == notices.Told {
+		data = event.Data
+		if hears != nil {
+			return hears.send(w, serial, event.Reader())
+		}
 	}
-	data := event.Data
-	if kind == notices.Told && hears != nil {
-		return hears.send(w, serial, bytes.NewReader(data))
-	}
-	if data == nil {
-		data = []byte(`{"serial":` + serial + `}`)
-	}
-	for _, part := range [][]byte{[]byte("event: " + kind + "\nid: " + serial + "\ndata: "), data, []byte("\n\n")} {
+	for _, part := range [][]byte{[]byte("event: " + event.Kind + "\nid: " + serial + "\ndata: "), data} {
 		if _, err := w.Write(part); err != nil {
 			return err
 		}
 	}
-	return nil
+	if event.Rest != nil {
+		if _, err := io.Copy(w, event.Rest.Reader()); err != nil {
+			return err
+		}
+	}
+	_, err := w.Write([]byte("\n\n"))
+	return err
 }

@@ -45,6 +45,7 @@ var operations = map[string]operation{
 	"GET /sessions/{session}/notices":        telling("Tells what changed since a session's mark.", "notices"),
 	"GET /healthz":                           telling("Says that the front runs.", "status"),
 	"GET /readyz":                            telling("Says that lines are answered.", "status"),
+	"GET /snapshot":                          {does: "Gives the file of the newest snapshot.", gives: []string{snapshotType}},
 	"GET /metrics":                           {does: "Tells counts for Prometheus.", gives: []string{"text/plain"}},
 	"POST /access/v1/evaluation":             taking("Answers an evaluation of AuthZEN.", "decision"),
 	"POST /access/v1/evaluations":            taking("Answers several evaluations of AuthZEN, or one.", ""),
@@ -180,12 +181,12 @@ func (o operation) written(path string, keys []key) object {
 func (k key) parameter() object {
 	schema := object{"type": "string"}
 	switch k.kind {
-	case wholeOrNo:
+	case aWhole, wholeOrNo:
 		schema = object{"type": "integer"}
 	case textList:
 		schema = object{"type": "array", "items": schema}
 	}
-	return object{"name": k.name, "in": "query", "required": k.kind == aText, "schema": schema}
+	return object{"name": k.name, "in": "query", "required": k.kind == aText || k.kind == aWhole, "schema": schema}
 }
 
 // contents has what bodies of some types hold: of JSON an object, with a key if one is told.

@@ -85,6 +85,12 @@ func problemFor(err error) problem {
 		told, _ := problemOf(part.Reply)
 		told.Detail = fmt.Sprintf("edit %d of the body: %s; none is made", part.Number, told.Detail)
 		return told
+	case errors.Is(err, keeper.ErrAppended):
+		return problem{Title: "no reply yet", Status: http.StatusGatewayTimeout, Detail: err.Error()}
+	case errors.Is(err, keeper.ErrRefused):
+		return problem{Title: "refused before", Status: http.StatusConflict, Detail: err.Error()}
+	case errors.Is(err, keeper.ErrWhole):
+		return problem{Title: "not with a log", Status: http.StatusNotImplemented, Detail: err.Error()}
 	case errors.Is(err, sessions.ErrGone):
 		return noSession()
 	case errors.Is(err, keys.ErrOther):

@@ -20,6 +20,7 @@ const (
 	aText     kind = iota // a text, which has to be there
 	textOrNot             // a text, or the key is left out
 	textOrNul             // a text, or null
+	aWhole                // a whole number, which has to be there
 	wholeOrNo             // a whole number, or the key is left out
 	textList              // texts, or the key is left out
 )
@@ -54,6 +55,7 @@ var questions = []question{
 	{"/cells", "cells", []key{
 		{"person", textOrNot}, {"action", textOrNot}, {"resource", textOrNot}, {"decisions", textList},
 	}},
+	{"/changes", "changes", []key{{"since", aWhole}}},
 	{"/faults", "faults", nil},
 	{"/explain/{person}/{action}/{resource}", "explain", []key{{"person", aText}, {"action", aText}, {"resource", aText}}},
 }
@@ -148,7 +150,7 @@ func (k key) write(values []string, there bool) (string, error) {
 		return "", fmt.Errorf("%s stands more than once", k.name)
 	}
 	switch {
-	case !there && k.kind == aText:
+	case !there && (k.kind == aText || k.kind == aWhole):
 		return "", fmt.Errorf("the query lacks %s", k.name)
 	case !there && k.kind == textOrNul:
 		return "null", nil
@@ -157,7 +159,7 @@ func (k key) write(values []string, there bool) (string, error) {
 	case k.kind == textList:
 		written, err := json.Marshal(values)
 		return string(written), err
-	case k.kind == wholeOrNo:
+	case k.kind == wholeOrNo || k.kind == aWhole:
 		number, err := strconv.ParseInt(values[0], 10, 64)
 		if err != nil {
 			return "", fmt.Errorf("%s is no whole number", k.name)

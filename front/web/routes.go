@@ -41,6 +41,9 @@ func (s *Server) routes() []route {
 	for _, q := range questions {
 		all = append(all, route{http.MethodGet, q.path, s.asking(q)})
 	}
+	if s.Keeper.Stream != nil {
+		all = append(all, route{http.MethodGet, "/snapshot", s.snapshot})
+	}
 	if s.Authzen != nil {
 		all = append(all, s.authzenRoutes()...)
 	}

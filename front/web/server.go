@@ -63,7 +63,7 @@ func New(options Options) *Server {
 	if s.Beat == 0 {
 		s.Beat = Beat
 	}
-	s.leases = sessions.NewLeases(options.Keeper.Sessions, options.SessionIdle)
+	s.leases = sessions.NewLeases(options.Keeper.Sessions, options.SessionIdle, options.Keeper)
 	s.known = s.routes()
 	s.byLines = map[string]bool{}
 	for path := range forKnown {

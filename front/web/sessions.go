@@ -7,8 +7,21 @@ import (
 	"review-front/sessions"
 )
 
+// resumed waits until the program has its state, before which sessions of before a start aren't known. It answers itself
+// where that isn't so.
+func (s *Server) resumed(w *answered, r *http.Request) bool {
+	err := s.Keeper.Await(r.Context())
+	if err != nil {
+		problemFor(err).send(w)
+	}
+	return err == nil
+}
+
 // openSession gives a client a session that stays from one request to the next.
-func (s *Server) openSession(w *answered, _ *http.Request, _ map[string]string) {
+func (s *Server) openSession(w *answered, r *http.Request, _ map[string]string) {
+	if !s.resumed(w, r) {
+		return
+	}
 	name, err := s.leases.Open()
 	if err != nil {
 		problemFor(err).send(w)
@@ -22,7 +35,10 @@ func (s *Server) openSession(w *answered, _ *http.Request, _ map[string]string) 
 }
 
 // endSession gives a session back.
-func (s *Server) endSession(w *answered, _ *http.Request, keys map[string]string) {
+func (s *Server) endSession(w *answered, r *http.Request, keys map[string]string) {
+	if !s.resumed(w, r) {
+		return
+	}
 	if !s.leases.End(keys["session"]) {
 		noSession().send(w)
 		return
@@ -35,7 +51,10 @@ func noSession() problem {
 }
 
 // within calls with the client of a session.
-func (s *Server) within(w *answered, keys map[string]string, call func(*sessions.Client)) {
+func (s *Server) within(w *answered, r *http.Request, keys map[string]string, call func(*sessions.Client)) {
+	if !s.resumed(w, r) {
+		return
+	}
 	client, done, ok := s.leases.Use(keys["session"])
 	if !ok {
 		noSession().send(w)
@@ -47,17 +66,17 @@ func (s *Server) within(w *answered, keys map[string]string, call func(*sessions
 
 // sessionLines answers lines within a session.
 func (s *Server) sessionLines(w *answered, r *http.Request, keys map[string]string) {
-	s.within(w, keys, func(client *sessions.Client) { s.lines(w, r, client) })
+	s.within(w, r, keys, func(client *sessions.Client) { s.lines(w, r, client) })
 }
 
 // mark marks the table for a session.
 func (s *Server) mark(w *answered, r *http.Request, keys map[string]string) {
-	s.within(w, keys, func(client *sessions.Client) { s.one(w, r, client, `{"do":"mark"}`, nil) })
+	s.within(w, r, keys, func(client *sessions.Client) { s.one(w, r, client, `{"do":"mark"}`, nil) })
 }
 
 // changed tells what changed since a session's mark.
 func (s *Server) changed(w *answered, r *http.Request, keys map[string]string) {
-	s.within(w, keys, func(client *sessions.Client) { s.one(w, r, client, `{"do":"notices"}`, nil) })
+	s.within(w, r, keys, func(client *sessions.Client) { s.one(w, r, client, `{"do":"notices"}`, nil) })
 }
 
 // one asks one line within a session. `known`, if there is one, is how many edits there are to be before it.

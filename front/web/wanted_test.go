@@ -33,7 +33,7 @@ func TestWanted(t *testing.T) {
 			t.Fatal(query, err)
 		}
 		var said bytes.Buffer
-		if err := sendEvent(&said, event, "", hears); err != nil {
+		if err := sendEvent(&said, event, hears); err != nil {
 			t.Fatal(query, err)
 		}
 		text := "event: notices\nid: 7\ndata: {\"notices\":[" + strings.Join(want, ",") + "]}\n\n"

@@ -1,0 +1,305 @@
+package keeper
+
+import (
+	"context"
+	"crypto/rand"
+	"encoding/hex"
+	"errors"
+	"fmt"
+	"time"
+
+	"review-front/folder"
+	"review-front/line"
+	"review-front/replicated"
+)
+
+const (
+	// appendTime is how long it is tried to append an edit.
+	appendTime = 15 * time.Second
+	// contendedTime is how long a crossing counts: while other fronts append, too, they have their turns.
+	contendedTime = time.Second
+	// mostFlying is how many edits are on their way to the stream at most.
+	mostFlying = 64
+)
+
+// The states of the answer to a client's edit in a stream.
+const (
+	unanswered int32 = iota
+	answered         // it has its reply
+	left             // its client was told that it may be applied
+)
+
+// submit appends an edit in its turn. It waits until that stands among the lines for the program, so that what its
+// client sends behind it comes behind it there, too.
+func (l *streamed) submit(ctx context.Context, call *Call) (<-chan Reply, error) {
+	k := l.keeper
+	id, err := idOf(call)
+	if err != nil {
+		return nil, err
+	}
+	call.reply, call.fed = make(chan Reply, 1), make(chan struct{})
+	err = l.append(ctx, id, call)
+	if before, is := err.(*appendedBefore); is {
+		call.reply <- l.repeated(ctx, before.sequence)
+		return call.reply, nil
+	}
+	if err != nil {
+		return nil, err
+	}
+	timer := time.NewTimer(k.Patience)
+	defer timer.Stop()
+	select {
+	case <-call.fed:
+	case <-ctx.Done():
+	case <-timer.C:
+		call.leaveAppended()
+	}
+	return call.reply, nil
+}
+
+// appendedBefore says that a stream has an edit already, which came with a key.
+type appendedBefore struct{ sequence uint64 }
+
+func (a *appendedBefore) Error() string { return fmt.Sprintf("it is that of sequence %d", a.sequence) }
+
+// repeated is the reply to an edit that stands in the stream already.
+func (l *streamed) repeated(ctx context.Context, sequence uint64) Reply {
+	k := l.keeper
+	if k.Reach(ctx, sequence) != nil {
+		return Reply{Err: ErrAppended}
+	}
+	reply := Reply{Err: ErrRefused}
+	err := k.Folder.Each(sequence-1, func(entry folder.Entry, _ folder.Place) error {
+		if entry.Serial == sequence {
+			reply = Reply{Body: line.Accepted{Changes: entry.Changes, Serial: sequence}.Reply(), Serial: sequence}
+		}
+		return errEnough
+	})
+	if err != nil && err != errEnough {
+		k.Log.Error("what was answered to an edit can't be read", "sequence", sequence, "error", err)
+		return Reply{Err: ErrAppended}
+	}
+	return reply
+}
+
+// idOf is the id of an edit: of one that came with a key the same wherever it is sent again.
+func idOf(call *Call) (string, error) {
+	if call.Remember != nil {
+		return call.Remember.Next(), nil
+	}
+	return newID()
+}
+
+// newID is an id that no other edit has.
+func newID() (string, error) {
+	var word [16]byte
+	if _, err := rand.Read(word[:]); err != nil {
+		return "", fmt.Errorf("an id for an edit: %w", err)
+	}
+	return hex.EncodeToString(word[:]), nil
+}
+
+// append finds the end of the stream and appends an edit of a client there, whether he still waits or not. Without an
+// error it is in the stream, or may be.
+func (l *streamed) append(ctx context.Context, id string, call *Call) error {
+	if l.keeper.Folder.Broken() != nil || l.keeper.Keys.Broken() != nil {
+		return ErrJournal
+	}
+	limit, cancel := context.WithTimeout(context.Background(), appendTime)
+	defer cancel()
+	edit := replicated.Edit{ID: id, By: call.By, Line: call.Line}
+	l.expect(id, call)
+	for {
+		behind, err := l.reserve(limit, call.Known)
+		if err != nil {
+			l.forget(id)
+			return after(ctx, err)
+		}
+		sequence, err := l.stream.Append(limit, behind, edit, l.keeper.edits.give)
+		l.landed(sequence, err)
+		var moved *replicated.Moved
+		switch {
+		case err == nil && sequence <= behind:
+			l.forget(id)
+			return &appendedBefore{sequence}
+		case err == nil:
+			return nil
+		case errors.Is(err, replicated.ErrUnsure):
+			l.doubt(call, behind+1)
+			return nil
+		case !errors.As(err, &moved):
+			l.forget(id)
+			l.keeper.Log.Error("an edit can't be appended", "error", err)
+			return ErrStream
+		}
+	}
+}
+
+// reserve waits for an edit's turn, and gives the sequence behind which it is to stand. Who has it gives the turn
+// back once the edit is sent: the next one is sent for the place behind it.
+func (l *streamed) reserve(ctx context.Context, known *uint64) (uint64, error) {
+	k := l.keeper
+	waiting, cancel := k.waiting(ctx)
+	defer cancel()
+	if k.edits.take(waiting) != nil {
+		return 0, ErrBusy
+	}
+	for {
+		landed := l.landings.next()
+		behind, ok, err := l.free(waiting, known)
+		if ok {
+			return behind, nil
+		}
+		if err == nil {
+			select {
+			case <-landed:
+				continue
+			case <-waiting.Done():
+				err = ErrBusy
+			}
+		}
+		k.edits.give()
+		return 0, err
+	}
+}
+
+// free is the place of the next edit, if another one may be on its way. Where one was crossed by another front's,
+// those behind it are waited for first.
+func (l *streamed) free(ctx context.Context, known *uint64) (uint64, bool, error) {
+	if known != nil {
+		behind, err := l.behind(ctx, *known)
+		if err != nil {
+			return 0, false, err
+		}
+		l.mutex.Lock()
+		defer l.mutex.Unlock()
+		l.flying++
+		return behind, true, nil
+	}
+	l.mutex.Lock()
+	defer l.mutex.Unlock()
+	now := time.Now()
+	if l.flying >= mostFlying || l.flying > 0 && l.closed || l.flying == 0 && now.Before(l.resumes) {
+		return 0, false, nil
+	}
+	if l.flying == 0 {
+		l.began, l.closed, l.failed = now, false, false
+	}
+	if l.flying == 0 || l.tail < l.last.Load() {
+		l.tail = l.last.Load()
+	}
+	behind := l.tail
+	l.tail++
+	l.flying++
+	return behind, true, nil
+}
+
+// landed says what became of an edit that was sent. Where other fronts append, too, those that are on their way are
+// waited for before more are sent, and once all of them have their places others have as long.
+func (l *streamed) landed(sequence uint64, err error) {
+	var moved *replicated.Moved
+	if errors.As(err, &moved) {
+		sequence = moved.Last
+	}
+	l.sees(sequence)
+	l.mutex.Lock()
+	defer l.mutex.Unlock()
+	l.flying--
+	now := time.Now()
+	if err != nil {
+		l.crossed, l.failed = now, true
+	}
+	contended := now.Sub(l.crossed) < contendedTime
+	l.closed = l.closed || err != nil || contended
+	if l.flying == 0 && contended && !l.failed {
+		l.resumes = now.Add(now.Sub(l.began))
+		time.AfterFunc(now.Sub(l.began), l.landings.moved)
+	}
+	l.landings.moved()
+}
+
+// behind is the sequence behind which an edit is to stand that is to be the one behind a serial.
+func (l *streamed) behind(ctx context.Context, known uint64) (uint64, error) {
+	k := l.keeper
+	if err := k.Reach(ctx, l.last.Load()); err != nil {
+		return 0, err
+	}
+	// In this order: what is accepted between the two has another serial, or else stands behind that sequence.
+	applied := l.applied.Load()
+	if serial := k.serial.Load(); serial != known {
+		return 0, &Otherwise{Known: known, Serial: serial}
+	}
+	return applied, nil
+}
+
+// sees says that there is an edit at a sequence.
+func (l *streamed) sees(sequence uint64) {
+	for {
+		last := l.last.Load()
+		if sequence <= last || l.last.CompareAndSwap(last, sequence) {
+			return
+		}
+	}
+}
+
+// expect says that the stream may bring an edit of a client, and forget that it won't.
+func (l *streamed) expect(id string, call *Call) {
+	l.mutex.Lock()
+	defer l.mutex.Unlock()
+	l.due[id] = call
+}
+
+func (l *streamed) forget(id string) {
+	l.mutex.Lock()
+	defer l.mutex.Unlock()
+	delete(l.due, id)
+}
+
+// doubt says that an edit may stand at a sequence, and else nowhere.
+func (l *streamed) doubt(call *Call, sequence uint64) {
+	l.mutex.Lock()
+	defer l.mutex.Unlock()
+	call.doubted = sequence
+}
+
+// settleDoubts tells of edits that might have stood up to a sequence that they don't. It is for who has the mutex.
+func (l *streamed) settleDoubts(sequence uint64) {
+	for id, call := range l.due {
+		if call.doubted != 0 && call.doubted <= sequence {
+			delete(l.due, id)
+			call.finish(Reply{Err: ErrStream})
+		}
+	}
+}
+
+// leaveAppended tells a client that his edit may be applied. He waits no more.
+func (c *Call) leaveAppended() {
+	if c.answer.CompareAndSwap(unanswered, left) {
+		c.reply <- Reply{Err: ErrAppended}
+	}
+}
+
+// isAnswered says that a reply comes, or is false where nobody waits for it any more.
+func (c *Call) isAnswered() bool {
+	return c.answer.CompareAndSwap(unanswered, answered) || c.answer.Load() == answered
+}
+
+// leaveAll tells all clients whose edits the stream has brought that these may be applied: there is no program that
+// could say more soon.
+func (l *streamed) leaveAll() {
+	if l == nil {
+		return
+	}
+	l.mutex.Lock()
+	defer l.mutex.Unlock()
+	for call := range l.brought {
+		call.leaveAppended()
+	}
+}
+
+// finished says that an edit has its reply.
+func (l *streamed) finished(call *Call) {
+	l.mutex.Lock()
+	defer l.mutex.Unlock()
+	delete(l.brought, call)
+}

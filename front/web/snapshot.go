@@ -1,0 +1,34 @@
+package web
+
+import (
+	"io"
+	"net/http"
+	"strconv"
+)
+
+// snapshotType is the type of a snapshot's file.
+const snapshotType = "application/octet-stream"
+
+// snapshot gives the file of the newest snapshot to another front of the same stream.
+func (s *Server) snapshot(w *answered, r *http.Request, _ map[string]string) {
+	file, err := s.Keeper.Folder.Newest()
+	if err != nil {
+		problemFor(err).send(w)
+		return
+	}
+	if file == nil {
+		problem{Title: "no snapshot", Status: http.StatusNotFound, Detail: "none was made yet"}.send(w)
+		return
+	}
+	defer file.Close()
+	w.Header().Set("Content-Type", snapshotType)
+	if about, err := file.Stat(); err == nil {
+		w.Header().Set("Content-Length", strconv.FormatInt(about.Size(), 10))
+	}
+	if r.Method == http.MethodHead {
+		w.WriteHeader(http.StatusOK)
+		return
+	}
+	// Who has gone isn't told.
+	_, _ = io.Copy(w, file)
+}
