@@ -9,6 +9,7 @@ use Rattle.ent_report.specs.World.{World}
 use Rattle.ent_line.specs.Asked as asked
 use Rattle.ent_line.specs.Asked.{Command, command_in}
 use Rattle.ent_line.specs.Cells.{table_text}
+use Rattle.ent_line.specs.Beside.{Beside}
 use Rattle.ent_line.specs.Commands.{heard, requested, respond, run, table_told, told}
 use Rattle.ent_line.specs.History.{asked_by}
 use Rattle.ent_line.specs.Lines.{line_limit}
@@ -34,13 +35,13 @@ same_text s t h = cc
 no_refusal : (s : List ℕ) (why : Refusal) → text s ≡ refused why → ⊥
 no_refusal s why h = absurd cc
 
-run_tells : (n : ℕ) (w : World) (session : ℕ)
+run_tells : (n : Beside) (w : World) (session : ℕ)
     → run n w session (asked.question asked.table) ≡ (text (table_text (table_of w.state)), w)
 unfolding run told table_told
 run_tells n w session = refl
 
 -- what was read of a line that asks for the table is answered by its text
-heard_tells : (n : ℕ) (w : World) (session : ℕ) (o : Option Data) (s : List ℕ)
+heard_tells : (n : Beside) (w : World) (session : ℕ) (o : Option Data) (s : List ℕ)
     → option_and_then (λ d. result_ok (command_in d)) o ≡ Some (session, asked.question asked.table)
     → text s ≡ (heard n w o).0 → s ≡ table_text (table_of w.state)
 heard_tells n w session None s asks is = absurd cc

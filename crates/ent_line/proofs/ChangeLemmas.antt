@@ -71,6 +71,7 @@ form_asks P d names.Can h = of_question P _
 form_asks P d names.Who h = of_question P _
 form_asks P d names.ByRule h = of_question P _
 form_asks P d names.Notices h = of_question P (Some asked.notices)
+form_asks P d names.Changes h = of_question P _
 form_asks P d names.Work h = of_question P (Some asked.work)
 form_asks P d names.Format h = of_question P _
 form_asks P d names.Dump h = of_question P _

@@ -12,6 +12,7 @@ use Rattle.ent_table.specs.declared.edit.EditFault.{EditFault}
 use Rattle.ent_report.specs.World.{World}
 use Rattle.ent_line.specs.Asked as asked
 use Rattle.ent_line.specs.Asked.{Command, IsOfCommands, begun, command_in, command_of, form_of, in_session, name_of}
+use Rattle.ent_line.specs.Beside.{Beside}
 use Rattle.ent_line.specs.Commands.{heard, made, requested, respond, run, settled, table_marked}
 use Rattle.ent_line.specs.Edits.{edit_of}
 use Rattle.ent_line.specs.Keys.{number_at}
@@ -89,21 +90,21 @@ made_keeps w (Err (no_edit.Faulty fault)) = λ why e. refl
 made_keeps w (Err (no_edit.Unreadable fault)) = λ why e. refl
 made_keeps w (Err no_edit.Memory) = λ why e. refl
 
-run_keeps : (n : ℕ) (w : World) (x : ℕ) (c : Command) → Keeps w (run n w x c)
+run_keeps : (n : Beside) (w : World) (x : ℕ) (c : Command) → Keeps w (run n w x c)
 unfolding run table_marked
 run_keeps n w x (asked.change c) = made_keeps w (edit_of c)
 run_keeps n w x (asked.question q) = λ why e. refl
 run_keeps n w x asked.mark = λ why e. absurd (subst IsQuiet (sym e) tt)
 
-requested_keeps : (n : ℕ) (w : World) (r : Result (ℕ × Command) Refusal) → Keeps w (requested n w r)
+requested_keeps : (n : Beside) (w : World) (r : Result (ℕ × Command) Refusal) → Keeps w (requested n w r)
 requested_keeps n w (Ok x) = run_keeps n w x.0 x.1
 requested_keeps n w (Err refusal) = λ why e. refl
 
-heard_keeps : (n : ℕ) (w : World) (o : Option Data) → Keeps w (heard n w o)
+heard_keeps : (n : Beside) (w : World) (o : Option Data) → Keeps w (heard n w o)
 heard_keeps n w None = λ why e. refl
 heard_keeps n w (Some d) = requested_keeps n w (command_in d)
 
-chosen_keeps : (n : ℕ) (w : World) (long : Bool) (o : Option Data) → Keeps w (if long then (refused TooLong, w) else heard n w o)
+chosen_keeps : (n : Beside) (w : World) (long : Bool) (o : Option Data) → Keeps w (if long then (refused TooLong, w) else heard n w o)
 chosen_keeps n w true o = λ why e. refl
 chosen_keeps n w false o = heard_keeps n w o
 
@@ -115,6 +116,6 @@ refusal_keeps w v line why (n, inl is) =
 refusal_keeps w v line why (n, inr (refusal, same, short)) = same
 
 -- a line that isn't too long is answered by what was read of it
-pub short_heard : (n : ℕ) (w : World) (line : List ℕ) → length line ≤ line_limit → respond n w line ≡ heard n w (data_of line)
+pub short_heard : (n : Beside) (w : World) (line : List ℕ) → length line ≤ line_limit → respond n w line ≡ heard n w (data_of line)
 unfolding respond
 short_heard n w line short = ap (λ (b : Bool). if b then (refused TooLong, w) else heard n w (data_of line)) (le-ltb line_limit (length line) short)

@@ -2,7 +2,7 @@
 use Rattle.std.proofs.Common.{◌≡◌, ℕ, ◌<◌, ◌≤◌, ◌+◌, List, [], ◌∷◌, ◌++◌, Bool, Bor, true, false, ◌||◌, cond, get_or, length, map, take, refl, sym, ap, ◌∙◌}
 use Rattle.std.proofs.lemmas.List.{map-append, take_all, take_more}
 use Rattle.std.specs.List.{list_any}
-use Rattle.std.specs.Prelude.{Some, bytes_eq, find, is_some}
+use Rattle.std.specs.Prelude.{Some, Result, Ok, Err, IfOk, bytes_eq, find, is_some}
 use Rattle.ent_line.specs.Asked.{every_name, form_of, name_of}
 use Rattle.ent_line.specs.declared.name.Name.{Name}
 
@@ -39,3 +39,10 @@ found p f (x ∷ xs) = by (p (f x)) (found p f xs)
 pub known : (all : List (List ℕ)) → all ≡ map word_of every_name → (word : List ℕ) → list_any (bytes_eq word) all ≡ is_some (name_of word)
 unfolding name_of
 known all are word = ap (list_any (bytes_eq word)) are ∙ found (bytes_eq word) word_of every_name
+
+-- the same of words that were put together, where there was memory
+pub all_known : {A E : Type 0} (items : A → List (Bor (List ℕ))) (r : Result A E)
+    → IfOk r (λ all. map shown (items all) ≡ map word_of every_name)
+    → IfOk r (λ all. (word : List ℕ) → list_any (bytes_eq word) (map shown (items all)) ≡ is_some (name_of word))
+all_known items (Ok all) are = known (map shown (items all)) are
+all_known items (Err e) are = tt

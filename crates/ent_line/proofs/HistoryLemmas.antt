@@ -24,9 +24,10 @@ use Rattle.ent_report.specs.World.{Mark, World, mark_in, mark_of, marked_table}
 use Rattle.ent_report.specs.declared.fault.ReportFault.{ReportFault}
 use Rattle.ent_line.specs.Asked as asked
 use Rattle.ent_line.specs.Asked.{Change, Command, Question, command_in}
+use Rattle.ent_line.specs.Beside.{Beside}
 use Rattle.ent_line.specs.Commands.{attributes_told, by_rule_told, can_told, cell_or_refusal, cell_told, cells_told, changes_told, counts_told, documents_told, dump_told, faults_told, format_told, heard}
-use Rattle.ent_line.specs.Commands.{cell_explained, explanation_or_refusal, made, notices_or_refusal, report_or_refusal, request_answered, request_explained, request_or_refusal, requested, respond, response_or_refusal, run}
-use Rattle.ent_line.specs.Commands.{settled, state_told, table_marked, table_told, told, who_told, work_told}
+use Rattle.ent_line.specs.Commands.{cell_explained, changes_or_refusal, explanation_or_refusal, made, notices_or_refusal, report_or_refusal, request_answered, request_explained, request_or_refusal, requested, respond, response_or_refusal, run}
+use Rattle.ent_line.specs.Commands.{settled, since_told, state_told, table_marked, table_told, told, who_told, work_told}
 use Rattle.ent_line.specs.Dumping.{can_tell, format_text, is_version}
 use Rattle.ent_line.specs.Edits.{edit_of, unread}
 use Rattle.ent_line.specs.Headline.{IsLed}
@@ -113,6 +114,10 @@ notices_quiet : (s : State) (o : Option AnswerMap) → IsQuiet (notices_or_refus
 notices_quiet s None = tt
 notices_quiet s (Some kept) = tt
 
+changes_quiet : (s : State) (o : Option AnswerMap) → IsQuiet (changes_or_refusal s o)
+changes_quiet s None = tt
+changes_quiet s (Some table) = tt
+
 version_quiet : (b : Bool) (written : List ℕ) → IsQuiet (if b then text written else refused BadValue)
 version_quiet true written = tt
 version_quiet false written = tt
@@ -132,8 +137,8 @@ dump_quiet None s = tt
 dump_quiet (Some version) s = version_quiet (can_tell version s.held.environment) (dump_text version s)
 
 -- what is told changes nothing
-pub told_quiet : (n : ℕ) (w : World) (x : ℕ) (q : Question) → IsQuiet (told n w x q)
-unfolding told table_told cell_told counts_told can_told who_told by_rule_told changes_told request_answered work_told state_told cells_told attributes_told documents_told cell_explained request_explained faults_told
+pub told_quiet : (n : Beside) (w : World) (x : ℕ) (q : Question) → IsQuiet (told n w x q)
+unfolding told table_told cell_told counts_told can_told who_told by_rule_told changes_told since_told request_answered work_told state_told cells_told attributes_told documents_told cell_explained request_explained faults_told
 told_quiet n w x asked.table = tt
 told_quiet n w x (asked.cell y) = cell_quiet y (answer_at w.state y)
 told_quiet n w x (asked.ask d) = response_quiet w.state (asks d)
@@ -142,6 +147,7 @@ told_quiet n w x (asked.can person) = report_quiet can_text (report.can w.state 
 told_quiet n w x (asked.who action resource) = report_quiet who_text (report.who w.state action resource)
 told_quiet n w x (asked.by_rule policy rule) = tt
 told_quiet n w x asked.notices = notices_quiet w.state (marked_table w x)
+told_quiet n w x (asked.changes_since since) = changes_quiet w.state (option_and_then n.known since)
 told_quiet n w x asked.work = tt
 told_quiet n w x (asked.format version) = format_quiet version
 told_quiet n w x (asked.dump version) = dump_quiet version w.state
@@ -192,21 +198,21 @@ mark_follows i w x = record { lead = refl; mark = by (eqb_tells x i); places = l
 
 -- ---- commands, lines and runs
 
-run_follows : (i n : ℕ) (w : World) (x : ℕ) (c : Command) → Follows i w (Some (x, c)) (run n w x c)
+run_follows : (i : ℕ) (n : Beside) (w : World) (x : ℕ) (c : Command) → Follows i w (Some (x, c)) (run n w x c)
 unfolding run
 run_follows i n w x (asked.change c) = made_follows i w x c (edit_of c) refl
 run_follows i n w x (asked.question q) = quiet_follows i w (Some (x, asked.question q)) (told n w x q) (told_quiet n w x q)
 run_follows i n w x asked.mark = mark_follows i w x
 
-requested_follows : (i n : ℕ) (w : World) (r : Result (ℕ × Command) Refusal) → Follows i w (result_ok r) (requested n w r)
+requested_follows : (i : ℕ) (n : Beside) (w : World) (r : Result (ℕ × Command) Refusal) → Follows i w (result_ok r) (requested n w r)
 requested_follows i n w (Ok x) = run_follows i n w x.0 x.1
 requested_follows i n w (Err refusal) = quiet_follows i w None (refused refusal) tt
 
-heard_follows : (i n : ℕ) (w : World) (o : Option Data) → Follows i w (option_and_then (λ d. result_ok (command_in d)) o) (heard n w o)
+heard_follows : (i : ℕ) (n : Beside) (w : World) (o : Option Data) → Follows i w (option_and_then (λ d. result_ok (command_in d)) o) (heard n w o)
 heard_follows i n w None = quiet_follows i w None (refused NotJson) tt
 heard_follows i n w (Some d) = requested_follows i n w (command_in d)
 
-chosen_follows : (i n : ℕ) (w : World) (long : Bool) (o : Option Data)
+chosen_follows : (i : ℕ) (n : Beside) (w : World) (long : Bool) (o : Option Data)
     → Follows i w (option_and_then (λ d. result_ok (command_in d)) o) (if long then (refused TooLong, w) else heard n w o)
 chosen_follows i n w true o = quiet_follows i w (option_and_then (λ d. result_ok (command_in d)) o) (refused TooLong) tt
 chosen_follows i n w false o = heard_follows i n w o

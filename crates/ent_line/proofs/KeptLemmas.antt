@@ -10,6 +10,7 @@ use Rattle.ent_table.specs.declared.edit.EditFault.TheVariants as faults
 use Rattle.ent_table.specs.declared.review.Review.{Review}
 use Rattle.ent_line.specs.Answering.{reply_view}
 use Rattle.ent_line.specs.Asked.{Question}
+use Rattle.ent_line.specs.Beside.{Beside}
 use Rattle.ent_line.specs.Commands.{told}
 use Rattle.ent_line.specs.Kept.{Remembers}
 use Rattle.ent_line.specs.Refusals.{refusal_of}
@@ -38,7 +39,7 @@ module _ {A P : Type 0} (sources : A → List Source) (slots : P → List Slots)
   quiet_remembers old new (answers.text s) q kept = kept
 
   -- a question does so
-  pub told_remembers : (old new : Service A P) (n session : ℕ) (q : Question) (result : Result Reply AllocError)
+  pub told_remembers : (old new : Service A P) (n : Beside) (session : ℕ) (q : Question) (result : Result Reply AllocError)
       → Replies sources slots (λ w. (told n w session q, w)) old new result → Keeps sources slots old new → RemembersBy sources slots old new result
   told_remembers old new n session q (Ok reply) is kept =
       quiet_remembers old new (reply_view reply) (subst IsQuiet (sym (ap (λ y. y.0) is)) (told_quiet n (world_of sources slots old) session q)) kept

@@ -3,9 +3,11 @@ mod CommandLemmas
 mod CommandWords
 mod ExplainedLemmas
 mod FailedLemmas
+pub mod HandleLemmas
 mod HeadlineLemmas
 mod HistoryLemmas
 pub mod KeptLemmas
+pub mod KnownLemmas
 pub mod LineLemmas
 pub mod PieceLemmas
 mod PrintedLemmas

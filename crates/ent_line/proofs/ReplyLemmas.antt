@@ -1,6 +1,6 @@
 -- Each reply is written as one line.
 use Rattle.std.proofs.Common.{◌≡◌, ℕ, List, ◌++◌, length, Bool, true, false, Option, Some, None, Result, Ok, Err, refl, sym, ap, subst, inl, inr}
-use Rattle.std.specs.Prelude.{codes, decimal, filter, if◌then◌else◌, nat_le, nat_lt}
+use Rattle.std.specs.Prelude.{codes, decimal, filter, if◌then◌else◌, nat_le, nat_lt, option_and_then}
 use Rattle.std.specs.List.{list_all}
 use Rattle.serde_json.specs.Data as json
 use Rattle.serde_json.specs.Data.{Data}
@@ -28,9 +28,10 @@ use Rattle.ent_report.specs.declared.fault.ReportFault.{ReportFault}
 use Rattle.ent_line.specs.Asked as asked
 use Rattle.ent_line.specs.Asked.{Command, Question, command_in}
 use Rattle.ent_line.specs.Cells.{cell_data, cells_text, list_data, one_cell_text, reply_data, response_text, table_text}
+use Rattle.ent_line.specs.Beside.{Beside}
 use Rattle.ent_line.specs.Commands.{attributes_told, by_rule_told, can_told, cell_or_refusal, cell_told, cells_told, changes_told, counts_told, documents_told, dump_told, faults_told, format_told, heard}
-use Rattle.ent_line.specs.Commands.{cell_explained, explanation_or_refusal, made, notices_or_refusal, report_or_refusal, request_answered, request_explained, request_or_refusal, requested, respond, response_or_refusal, run}
-use Rattle.ent_line.specs.Commands.{settled, state_told, table_marked, table_told, told, who_told, work_told}
+use Rattle.ent_line.specs.Commands.{cell_explained, changes_or_refusal, explanation_or_refusal, made, notices_or_refusal, report_or_refusal, request_answered, request_explained, request_or_refusal, requested, respond, response_or_refusal, run}
+use Rattle.ent_line.specs.Commands.{settled, since_told, state_told, table_marked, table_told, told, who_told, work_told}
 use Rattle.ent_line.specs.Dumping.{can_tell, format_text, is_version}
 use Rattle.ent_line.specs.Edits.{edit_of}
 use Rattle.ent_line.specs.Explained.{answer_data, causes_in, causes_of, explained_data, explained_text, facts_of}
@@ -38,8 +39,8 @@ use Rattle.ent_line.specs.Lines.{IsOneLine, line_limit}
 use Rattle.ent_line.specs.Refusals.{code_of, sub_of}
 use Rattle.ent_line.specs.Replies as replies
 use Rattle.ent_line.specs.Replies.{Answer, accepted, line_of, refusal_line, refused, text}
-use Rattle.ent_line.specs.Reports.{counts_data, fault_data, notice_data, pair_data, triple_data}
-use Rattle.ent_line.specs.Reports.{by_rule_text, can_text, counts_text, faults_text, notices_text, who_text, work_text}
+use Rattle.ent_line.specs.Reports.{changes_data, counts_data, fault_data, notice_data, pair_data, triple_data}
+use Rattle.ent_line.specs.Reports.{by_rule_text, can_text, changes_text, counts_text, faults_text, notices_text, who_text, work_text}
 use Rattle.ent_line.specs.Standing.{state_data, state_text}
 use Rattle.ent_line.specs.Step.{Answers, data_of}
 use Rattle.ent_line.specs.Wanted.{are_listed, is_asked}
@@ -103,6 +104,11 @@ unfolding notices_text
 notices_printed s None = tt
 notices_printed s (Some kept) = text_printed (reply_data (codes "notices") (list_data notice_data (notices kept s)))
 
+changes_printed : (s : State) (o : Option AnswerMap) → IsPrinted (changes_or_refusal s o)
+unfolding changes_text
+changes_printed s None = tt
+changes_printed s (Some table) = text_printed (changes_data (notices table s) s.serial)
+
 work_printed : (n : ℕ) → ArePrinted (work_text n)
 unfolding work_text
 work_printed n =
@@ -138,8 +144,8 @@ unfolding cells_text
 cells_printed true cells = text_printed (only_member (codes "cells") (list_data cell_data cells))
 cells_printed false cells = tt
 
-told_printed : (n : ℕ) (w : World) (x : ℕ) (q : Question) → IsPrinted (told n w x q)
-unfolding told table_told cell_told counts_told can_told who_told by_rule_told changes_told request_answered work_told counts_text state_told state_text cells_told attributes_told attributes_text documents_told documents_text cell_explained request_explained faults_told faults_text
+told_printed : (n : Beside) (w : World) (x : ℕ) (q : Question) → IsPrinted (told n w x q)
+unfolding told table_told cell_told counts_told can_told who_told by_rule_told changes_told since_told request_answered work_told counts_text state_told state_text cells_told attributes_told attributes_text documents_told documents_text cell_explained request_explained faults_told faults_text
 told_printed n w x asked.table = table_printed (table_of w.state)
 told_printed n w x (asked.cell y) = cell_printed y (answer_at w.state y)
 told_printed n w x (asked.ask d) = response_printed w.state (asks d)
@@ -148,7 +154,8 @@ told_printed n w x (asked.can person) = report_printed can_text can_printed (rep
 told_printed n w x (asked.who action resource) = report_printed who_text who_printed (report.who w.state action resource)
 told_printed n w x (asked.by_rule policy rule) = by_rule_printed (report.by_rule w.state policy rule)
 told_printed n w x asked.notices = notices_printed w.state (marked_table w x)
-told_printed n w x asked.work = work_printed n
+told_printed n w x (asked.changes_since since) = changes_printed w.state (option_and_then n.known since)
+told_printed n w x asked.work = work_printed n.count
 told_printed n w x (asked.format version) = format_told_printed version
 told_printed n w x (asked.dump version) = dump_told_printed version w.state
 told_printed n w x asked.state = text_printed (reply_data (codes "state") (state_data w))
@@ -172,21 +179,21 @@ made_printed w (Err (no_edit.Faulty fault)) = tt
 made_printed w (Err (no_edit.Unreadable fault)) = tt
 made_printed w (Err no_edit.Memory) = tt
 
-run_printed : (n : ℕ) (w : World) (x : ℕ) (c : Command) → IsPrinted (run n w x c).0
+run_printed : (n : Beside) (w : World) (x : ℕ) (c : Command) → IsPrinted (run n w x c).0
 unfolding run table_marked
 run_printed n w x (asked.change c) = made_printed w (edit_of c)
 run_printed n w x (asked.question q) = told_printed n w x q
 run_printed n w x asked.mark = tt
 
-requested_printed : (n : ℕ) (w : World) (r : Result (ℕ × Command) Refusal) → IsPrinted (requested n w r).0
+requested_printed : (n : Beside) (w : World) (r : Result (ℕ × Command) Refusal) → IsPrinted (requested n w r).0
 requested_printed n w (Ok x) = run_printed n w x.0 x.1
 requested_printed n w (Err refusal) = tt
 
-heard_printed : (n : ℕ) (w : World) (o : Option Data) → IsPrinted (heard n w o).0
+heard_printed : (n : Beside) (w : World) (o : Option Data) → IsPrinted (heard n w o).0
 heard_printed n w None = tt
 heard_printed n w (Some d) = requested_printed n w (command_in d)
 
-chosen_printed : (n : ℕ) (w : World) (long : Bool) (o : Option Data) → IsPrinted (if long then (refused TooLong, w) else heard n w o).0
+chosen_printed : (n : Beside) (w : World) (long : Bool) (o : Option Data) → IsPrinted (if long then (refused TooLong, w) else heard n w o).0
 chosen_printed n w true o = tt
 chosen_printed n w false o = heard_printed n w o
 

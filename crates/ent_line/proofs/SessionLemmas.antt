@@ -6,6 +6,7 @@ use Rattle.std.specs.Result.{result_ok}
 use Rattle.serde_json.specs.Data.{Data}
 use Rattle.ent_report.specs.World.{Mark, World}
 use Rattle.ent_line.specs.Asked.{Command, command_in}
+use Rattle.ent_line.specs.Beside.{Beside}
 use Rattle.ent_line.specs.Commands.{changes_told, heard, notices_or_refusal, requested, run, told}
 use Rattle.ent_line.specs.History.{asked_by, history, next, seen_by}
 use Rattle.ent_line.specs.Replies.{Answer, refused}
@@ -19,7 +20,7 @@ use Rattle.ent_line.proofs.HistoryLemmas.{run_seen}
 -- ---- replies to a line that asks for notices
 
 -- what is answered where a command is there
-abbrev run_of : ℕ → World → Option (ℕ × Command) → Answer × World
+abbrev run_of : Beside → World → Option (ℕ × Command) → Answer × World
 run_of n w None = (refused Memory, w)
 run_of n w (Some x) = run n w x.0 x.1
 
@@ -28,11 +29,11 @@ abbrev IsAsked : Option (ℕ × Command) → Type 0
 IsAsked None = ⊥
 IsAsked (Some x) = Unit {0}
 
-requested_run : (n : ℕ) (w : World) (r : Result (ℕ × Command) Refusal) → IsAsked (result_ok r) → requested n w r ≡ run_of n w (result_ok r)
+requested_run : (n : Beside) (w : World) (r : Result (ℕ × Command) Refusal) → IsAsked (result_ok r) → requested n w r ≡ run_of n w (result_ok r)
 requested_run n w (Ok x) is = refl
 requested_run n w (Err refusal) is = absurd is
 
-heard_run : (n : ℕ) (w : World) (o : Option Data) → IsAsked (option_and_then (λ d. result_ok (command_in d)) o)
+heard_run : (n : Beside) (w : World) (o : Option Data) → IsAsked (option_and_then (λ d. result_ok (command_in d)) o)
     → heard n w o ≡ run_of n w (option_and_then (λ d. result_ok (command_in d)) o)
 heard_run n w None is = absurd is
 heard_run n w (Some d) is = requested_run n w (command_in d) is

@@ -55,6 +55,8 @@ pub data Question : Type 0 where
   by_rule : List ℕ → Option (List ℕ) → Question
   -- what changed since the mark
   notices : Question
+  -- what changed since a serial. A negative number is none
+  changes_since : Option ℕ → Question
   -- how many times a request was evaluated
   work : Question
   -- whether the lines behind it may have that version. A negative number is none
@@ -167,6 +169,7 @@ form_of names.Who = asks (codes "who") (codes "action" ∷ codes "resource" ∷ 
 form_of names.ByRule = asks (codes "by_rule") (codes "policy" ∷ codes "rule" ∷ []) by_rule_asked
 form_of names.Mark = record { word = codes "mark"; keys = []; asked = λ d. Some mark }
 form_of names.Notices = asks (codes "notices") [] (λ d. Some notices)
+form_of names.Changes = asks (codes "changes") (codes "since" ∷ []) (λ d. option_map changes_since (get (codes "since") d >>= number_in))
 form_of names.Work = asks (codes "work") [] (λ d. Some work)
 form_of names.Format = asks (codes "format") (codes "version" ∷ []) (λ d. option_map format (get (codes "version") d >>= number_in))
 form_of names.State = asks (codes "state") [] (λ d. Some state)
@@ -183,8 +186,8 @@ every_name =
     names.PersonAdd ∷ names.ActionAdd ∷ names.ResourceAdd ∷ names.PersonDrop ∷ names.ActionDrop ∷ names.ResourceDrop ∷
     names.PolicyAdd ∷ names.PolicyReplace ∷ names.PolicyWithdraw ∷ names.AttributeSet ∷ names.RootSet ∷ names.DaySet ∷
     names.MomentSet ∷ names.Table ∷ names.Cell ∷ names.Ask ∷ names.Counts ∷ names.Can ∷ names.Who ∷ names.ByRule ∷
-    names.Mark ∷ names.Notices ∷ names.Work ∷ names.Format ∷ names.Dump ∷ names.State ∷
-    names.Cells ∷ names.Attributes ∷ names.Documents ∷ names.Explain ∷ names.Faults ∷ []
+    names.Mark ∷ names.Notices ∷ names.Changes ∷ names.Work ∷ names.Format ∷ names.Dump ∷ names.State ∷ names.Cells ∷
+    names.Attributes ∷ names.Documents ∷ names.Explain ∷ names.Faults ∷ []
 
 -- the name that a word is
 unfoldable pub name_of : List ℕ → Option Name

@@ -1,6 +1,6 @@
 -- What each line is answered: each change, question and mark. From below: `respond` is what a line is answered, `run` a
 -- command, `told` a question. A refused line leaves the world, and so does every question.
-use Rattle.std.specs.Prelude.{ℕ, List, filter, length, nat_lt, if◌then◌else◌, Option, Some, None, Result, Ok, Err}
+use Rattle.std.specs.Prelude.{ℕ, List, filter, length, nat_lt, if◌then◌else◌, Option, Some, None, option_and_then, Result, Ok, Err}
 use Rattle.std.specs.Result.{result_ok}
 use Rattle.serde_json.specs.Data.{Data}
 use Rattle.ent_json.specs.Line.{data_of}
@@ -25,6 +25,7 @@ use Rattle.ent_report.specs.World.{World, marked, marked_table}
 use Rattle.ent_report.specs.declared.fault.ReportFault.{ReportFault}
 use Rattle.ent_line.specs.Asked as asked
 use Rattle.ent_line.specs.Asked.{Command, Question, command_in}
+use Rattle.ent_line.specs.Beside.{Beside}
 use Rattle.ent_line.specs.Cells.{cell_data, cells_text, one_cell_text, response_text, table_text}
 use Rattle.ent_line.specs.Dumping.{can_tell, format_text, is_version}
 use Rattle.ent_line.specs.Edits.{edit_of, unread}
@@ -33,7 +34,7 @@ use Rattle.ent_line.specs.Lines.{line_limit}
 use Rattle.ent_line.specs.Refusals.{refusal_of}
 use Rattle.ent_line.specs.Replies as replies
 use Rattle.ent_line.specs.Replies.{Answer, accepted, refused, text, text_or}
-use Rattle.ent_line.specs.Reports.{by_rule_text, can_text, counts_text, faults_text, notices_text, who_text, work_text}
+use Rattle.ent_line.specs.Reports.{by_rule_text, can_text, changes_text, counts_text, faults_text, notices_text, who_text, work_text}
 use Rattle.ent_line.specs.Standing.{state_text}
 use Rattle.ent_line.specs.Wanted.{Wanted, are_listed, is_asked}
 use Rattle.ent_line.specs.declared.making.NoEdit.{NoEdit}
@@ -113,6 +114,15 @@ notices_or_refusal s o = text_or NoMark (λ kept. notices_text (notices kept s))
 unfoldable pub changes_told : World → ℕ → Answer
 changes_told w session = notices_or_refusal w.state (marked_table w session)
 
+-- what changed since a table, or the refusal where none is known
+abbrev pub changes_or_refusal : State → Option AnswerMap → Answer
+changes_or_refusal s o = text_or NoMark (λ table. changes_text (notices table s) s.serial) o
+
+-- changes: the requests whose answers differ between the table at a serial and the fresh one, where that is known, with
+-- the present serial; no mark moves
+unfoldable pub since_told : (ℕ → Option AnswerMap) → State → Option ℕ → Answer
+since_told known s since = changes_or_refusal s (option_and_then known since)
+
 -- how many times a request was evaluated
 unfoldable pub work_told : ℕ → Answer
 work_told n = text (work_text n)
@@ -168,26 +178,28 @@ request_explained s d = request_or_refusal s (asks d)
 unfoldable pub faults_told : State → Answer
 faults_told s = text (faults_text (report.faults s))
 
--- what a question of a session is answered after n evaluations. Only `work` tells n
-unfoldable pub told : ℕ → World → ℕ → Question → Answer
-told n w session asked.table = table_told w.state
-told n w session (asked.cell x) = cell_told w.state x
-told n w session (asked.ask d) = request_answered w.state d
-told n w session asked.counts = counts_told w.state
-told n w session (asked.can person) = can_told w.state person
-told n w session (asked.who action resource) = who_told w.state action resource
-told n w session (asked.by_rule policy rule) = by_rule_told w.state policy rule
-told n w session asked.notices = changes_told w session
-told n w session asked.work = work_told n
-told n w session (asked.format version) = format_told version
-told n w session (asked.dump version) = dump_told version w.state
-told n w session asked.state = state_told w
-told n w session (asked.cells wanted) = cells_told w.state wanted
-told n w session (asked.attributes category entity) = attributes_told w.state category entity
-told n w session (asked.documents id) = documents_told w.state id
-told n w session (asked.explain_cell x) = cell_explained w.state x
-told n w session (asked.explain d) = request_explained w.state d
-told n w session asked.faults = faults_told w.state
+-- what a question of a session is answered. Only `work` tells how many evaluations there were, and only `changes`
+-- looks at the tables that are known
+unfoldable pub told : Beside → World → ℕ → Question → Answer
+told b w session asked.table = table_told w.state
+told b w session (asked.cell x) = cell_told w.state x
+told b w session (asked.ask d) = request_answered w.state d
+told b w session asked.counts = counts_told w.state
+told b w session (asked.can person) = can_told w.state person
+told b w session (asked.who action resource) = who_told w.state action resource
+told b w session (asked.by_rule policy rule) = by_rule_told w.state policy rule
+told b w session asked.notices = changes_told w session
+told b w session (asked.changes_since since) = since_told b.known w.state since
+told b w session asked.work = work_told b.count
+told b w session (asked.format version) = format_told version
+told b w session (asked.dump version) = dump_told version w.state
+told b w session asked.state = state_told w
+told b w session (asked.cells wanted) = cells_told w.state wanted
+told b w session (asked.attributes category entity) = attributes_told w.state category entity
+told b w session (asked.documents id) = documents_told w.state id
+told b w session (asked.explain_cell x) = cell_explained w.state x
+told b w session (asked.explain d) = request_explained w.state d
+told b w session asked.faults = faults_told w.state
 
 -- ---- commands
 
@@ -195,24 +207,24 @@ told n w session asked.faults = faults_told w.state
 unfoldable pub table_marked : World → ℕ → Answer × World
 table_marked w session = (replies.marked w.state.serial, marked w session)
 
--- what a command of a session is answered after n evaluations, and the world after it: a question leaves it
-unfoldable pub run : ℕ → World → ℕ → Command → Answer × World
-run n w session (asked.change c) = made w (edit_of c)
-run n w session (asked.question q) = (told n w session q, w)
-run n w session asked.mark = table_marked w session
+-- what a command of a session is answered, and the world after it: a question leaves it
+unfoldable pub run : Beside → World → ℕ → Command → Answer × World
+run b w session (asked.change c) = made w (edit_of c)
+run b w session (asked.question q) = (told b w session q, w)
+run b w session asked.mark = table_marked w session
 
 -- ---- lines
 
 -- a command of a session, or the refusal of what isn't one
-abbrev pub requested : ℕ → World → Result (ℕ × Command) Refusal → Answer × World
-requested n w (Ok x) = run n w x.0 x.1
-requested n w (Err refusal) = (refused refusal, w)
+abbrev pub requested : Beside → World → Result (ℕ × Command) Refusal → Answer × World
+requested b w (Ok x) = run b w x.0 x.1
+requested b w (Err refusal) = (refused refusal, w)
 
 -- what a line's JSON is answered, or the refusal of a line that is none
-abbrev pub heard : ℕ → World → Option Data → Answer × World
-heard n w None = (refused NotJson, w)
-heard n w (Some d) = requested n w (command_in d)
+abbrev pub heard : Beside → World → Option Data → Answer × World
+heard b w None = (refused NotJson, w)
+heard b w (Some d) = requested b w (command_in d)
 
--- what a line is answered after n evaluations, and the world after it: a line that is too long is refused unread
-unfoldable pub respond : ℕ → World → List ℕ → Answer × World
-respond n w line = if nat_lt line_limit (length line) then (refused TooLong, w) else heard n w (data_of line)
+-- what a line is answered, and the world after it: a line that is too long is refused unread
+unfoldable pub respond : Beside → World → List ℕ → Answer × World
+respond b w line = if nat_lt line_limit (length line) then (refused TooLong, w) else heard b w (data_of line)

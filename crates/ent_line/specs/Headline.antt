@@ -4,10 +4,10 @@
 -- A line asks for one command in one of sixteen sessions: a change, a question or a mark. Its reply rests on the world
 -- that the accepted edits and marks of the lines before it left: a state, which is what is held, the three lists and
 -- the number of edits, and for each session an optional mark. No reply rests on a kept cell: each is said by evaluating
--- requests afresh (section 7 of XACML 3.0 core). Only `work` tells how many evaluations were made so far, which is no
--- part of the world and is counted beside it (`Counts`, in `Work`). After any lines the state is where their accepted
--- edits lead, one after the other, and a session's mark is the fresh table at the place of its last mark among them
--- (`IsLed`).
+-- requests afresh (section 7 of XACML 3.0 core). Beside the world stand the number of evaluations so far, which only
+-- `work` tells, and the tables of earlier serials that are still known, at which only `changes` looks (`Known`). What
+-- becomes of both `Counts` says, in `Work`. After any lines the state is where their accepted edits lead, one after the
+-- other, and a session's mark is the fresh table at the place of its last mark among them (`IsLed`).
 --
 -- What each line is answered stands in `Commands`, once: `respond` of a line, `run` of a change or a mark, `told` of a
 -- question. This page says what is so of all of them, and of runs of lines. The last words on the page, `Headline`, are
@@ -19,19 +19,19 @@ use Rattle.ent_table.specs.Doubles.{HasNoDoubles}
 use Rattle.ent_report.specs.Differing.{NoticesAreTheDifference}
 use Rattle.ent_report.specs.World.{World}
 use Rattle.ent_line.specs.Asked.{IsOfCommands, command_in}
+use Rattle.ent_line.specs.Fresh.{KnownTablesWereFresh}
 use Rattle.ent_line.specs.History.{Lead, accepted_edits, history, next, seen_by}
 use Rattle.ent_line.specs.Lines.{IsOneLine}
 use Rattle.ent_line.specs.Replies.{Answer, line_of, refused}
 use Rattle.ent_line.specs.Runs.{Run}
 use Rattle.ent_line.specs.Serving.{Ends, ServesUntil}
 use Rattle.ent_line.specs.Sessions.{SessionsAreSeparate}
-use Rattle.ent_line.specs.Step.{Answers, data_of}
-use Rattle.ent_line.specs.Work.{Counted, Counts}
+use Rattle.ent_line.specs.Step.{Answers, Counted, Counts, data_of}
 use Rattle.ent_line.specs.declared.fault.ServeFault.{ServeFault}
 use Rattle.ent_line.specs.declared.refusal.Refusal.{Refusal}
 
--- what holds of the answers to a line in a world: `respond` (`Commands`) gives one after each number of evaluations, and
--- want of memory, which changes nothing and never stands in place of refusal 1, is the only other (`Step`)
+-- what holds of the answers to a line in a world: `respond` (`Commands`) gives one by what stands beside it, and want
+-- of memory, which changes nothing and never stands in place of refusal 1, is the only other (`Step`)
 pub record IsHeard (w : World) (line : List ℕ) : Type 0 where
   -- what asks for no command has one of three refusals: of its shape, of an unknown command, of an unknown session
   pub no_command : (d : Data) (why : Refusal) → data_of line ≡ Some d → command_in d ≡ Err why → IsOfCommands why
@@ -53,9 +53,9 @@ pub record IsLed (w : World) (lines : List (List ℕ)) (answers : List Answer) (
   -- counts each request once
   pub names : HasNoDoubles w.state.names → HasNoDoubles v.state.names
 
--- each line in each world; each run of lines, which leads so whatever is counted beside it; that notices are the
--- difference of the two tables, exactly the requests to which these have different answers; and what others mark or ask
--- has no part in a session's notices
+-- each line in each world; each run of lines, which leads so whatever stands beside the world; that notices are the
+-- difference of the two tables, exactly the requests to which these have different answers; that a known table is the
+-- fresh one which lines left at its serial; and what others mark or ask has no part in a session's notices
 pub record IsHeadline : Type 0 where
   pub lines : (w : World) (line : List ℕ) → IsHeard w line
   pub counted : (w v : Counted) (lines : List (List ℕ)) (answers : List Answer)
@@ -63,11 +63,12 @@ pub record IsHeadline : Type 0 where
   pub runs : (w v : World) (lines : List (List ℕ)) (answers : List Answer)
       → Run Answers w lines answers v → IsLed w lines answers v
   pub differences : NoticesAreTheDifference
+  pub known : KnownTablesWereFresh
   pub sessions : SessionsAreSeparate
 
 -- what a served review promises: its bytes are the replies to the lines of the bytes that it read, in order, each in
--- the world that the lines before it left and after the evaluations that they made (`Serving` has the ends that this
--- can have), and each reply is the one said above
+-- the world that the lines before it left, by what they left beside it (`Serving` has the ends that this can have), and
+-- each reply is the one said above
 pub record Headline (e : Ends Counted) (r : Result ℕ ServeFault) : Type 0 where
   pub bytes : ServesUntil Counts e r
   pub replies : IsHeadline

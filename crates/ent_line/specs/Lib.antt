@@ -1,14 +1,17 @@
 pub mod Answering
 pub mod Asked
+pub mod Beside
 pub mod Cells
 pub mod Commands
 pub mod Dumping
 pub mod Edits
 pub mod Explained
+pub mod Fresh
 pub mod Headline
 pub mod History
 pub mod Kept
 pub mod Keys
+pub mod Known
 pub mod Lines
 pub mod Pieces
 pub mod Refusals

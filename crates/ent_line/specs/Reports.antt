@@ -51,6 +51,12 @@ notice_data n = json.object (
     (json.member (codes "person") (json.string n.person)
     (json.member (codes "resource") (json.string n.resource) json.no_members)))))
 
+-- notices beside the serial of the present table
+abbrev pub changes_data : List Notice → ℕ → Data
+changes_data ns serial = json.object (
+    json.member (codes "changes") (list_data notice_data ns)
+    (json.member (codes "serial") (count_data serial) json.no_members))
+
 -- a cell by its names and its decision
 abbrev pub fault_data : Triple × Answer → Data
 fault_data c = json.object (
@@ -80,6 +86,10 @@ by_rule_text found = compact_text (reply_data (codes "by_rule") (list_data tripl
 -- the text of the reply to `notices`
 unfoldable pub notices_text : List Notice → List ℕ
 notices_text notices = compact_text (reply_data (codes "notices") (list_data notice_data notices))
+
+-- the text of the reply to `changes`
+unfoldable pub changes_text : List Notice → ℕ → List ℕ
+changes_text ns serial = compact_text (changes_data ns serial)
 
 -- the text of the reply to `faults`
 unfoldable pub faults_text : List (Triple × Answer) → List ℕ

@@ -1,8 +1,7 @@
--- The world beside the count of evaluations, which `work` tells: what a line does to both.
+-- The count of evaluations, which `work` tells: what a line does to it.
 use Rattle.std.specs.Prelude.{◌≡◌, ℕ, ◌≤◌, List, length, nat_lt, if◌then◌else◌, Option, Some, None, option_and_then, option_map, Result, Ok, Err}
 use Rattle.ent_cells.specs.Count.{raised}
 use Rattle.ent_profile.specs.Asks.{asks}
-use Rattle.ent_report.specs.World.{World}
 use Rattle.ent_table.specs.Counted.{touched_count}
 use Rattle.ent_table.specs.State.{State, answer_at}
 use Rattle.ent_table.specs.Step as table
@@ -15,7 +14,6 @@ use Rattle.ent_line.specs.History.{asked_by}
 use Rattle.ent_line.specs.Lines.{line_limit}
 use Rattle.ent_line.specs.Replies as replies
 use Rattle.ent_line.specs.Replies.{Answer}
-use Rattle.ent_line.specs.Step.{AnswersAfter}
 use Rattle.ent_line.specs.declared.making.NoEdit.{NoEdit}
 
 -- ---- how many evaluations are asked for, or that the count is to stay
@@ -55,12 +53,3 @@ abbrev pub IsWorked : Option ℕ → ℕ → ℕ → Answer → Type 0
 IsWorked None before after a = after ≡ before
 IsWorked (Some n) before after (replies.refused refusal) = (before ≤ after) × (after ≤ raised before n)
 IsWorked (Some n) before after a = after ≡ raised before n
-
--- a world beside the number of evaluations so far
-pub record Counted : Type 0 where
-  pub world : World
-  pub count : ℕ
-
--- a line is answered after the evaluations so far, and their number becomes what the answer says of it
-abbrev pub Counts : Counted → List ℕ → Answer → Counted → Type 0
-Counts w line a v = AnswersAfter w.count w.world line a v.world × IsWorked (line_work w.world.state line) w.count v.count a

@@ -66,6 +66,8 @@ pub(crate) enum Question<'a, J> {
     ByRule(&'a str, Option<&'a str>),
     /// What changed since the mark.
     Notices,
+    /// What changed since a serial. A negative number is none.
+    Changes(Option<u64>),
     /// How many times a request was evaluated.
     Work,
     /// Whether the lines behind it may have that version. A negative number is none.

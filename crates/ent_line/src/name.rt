@@ -11,7 +11,7 @@ use crate::changes::{
 };
 use crate::command::{Command, Question};
 use crate::questions::{
-    ask, attributes, by_rule, can, cell, cells, documents, dump, explain, format, who,
+    ask, attributes, by_rule, can, cell, cells, changes, documents, dump, explain, format, who,
 };
 use ent_json::JsonTree;
 use ent_table::List;
@@ -41,6 +41,7 @@ pub(crate) enum Name {
     ByRule,
     Mark,
     Notices,
+    Changes,
     Work,
     Format,
     Dump,
@@ -77,6 +78,7 @@ impl Name {
         Name::ByRule,
         Name::Mark,
         Name::Notices,
+        Name::Changes,
         Name::Work,
         Name::Format,
         Name::Dump,
@@ -124,6 +126,7 @@ impl Name {
             Name::ByRule => "by_rule",
             Name::Mark => "mark",
             Name::Notices => "notices",
+            Name::Changes => "changes",
             Name::Work => "work",
             Name::Format => "format",
             Name::Dump => "dump",
@@ -176,6 +179,7 @@ impl Name {
             Name::ByRule => object.has_only(&["do", "session", "policy", "rule"]),
             Name::Mark => object.has_only(&["do", "session"]),
             Name::Notices => object.has_only(&["do", "session"]),
+            Name::Changes => object.has_only(&["do", "session", "since"]),
             Name::Work => object.has_only(&["do", "session"]),
             Name::Format => object.has_only(&["do", "session", "version"]),
             Name::Dump => object.has_only(&["do", "session", "version"]),
@@ -225,6 +229,7 @@ impl Name {
             Name::ByRule => by_rule(object),
             Name::Mark => Some(Command::Mark),
             Name::Notices => Some(Command::Question(Question::Notices)),
+            Name::Changes => changes(object),
             Name::Work => Some(Command::Question(Question::Work)),
             Name::Format => format(object),
             Name::Dump => dump(object),

@@ -92,6 +92,15 @@ pub(crate) fn by_rule<J: JsonTree>(object: &J) -> Option<Command<'_, J>>
     Some(Command::Question(Question::ByRule(policy, rule)))
 }
 
+/// `changes`.
+pub(crate) fn changes<J: JsonTree>(object: &J) -> Option<Command<'_, J>>
+    ensures { option_map (command_view J.content) result ≡ option_map asked.question
+        (option_map asked.changes_since (option_and_then number_in (get (codes "since") (J.content object.now)))) }
+{
+    let since = number_in(object.get("since")?)?;
+    Some(Command::Question(Question::Changes(since)))
+}
+
 /// `format`.
 pub(crate) fn format<J: JsonTree>(object: &J) -> Option<Command<'_, J>>
     ensures { option_map (command_view J.content) result ≡ option_map asked.question

@@ -5,12 +5,14 @@ ghost use Rattle.std.specs.Option.{option_copied};
 ghost use Rattle.ent_line.specs.Answering.{reply_view};
 ghost use Rattle.ent_line.specs.proofs_only.Replying.{Keeps, RemembersBy, Replies, Tells};
 ghost use Rattle.ent_line.specs.Commands.{by_rule_told, can_told, changes_told, counts_told};
-ghost use Rattle.ent_line.specs.Commands.{table_marked, who_told, work_told};
-ghost use Rattle.ent_line.specs.World.{IsReady, count_of};
+ghost use Rattle.ent_line.specs.Commands.{since_told, table_marked, who_told, work_told};
+ghost use Rattle.ent_line.specs.World.{IsReady, count_of, known_of};
 
 use crate::refusal::Refusal;
 use crate::reply::Reply;
-use crate::reports::{by_rule_text, can_text, counts_text, notices_text, who_text, work_text};
+use crate::reports::{
+    by_rule_text, can_text, changes_text, counts_text, notices_text, who_text, work_text,
+};
 use crate::service::Service;
 use ent_finder::{Attributes, Policies};
 use ent_report::{NoticeFault, ReportFault};
@@ -104,6 +106,27 @@ impl<A: Attributes, P: Policies> Service<A, P> {
         match self.desk.notices(session) {
             Ok(notices) => {
                 let text = notices_text(self.alloc, notices.as_slice())?;
+                Ok(Reply::Text(text))
+            }
+            Err(NoticeFault::NoMark) => Ok(Reply::Refused(Refusal::NoMark)),
+            Err(NoticeFault::Memory) => Err(AllocError),
+        }
+    }
+
+    /// `changes`.
+    #[tactic(auto, using(crate::proofs::ReportLemmas::changed, crate::proofs::ReportLemmas::unknown), unfolding(crate::specs::Commands::since_told))]
+    pub(crate) fn changes(&self, since: Option<u64>) -> Result<Reply, AllocError>
+        requires { IsReady A.sources P.slots self.now }
+        ensures { Tells A.sources P.slots (λ w. since_told (known_of A.sources P.slots self.now) w.state since)
+            self.now result }
+    {
+        let Some(since) = since else {
+            return Ok(Reply::Refused(Refusal::NoMark));
+        };
+        match self.desk.changes_since(since) {
+            Ok(notices) => {
+                let serial = self.desk.review().serial();
+                let text = changes_text(self.alloc, notices.as_slice(), serial)?;
                 Ok(Reply::Text(text))
             }
             Err(NoticeFault::NoMark) => Ok(Reply::Refused(Refusal::NoMark)),

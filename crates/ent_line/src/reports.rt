@@ -6,8 +6,9 @@ ghost use Rattle.serde_json.specs.Data as json;
 ghost use Rattle.ent_json.specs.Text.{tokens_of};
 ghost use Rattle.ent_json.specs.proofs_only.Text.{items_tokens_of};
 ghost use Rattle.ent_line.specs.Cells.{list_data, reply_data};
-ghost use Rattle.ent_line.specs.Reports.{counts_data, decision_data, notice_data, pair_data, triple_data};
-ghost use Rattle.ent_line.specs.Reports.{by_rule_text, can_text, counts_text, notices_text, who_text, work_text};
+ghost use Rattle.ent_line.specs.Reports.{changes_data, counts_data, decision_data, notice_data, pair_data, triple_data};
+ghost use Rattle.ent_line.specs.Reports.{by_rule_text, can_text, changes_text, counts_text, notices_text};
+ghost use Rattle.ent_line.specs.Reports.{who_text, work_text};
 
 use crate::cell::decision_text;
 use ent_combine::Outcome;
@@ -191,6 +192,20 @@ fn write_notices_reply(out: &mut JsonText, notices: &[Notice]) -> Result<(), All
     out.end_object()
 }
 
+/// Writes the reply to `changes`.
+fn write_changes_reply(
+    out: &mut JsonText,
+    notices: &[Notice],
+    serial: u64,
+) -> Result<(), AllocError>
+    ensures { OnOk result (out.new ≡ out.old ++ tokens_of (changes_data notices.now serial)) }
+{
+    begin_list(out, "changes")?;
+    write_notices(out, notices)?;
+    write_count(out, "serial", serial)?;
+    out.end_object()
+}
+
 /// The text of the reply to `counts`.
 pub(crate) fn counts_text(alloc: Global, counts: Counts) -> Result<String, AllocError>
     ensures { IfOk result (λ s. string_bytes s ≡ counts_text counts) }
@@ -236,6 +251,19 @@ pub(crate) fn notices_text(alloc: Global, notices: &[Notice]) -> Result<String, 
 {
     let mut out = JsonText::with_room(alloc)?;
     write_notices_reply(&mut out, notices)?;
+    Ok(out.into_string())
+}
+
+/// The text of the reply to `changes`.
+pub(crate) fn changes_text(
+    alloc: Global,
+    notices: &[Notice],
+    serial: u64,
+) -> Result<String, AllocError>
+    ensures { IfOk result (λ s. string_bytes s ≡ changes_text notices.now serial) }
+{
+    let mut out = JsonText::with_room(alloc)?;
+    write_changes_reply(&mut out, notices, serial)?;
     Ok(out.into_string())
 }
 

@@ -14,7 +14,7 @@ ghost use Rattle.ent_line.specs.Commands.{table_told, told};
 ghost use Rattle.ent_line.specs.Edits.{edit_of, unread};
 ghost use Rattle.ent_line.specs.Step.{data_of};
 ghost use Rattle.ent_line.specs.Work.{asked_work, command_work, edit_work};
-ghost use Rattle.ent_line.specs.World.{IsReady, count_of, world_of};
+ghost use Rattle.ent_line.specs.World.{IsReady, beside_of, count_of, world_of};
 
 use crate::answering::Answering;
 use crate::cell::{one_cell_text, response_text, table_text};
@@ -63,6 +63,7 @@ impl<A: Attributes, P: Policies> Service<A, P> {
         ensures ready { IsReady A.sources P.slots result }
         ensures world { world_of A.sources P.slots result ≡ held.world_of A.sources P.slots desk }
         ensures count { count_of result ≡ desk.review.pdp.evaluations }
+        ensures from { result.desk.review.log.from ≡ desk.review.log.from }
     {
         Service {
             alloc,
@@ -175,7 +176,7 @@ impl<A: Attributes, P: Policies> Service<A, P> {
         requires session { session < 16 }
         ensures ready { IsReady A.sources P.slots self.new }
         ensures reply { Replies A.sources P.slots
-            (λ w. (told (count_of self.old) w session (question_view J.content question.entry), w))
+            (λ w. (told (beside_of A.sources P.slots self.old) w session (question_view J.content question.entry), w))
             self.old self.new result }
         ensures work { Works A.sources P.slots
             (λ s. command_work s (asked.question (question_view J.content question.entry))) self.old self.new result }
@@ -190,6 +191,7 @@ impl<A: Attributes, P: Policies> Service<A, P> {
             Question::Who(action, resource) => self.who(action, resource),
             Question::ByRule(policy, rule) => self.by_rule(policy, rule),
             Question::Notices => self.notices(session),
+            Question::Changes(since) => self.changes(since),
             Question::Work => self.work(),
             Question::Format(version) => self.format(version),
             Question::Dump(version) => self.dump(version),
@@ -216,7 +218,8 @@ impl<A: Attributes, P: Policies> Service<A, P> {
         requires session { session < 16 }
         ensures ready { IsReady A.sources P.slots self.new }
         ensures reply { Replies A.sources P.slots
-            (λ w. run (count_of self.old) w session (command_view J.content command.entry)) self.old self.new result }
+            (λ w. run (beside_of A.sources P.slots self.old) w session (command_view J.content command.entry))
+            self.old self.new result }
         ensures work { Works A.sources P.slots (λ s. command_work s (command_view J.content command.entry))
             self.old self.new result }
         ensures remembered { RemembersBy A.sources P.slots self.old self.new result }
@@ -233,7 +236,8 @@ impl<A: Attributes, P: Policies> Service<A, P> {
         requires { IsReady A.sources P.slots self.old }
         ensures ready { IsReady A.sources P.slots self.new }
         ensures reply { Replies A.sources P.slots
-            (λ w. requested (count_of self.old) w (command_in (J.content value.now))) self.old self.new result }
+            (λ w. requested (beside_of A.sources P.slots self.old) w (command_in (J.content value.now)))
+            self.old self.new result }
         ensures work { Works A.sources P.slots (λ s. asked_work s (result_ok (command_in (J.content value.now))))
             self.old self.new result }
         ensures remembered { RemembersBy A.sources P.slots self.old self.new result }
@@ -248,8 +252,8 @@ impl<A: Attributes, P: Policies> Service<A, P> {
     fn respond_over(&mut self, line: &[u8], scratch: &mut Scratch) -> Result<Reply, AllocError>
         requires { IsReady A.sources P.slots self.old }
         ensures ready { IsReady A.sources P.slots self.new }
-        ensures reply { Replies A.sources P.slots (λ w. heard (count_of self.old) w (data_of line.now))
-            self.old self.new result }
+        ensures reply { Replies A.sources P.slots
+            (λ w. heard (beside_of A.sources P.slots self.old) w (data_of line.now)) self.old self.new result }
         ensures work { Works A.sources P.slots (λ s. asked_work s (asked_by line.now)) self.old self.new result }
         ensures remembered { RemembersBy A.sources P.slots self.old self.new result }
     {
@@ -264,8 +268,8 @@ impl<A: Attributes, P: Policies> Service<A, P> {
     fn respond(&mut self, line: &[u8]) -> Result<Reply, AllocError>
         requires { IsReady A.sources P.slots self.old }
         ensures ready { IsReady A.sources P.slots self.new }
-        ensures reply { Replies A.sources P.slots (λ w. heard (count_of self.old) w (data_of line.now))
-            self.old self.new result }
+        ensures reply { Replies A.sources P.slots
+            (λ w. heard (beside_of A.sources P.slots self.old) w (data_of line.now)) self.old self.new result }
         ensures work { Works A.sources P.slots (λ s. asked_work s (asked_by line.now)) self.old self.new result }
         ensures remembered { RemembersBy A.sources P.slots self.old self.new result }
     {
@@ -280,7 +284,7 @@ impl<A: Attributes, P: Policies> Service<A, P> {
 impl<A: Attributes, P: Policies> Answering for Service<A, P> {
     ghost use Rattle.ent_line.specs.Answering.{reply_view};
     ghost use Rattle.ent_line.specs.Kept.{Remembers};
-    ghost use Rattle.ent_line.specs.Work.{Counted, Counts};
+    ghost use Rattle.ent_line.specs.Step.{Counted, Counts};
     ghost use Rattle.ent_line.specs.World.{counted_of};
     ghost use Rattle.ent_line.specs.proofs_only.LongLines.{long_lines_alike};
 

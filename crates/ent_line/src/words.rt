@@ -24,7 +24,6 @@ fn words_of(alloc: Global, names: &[Name]) -> Result<Vec<&'static str>, AllocErr
 /// # Errors
 ///
 /// `AllocError` if memory runs out.
-#[tactic(auto, using(crate::proofs::CommandWords::known), unfolding(crate::specs::Asked::name_of))]
 pub fn command_words(alloc: Global) -> Result<Vec<&'static str>, AllocError>
     ensures { IfOk result (λ all. (word : List ℕ)
         → list_any (bytes_eq word) (map (λ w. w.now) all.items) ≡ is_some (name_of word)) }

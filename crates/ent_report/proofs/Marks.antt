@@ -3,7 +3,8 @@ use Rattle.std.proofs.Common.{◌≡◌, ℕ, ◌+◌, ◌≤◌, ◌<◌, min, 
 use Rattle.std.specs.Prelude.{IfSome, option_map}
 use Rattle.std.proofs.lemmas.List.{at_drop_more}
 use Rattle.std.proofs.lemmas.List.Elements.{All-cons, All-head, All-nil, All-tail, All-weaker}
-use Rattle.ent_report.specs.Desk.{AreMarks, oldest}
+use Rattle.ent_report.specs.Desk.{AreMarks}
+use Rattle.ent_report.specs.Serials.{oldest}
 
 -- what holds of each mark
 abbrev IsMark : ℕ → ℕ → Option ℕ → Type 0

@@ -54,6 +54,10 @@ step_counts s (SetRoot root) = past s (is_last s) Limit (Ok (next (with_root s r
 step_counts s (SetDay day) = past s (is_last s) Limit (Ok (next (with_environment s (of_day day)))) refl
 step_counts s (SetMoment moment) = past s (is_last s) Limit (Ok (next (with_environment s (of_moment moment)))) refl
 
+-- where an edit is accepted
+pub serial_counts : (s t : State) (edit : Edit) → step s edit ≡ Ok t → t.serial ≡ s.serial + 1
+serial_counts s t edit leads = omega (arith, subst (CountsOne s) leads (step_counts s edit))
+
 -- whatever an edit is answered
 pub serial_rises : (s t : State) (edit : Edit) (result : Result Accepted EditFault) → IsAnswered (step s edit) s t result → s.serial ≤ t.serial
 serial_rises s t edit (Ok accepted) is = omega (arith, subst (CountsOne s) is.0 (step_counts s edit))

@@ -1,5 +1,5 @@
 -- The world of a desk, when a desk is ready, and what it answers.
-use Rattle.std.specs.Prelude.{◌≡◌, ℕ, ◌≤◌, List, [], ◌∷◌, length, map, min, Option, Some, None, option_map, IfSome, Result, Ok, Err}
+use Rattle.std.specs.Prelude.{◌≡◌, ℕ, ◌≤◌, List, length, map, Option, Some, None, option_map, IfSome, Result, Ok, Err}
 use Rattle.std.specs.List.{All}
 use Rattle.ent_finder.specs.Rows.{Source}
 use Rattle.ent_finder.specs.Slots.{Slots}
@@ -30,12 +30,6 @@ world_of sources slots desk = record {
 -- each mark is a serial whose table is known
 abbrev pub AreMarks : ℕ → ℕ → List (Option ℕ) → Type 0
 AreMarks from serial marks = All (λ mark. IfSome mark (λ n. (from ≤ n) × (n ≤ serial))) marks
-
--- the oldest mark, or the serial where there is none
-abbrev pub oldest : List (Option ℕ) → ℕ → ℕ
-oldest [] serial = serial
-oldest (None ∷ marks) serial = oldest marks serial
-oldest (Some n ∷ marks) serial = min n (oldest marks serial)
 
 -- counts that are kept are those of a state
 abbrev pub AreCountsOf : State → Option Counts → Type 0

@@ -1,6 +1,7 @@
 pub mod Desk
 pub mod Differing
 pub mod Kept
+pub mod Known
 pub mod Notices
 pub mod Reports
 pub mod Serials

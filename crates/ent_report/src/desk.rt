@@ -1,6 +1,6 @@
 //! The desk: a review, and the marks of its sessions.
 
-ghost use Rattle.std.specs.Prelude.{◌≡◌, ◌+◌, ◌-◌, ◌<◌, ◌^◌, min, IfOk, Some, option_copied};
+ghost use Rattle.std.specs.Prelude.{◌≡◌, ◌+◌, ◌-◌, ◌<◌, ◌≤◌, ◌^◌, min, IfOk, Some, option_copied};
 ghost use Rattle.ent_eval.specs.Answer.{causes, recorded};
 ghost use Rattle.ent_eval.specs.Held.{looks_in};
 ghost use Rattle.ent_table.specs.Ask.{answer_in};
@@ -8,10 +8,13 @@ ghost use Rattle.ent_table.specs.Change.{Edits, IsSure};
 ghost use Rattle.ent_table.specs.Counted.{IsCounted};
 ghost use Rattle.ent_table.specs.Review.{IsFresh, IsIdle, OnlyEvaluates, state_of};
 ghost use Rattle.ent_table.specs.Step.{step};
-ghost use Rattle.ent_report.specs.Desk.{IsNoticedIn, IsReady, KeepsWorld, Marks, Reports, oldest, world_of};
+ghost use Rattle.ent_table.specs.Tables.{table_at_serial};
+ghost use Rattle.ent_report.specs.Desk.{IsNoticed, IsNoticedIn, IsReady, KeepsWorld, Marks, Reports, world_of};
 ghost use Rattle.ent_report.specs.Kept.{Forgets, Remembers};
+ghost use Rattle.ent_report.specs.Known.{known_of};
+ghost use Rattle.ent_report.specs.Notices.{notices};
 ghost use Rattle.ent_report.specs.Reports.{by_rule, can, counts, who};
-ghost use Rattle.ent_report.specs.Serials.{mark_serials};
+ghost use Rattle.ent_report.specs.Serials.{mark_serials, oldest};
 ghost use Rattle.ent_report.specs.World.{unmarked};
 
 use crate::counts::{Counts, counted};
@@ -60,6 +63,7 @@ impl<A: Attributes, P: Policies> Desk<A, P> {
         ensures world { world_of A.sources P.slots result
             ≡ record { state = state_of A.sources P.slots review; marks = unmarked } }
         ensures evaluations { result.review.pdp.evaluations ≡ review.pdp.evaluations }
+        ensures from { result.review.log.from ≡ review.log.from }
     {
         Desk {
             alloc,
@@ -186,6 +190,18 @@ impl<A: Attributes, P: Policies> Desk<A, P> {
         Ok(serial)
     }
 
+    /// The requests whose answers differ between the table at a serial that is known and now.
+    fn difference(&self, serial: u64) -> Result<Items<Notice>, AllocError>
+        requires ready { IsReady A.sources P.slots self.now }
+        requires kept { self.now.review.log.from ≤ serial }
+        requires reached { serial ≤ (world_of A.sources P.slots self.now).state.serial }
+        ensures { IfOk result (λ ns. ns ≡ notices (table_at_serial A.sources P.slots self.now.review serial)
+            (world_of A.sources P.slots self.now).state) }
+    {
+        let changes = self.review.changes_since(serial)?;
+        notices_of(self.alloc, changes)
+    }
+
     /// The requests whose answers differ between the session's mark and now, in byte order of person, then action, then
     /// resource. The mark stays. It takes time in proportion to what edits changed since the mark, times a logarithm.
     pub fn notices(&self, session: u8) -> Result<Items<Notice>, NoticeFault>
@@ -196,8 +212,25 @@ impl<A: Attributes, P: Policies> Desk<A, P> {
         let Some(serial) = self.marks[session as usize] else {
             return Err(NoticeFault::NoMark);
         };
-        let changes = self.review.changes_since(serial)?;
-        Ok(notices_of(self.alloc, changes)?)
+        Ok(self.difference(serial)?)
+    }
+
+    /// The requests whose answers differ between the table at a serial and now, in byte order of person, then action,
+    /// then resource. Tables are known from the oldest mark on, or where there is none the present one alone. No mark
+    /// moves. It takes time in proportion to what edits changed since the serial, times a logarithm.
+    ///
+    /// # Errors
+    ///
+    /// `NoticeFault::NoMark` if the table at the serial isn't known; `NoticeFault::Memory` if memory runs out.
+    pub fn changes_since(&self, serial: u64) -> Result<Items<Notice>, NoticeFault>
+        requires { IsReady A.sources P.slots self.now }
+        ensures { IsNoticed (known_of A.sources P.slots self.now serial) (world_of A.sources P.slots self.now).state
+            result }
+    {
+        if serial < self.review.kept_from() || self.review.serial() < serial {
+            return Err(NoticeFault::NoMark);
+        }
+        Ok(self.difference(serial)?)
     }
 
     /// Counts the cells of each decision.

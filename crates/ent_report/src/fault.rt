@@ -6,7 +6,7 @@ use thiserror::Error;
 /// Why there are no notices.
 #[derive(Clone, Copy, Debug, PartialEq, Eq, Error)]
 pub enum NoticeFault {
-    /// The session has no mark.
+    /// The session has no mark, or the table at a serial isn't known.
     #[error("no mark")]
     NoMark,
     /// There is no memory left for the notices.

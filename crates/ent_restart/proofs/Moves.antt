@@ -11,6 +11,7 @@ use Rattle.ent_dump.specs.Edits.{edit_data}
 use Rattle.ent_report.specs.World.{World}
 use Rattle.ent_line.specs.Asked as asked
 use Rattle.ent_line.specs.Asked.{Change, Command, command_in}
+use Rattle.ent_line.specs.Beside.{Beside}
 use Rattle.ent_line.specs.Commands.{edited, heard, made, requested, respond, run, settled, table_marked}
 use Rattle.ent_line.specs.Edits.{edit_of}
 use Rattle.ent_line.specs.Lines.{line_limit}
@@ -27,12 +28,12 @@ use Rattle.ent_restart.proofs.Utf8Data.{IsUtf8Data}
 use Rattle.ent_restart.proofs.Utf8Edits.{asked_utf8}
 
 -- a change that makes an edit is answered as that edit
-pub run_edits : (n : ℕ) (w : World) (session : ℕ) (c : Change) (e : Edit) → edit_of c ≡ Ok e → run n w session (asked.change c) ≡ edited w e
+pub run_edits : (n : Beside) (w : World) (session : ℕ) (c : Change) (e : Edit) → edit_of c ≡ Ok e → run n w session (asked.change c) ≡ edited w e
 unfolding run
 run_edits n w session c e h = ap (made w) h
 
 -- a line that isn't too long is answered by what is read of it
-pub short_heard : (n : ℕ) (w : World) (line : List ℕ) → length line ≤ line_limit → respond n w line ≡ heard n w (data_of line)
+pub short_heard : (n : Beside) (w : World) (line : List ℕ) → length line ≤ line_limit → respond n w line ≡ heard n w (data_of line)
 unfolding respond
 short_heard n w line short = ap (λ (b : Bool). if b then (refused TooLong, w) else heard n w (data_of line)) (le-ltb line_limit (length line) short)
 
@@ -57,21 +58,21 @@ made_moves w (Err (no_edit.Faulty fault)) good = inl refl
 made_moves w (Err (no_edit.Unreadable fault)) good = inl refl
 made_moves w (Err no_edit.Memory) good = inl refl
 
-run_moves : (n : ℕ) (w : World) (d : Data) (session : ℕ) (c : Command) → IsOfLine d → command_in d ≡ Ok (session, c) → Moves w.state (run n w session c).1.state
+run_moves : (n : Beside) (w : World) (d : Data) (session : ℕ) (c : Command) → IsOfLine d → command_in d ≡ Ok (session, c) → Moves w.state (run n w session c).1.state
 unfolding run table_marked
 run_moves n w d session (asked.change c) line asks = made_moves w (edit_of c) (λ e makes. record { read = asked_read d session c e line asks makes; utf8 = asked_utf8 d session c e line asks makes })
 run_moves n w d session (asked.question q) line asks = inl refl
 run_moves n w d session asked.mark line asks = inl refl
 
-requested_moves : (n : ℕ) (w : World) (d : Data) (r : Result (ℕ × Command) Refusal) → IsOfLine d → command_in d ≡ r → Moves w.state (requested n w r).1.state
+requested_moves : (n : Beside) (w : World) (d : Data) (r : Result (ℕ × Command) Refusal) → IsOfLine d → command_in d ≡ r → Moves w.state (requested n w r).1.state
 requested_moves n w d (Ok x) line is = run_moves n w d x.0 x.1 line is
 requested_moves n w d (Err refusal) line is = inl refl
 
-heard_moves : (n : ℕ) (w : World) (o : Option Data) → ((d : Data) → o ≡ Some d → IsOfLine d) → Moves w.state (heard n w o).1.state
+heard_moves : (n : Beside) (w : World) (o : Option Data) → ((d : Data) → o ≡ Some d → IsOfLine d) → Moves w.state (heard n w o).1.state
 heard_moves n w None line = inl refl
 heard_moves n w (Some d) line = requested_moves n w d (command_in d) (line d refl) refl
 
-chosen_moves : (n : ℕ) (w : World) (long : Bool) (o : Option Data) → ((d : Data) → o ≡ Some d → IsOfLine d)
+chosen_moves : (n : Beside) (w : World) (long : Bool) (o : Option Data) → ((d : Data) → o ≡ Some d → IsOfLine d)
     → Moves w.state (if long then (refused TooLong, w) else heard n w o).1.state
 chosen_moves n w true o line = inl refl
 chosen_moves n w false o line = heard_moves n w o line

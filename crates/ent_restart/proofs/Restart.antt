@@ -30,6 +30,7 @@ use Rattle.ent_dump.specs.Edits.{edit_data}
 use Rattle.ent_report.specs.World.{World}
 use Rattle.ent_line.specs.Asked as asked
 use Rattle.ent_line.specs.Asked.{command_in, form_of, name_of}
+use Rattle.ent_line.specs.Beside.{Beside}
 use Rattle.ent_line.specs.Commands.{edited, format_told, heard, made, requested, respond, run, settled, told}
 use Rattle.ent_line.specs.Dumping.{format_text, is_moment, is_version}
 use Rattle.ent_line.specs.Edits.{edit_of}
@@ -143,13 +144,13 @@ AreLinesOf [] (line ∷ lines) = ⊥
 AreLinesOf (d ∷ ds) [] = ⊥
 
 -- the line of an edit is answered as the edit
-line_edits : (n : ℕ) (w : World) (line : List ℕ) (e : Edit) → IsLineOf (edit_data e) line → IsRead e → AllByRecursion HasFewYears (values_of e) → respond n w line ≡ edited w e
+line_edits : (n : Beside) (w : World) (line : List ℕ) (e : Edit) → IsLineOf (edit_data e) line → IsRead e → AllByRecursion HasFewYears (values_of e) → respond n w line ≡ edited w e
 line_edits n w line e is good few =
     let asks = read_back e good few in
     short_heard n w line is.short ∙ ap (heard n w) is.reads ∙ ap (requested n w) asks.1.0 ∙ run_edits n w 0 asks.0 e asks.1.1
 
 -- where memory isn't wanting, a line is answered by its step
-no_want : (w v : World) (line : List ℕ) (a : Answer) (y : Answer × World) → IsNoWant a → ((n : ℕ) → respond n w line ≡ y) → Answers w line a v → (a, v) ≡ y
+no_want : (w v : World) (line : List ℕ) (a : Answer) (y : Answer × World) → IsNoWant a → ((n : Beside) → respond n w line ≡ y) → Answers w line a v → (a, v) ≡ y
 no_want w v line a y plenty steps (n, inl is) = is ∙ steps n
 no_want w v line a y plenty steps (n, inr (refusal, same, short)) = absurd (plenty refusal)
 
@@ -216,11 +217,11 @@ format_asked : (version : ℕ) → command_in (format_data version) ≡ Ok (0, a
 unfolding command_in name_of form_of
 format_asked version = refl
 
-format_run : (n : ℕ) (w : World) (version : ℕ) → is_version version ≡ true → run n w 0 (asked.question (asked.format (Some version))) ≡ (text (format_text version), w)
+format_run : (n : Beside) (w : World) (version : ℕ) → is_version version ≡ true → run n w 0 (asked.question (asked.format (Some version))) ≡ (text (format_text version), w)
 unfolding run told format_told
 format_run n w version h = rw h refl
 
-line_formats : (n : ℕ) (w : World) (line : List ℕ) (version : ℕ) → IsLineOf (format_data version) line → is_version version ≡ true → respond n w line ≡ (text (format_text version), w)
+line_formats : (n : Beside) (w : World) (line : List ℕ) (version : ℕ) → IsLineOf (format_data version) line → is_version version ≡ true → respond n w line ≡ (text (format_text version), w)
 line_formats n w line version is h =
     short_heard n w line is.short ∙ ap (heard n w) is.reads ∙ ap (requested n w) (format_asked version) ∙ format_run n w version h
 
@@ -319,7 +320,7 @@ run_told u v (line ∷ lines) (a ∷ answers) h (mid, one, others) =
     ((told_short u mid line a h.0 one, more.0), (λ is. h.0 Memory is, more.1))
 
 -- the line of an edit is answered by what the change that it asks for makes
-line_made : (n : ℕ) (w : World) (line : List ℕ) (e : Edit) → IsLineOf (edit_data e) line → IsRead e → respond n w line ≡ made w (edit_of (asked_of e))
+line_made : (n : Beside) (w : World) (line : List ℕ) (e : Edit) → IsLineOf (edit_data e) line → IsRead e → respond n w line ≡ made w (edit_of (asked_of e))
 unfolding run
 line_made n w line e is good = short_heard n w line is.short ∙ ap (heard n w) is.reads ∙ ap (requested n w) (command_asked e good)
 

@@ -10,7 +10,7 @@ use Rattle.ent_line.specs.declared.command.Change.TheVariants.{AddName, DropName
 use Rattle.ent_line.specs.declared.command.Command as command
 use Rattle.ent_line.specs.declared.command.Command.TheVariants as commands
 use Rattle.ent_line.specs.declared.command.Question.{Question}
-use Rattle.ent_line.specs.declared.command.Question.TheVariants.{Table, Cell, Ask, Counts, Can, Who, ByRule, Notices, Work, Format, Dump, State, Cells, Attributes, Documents, ExplainCell, Explain, Faults}
+use Rattle.ent_line.specs.declared.command.Question.TheVariants.{Table, Cell, Ask, Counts, Can, Who, ByRule, Notices, Changes, Work, Format, Dump, State, Cells, Attributes, Documents, ExplainCell, Explain, Faults}
 use Rattle.ent_line.specs.declared.keys.AskedRow.{AskedRow}
 use Rattle.ent_line.specs.declared.refusal.Refusal.{Refusal}
 use Rattle.ent_line.specs.declared.wanted.Wanted.{Wanted}
@@ -58,6 +58,7 @@ question_view content (Can person) = asked.can person.now
 question_view content (Who action resource) = asked.who action.now resource.now
 question_view content (ByRule policy rule) = asked.by_rule policy.now (option_copied rule)
 question_view content Notices = asked.notices
+question_view content (Changes since) = asked.changes_since since
 question_view content Work = asked.work
 question_view content (Format version) = asked.format version
 question_view content (Dump version) = asked.dump version

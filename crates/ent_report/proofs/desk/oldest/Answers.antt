@@ -1,5 +1,5 @@
 use Rattle.std.proofs.Common.{ap, drop, ◌+◌, ◌∙◌}
-use Rattle.ent_report.specs.Desk.{oldest}
+use Rattle.ent_report.specs.Serials.{oldest}
 use Rattle.ent_report.proofs.Marks.{oldest_none, oldest_some}
 use Rattle.ent_report.proofs.desk.oldest.Goals as goal
 use Rattle.ent_report.proofs.desk.oldest.Goals.{in-Some, in_default}

@@ -1,5 +1,5 @@
 use Rattle.std.proofs.Common.{◌≡◌, drop}
-use Rattle.ent_report.specs.Desk.{oldest}
+use Rattle.ent_report.specs.Serials.{oldest}
 use Rattle.ent_report.proofs.desk.oldest.Given as goal
 
 abbrev pub invariant-loop-mark : goal.invariant-loop-mark

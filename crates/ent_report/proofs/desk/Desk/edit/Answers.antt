@@ -67,5 +67,6 @@ returns-clause-remembered g c =
     serial_rises (state d.review) (state c.edit.new.self) c.args.edit c.edit.result c.edit.ensures.step in
     record {
       from = c.forget.ensures.forgotten.from;
+      later = omega (arith, c.forget.ensures.forgotten.later, c.edit.ensures.tables.from);
       left = λ n from le. c.forget.ensures.forgotten.left n from (omega (arith, le, rises)) ∙ c.edit.ensures.tables.each n le;
     }

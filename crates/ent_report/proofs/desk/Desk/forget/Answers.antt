@@ -1,7 +1,7 @@
 use Rattle.std.proofs.Common.{◌≡◌, map, arith, sym, ap, subst, ◌∙◌}
 use Rattle.std.specs.Prelude.{option_map}
-use Rattle.ent_report.specs.Serials.{mark_at}
-use Rattle.ent_report.specs.Desk.{AreCountsOf, AreMarks, oldest}
+use Rattle.ent_report.specs.Serials.{mark_at, oldest}
+use Rattle.ent_report.specs.Desk.{AreCountsOf, AreMarks}
 use Rattle.ent_report.proofs.Marks.{forgotten_before, known_from_oldest, oldest_reached, same_tables}
 use Rattle.ent_report.proofs.desk.Desk.forget.Goals as goal
 
@@ -49,5 +49,6 @@ returns-clause-forgotten g c =
           forgotten_before old.from old.serial c.serial.result c.oldest-oldest.result new.from d.marks
           c.requires.kept old.within c.serial.ensures c.oldest-oldest.ensures c.forget_before.ensures.from
           ∙ ap (oldest d.marks) (sym (ap (λ s. s.serial) c.forget_before.ensures.state));
+      later = omega (arith, c.forget_before.ensures.from);
       left = c.forget_before.ensures.tables;
     }

@@ -27,4 +27,8 @@ returns-clause-marks g c =
     c.forget.ensures.world ∙ (λ i. record { state = state_of sources slots d.review; marks = marks i })
 
 pub returns-clause-forgotten : goal.returns-clause-forgotten
-returns-clause-forgotten g c = record { from = c.forget.ensures.forgotten.from; left = c.forget.ensures.forgotten.left }
+returns-clause-forgotten g c = record {
+  from = c.forget.ensures.forgotten.from;
+  later = c.forget.ensures.forgotten.later;
+  left = c.forget.ensures.forgotten.left;
+}
