@@ -1,0 +1,9 @@
+pub mod Places
+pub mod Names
+pub mod Fixed
+pub mod Copies
+pub mod Bounds
+pub mod Effects
+pub mod Expressions
+pub mod Warnings
+pub mod proofs_only
