@@ -19,6 +19,18 @@ const OKAY: u8 = 0;
 /// Reading or writing failed, or memory was wanting.
 const BROKEN: u8 = 2;
 
+/// The commands that there are here.
+const COMMANDS: &[&str] = &[
+    "action.add",
+    "action.drop",
+    "attr.set",
+    "person.add",
+    "person.drop",
+    "resource.add",
+    "resource.drop",
+    "root.set",
+];
+
 /// What is said of a document under the attributes that are declared.
 fn said_of_document(
     alloc: Global,
@@ -53,17 +65,46 @@ struct Known {
     attributes: Items<Attribute>,
     /// The names that are listed.
     listed: Listed,
+    /// The commands since the last heading, each with a newline behind it.
+    lines: Vec<u8>,
 }
 
-/// What is said of a command, whose name is listed from then on, if it lists one.
+/// What is said of a line behind others, in their order: of a warning too.
+fn said_last(
+    alloc: Global,
+    lines: &[&[u8]],
+    line: &[u8],
+    known: &Known,
+) -> Result<String, AllocError> {
+    let attributes = known.attributes.as_slice();
+    let faulty = faulty_lines(alloc, COMMANDS, attributes, &known.listed, lines)?;
+    match faulty.last() {
+        Some(one) if one.number == lines.len() => {
+            let told = one.told(alloc, line, COMMANDS, attributes, &known.listed)?;
+            let start = if one.fault.is_warning() {
+                "warning: "
+            } else {
+                ""
+            };
+            format!(in alloc; "{start}{told}")
+        }
+        _ => String::from_str(alloc, "all is declared"),
+    }
+}
+
+/// What is said of a command, whose name is listed from then on, if it lists one. Those since the last heading stand
+/// before it.
 fn said_of_command(alloc: Global, line: &[u8], known: &mut Known) -> Result<String, AllocError> {
     known.listed.read(alloc, &[line])?;
-    let attributes = known.attributes.as_slice();
-    let faulty = faulty_lines(alloc, attributes, &known.listed, &[line])?;
-    match faulty.first() {
-        None => String::from_str(alloc, "all is declared"),
-        Some(one) => one.told(alloc, line, attributes, &known.listed),
+    known.lines.extend_from_slice(line)?;
+    let mut lines = Vec::new(alloc);
+    for one in known.lines.as_slice().split(|byte| *byte == b'\n') {
+        lines.push(one)?;
     }
+    let told = said_last(alloc, lines.as_slice(), line, known);
+    drop(lines);
+    known.lines.push(b'\n')?;
+    told
 }
 
 /// What is said of a line.
@@ -90,6 +131,7 @@ fn tell<R: BufRead, W: Write>(alloc: Global, reader: &mut R, writer: &mut W) -> 
     let mut known = Known {
         attributes: Items::new(alloc),
         listed: Listed::new(alloc),
+        lines: Vec::new(alloc),
     };
     let mut line = Vec::new(alloc);
     for _ in 0..u64::MAX {
@@ -100,6 +142,7 @@ fn tell<R: BufRead, W: Write>(alloc: Global, reader: &mut R, writer: &mut W) -> 
             Err(_) => return false,
         }
         if line.starts_with(b"#") {
+            known.lines.clear();
             if writer.write_all(line.as_slice()).is_err() {
                 return false;
             }

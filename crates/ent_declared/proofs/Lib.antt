@@ -1,7 +1,9 @@
+mod Closing
 mod Depths
 mod Gathered
 mod Readings
 mod Names
+mod Noted
 mod Places
 mod Walks
 mod Values

@@ -1,5 +1,5 @@
 -- Names that are listed, and sets of them.
-use Rattle.std.proofs.Common.{◌≡◌, ℕ, ◌<◌, ◌≤◌, ◌+◌, List, [], ◌∷◌, ◌++◌, Bool, Bor, Option, Some, None, true, false, ◌||◌, cond, get_or, length, map, take, refl, sym, ap, ◌∙◌}
+use Rattle.std.proofs.Common.{◌≡◌, ℕ, ◌<◌, ◌+◌, List, [], ◌∷◌, ◌++◌, Bool, Bor, Option, Some, None, true, false, ◌||◌, cond, get_or, length, map, take, refl, sym, ap, ◌∙◌}
 use Rattle.std.proofs.lemmas.List.{map-append, take_more}
 use Rattle.std.proofs.lemmas.List.Elements.{filter_map-append}
 use Rattle.std.proofs.lemmas.List.Folds.{list_any-append}
@@ -11,7 +11,7 @@ use Rattle.std.specs.Ordering.{is_eq}
 use Rattle.std.specs.declared.cmp.Ordering.{Ordering}
 use Rattle.ent_values.proofs.Telling.{decided, decides, last, more, struct}
 use Rattle.ent_json.specs.Line.{data_of}
-use Rattle.ent_declared.specs.Lines.{has_name, listed_by, names_in}
+use Rattle.ent_declared.specs.Settings.{has_name, listed_by, names_in}
 use Rattle.ent_declared.specs.contracts.listed.Named as named
 use Rattle.ent_declared.specs.contracts.listed.NamedEq.TheImpl.Laws as equalities
 use Rattle.ent_declared.specs.contracts.listed.NamedOrd.TheImpl as orders

@@ -14,8 +14,8 @@ use Rattle.ent_places.specs.Parts.{Row, item, rows}
 use Rattle.ent_places.specs.Told.{Scope}
 use Rattle.ent_places.specs.declared.part.Part.{Part}
 use Rattle.ent_declared.specs.Asked.{asked, finds_one}
-use Rattle.ent_declared.specs.Compared.{has_stray, literals, designators}
-use Rattle.ent_declared.specs.Undeclared.{Finds, FindsHere, FindsIn, IsAllDeclared, IsDesignatorAt, IsLiteralOf, IsWrongBy, StandsIn, is_designator, is_undeclared, is_wrong, spot}
+use Rattle.ent_declared.specs.Compared.{literals, designators}
+use Rattle.ent_declared.specs.Undeclared.{Finds, FindsHere, FindsIn, IsAllDeclared, IsLiteralOf, IsWrongBy, StandsIn, is_designator, is_undeclared, is_wrong, spot}
 use Rattle.ent_declared.specs.proofs_only.Found.{FindsDesignator, StraysIn}
 use Rattle.ent_values.specs.declared.value.Value.{Value}
 use Rattle.ent_declared.specs.declared.attribute.Attribute.{Attribute}

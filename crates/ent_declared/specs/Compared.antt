@@ -14,7 +14,6 @@ use Rattle.ent_functions.specs.Identifiers.{function_of}
 use Rattle.ent_functions.specs.declared.function.Function.{Function}
 use Rattle.ent_functions.specs.declared.function.Function.TheVariants as functions
 use Rattle.ent_polform.specs.Values.{value_in}
-use Rattle.ent_places.specs.Places.{Spot}
 use Rattle.ent_places.specs.declared.part.Part.{Part}
 use Rattle.ent_places.specs.declared.part.Part.TheVariants as part
 use Rattle.ent_declared.specs.Asked.{asked, finds}

@@ -3,5 +3,8 @@ pub mod Asked
 pub mod Undeclared
 pub mod Saying
 pub mod Compared
+pub mod Settings
+pub mod Claims
 pub mod Lines
+pub mod Closed
 pub mod proofs_only

@@ -20,11 +20,14 @@ pub(crate) const RESOURCE: &str = "urn:oasis:names:tc:xacml:3.0:attribute-catego
 /// The category of what belongs to none of them (appendix B.2).
 pub(crate) const ENVIRONMENT: &str = "urn:oasis:names:tc:xacml:3.0:attribute-category:environment";
 
-const SUBJECT_ID: &str = "urn:oasis:names:tc:xacml:1.0:subject:subject-id";
+/// The id of who asks (appendix B.4).
+pub(crate) const SUBJECT_ID: &str = "urn:oasis:names:tc:xacml:1.0:subject:subject-id";
 
-const ACTION_ID: &str = "urn:oasis:names:tc:xacml:1.0:action:action-id";
+/// The id of what is done (appendix B.6).
+pub(crate) const ACTION_ID: &str = "urn:oasis:names:tc:xacml:1.0:action:action-id";
 
-const RESOURCE_ID: &str = "urn:oasis:names:tc:xacml:1.0:resource:resource-id";
+/// The id of what it is done with (appendix B.5).
+pub(crate) const RESOURCE_ID: &str = "urn:oasis:names:tc:xacml:1.0:resource:resource-id";
 
 const CURRENT_DATE: &str = "urn:oasis:names:tc:xacml:1.0:environment:current-date";
 

@@ -3,6 +3,8 @@
 
 mod always;
 mod attribute;
+mod claim;
+mod closed;
 mod compared;
 mod designator;
 mod fault;
@@ -14,11 +16,13 @@ mod near;
 mod nearest;
 mod reading;
 mod said;
+mod setting;
 mod stray;
 mod told;
 mod walk;
 
 pub use attribute::Attribute;
+pub use claim::{Claim, SetRow};
 pub use designator::Undeclared;
 pub use fault::{AttributeFault, AttributesFault};
 pub use lines::{FaultyLine, LineFault, faulty_lines};

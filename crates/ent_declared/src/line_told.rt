@@ -1,17 +1,21 @@
-//! What is said of a line that sets values which aren't declared so.
+//! What is said of a line with which something is wrong.
 
 ghost use Rattle.std.specs.Prelude.{◌≡◌, IfOk, string_bytes, true};
 ghost use Rattle.ent_explain.specs.Told.{is_one_line};
 
 use crate::always::{ACTION, RESOURCE};
 use crate::attribute::Attribute;
-use crate::lines::{FaultyLine, LineFault, values_at};
+use crate::claim::{Claim, SetRow};
+use crate::lines::{FaultyLine, LineFault};
 use crate::listed::{Listed, Named};
+use crate::near::Candidates;
 use crate::said::{name, said};
+use crate::setting::values_at;
 use crate::stray::value_in;
 use crate::told::{undeclared_sentence, value_sentence};
-use ent_explain::one_line;
+use ent_explain::{is_merge_marker, one_line};
 use ent_json::{JsonTree, read_json};
+use ent_values::Text;
 use json::Scratch;
 use std::alloc::{AllocError, Global};
 
@@ -88,17 +92,103 @@ fn unlisted_sentence(alloc: Global, wanted: &Named, listed: &Listed) -> Result<S
     }
 }
 
+/// The command whose word is nearest to one that there isn't, if one is near.
+fn near_command(
+    alloc: Global,
+    wanted: &str,
+    commands: &[&str],
+) -> Result<Option<Text>, AllocError> {
+    let mut candidates = Candidates::new(alloc, wanted);
+    for command in commands {
+        candidates.take(alloc, command)?;
+    }
+    candidates.nearest(alloc)
+}
+
+/// That there is no such command, and which is near.
+fn unknown_sentence(alloc: Global, wanted: &str, commands: &[&str]) -> Result<String, AllocError> {
+    let shown = said(alloc, wanted)?;
+    match near_command(alloc, wanted, commands)? {
+        None => format!(in alloc; "there is no command `{shown}`"),
+        Some(near) => {
+            let near = near.as_str();
+            format!(in alloc; "there is no command `{shown}`; did you mean `{near}`?")
+        }
+    }
+}
+
+/// That a name may not be listed.
+fn bad_name_sentence(alloc: Global, named: &Named) -> Result<String, AllocError> {
+    let word = word(named.category.as_str());
+    match named.name.as_str().len() {
+        0 => format!(in alloc; "the name of the {word} is empty; it has 1 to 256 bytes"),
+        length => {
+            format!(in alloc; "the name of the {word} has {length} bytes; it has 1 to 256 bytes")
+        }
+    }
+}
+
+/// The attribute of a row, in words.
+fn row_name(alloc: Global, row: &SetRow) -> Result<String, AllocError> {
+    let issuer = match &row.issuer {
+        None => None,
+        Some(issuer) => Some(issuer.copy(alloc)?),
+    };
+    let attribute = Attribute {
+        category: row.entity.category.copy(alloc)?,
+        id: row.attribute.copy(alloc)?,
+        datatype: row.datatype,
+        issuer,
+        values: None,
+    };
+    name(alloc, &attribute)
+}
+
+/// That a line says what the line of that number says already.
+fn again_sentence(alloc: Global, claim: &Claim, number: usize) -> Result<String, AllocError> {
+    match claim {
+        Claim::Listed(named) => {
+            let word = word(named.category.as_str());
+            let name = said(alloc, named.name.as_str())?;
+            format!(in alloc; "the {word} `{name}` is listed already, by line {number}")
+        }
+        Claim::Values(row) => {
+            let attribute = row_name(alloc, row)?;
+            let entity = said(alloc, row.entity.name.as_str())?;
+            format!(in alloc;
+                "{attribute} is set again for `{entity}`, and not what line {number} sets counts"
+            )
+        }
+    }
+}
+
+/// That a line isn't JSON.
+fn no_json_sentence(line: &[u8]) -> &'static str {
+    if is_merge_marker(line) {
+        "a merge left its marker here: of these lines two versions stand, keep one"
+    } else {
+        "it isn't JSON"
+    }
+}
+
 impl FaultyLine {
     /// What is said of the line.
     fn sentence(
         &self,
         alloc: Global,
         line: &[u8],
+        commands: &[&str],
         attributes: &[Attribute],
         listed: &Listed,
     ) -> Result<String, AllocError> {
         match &self.fault {
-            LineFault::NotJson => String::from_str(alloc, "it isn't JSON"),
+            LineFault::NotJson => String::from_str(alloc, no_json_sentence(line)),
+            LineFault::NoCommand => {
+                String::from_str(alloc, "it is no command: an object with its word at `do`")
+            }
+            LineFault::Unknown(word) => unknown_sentence(alloc, word.as_str(), commands),
+            LineFault::NoName => String::from_str(alloc, "it wants a name, a text at `name`"),
+            LineFault::BadName(named) => bad_name_sentence(alloc, named),
             LineFault::Form => String::from_str(
                 alloc,
                 "it wants a category, an entity, an attribute, a type, maybe an issuer, and values",
@@ -108,11 +198,12 @@ impl FaultyLine {
                 value_in_line(alloc, line, attribute, *number, attributes)
             }
             LineFault::Unlisted(name) => unlisted_sentence(alloc, name, listed),
+            LineFault::Again(claim, number) => again_sentence(alloc, claim, *number),
         }
     }
 
-    /// One line without its end: the number of the line, and what is wrong with it. The text of the line, the
-    /// attributes and the names are to be those by which it was found.
+    /// One line without its end: the number of the line, and what is wrong with it. The text of the line, the commands,
+    /// the attributes and the names are to be those by which it was found.
     ///
     /// # Errors
     ///
@@ -121,12 +212,13 @@ impl FaultyLine {
         &self,
         alloc: Global,
         line: &[u8],
+        commands: &[&str],
         attributes: &[Attribute],
         listed: &Listed,
     ) -> Result<String, AllocError>
         ensures { IfOk result (λ s. is_one_line (string_bytes s) ≡ true) }
     {
-        let sentence = self.sentence(alloc, line, attributes, listed)?;
+        let sentence = self.sentence(alloc, line, commands, attributes, listed)?;
         let number = self.number;
         let said = format!(in alloc; "line {number}: {sentence}")?;
         one_line(alloc, said.as_str())

@@ -1,29 +1,41 @@
-//! Lines that set values of attributes, and what is wrong with them where attributes are declared.
+//! Lines of commands, and what is wrong with them where attributes are declared.
 
-ghost use Rattle.std.specs.Prelude.{◌≡◌, IfOk, Some, codes, map, option_and_then, option_map};
+ghost use Rattle.std.specs.Prelude.{◌≡◌, ◌++◌, [], IfOk, OnOk, Some, bytes_eq, map, option_map};
 ghost use Rattle.std.specs.List.{list_any};
-ghost use Rattle.serde_json.specs.Find.{as_array, get};
 ghost use Rattle.serde_json.specs.View.{items_of};
-ghost use Rattle.ent_declared.specs.Lines.{bad_value_from, category_of, fault_of, fault_of_data};
-ghost use Rattle.ent_declared.specs.Lines.{fault_of_setting, faulty_from, is_bad_value, is_set_as, is_setting};
-ghost use Rattle.ent_declared.specs.Lines.{setting_of};
+ghost use Rattle.ent_declared.specs.Lines.{bad_value_from, fault_of, fault_of_claim, fault_of_data, fault_of_known};
+ghost use Rattle.ent_declared.specs.Lines.{fault_of_listing, fault_of_name, fault_of_set, fault_of_setting, faults_in};
+ghost use Rattle.ent_declared.specs.Lines.{is_bad_value, is_set_as, is_warning, with_fault};
+ghost use Rattle.ent_declared.specs.Settings.{setting_of};
+ghost use Rattle.ent_declared.specs.proofs_only.Claims.{claimed_in};
 ghost use Rattle.ent_declared.specs.proofs_only.Settings.{setting_view};
 
-use crate::always::{ACCESS_SUBJECT, ACTION, RESOURCE};
-use crate::attribute::{Attribute, owned};
+use crate::attribute::Attribute;
+use crate::claim::{Claim, note_line, said_by};
 use crate::known::{Known, with_sets};
-use crate::listed::{Listed, Named};
+use crate::listed::{Listed, Named, category_listed};
+use crate::setting::{Setting, is_setting, setting_of};
 use crate::stray::{is_foreign, value_in};
-use ent_json::{JsonTree, read_json, text_at, text_or_absent};
-use ent_values::{DataType, Text};
+use ent_json::{JsonTree, read_json, text_at};
+use ent_policy::is_bad_name;
+use ent_values::Text;
 use json::Scratch;
 use std::alloc::{AllocError, Global};
+use std::collections::BTreeMap;
 
 /// What is wrong with a line.
 #[derive(Drop)]
 pub enum LineFault {
     /// It isn't JSON.
     NotJson,
+    /// It is no object with a text at `do`.
+    NoCommand,
+    /// There is no command with this word.
+    Unknown(Text),
+    /// It lists a name, and has none.
+    NoName,
+    /// The name that it lists is empty or has more than 256 bytes.
+    BadName(Named),
     /// It is an `attr.set` that can't be read.
     Form,
     /// It sets values of an attribute that isn't declared.
@@ -32,6 +44,17 @@ pub enum LineFault {
     Value(Attribute, usize),
     /// It sets values for a name that isn't listed.
     Unlisted(Named),
+    /// It says what the line of that number says already.
+    Again(Claim, usize),
+}
+
+impl LineFault {
+    /// Whether the line may be meant so: it gives a row other values than a line before it.
+    pub fn is_warning(&self) -> bool
+        ensures { result ≡ is_warning self.now }
+    {
+        matches!(self, LineFault::Again(Claim::Values(_), _))
+    }
 }
 
 /// A line with a fault.
@@ -40,79 +63,6 @@ pub struct FaultyLine {
     /// The number of the line, from 1 on.
     pub number: usize,
     pub fault: LineFault,
-}
-
-/// What a line sets. Its values stay where they are in the line's JSON.
-#[derive(Drop)]
-pub(crate) struct Setting<'a, J> {
-    pub(crate) attribute: Attribute,
-    pub(crate) entity: Text,
-    pub(crate) values: &'a [J],
-}
-
-/// The URI of the category that a word or the URI itself names.
-fn category_of(word: &str) -> Option<&'static str>
-    ensures { option_map (λ s. s.now) result ≡ category_of word.now }
-{
-    if word == "AccessSubject" || word == ACCESS_SUBJECT {
-        Some(ACCESS_SUBJECT)
-    } else if word == "Action" || word == ACTION {
-        Some(ACTION)
-    } else if word == "Resource" || word == RESOURCE {
-        Some(RESOURCE)
-    } else {
-        None
-    }
-}
-
-/// The list of values of a line.
-pub(crate) fn values_at<J: JsonTree>(line: &J) -> Option<&[J]>
-    ensures { option_map (λ s. items_of (map J.content s.now)) result
-        ≡ option_and_then as_array (get (codes "values") (J.content line.now)) }
-{
-    line.get("values")?.as_array()
-}
-
-/// What a line sets, if it can be read.
-#[tactic(auto, unfolding(crate::specs::Lines::setting_of))]
-fn setting_of<'a, J: JsonTree>(
-    alloc: Global,
-    line: &'a J,
-) -> Result<Option<Setting<'a, J>>, AllocError>
-    ensures { IfOk result (λ o. option_map (setting_view J.content) o ≡ setting_of (J.content line.now)) }
-{
-    let Some(category) = text_at(line, "category").and_then(category_of) else {
-        return Ok(None);
-    };
-    let Some(entity) = text_at(line, "entity") else {
-        return Ok(None);
-    };
-    let Some(id) = text_at(line, "attribute") else {
-        return Ok(None);
-    };
-    let Some(datatype) = text_at(line, "type").and_then(DataType::from_name) else {
-        return Ok(None);
-    };
-    let Some(values) = values_at(line) else {
-        return Ok(None);
-    };
-    if !text_or_absent(line, "issuer") {
-        return Ok(None);
-    }
-    let issuer = owned(alloc, text_at(line, "issuer"))?;
-    let attribute = Attribute {
-        category: Text::from_str(alloc, category)?,
-        id: Text::from_str(alloc, id)?,
-        datatype,
-        issuer,
-        values: None,
-    };
-    let entity = Text::from_str(alloc, entity)?;
-    Ok(Some(Setting {
-        attribute,
-        entity,
-        values,
-    }))
 }
 
 /// Whether an attribute is declared as it is set: with the same issuer, or without one.
@@ -189,42 +139,125 @@ fn fault_of_setting<J: JsonTree>(
     Ok(Some(LineFault::Unlisted(name)))
 }
 
-/// Whether the command of a line is `attr.set`.
-fn is_setting<J: JsonTree>(line: &J) -> bool
-    ensures { result ≡ is_setting (J.content line.now) }
-{
-    match text_at(line, "do") {
-        None => false,
-        Some(word) => word == "attr.set",
-    }
-}
-
-/// What is wrong with the JSON of a line.
-fn fault_of_data<J: JsonTree>(
+/// What is wrong with a line of `attr.set`.
+fn fault_of_set<J: JsonTree>(
     alloc: Global,
     attributes: &[Known<'_>],
     listed: &Listed,
     line: &J,
 ) -> Result<Option<LineFault>, AllocError>
-    ensures { IfOk result (λ o. o ≡ fault_of_data attributes.now listed.now (Some (J.content line.now))) }
+    ensures { IfOk result (λ o. o ≡ fault_of_set attributes.now listed.now (setting_of (J.content line.now))) }
 {
-    if !is_setting(line) {
-        return Ok(None);
-    }
     match setting_of(alloc, line)? {
         None => Ok(Some(LineFault::Form)),
         Some(setting) => fault_of_setting(alloc, attributes, listed, setting),
     }
 }
 
-/// What is wrong with a line.
-fn fault_of(
+/// What is wrong with the name that a line lists in a category.
+fn fault_of_name(
+    alloc: Global,
+    category: &str,
+    name: Option<&str>,
+) -> Result<Option<LineFault>, AllocError>
+    ensures { IfOk result (λ o. o ≡ fault_of_name category.now (option_map (λ n. n.now) name.entry)) }
+{
+    let Some(name) = name else {
+        return Ok(Some(LineFault::NoName));
+    };
+    if !is_bad_name(name) {
+        return Ok(None);
+    }
+    Ok(Some(LineFault::BadName(Named {
+        category: Text::from_str(alloc, category)?,
+        name: Text::from_str(alloc, name)?,
+    })))
+}
+
+/// What is wrong with a line that may list a name.
+fn fault_of_listing<J: JsonTree>(alloc: Global, line: &J) -> Result<Option<LineFault>, AllocError>
+    ensures { IfOk result (λ o. o ≡ fault_of_listing (J.content line.now)) }
+{
+    match text_at(line, "do").and_then(category_listed) {
+        None => Ok(None),
+        Some(category) => fault_of_name(alloc, category, text_at(line, "name")),
+    }
+}
+
+/// What a line says, if a line before it says it too and it stands.
+fn fault_of_claim(claims: &BTreeMap<Claim, usize>, said: Option<(Claim, bool)>) -> Option<LineFault>
+    ensures { result ≡ fault_of_claim (claimed_in claims.now) said }
+{
+    match said {
+        Some((claim, true)) => match claims.get(&claim) {
+            None => None,
+            Some(number) => Some(LineFault::Again(claim, *number)),
+        },
+        _ => None,
+    }
+}
+
+/// What is wrong with a line whose command there is.
+fn fault_of_known<J: JsonTree>(
     alloc: Global,
     attributes: &[Known<'_>],
     listed: &Listed,
+    claims: &BTreeMap<Claim, usize>,
+    line: &J,
+) -> Result<Option<LineFault>, AllocError>
+    ensures { IfOk result (λ o. o
+        ≡ fault_of_known attributes.now listed.now (claimed_in claims.now) (J.content line.now)) }
+{
+    let fault = if is_setting(line) {
+        fault_of_set(alloc, attributes, listed, line)?
+    } else {
+        fault_of_listing(alloc, line)?
+    };
+    if fault.is_some() {
+        return Ok(fault);
+    }
+    Ok(fault_of_claim(claims, said_by(alloc, line)?))
+}
+
+/// Whether there is a command with this word.
+fn is_known(commands: &[&str], word: &str) -> bool
+    ensures { result ≡ list_any (bytes_eq word.now) (map (λ c. c.now) commands.now) }
+{
+    commands.iter().any(|command| word == *command)
+}
+
+/// What is wrong with the JSON of a line.
+fn fault_of_data<J: JsonTree>(
+    alloc: Global,
+    commands: &[&str],
+    attributes: &[Known<'_>],
+    listed: &Listed,
+    claims: &BTreeMap<Claim, usize>,
+    line: &J,
+) -> Result<Option<LineFault>, AllocError>
+    ensures { IfOk result (λ o. o ≡ fault_of_data (map (λ c. c.now) commands.now) attributes.now listed.now
+        (claimed_in claims.now) (Some (J.content line.now))) }
+{
+    let Some(word) = text_at(line, "do") else {
+        return Ok(Some(LineFault::NoCommand));
+    };
+    if is_known(commands, word) {
+        return fault_of_known(alloc, attributes, listed, claims, line);
+    }
+    Ok(Some(LineFault::Unknown(Text::from_str(alloc, word)?)))
+}
+
+/// What is wrong with a line.
+fn fault_of(
+    alloc: Global,
+    commands: &[&str],
+    attributes: &[Known<'_>],
+    listed: &Listed,
+    claims: &BTreeMap<Claim, usize>,
     line: &[u8],
 ) -> Result<Option<LineFault>, AllocError>
-    ensures { IfOk result (λ o. o ≡ fault_of attributes.now listed.now line.now) }
+    ensures { IfOk result (λ o. o ≡ fault_of (map (λ c. c.now) commands.now) attributes.now listed.now
+        (claimed_in claims.now) line.now) }
 {
     if line.is_empty() {
         return Ok(None);
@@ -232,44 +265,63 @@ fn fault_of(
     let mut scratch = Scratch::new(alloc);
     match read_json(alloc, line, &mut scratch)? {
         None => Ok(Some(LineFault::NotJson)),
-        Some(json) => fault_of_data(alloc, attributes, listed, &json),
+        Some(json) => fault_of_data(alloc, commands, attributes, listed, claims, &json),
     }
 }
 
-/// The lines that have a fault by attributes with their sets.
+/// Puts a line of that number last, if it has a fault.
+fn put_fault(
+    all: &mut Vec<FaultyLine>,
+    number: usize,
+    fault: Option<LineFault>,
+) -> Result<(), AllocError>
+    ensures { OnOk result (all.new.items ≡ all.old.items ++ with_fault number fault []) }
+{
+    if let Some(fault) = fault {
+        all.push(FaultyLine { number, fault })?;
+    }
+    Ok(())
+}
+
+/// The lines with which something is wrong, by attributes with their sets.
 fn faulty_among(
     alloc: Global,
+    commands: &[&str],
     attributes: &[Known<'_>],
     listed: &Listed,
     lines: &[&[u8]],
 ) -> Result<Vec<FaultyLine>, AllocError>
-    ensures { IfOk result (λ all. all.items ≡ faulty_from attributes.now listed.now 1 (map (λ l. l.now) lines.now)) }
+    ensures { IfOk result (λ all. all.items
+        ≡ faults_in (map (λ c. c.now) commands.now) attributes.now listed.now (map (λ l. l.now) lines.now)) }
 {
     let mut all = Vec::new(alloc);
+    let mut claims = BTreeMap::new(alloc);
     for (index, line) in lines.iter().enumerate() {
-        if let Some(fault) = fault_of(alloc, attributes, listed, line)? {
-            let number = index + 1;
-            all.push(FaultyLine { number, fault })?;
-        }
+        let number = index + 1;
+        let fault = fault_of(alloc, commands, attributes, listed, &claims, line)?;
+        put_fault(&mut all, number, fault)?;
+        note_line(alloc, &mut claims, number, line)?;
     }
     Ok(all)
 }
 
-/// The lines that set values which aren't declared so: those that aren't JSON; those of `attr.set` that can't be read,
-/// whose attribute isn't declared, with a value that isn't one of it, or for a name that isn't listed. An empty line
-/// counts for nothing.
+/// The lines with which something is wrong, with what is first wrong with each: it isn't JSON, it has none of these
+/// commands, a name that it lists isn't one, its `attr.set` can't be read, sets what isn't declared so or is for a name
+/// that isn't listed, or it says what a line before it says already. An empty line counts for nothing.
 ///
 /// # Errors
 ///
 /// `AllocError` if memory runs out.
 pub fn faulty_lines(
     alloc: Global,
+    commands: &[&str],
     attributes: &[Attribute],
     listed: &Listed,
     lines: &[&[u8]],
 ) -> Result<Vec<FaultyLine>, AllocError>
-    ensures { IfOk result (λ all. all.items ≡ faulty_from attributes.now listed.now 1 (map (λ l. l.now) lines.now)) }
+    ensures { IfOk result (λ all. all.items
+        ≡ faults_in (map (λ c. c.now) commands.now) attributes.now listed.now (map (λ l. l.now) lines.now)) }
 {
     let known = with_sets(alloc, attributes)?;
-    faulty_among(alloc, known.as_slice(), listed, lines)
+    faulty_among(alloc, commands, known.as_slice(), listed, lines)
 }

@@ -2,7 +2,7 @@
 
 ghost use Rattle.std.specs.Prelude.{◌≡◌, ◌||◌, false, IfOk, OnOk, map, option_map, option_and_then};
 ghost use Rattle.std.specs.Option.{option_to_list};
-ghost use Rattle.ent_declared.specs.Lines.{category_listed, has_name, listed_by, names_in};
+ghost use Rattle.ent_declared.specs.Settings.{category_listed, has_name, listed_by, names_in};
 ghost use Rattle.ent_json.specs.Line.{data_of};
 ghost use Rattle.ent_declared.specs.declared.listed.Named.{Named};
 
@@ -25,7 +25,7 @@ pub struct Named {
 /// The names of a table.
 #[derive(Drop)]
 pub struct Listed {
-    names: BTreeSet<Named>,
+    pub(crate) names: BTreeSet<Named>,
 }
 
 impl Model for Listed {
@@ -38,7 +38,7 @@ impl Model for Listed {
 }
 
 /// The category whose names a command lists.
-fn category_listed(word: &str) -> Option<&'static str>
+pub(crate) fn category_listed(word: &str) -> Option<&'static str>
     ensures { option_map (λ s. s.now) result ≡ category_listed word.now }
 {
     if word == "person.add" {
@@ -53,8 +53,8 @@ fn category_listed(word: &str) -> Option<&'static str>
 }
 
 /// The name that a line lists, if it does.
-#[tactic(auto, unfolding(crate::specs::Lines::listed_by))]
-fn listed_by<J: JsonTree>(alloc: Global, line: &J) -> Result<Option<Named>, AllocError>
+#[tactic(auto, unfolding(crate::specs::Settings::listed_by))]
+pub(crate) fn listed_by<J: JsonTree>(alloc: Global, line: &J) -> Result<Option<Named>, AllocError>
     ensures { IfOk result (λ o. o ≡ listed_by (J.content line.now)) }
 {
     let Some(category) = text_at(line, "do").and_then(category_listed) else {

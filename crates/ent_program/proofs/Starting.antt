@@ -17,7 +17,7 @@ use Rattle.ent_table.specs.Limits.{standard_limits}
 use Rattle.ent_table.specs.State.{initial}
 use Rattle.ent_table.specs.declared.limits.Limits.{Limits}
 use Rattle.ent_line.specs.Headline.{Headline, IsHeadline}
-use Rattle.ent_line.specs.Work.{Counted}
+use Rattle.ent_line.specs.Step.{Counted}
 use Rattle.ent_line.specs.declared.fault.ServeFault.{ServeFault}
 use Rattle.ent_line.specs.declared.fault.ServeFault.TheVariants.{Memory}
 use Rattle.ent_program.specs.Starting.{no_rows, state_at_start}

@@ -10,13 +10,18 @@ use Rattle.ent_line.specs.declared.fault.ServeFault.{ServeFault}
 use Rattle.ent_line.specs.declared.fault.ServeFault.TheVariants as fault
 use Rattle.ent_program.specs.declared.checking.FileFault.TheVariants.{TooLong}
 use Rattle.ent_program.specs.declared.checking.Verdict.{Verdict}
-use Rattle.ent_program.specs.Checking.{IsVerdictOn, Judges, line_of, verdict_of}
+use Rattle.ent_program.specs.Checking.{IsVerdictOn, Judges, document_in, line_of, verdict_of}
 use Rattle.ent_program.specs.declared.checking.Verdict.TheVariants.{Refused}
 
 -- a file of too many bytes is refused as such
 pub too_long : (bytes : List ℕ) → line_limit < length bytes → Refused TooLong ≡ verdict_of bytes
 unfolding verdict_of
 too_long bytes lt = rw (lt-ltb line_limit (length bytes) lt) refl
+
+-- it holds no document
+pub none_in_too_long : (bytes : List ℕ) → line_limit < length bytes → None ≡ document_in bytes
+unfolding document_in
+none_in_too_long bytes lt = rw (lt-ltb line_limit (length bytes) lt) refl
 
 front_at : (b : Bool) (all : List ℕ) → nat_lt line_limit (length all) ≡ b → verdict_of (take (line_limit + 1) all) ≡ verdict_of all
 front_at false all h = ap verdict_of (take_all (line_limit + 1) all (omega (arith, ltb-false line_limit (length all) h)))

@@ -1,6 +1,7 @@
 -- What is said of a document in a file.
-use Rattle.std.specs.Prelude.{◌≡◌, ℕ, List, [], ◌++◌, length, nat_lt, if◌then◌else◌, Bool, true, false, not, ◌&&◌, Option, Some, None, is_some, IfSome, Result, Ok, Err, codes, decimal}
+use Rattle.std.specs.Prelude.{◌≡◌, ℕ, List, [], ◌++◌, length, nat_lt, if◌then◌else◌, Bool, true, false, not, ◌&&◌, Option, Some, None, is_some, option_and_then, IfSome, Result, Ok, Err, codes, decimal}
 use Rattle.std.specs.Io.KnownBytes.{Appends}
+use Rattle.std.specs.Result.{result_ok}
 use Rattle.serde_json.specs.Data.{Data}
 use Rattle.ent_policy.specs.Fault.{sub_code}
 use Rattle.ent_policy.specs.Key.{key_of, kind_word}
@@ -35,6 +36,10 @@ data_verdict (Some d) = document_verdict (document_of d)
 -- the verdict on the bytes of a file, which are too many above a line's limit
 unfoldable pub verdict_of : List ℕ → Verdict
 verdict_of bytes = if nat_lt line_limit (length bytes) then Refused TooLong else data_verdict (data_of bytes)
+
+-- the document that the bytes of a file hold, if it may be stored
+unfoldable pub document_in : List ℕ → Option Tree
+document_in bytes = if nat_lt line_limit (length bytes) then None else option_and_then (λ d. result_ok (document_of d)) (data_of bytes)
 
 -- whether the document may be stored
 abbrev pub is_passed : Verdict → Bool

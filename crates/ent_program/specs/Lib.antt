@@ -3,6 +3,7 @@ pub mod Comparing
 pub mod Declaring
 pub mod Differing
 pub mod Listing
+pub mod Meant
 pub mod Options
 pub mod Sentences
 pub mod Sources

@@ -53,9 +53,9 @@ file_sentence (Document e) = document_sentence e
 abbrev pub undeclared_sentence : List ℕ
 undeclared_sentence = codes "review: the document asks for an attribute, or compares with a value, that isn't declared"
 
--- of lines that set what isn't declared
+-- of lines with which something is wrong
 abbrev pub line_sentence : List ℕ
-line_sentence = codes "review: a line sets values that aren't declared"
+line_sentence = codes "review: something is wrong with a line"
 
 -- where lines are named, and no attributes
 abbrev pub lines_alone_sentence : List ℕ
@@ -74,6 +74,14 @@ state_sentence = codes "review: the file of the state hasn't the lines of a dump
 -- where the folders that are named have no documents
 abbrev pub no_files_sentence : List ℕ
 no_files_sentence = codes "review: no file there ends in .json"
+
+-- where standard input is named more than once
+abbrev pub input_twice_sentence : List ℕ
+input_twice_sentence = codes "review: standard input is named more than once"
+
+-- where a file for JUnit XML can't be meant
+abbrev pub junit_sentence : List ℕ
+junit_sentence = codes "review: --junit wants a file of its own, and no --list"
 
 -- to somebody who serves lines that are typed at a terminal
 abbrev pub terminal_sentence : List ℕ

@@ -68,3 +68,10 @@ usage_status DisplayHelp = 0
 usage_status DisplayVersion = 0
 usage_status OutOfMemory = 3
 usage_status other = 1
+
+-- the same, where what is asked to be told may be lost: that is a write fault
+abbrev pub told_status : Bool → ErrorKind → ℕ
+told_status lost DisplayHelp = if lost then 2 else 0
+told_status lost DisplayVersion = if lost then 2 else 0
+told_status lost OutOfMemory = 3
+told_status lost other = 1

@@ -16,7 +16,7 @@ use Rattle.ent_junit.specs.declared.result.Case.{Case}
 use Rattle.ent_junit.specs.declared.result.Suite.{Suite}
 use Rattle.ent_line.specs.Headline.{Headline}
 use Rattle.ent_line.specs.Lines.{ended}
-use Rattle.ent_line.specs.Work.{Counted}
+use Rattle.ent_line.specs.Step.{Counted, at_start}
 use Rattle.ent_line.specs.declared.fault.ServeFault.{ServeFault}
 use Rattle.ent_line.specs.declared.fault.ServeFault.TheVariants as fault
 use Rattle.ent_program.specs.Comparing.{are_sure, behind, differences, pass, told_at}
@@ -35,7 +35,7 @@ few count = if nat_le 1 count && nat_le count 4 then count else 2
 -- these bytes are what a new service of that number of modules of each sort replies to the lines that are sent
 unfoldable pub AreRepliesTo : ℕ → List ℕ → List ℕ → Type 0
 AreRepliesTo modules sent replies = (end : Counted) × (left : Option (List ℕ)) × (number : ℕ) × Headline (record {
-  start = record { world = start_of (few modules) (few modules); count = 0 };
+  start = at_start (start_of (few modules) (few modules));
   end = end;
   unread = Some sent;
   left = left;

@@ -3,7 +3,7 @@
 ghost use Rattle.std.specs.Prelude.{◌≡◌};
 ghost use Rattle.clap.specs.Values.{kind_of};
 ghost use Rattle.ent_program.specs.Starting.{IsFew};
-ghost use Rattle.ent_program.specs.Statuses.{usage_status};
+ghost use Rattle.ent_program.specs.Statuses.{told_status};
 
 use crate::checking::{FILE_LIMIT, read_fault};
 use crate::declaring::{Declared, declared_in};
@@ -134,15 +134,24 @@ pub(crate) fn read_declared<R: Files + Input + Eprint + AllocGlobal>(
     }
 }
 
-/// Says what the command line asks to be told, or why it can't be used, and gives the exit status for it.
-fn tell_usage(rt: &(impl Print + Eprint), error: &clap::Error) -> u8
-    ensures { result ≡ usage_status (kind_of error.now) }
+/// Says what the command line asks to be told, or why it can't be used, and gives whether that is lost, as where the
+/// output is closed.
+fn tell_usage(rt: &(impl Print + Eprint), error: &clap::Error) -> bool {
+    error.kind() != ErrorKind::OutOfMemory && error.print(rt).is_err()
+}
+
+/// The exit status where the command line asks to be told something, which may be lost, or can't be used; a fault is
+/// told on standard error.
+fn told_status(rt: &impl Eprint, error: &clap::Error, is_lost: bool) -> u8
+    ensures { result ≡ told_status is_lost (kind_of error.now) }
 {
-    if error.kind() == ErrorKind::OutOfMemory {
-        return status_of(rt, ServeFault::Memory);
+    match error.kind() {
+        ErrorKind::DisplayHelp | ErrorKind::DisplayVersion if is_lost => {
+            status_of(rt, ServeFault::Write)
+        }
+        ErrorKind::OutOfMemory => status_of(rt, ServeFault::Memory),
+        _ => usage_status(error),
     }
-    let _ = error.print(rt);
-    usage_status(error)
 }
 
 /// Does what the words of the command line ask for, and gives the exit status.
@@ -174,6 +183,9 @@ pub fn run<R: Env + Files + Input + Print + Eprint + AllocGlobal>(rt: &R, is_ter
     };
     match command.try_get_matches_from(words.as_slice()) {
         Ok(matches) => act(rt, &matches, is_terminal),
-        Err(e) => tell_usage(rt, &e),
+        Err(e) => {
+            let is_lost = tell_usage(rt, &e);
+            told_status(rt, &e, is_lost)
+        }
     }
 }

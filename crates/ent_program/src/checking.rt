@@ -1,13 +1,13 @@
 //! `review check`: what is said of a policy in a file.
 
-ghost use Rattle.std.specs.Prelude.{◌≡◌, ◌+◌, Result, Some, None, IfErr, IfOk, IfSome, option_map, string_bytes, take, ◌≢◌};
+ghost use Rattle.std.specs.Prelude.{◌≡◌, ◌+◌, Result, Some, None, IfErr, IfOk, IfSome, option_map, string_bytes, take, true, ◌≢◌};
 ghost use Rattle.ent_line.specs.Lines.{line_limit};
 ghost use Rattle.ent_line.specs.Pieces.{Sends};
 ghost use Rattle.ent_line.specs.Step.{data_of};
 ghost use Rattle.ent_line.specs.declared.fault.ServeFault.TheVariants.{Write};
 ghost use Rattle.ent_program.specs.Checking.{Checks, IsToldOf, Judges, is_fine, is_passed, line_of, passed_of, refusal_line};
-ghost use Rattle.ent_program.specs.Checking.{verdict_in, verdict_of};
-ghost use Rattle.ent_program.specs.declared.checking.Verdict.TheVariants.{Passed};
+ghost use Rattle.ent_program.specs.Checking.{document_in, verdict_in, verdict_of};
+ghost use Rattle.ent_program.specs.declared.checking.Verdict.TheVariants.{Passed, Refused};
 
 use ent_explain::explain;
 use ent_json::read_json;
@@ -44,13 +44,25 @@ pub(crate) enum Verdict {
     Refused(FileFault),
 }
 
+/// What a file is read as.
+#[derive(Drop)]
+struct ReadFile {
+    /// The verdict on the file.
+    verdict: Verdict,
+    /// Its document, if that may be stored.
+    document: Option<Document>,
+}
+
 /// What a check comes to.
 #[derive(Drop)]
 pub(crate) struct Judged {
     /// The verdict on the file.
     pub(crate) verdict: Verdict,
-    /// Where in the file what is wrong, if that can be said: why it is refused, or else that an attribute isn't declared.
+    /// Where in the file what is wrong, if that can be said and was wanted: why it is refused, or else that an
+    /// attribute isn't declared.
     pub(crate) told: Option<String>,
+    /// Its document, if that may be stored.
+    pub(crate) document: Option<Document>,
 }
 
 /// The fault that the error of a reader is.
@@ -85,21 +97,36 @@ fn passed(alloc: Global, document: &Document) -> Result<Verdict, AllocError>
     Ok(Verdict::Passed(key.kind, key.id, version))
 }
 
-/// The verdict on the bytes of a file.
-#[tactic(auto, using(crate::proofs::Verdicts::too_long), unfolding(crate::specs::Checking::verdict_of))]
-fn verdict_on(alloc: Global, bytes: &[u8]) -> Result<Verdict, AllocError>
-    ensures { IfOk result (λ v. v ≡ verdict_of bytes.now) }
+/// A file that is refused.
+fn refused(fault: FileFault) -> ReadFile
+    ensures verdict { result.verdict ≡ Refused fault }
+    ensures document { result.document ≡ None }
+{
+    ReadFile {
+        verdict: Verdict::Refused(fault),
+        document: None,
+    }
+}
+
+/// What the bytes of a file are read as.
+#[tactic(auto, using(crate::proofs::Verdicts::too_long, crate::proofs::Verdicts::none_in_too_long), unfolding(crate::specs::Checking::verdict_of, crate::specs::Checking::document_in))]
+fn read_file(alloc: Global, bytes: &[u8]) -> Result<ReadFile, AllocError>
+    ensures verdict { IfOk result (λ r. r.verdict ≡ verdict_of bytes.now) }
+    ensures document { IfOk result (λ r. r.document ≡ document_in bytes.now) }
 {
     if bytes.len() > FILE_LIMIT {
-        return Ok(Verdict::Refused(FileFault::TooLong));
+        return Ok(refused(FileFault::TooLong));
     }
     let mut scratch = Scratch::new(alloc);
     let Some(json) = read_json(alloc, bytes, &mut scratch)? else {
-        return Ok(Verdict::Refused(FileFault::NotJson));
+        return Ok(refused(FileFault::NotJson));
     };
     match read_document(alloc, &json) {
-        Ok(document) => passed(alloc, &document),
-        Err(CheckFault::Doc(fault)) => Ok(Verdict::Refused(FileFault::Document(fault))),
+        Ok(document) => Ok(ReadFile {
+            verdict: passed(alloc, &document)?,
+            document: Some(document),
+        }),
+        Err(CheckFault::Doc(fault)) => Ok(refused(FileFault::Document(fault))),
         Err(CheckFault::Memory) => Err(AllocError),
     }
 }
@@ -115,14 +142,37 @@ fn told_of(alloc: Global, bytes: &[u8], verdict: &Verdict) -> Result<Option<Stri
     }
 }
 
-/// The verdict on the bytes of a file, and what is told of them.
-pub(crate) fn judge(alloc: Global, bytes: &[u8]) -> Result<Judged, AllocError>
-    ensures verdict { IfOk result (λ j. j.verdict ≡ verdict_of bytes.now) }
-    ensures told { IfOk result (λ j. IsToldOf j.verdict (data_of bytes.now) (option_map string_bytes j.told)) }
+/// The same, if that is wanted.
+fn told_if_wanted(
+    alloc: Global,
+    bytes: &[u8],
+    verdict: &Verdict,
+    wants_place: bool,
+) -> Result<Option<String>, AllocError>
+    ensures { wants_place ≡ true
+        → IfOk result (λ told. IsToldOf verdict.now (data_of bytes.now) (option_map string_bytes told)) }
 {
-    let verdict = verdict_on(alloc, bytes)?;
-    let told = told_of(alloc, bytes, &verdict)?;
-    Ok(Judged { verdict, told })
+    if wants_place {
+        told_of(alloc, bytes, verdict)
+    } else {
+        Ok(None)
+    }
+}
+
+/// The verdict on the bytes of a file, and, if it is wanted, where in them what is wrong.
+pub(crate) fn judge(alloc: Global, bytes: &[u8], wants_place: bool) -> Result<Judged, AllocError>
+    ensures verdict { IfOk result (λ j. j.verdict ≡ verdict_of bytes.now) }
+    ensures told { wants_place ≡ true
+        → IfOk result (λ j. IsToldOf j.verdict (data_of bytes.now) (option_map string_bytes j.told)) }
+    ensures document { IfOk result (λ j. j.document ≡ document_in bytes.now) }
+{
+    let ReadFile { verdict, document } = read_file(alloc, bytes)?;
+    let told = told_if_wanted(alloc, bytes, &verdict, wants_place)?;
+    Ok(Judged {
+        verdict,
+        told,
+        document,
+    })
 }
 
 /// Whether the document may be stored.
@@ -214,16 +264,19 @@ pub(crate) fn write_verdict<W: Write>(writer: &mut W, verdict: &Verdict) -> Resu
     }
 }
 
-/// Does what `check_from` does with a reader of these bytes, and gives what the check comes to.
+/// Does what `check_from` does with a reader of these bytes, and gives what the check comes to; where in them what is
+/// wrong, if it is wanted.
 pub(crate) fn check<W: Write>(
     alloc: Global,
     bytes: &[u8],
+    wants_place: bool,
     writer: &mut W,
 ) -> Result<Judged, ServeFault>
     ensures judges { Judges (Some bytes.now) (W.contents writer.old) (W.contents writer.new) (verdict_in result) }
-    ensures told { IfOk result (λ j. IsToldOf j.verdict (data_of bytes.now) (option_map string_bytes j.told)) }
+    ensures told { wants_place ≡ true
+        → IfOk result (λ j. IsToldOf j.verdict (data_of bytes.now) (option_map string_bytes j.told)) }
 {
-    let Ok(judged) = judge(alloc, bytes) else {
+    let Ok(judged) = judge(alloc, bytes, wants_place) else {
         return Err(ServeFault::Memory);
     };
     write_verdict(writer, &judged.verdict)?;
@@ -244,6 +297,6 @@ pub fn check_from<R: Read, W: Write>(
     ensures { Checks (R.remaining reader.old) (W.contents writer.old) (W.contents writer.new) result }
 {
     let bytes = read_front(alloc, reader)?;
-    let judged = check(alloc, bytes.as_slice(), writer)?;
+    let judged = check(alloc, bytes.as_slice(), false, writer)?;
     Ok(is_passed(&judged.verdict))
 }

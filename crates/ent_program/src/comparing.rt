@@ -61,7 +61,7 @@ fn meets(alloc: Global, step: &Step, reply: &[u8]) -> Result<bool, AllocError>
 }
 
 /// Whether a reply is the refusal for want of memory.
-fn is_wanting(reply: &[u8]) -> bool
+pub(crate) fn is_wanting(reply: &[u8]) -> bool
     ensures { result ≡ is_wanting reply.now }
 {
     reply == WANTING

@@ -112,7 +112,7 @@ pub(crate) fn declared_in(alloc: Global, bytes: &[u8]) -> Result<Declared, Alloc
 }
 
 /// Where a document first asks for an attribute that isn't declared, and for which.
-fn told_undeclared(
+pub(crate) fn told_undeclared(
     alloc: Global,
     bytes: &[u8],
     attributes: &[Attribute],
@@ -137,35 +137,36 @@ fn judge_declared(
     alloc: Global,
     bytes: &[u8],
     attributes: &[Attribute],
+    wants_place: bool,
 ) -> Result<Judged, AllocError>
     ensures verdict { IfOk result (λ j. j.verdict ≡ verdict_of bytes.now) }
     ensures declared { is_passed (verdict_of bytes.now) ≡ true → IfOk result (λ j. AsksDeclared attributes.now (data_of bytes.now) j) }
 {
-    let judged = judge(alloc, bytes)?;
+    let judged = judge(alloc, bytes, wants_place)?;
     if !is_passed(&judged.verdict) {
         return Ok(judged);
     }
-    match told_undeclared(alloc, bytes, attributes)? {
-        None => Ok(judged),
-        Some(told) => Ok(Judged {
-            verdict: judged.verdict,
-            told: Some(told),
-        }),
-    }
+    let told = told_undeclared(alloc, bytes, attributes)?;
+    Ok(Judged {
+        verdict: judged.verdict,
+        told,
+        document: judged.document,
+    })
 }
 
 /// Writes the line of the verdict on the bytes of a file, as `check` does, flushes the writer, and gives the verdict and
-/// what is told of it where these attributes are declared.
+/// what is told of it where these attributes are declared; where a file that is refused is wrong, if it is wanted.
 pub(crate) fn check_declared<W: Write>(
     alloc: Global,
     bytes: &[u8],
     attributes: &[Attribute],
+    wants_place: bool,
     writer: &mut W,
 ) -> Result<Judged, ServeFault>
     ensures judges { Judges (Some bytes.now) (W.contents writer.old) (W.contents writer.new) (verdict_in result) }
     ensures declared { is_passed (verdict_of bytes.now) ≡ true → IfOk result (λ j. AsksDeclared attributes.now (data_of bytes.now) j) }
 {
-    let Ok(judged) = judge_declared(alloc, bytes, attributes) else {
+    let Ok(judged) = judge_declared(alloc, bytes, attributes, wants_place) else {
         return Err(ServeFault::Memory);
     };
     write_verdict(writer, &judged.verdict)?;

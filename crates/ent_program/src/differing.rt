@@ -8,7 +8,7 @@ ghost use Rattle.ent_program.specs.Differing.{Compares, GivesTable, IsTextOf, ba
 ghost use Rattle.ent_program.specs.Differing.{says_format, table_line};
 ghost use Rattle.ent_program.specs.Testing.{asked};
 
-use crate::comparing::{compare, split_reply};
+use crate::comparing::{compare, is_wanting, split_reply};
 use crate::testing::{push_asked, replies_to};
 use ent_compare::{difference, is_nothing, shown};
 use ent_json::{read_json, text_at};
@@ -123,6 +123,9 @@ fn table_behind<W: Write>(
         return Ok(None);
     }
     let (reply, _) = split_reply(rest);
+    if is_wanting(reply) {
+        return Err(ServeFault::Memory);
+    }
     Ok(Some(Vec::from_slice(alloc, reply)?))
 }
 

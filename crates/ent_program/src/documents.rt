@@ -3,19 +3,24 @@
 use crate::acting::{read_declared, read_source, tell_place};
 use crate::asked_check::AskedCheck;
 use crate::checking::{FILE_LIMIT, Judged, Verdict, check, is_fine, is_passed};
-use crate::declaring::check_declared;
+use crate::declaring::{check_declared, told_undeclared};
 use crate::folders::paths_of;
+use crate::known::Known;
+use crate::meant::meant;
+use crate::misused::pass_check;
 use crate::sentences::{
-    file_sentence, lines_alone_sentence, no_files_sentence, state_sentence, undeclared_sentence,
+    file_sentence, lines_alone_sentence, no_files_sentence, undeclared_sentence,
 };
 use crate::set_lines::check_lines;
 use crate::sizes::line_excess;
 use crate::sources::{Shown, Source};
+use crate::state_file::read_state;
 use crate::status::{REFUSED, check_status, found_status, status_of};
 use ent_declared::Attribute;
 use ent_explain::{explain_all, warnings};
 use ent_line::ServeFault;
-use ent_together::{State, StateFault, Together};
+use ent_policy::Document;
+use ent_together::{State, Together};
 use ent_values::Items;
 use std::alloc::{AllocError, Global};
 use std::io;
@@ -102,14 +107,33 @@ fn tell_refused<R: Eprint + AllocGlobal>(
     Ok(1)
 }
 
+/// Says on standard error with which name a document compares that isn't listed, if it does, and gives how much was
+/// told.
+fn tell_unlisted<R: Eprint + AllocGlobal>(
+    rt: &R,
+    source: Source<'_>,
+    bytes: &[u8],
+    known: &Known,
+) -> Result<usize, AllocError> {
+    match told_undeclared(rt.alloc(), bytes, known.with_names())? {
+        None => Ok(0),
+        Some(told) => {
+            let _ = eprintln!(rt; "warning: {}: {told}", Shown(source.name()));
+            Ok(1)
+        }
+    }
+}
+
 /// Says on standard error what of a document may not be meant, and gives how much was told.
 fn tell_warnings<R: Eprint + AllocGlobal>(
     rt: &R,
     source: Source<'_>,
     bytes: &[u8],
+    document: &Document,
 ) -> Result<usize, AllocError> {
     let name = Shown(source.name());
-    let warnings = warnings(rt.alloc(), bytes)?;
+    let mut warnings = warnings(rt.alloc(), bytes)?;
+    warnings.append(&mut meant(rt.alloc(), bytes, document)?)?;
     for warning in &warnings {
         let _ = eprintln!(rt; "warning: {name}: {warning}");
     }
@@ -123,39 +147,60 @@ fn tell_warnings<R: Eprint + AllocGlobal>(
     Ok(warnings.len().saturating_add(1))
 }
 
+/// Writes the line of the document that these bytes are, and gives the verdict on it and what is told of it; or the
+/// exit status of a fault. Where all that is wrong is to be told, the place of the first fault isn't looked for here.
+fn judge_bytes<R: Print + Eprint + AllocGlobal>(
+    rt: &R,
+    bytes: &[u8],
+    known: &Option<Known>,
+    is_all: bool,
+) -> Result<Judged, u8> {
+    let alloc = rt.alloc();
+    let writer = &mut io::writer(rt);
+    let judged = match known {
+        None => check(alloc, bytes, !is_all, writer),
+        Some(known) => check_declared(alloc, bytes, known.declared(), !is_all, writer),
+    };
+    match judged {
+        Ok(judged) => Ok(judged),
+        Err(fault) => Err(check_status(rt, Err(fault))),
+    }
+}
+
+/// Says on standard error what of a document that was judged is wrong or may not be meant, and counts it.
+fn tell_judged<R: Eprint + AllocGlobal>(
+    rt: &R,
+    source: Source<'_>,
+    bytes: &[u8],
+    judged: &Judged,
+    known: &Option<Known>,
+    is_all: bool,
+) -> Result<Found, AllocError> {
+    let mut found = Found::nothing();
+    found.add(tell_refused(rt, source, bytes, judged, is_all)?, 0);
+    if let Some(document) = &judged.document {
+        found.add(0, tell_warnings(rt, source, bytes, document)?);
+    }
+    if let (Some(known), true) = (known, is_fine(judged)) {
+        found.add(0, tell_unlisted(rt, source, bytes, known)?);
+    }
+    Ok(found)
+}
+
 /// Judges the document of a source by itself, writes its line, and says what is wrong with it.
 fn judge_source<R: Files + Input + Print + Eprint + AllocGlobal>(
     rt: &R,
     source: Source<'_>,
-    attributes: &Option<Items<Attribute>>,
+    known: &Option<Known>,
     is_all: bool,
     found: &mut Found,
 ) -> Result<Text, u8> {
     let bytes = read_source(rt, source, FILE_LIMIT as u64 + 1)?;
-    let alloc = rt.alloc();
-    let judged = match attributes {
-        None => check(alloc, bytes.as_slice(), &mut io::writer(rt)),
-        Some(attributes) => check_declared(
-            alloc,
-            bytes.as_slice(),
-            attributes.as_slice(),
-            &mut io::writer(rt),
-        ),
-    };
-    let judged = match judged {
-        Ok(judged) => judged,
-        Err(fault) => return Err(check_status(rt, Err(fault))),
-    };
+    let judged = judge_bytes(rt, bytes.as_slice(), known, is_all)?;
     let is_document = is_passed(&judged.verdict);
-    let Ok(faults) = tell_refused(rt, source, bytes.as_slice(), &judged, is_all) else {
-        return Err(wanting(rt));
-    };
-    found.add(faults, 0);
-    if is_document {
-        let Ok(warnings) = tell_warnings(rt, source, bytes.as_slice()) else {
-            return Err(wanting(rt));
-        };
-        found.add(0, warnings);
+    match tell_judged(rt, source, bytes.as_slice(), &judged, known, is_all) {
+        Ok(more) => found.add(more.faults, more.warnings),
+        Err(_) => return Err(wanting(rt)),
     }
     Ok(Text { bytes, is_document })
 }
@@ -164,35 +209,18 @@ fn judge_source<R: Files + Input + Print + Eprint + AllocGlobal>(
 fn judge_each<R: Files + Input + Print + Eprint + AllocGlobal>(
     rt: &R,
     words: &[&str],
-    attributes: &Option<Items<Attribute>>,
+    known: &Option<Known>,
     is_all: bool,
     found: &mut Found,
 ) -> Result<Vec<Text>, u8> {
     let mut texts = Vec::new(rt.alloc());
     for &word in words {
-        let text = judge_source(rt, Source::named(word), attributes, is_all, found)?;
+        let text = judge_source(rt, Source::named(word), known, is_all, found)?;
         if texts.push(text).is_err() {
             return Err(wanting(rt));
         }
     }
     Ok(texts)
-}
-
-/// The documents and the root of a state, or the exit status where they can't be had, which is told on standard error.
-fn read_state<R: Files + Input + Eprint + AllocGlobal>(
-    rt: &R,
-    source: Source<'_>,
-    lines: &[u8],
-) -> Result<State, u8> {
-    match State::of(rt.alloc(), lines) {
-        Ok(state) => Ok(state),
-        Err(StateFault::NotDump(line)) => {
-            let _ = rt.eprintln(state_sentence());
-            let _ = eprintln!(rt; "{}: line {line}", Shown(source.name()));
-            Err(REFUSED)
-        }
-        Err(StateFault::Memory) => Err(wanting(rt)),
-    }
 }
 
 /// Says what is wrong with the documents of a state and of files together, and what may not be meant.
@@ -237,12 +265,12 @@ fn tell_count(rt: &impl Eprint, count: usize, what: &str) {
     }
 }
 
-/// The bytes of the state, if one is named.
-fn state_lines<R: Files + Input + Eprint + AllocGlobal>(
+/// The bytes of the state or of lines, if a source of them is named.
+fn bytes_of<R: Files + Input + Eprint + AllocGlobal>(
     rt: &R,
-    stored: Option<Source<'_>>,
+    source: Option<Source<'_>>,
 ) -> Result<Vec<u8>, u8> {
-    match stored {
+    match source {
         None => Ok(Vec::new(rt.alloc())),
         Some(source) => read_source(rt, source, u64::MAX),
     }
@@ -263,6 +291,23 @@ fn attributes_of<R: Files + Input + Eprint + AllocGlobal>(
     }
 }
 
+/// What documents and lines are compared with, if attributes are declared: names are listed by the lines of the state
+/// and by those beside it.
+fn known_by<R: Eprint + AllocGlobal>(
+    rt: &R,
+    attributes: Option<Items<Attribute>>,
+    state: &[u8],
+    lines: &[u8],
+) -> Result<Option<Known>, u8> {
+    let Some(attributes) = attributes else {
+        return Ok(None);
+    };
+    match Known::new(rt.alloc(), attributes, state, lines) {
+        Ok(known) => Ok(Some(known)),
+        Err(_) => Err(wanting(rt)),
+    }
+}
+
 /// These texts, borrowed.
 fn borrowed(alloc: Global, paths: &[String]) -> Result<Vec<&str>, AllocError> {
     let mut words = Vec::with_capacity(alloc, paths.len())?;
@@ -277,25 +322,39 @@ fn check_all<R: Files + Input + Print + Eprint + AllocGlobal>(
     rt: &R,
     asked: &AskedCheck<'_, '_>,
 ) -> Result<u8, u8> {
+    pass_check(rt, asked)?;
     let paths = paths_of(rt, asked.files)?;
-    let Ok(words) = borrowed(rt.alloc(), paths.as_slice()) else {
+    let Ok(words) = borrowed(rt.alloc(), paths.files.as_slice()) else {
         return Err(wanting(rt));
     };
     if words.is_empty() {
         let _ = rt.eprintln(no_files_sentence());
         return Err(REFUSED);
     }
-    check_words(rt, asked, words.as_slice())
+    let empty = tell_empty(rt, paths.empty.as_slice());
+    check_words(rt, asked, words.as_slice(), empty)
 }
 
-/// Does so with the documents that these words name.
+/// Says which folders have no document, and gives how many.
+fn tell_empty(rt: &impl Eprint, folders: &[String]) -> usize {
+    for folder in folders {
+        let name = Shown(folder.as_str());
+        let _ = eprintln!(rt; "{name}: no file there ends in .json");
+    }
+    folders.len()
+}
+
+/// Does so with the documents that these words name, beside so many folders without one.
 fn check_words<R: Files + Input + Print + Eprint + AllocGlobal>(
     rt: &R,
     asked: &AskedCheck<'_, '_>,
     words: &[&str],
+    empty: usize,
 ) -> Result<u8, u8> {
     let attributes = attributes_of(rt, asked)?;
-    let state_lines = state_lines(rt, asked.stored)?;
+    let state_lines = bytes_of(rt, asked.stored)?;
+    let lines = bytes_of(rt, asked.lines)?;
+    let known = known_by(rt, attributes, state_lines.as_slice(), lines.as_slice())?;
     let (state, name) = match asked.stored {
         None => (State::new(rt.alloc()), NO_STATE),
         Some(source) => (
@@ -303,18 +362,19 @@ fn check_words<R: Files + Input + Print + Eprint + AllocGlobal>(
             source.name(),
         ),
     };
-    let is_alone = words.len() == 1 && asked.stored.is_none();
+    let is_alone = words.len() == 1 && asked.stored.is_none() && empty == 0;
     let mut found = Found::nothing();
-    let texts = judge_each(rt, words, &attributes, asked.is_all, &mut found)?;
+    found.add(empty, 0);
+    let texts = judge_each(rt, words, &known, asked.is_all, &mut found)?;
     if !is_alone {
         let texts = texts.as_slice();
         if tell_together(rt, state, name, words, texts, &mut found).is_err() {
             return Err(wanting(rt));
         }
     }
-    if let (Some(source), Some(attributes)) = (asked.lines, &attributes) {
-        let faults = check_lines(rt, source, attributes.as_slice(), state_lines.as_slice())?;
-        found.add(faults, 0);
+    if let (Some(source), Some(known)) = (asked.lines, &known) {
+        let (faults, warnings) = check_lines(rt, source, lines.as_slice(), known)?;
+        found.add(faults, warnings);
     }
     if !is_alone || asked.lines.is_some() {
         tell_count(rt, found.faults, "fault");

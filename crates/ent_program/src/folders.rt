@@ -95,15 +95,40 @@ fn put_word<R: Files + AllocGlobal>(rt: &R, word: &str, paths: &mut Vec<String>)
     Ok(())
 }
 
-/// The words, with the paths of its documents in the place of each folder, in the order of the bytes of their names; or
-/// the exit status where a folder can't be read, which is told on standard error.
+/// What words name.
+#[derive(Drop)]
+pub(crate) struct Paths {
+    /// The words, with the paths of its documents in the place of each folder, in the order of the bytes of their
+    /// names.
+    pub(crate) files: Vec<String>,
+    /// The folders without a document.
+    pub(crate) empty: Vec<String>,
+}
+
+impl Paths {
+    /// Puts what a word names last.
+    fn put<R: Files + AllocGlobal>(&mut self, rt: &R, word: &str) -> io::Result<()> {
+        let before = self.files.len();
+        put_word(rt, word, &mut self.files)?;
+        if self.files.len() == before {
+            self.empty.push(String::from_str(rt.alloc(), word)?)?;
+        }
+        Ok(())
+    }
+}
+
+/// What the words name; or the exit status where a folder can't be read, which is told on standard error.
 pub(crate) fn paths_of<R: Files + Eprint + AllocGlobal>(
     rt: &R,
     words: &[&str],
-) -> Result<Vec<String>, u8> {
-    let mut paths = Vec::new(rt.alloc());
+) -> Result<Paths, u8> {
+    let alloc = rt.alloc();
+    let mut paths = Paths {
+        files: Vec::new(alloc),
+        empty: Vec::new(alloc),
+    };
     for &word in words {
-        if let Err(cause) = put_word(rt, word, &mut paths) {
+        if let Err(cause) = paths.put(rt, word) {
             return Err(tell_unread(rt, Source::named(word), cause));
         }
     }

@@ -13,13 +13,17 @@ mod differing;
 mod documents;
 mod folders;
 mod junit;
+mod known;
 mod listing;
+mod meant;
+mod misused;
 mod options;
 mod running;
 mod sentences;
 mod set_lines;
 mod sizes;
 mod sources;
+mod state_file;
 mod status;
 mod tabling;
 mod tally;
@@ -41,9 +45,9 @@ pub use listing::list_tests;
 pub use options::{Modules, Task, task_of};
 pub use running::serve_from;
 pub use sentences::{
-    declared_sentence, document_sentence, fault_sentence, file_sentence, line_sentence,
-    lines_alone_sentence, lines_sentence, no_files_sentence, state_sentence, terminal_sentence,
-    undeclared_sentence, words_sentence,
+    declared_sentence, document_sentence, fault_sentence, file_sentence, input_twice_sentence,
+    junit_sentence, line_sentence, lines_alone_sentence, lines_sentence, no_files_sentence,
+    state_sentence, terminal_sentence, undeclared_sentence, words_sentence,
 };
 pub use sources::Source;
 pub use status::{

@@ -3,7 +3,7 @@
 ghost use Rattle.std.specs.Prelude.{◌≡◌, ◌≤◌, ◌+◌, ◌++◌, ◌∷◌, [], IfOk, OnOk, map, vec_len};
 ghost use Rattle.std.specs.FinMap.{empty};
 ghost use Rattle.ent_line.specs.Headline.{Headline};
-ghost use Rattle.ent_line.specs.Work.{Counted};
+ghost use Rattle.ent_line.specs.Step.{Counted, at_start};
 ghost use Rattle.ent_program.specs.Starting.{IsFew, categories, no_rows, start_of};
 
 use crate::options::Modules;
@@ -68,7 +68,7 @@ pub fn serve_from<R: BufRead, W: Write>(
     requires attributes { IsFew count.attributes }
     requires policies { IsFew count.policies }
     ensures { (end : Counted) × Headline (record {
-      start = record { world = start_of count.attributes count.policies; count = 0 };
+      start = at_start (start_of count.attributes count.policies);
       end = end;
       unread = R.remaining reader.old;
       left = R.remaining reader.new;

@@ -3,7 +3,8 @@
 ghost use Rattle.std.specs.Prelude.{◌≡◌};
 ghost use Rattle.ent_program.specs.Sentences.{declared_sentence, document_sentence, fault_sentence, file_sentence};
 ghost use Rattle.ent_program.specs.Sentences.{lines_sentence, state_sentence, terminal_sentence, undeclared_sentence};
-ghost use Rattle.ent_program.specs.Sentences.{line_sentence, lines_alone_sentence, no_files_sentence, words_sentence};
+ghost use Rattle.ent_program.specs.Sentences.{input_twice_sentence, junit_sentence, line_sentence};
+ghost use Rattle.ent_program.specs.Sentences.{lines_alone_sentence, no_files_sentence, words_sentence};
 
 use crate::checking::{FILE_LIMIT, FileFault};
 use crate::declaring::DeclaredFault;
@@ -110,11 +111,11 @@ pub fn state_sentence() -> &'static str
     "review: the file of the state hasn't the lines of a dump"
 }
 
-/// What is said of lines that set what isn't declared.
+/// What is said of lines with which something is wrong.
 pub fn line_sentence() -> &'static str
     ensures { result.now ≡ line_sentence }
 {
-    "review: a line sets values that aren't declared"
+    "review: something is wrong with a line"
 }
 
 /// What is said where lines are named, and no attributes.
@@ -129,6 +130,20 @@ pub fn no_files_sentence() -> &'static str
     ensures { result.now ≡ no_files_sentence }
 {
     "review: no file there ends in .json"
+}
+
+/// What is said where standard input is named more than once.
+pub fn input_twice_sentence() -> &'static str
+    ensures { result.now ≡ input_twice_sentence }
+{
+    "review: standard input is named more than once"
+}
+
+/// What is said where a file for JUnit XML can't be meant.
+pub fn junit_sentence() -> &'static str
+    ensures { result.now ≡ junit_sentence }
+{
+    "review: --junit wants a file of its own, and no --list"
 }
 
 /// What somebody is told who serves lines that are typed at a terminal.

@@ -1,18 +1,18 @@
-//! `review check --lines`: lines that set values, by the attributes that are declared.
+//! `review check --lines`: lines of commands, by the attributes that are declared and the names that are listed.
 
-use crate::acting::read_source;
 use crate::documents::wanting;
+use crate::known::Known;
 use crate::sentences::line_sentence;
 use crate::sources::{Shown, Source};
-use ent_declared::{Attribute, FaultyLine, Listed, faulty_lines};
+use ent_declared::{FaultyLine, faulty_lines};
+use ent_line::command_words;
 use std::alloc::{AllocError, Global};
-use std::rt::Files;
 
 /// So many lines are told at most.
 const MOST_LINES: usize = 100;
 
 /// The lines of a text, without their ends.
-fn lines_of(alloc: Global, text: &[u8]) -> Result<Vec<&[u8]>, AllocError> {
+pub(crate) fn lines_of(alloc: Global, text: &[u8]) -> Result<Vec<&[u8]>, AllocError> {
     let mut lines = Vec::new(alloc);
     for line in text.split(|byte| *byte == b'\n') {
         lines.push(line)?;
@@ -20,24 +20,28 @@ fn lines_of(alloc: Global, text: &[u8]) -> Result<Vec<&[u8]>, AllocError> {
     Ok(lines)
 }
 
-/// Says on standard error what is wrong with these lines.
+/// Says on standard error what is wrong with these lines, and of which it may not be meant.
 fn tell_lines<R: Eprint + AllocGlobal>(
     rt: &R,
     source: Source<'_>,
     faulty: &[FaultyLine],
     lines: &[&[u8]],
-    attributes: &[Attribute],
-    listed: &Listed,
+    commands: &[&str],
+    known: &Known,
 ) -> Result<(), AllocError> {
     let name = Shown(source.name());
-    let _ = rt.eprintln(line_sentence());
     for one in faulty.iter().take(MOST_LINES) {
         let line: &[u8] = match lines.get(one.number.saturating_sub(1)) {
             Some(line) => *line,
             None => &[],
         };
-        let told = one.told(rt.alloc(), line, attributes, listed)?;
-        let _ = eprintln!(rt; "{name}: {told}");
+        let told = one.told(rt.alloc(), line, commands, known.declared(), &known.listed)?;
+        let start = if one.fault.is_warning() {
+            "warning: "
+        } else {
+            ""
+        };
+        let _ = eprintln!(rt; "{start}{name}: {told}");
     }
     let more = faulty.len().saturating_sub(MOST_LINES);
     if more > 0 {
@@ -46,46 +50,39 @@ fn tell_lines<R: Eprint + AllocGlobal>(
     Ok(())
 }
 
-/// Says on standard error what is wrong with the lines of a source, where these attributes are declared, and names are
-/// listed by these lines and by those of a state. Gives how many are wrong.
+/// Says on standard error what is wrong with the lines of a text. Gives with how many something is wrong, and how many
+/// may not be meant.
 fn told_lines<R: Eprint + AllocGlobal>(
     rt: &R,
     source: Source<'_>,
     text: &[u8],
-    attributes: &[Attribute],
-    state: &[u8],
-) -> Result<usize, AllocError> {
+    known: &Known,
+) -> Result<(usize, usize), AllocError> {
     let alloc = rt.alloc();
     let lines = lines_of(alloc, text)?;
-    let state_lines = lines_of(alloc, state)?;
-    let mut listed = Listed::new(alloc);
-    listed.read(alloc, state_lines.as_slice())?;
-    listed.read(alloc, lines.as_slice())?;
-    let faulty = faulty_lines(alloc, attributes, &listed, lines.as_slice())?;
-    if !faulty.is_empty() {
-        tell_lines(
-            rt,
-            source,
-            faulty.as_slice(),
-            lines.as_slice(),
-            attributes,
-            &listed,
-        )?;
+    let lines = lines.as_slice();
+    let words = command_words(alloc)?;
+    let commands = words.as_slice();
+    let faulty = faulty_lines(alloc, commands, known.declared(), &known.listed, lines)?;
+    let warnings = faulty.iter().filter(|one| one.fault.is_warning()).count();
+    let faults = faulty.len().saturating_sub(warnings);
+    if faults > 0 {
+        let _ = rt.eprintln(line_sentence());
     }
-    Ok(faulty.len())
+    tell_lines(rt, source, faulty.as_slice(), lines, commands, known)?;
+    Ok((faults, warnings))
 }
 
-/// Compares the lines of a source with the attributes that are declared, says on standard error what is wrong with
-/// them, and gives how many are wrong; or the exit status where that can't be said.
-pub(crate) fn check_lines<R: Files + Input + Eprint + AllocGlobal>(
+/// Compares the lines of a source with what there is, says on standard error what is wrong with them, and gives with how
+/// many something is wrong and how many may not be meant; or the exit status where that can't be said.
+pub(crate) fn check_lines<R: Eprint + AllocGlobal>(
     rt: &R,
     source: Source<'_>,
-    attributes: &[Attribute],
-    state: &[u8],
-) -> Result<usize, u8> {
-    let text = read_source(rt, source, u64::MAX)?;
-    match told_lines(rt, source, text.as_slice(), attributes, state) {
-        Ok(count) => Ok(count),
+    text: &[u8],
+    known: &Known,
+) -> Result<(usize, usize), u8> {
+    match told_lines(rt, source, text, known) {
+        Ok(counts) => Ok(counts),
         Err(_) => Err(wanting(rt)),
     }
 }

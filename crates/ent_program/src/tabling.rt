@@ -2,6 +2,7 @@
 
 use crate::asked_states::AskedStates;
 use crate::differing::{Ending, Form, Lines, compare_from};
+use crate::misused::pass_states;
 use crate::status::{compare_status, status_of};
 use crate::trying::read_state;
 use ent_line::ServeFault;
@@ -31,6 +32,7 @@ fn compare_sources<R: Files + Input + Print + Eprint + AllocGlobal>(
     rt: &R,
     states: AskedStates<'_>,
 ) -> Result<u8, u8> {
+    pass_states(rt, &states)?;
     let first = read_state(rt, states.state)?;
     let second = read_state(rt, states.changes)?;
     let alloc = rt.alloc();

@@ -6,6 +6,7 @@ use crate::acting::read_source;
 use crate::asked_tests::AskedTests;
 use crate::junit::{broken_off, write_junit};
 use crate::listing::list_tests;
+use crate::misused::pass_tests;
 use crate::sources::Source;
 use crate::status::{status_of, test_status};
 use crate::tally::{Tally, send_tally};
@@ -215,6 +216,9 @@ pub(crate) fn run_tests<R: Files + Input + Print + Eprint + AllocGlobal>(
     rt: &R,
     tests: AskedTests<'_, '_>,
 ) -> u8 {
+    if let Err(status) = pass_tests(rt, &tests) {
+        return status;
+    }
     let plan = Plan {
         only: tests.only,
         ..Plan::all()

@@ -27,6 +27,8 @@ mod serving;
 #[cfg(test)]
 mod states;
 #[cfg(test)]
+mod tested;
+#[cfg(test)]
 mod told;
 #[cfg(test)]
 mod words;

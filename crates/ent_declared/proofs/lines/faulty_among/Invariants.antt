@@ -1,8 +1,11 @@
-use Rattle.std.proofs.Common.{◌≡◌, ◌++◌, suc, drop, map}
-use Rattle.ent_declared.specs.Lines.{faulty_from}
+use Rattle.std.proofs.Common.{◌≡◌, map}
+use Rattle.ent_declared.specs.Lines.{faults_in}
+use Rattle.ent_declared.specs.proofs_only.Claims.{claimed_in}
+use Rattle.ent_declared.proofs.Noted.{told_from}
 use Rattle.ent_declared.proofs.lines.faulty_among.Given as goal
 
 -- what is left is put behind what was
 abbrev pub invariant-loop-index : goal.invariant-loop-index
 invariant-loop-index l =
-    faulty_from l.attributes l.listed 1 (map (λ l. l.now) l.lines) ≡ l.all.items ++ faulty_from l.attributes l.listed (suc l.index) (map (λ l. l.now) (drop l.index l.lines))
+    let commands = map (λ c. c.now) l.commands in
+    faults_in commands l.attributes l.listed (map (λ l. l.now) l.lines) ≡ told_from commands l.attributes l.listed l.all.items (claimed_in l.claims) l.lines l.index

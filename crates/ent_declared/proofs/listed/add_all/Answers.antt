@@ -1,5 +1,5 @@
 use Rattle.std.proofs.Common.{◌+◌, map, take}
-use Rattle.ent_declared.specs.Lines.{names_in}
+use Rattle.ent_declared.specs.Settings.{names_in}
 use Rattle.ent_declared.proofs.Names.{one_more_line, read_more}
 use Rattle.ent_declared.proofs.listed.add_all.Goals as goal
 

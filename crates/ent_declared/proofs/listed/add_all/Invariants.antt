@@ -1,5 +1,5 @@
 use Rattle.std.proofs.Common.{◌≡◌, ◌||◌, map, take}
-use Rattle.ent_declared.specs.Lines.{has_name, names_in}
+use Rattle.ent_declared.specs.Settings.{has_name, names_in}
 use Rattle.ent_declared.specs.declared.listed.Named.{Named}
 use Rattle.ent_declared.proofs.listed.add_all.Given as goal
 

@@ -1,0 +1,50 @@
+//! What documents and lines are compared with: attributes that are declared, and names that are listed.
+
+use crate::set_lines::lines_of;
+use ent_declared::{Attribute, Listed};
+use ent_values::Items;
+use std::alloc::{AllocError, Global};
+
+/// What there is.
+#[derive(Drop)]
+pub(crate) struct Known {
+    /// The attributes that are declared, and behind them the ids of which names are listed, with these as their values.
+    attributes: Items<Attribute>,
+    /// How many are declared.
+    declared: usize,
+    /// The names that are listed.
+    pub(crate) listed: Listed,
+}
+
+impl Known {
+    /// What there is where these attributes are declared, and names are listed by the lines of a state and by others.
+    pub(crate) fn new(
+        alloc: Global,
+        attributes: Items<Attribute>,
+        state: &[u8],
+        lines: &[u8],
+    ) -> Result<Known, AllocError> {
+        let mut listed = Listed::new(alloc);
+        listed.read(alloc, lines_of(alloc, state)?.as_slice())?;
+        listed.read(alloc, lines_of(alloc, lines)?.as_slice())?;
+        let declared = attributes.len();
+        let mut attributes = attributes;
+        listed.put_last(alloc, &mut attributes)?;
+        Ok(Known {
+            attributes,
+            declared,
+            listed,
+        })
+    }
+
+    /// The attributes that are declared.
+    pub(crate) fn declared(&self) -> &[Attribute] {
+        let all = self.attributes.as_slice();
+        all.get(..self.declared).unwrap_or(all)
+    }
+
+    /// The same, with the ids of which names are listed.
+    pub(crate) fn with_names(&self) -> &[Attribute] {
+        self.attributes.as_slice()
+    }
+}

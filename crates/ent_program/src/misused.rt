@@ -1,0 +1,74 @@
+//! Words of the command line that can't be meant together.
+
+use crate::asked_check::AskedCheck;
+use crate::asked_states::AskedStates;
+use crate::asked_tests::AskedTests;
+use crate::sentences::{input_twice_sentence, junit_sentence};
+use crate::sources::Source;
+use crate::status::REFUSED;
+
+/// How often standard input is named.
+fn inputs(words: &[&str], others: &[Option<Source<'_>>]) -> usize {
+    let mut count = 0usize;
+    for &word in words {
+        if matches!(Source::named(word), Source::Input) {
+            count = count.saturating_add(1);
+        }
+    }
+    for &other in others {
+        if matches!(other, Some(Source::Input)) {
+            count = count.saturating_add(1);
+        }
+    }
+    count
+}
+
+/// Passes words that name standard input once at most: who reads it again finds nothing.
+fn pass_inputs(rt: &impl Eprint, words: &[&str], others: &[Option<Source<'_>>]) -> Result<(), u8> {
+    if inputs(words, others) < 2 {
+        return Ok(());
+    }
+    let _ = rt.eprintln(input_twice_sentence());
+    Err(REFUSED)
+}
+
+/// Passes what is to be checked, or gives the exit status where its words can't be meant, which is told on standard
+/// error.
+pub(crate) fn pass_check(rt: &impl Eprint, asked: &AskedCheck<'_, '_>) -> Result<(), u8> {
+    let others = [asked.attributes, asked.stored, asked.lines];
+    pass_inputs(rt, asked.files, &others)
+}
+
+/// The same of states that are compared.
+pub(crate) fn pass_states(rt: &impl Eprint, states: &AskedStates<'_>) -> Result<(), u8> {
+    pass_inputs(rt, &[], &[Some(states.state), Some(states.changes)])
+}
+
+/// Whether a file for JUnit XML can't be written: no test runs, it isn't a file, or it is one that is read.
+fn is_misused(tests: &AskedTests<'_, '_>, path: &str) -> bool {
+    if tests.listed || matches!(Source::named(path), Source::Input) {
+        return true;
+    }
+    if let Some(Source::File(state)) = tests.state {
+        if state == path {
+            return true;
+        }
+    }
+    for &word in tests.files {
+        if word == path {
+            return true;
+        }
+    }
+    false
+}
+
+/// The same of tests.
+pub(crate) fn pass_tests(rt: &impl Eprint, tests: &AskedTests<'_, '_>) -> Result<(), u8> {
+    if let Some(path) = tests.junit {
+        if is_misused(tests, path) {
+            let _ = rt.eprintln(junit_sentence());
+            return Err(REFUSED);
+        }
+    }
+    pass_inputs(rt, tests.files, &[tests.state])
+}
