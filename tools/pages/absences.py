@@ -89,7 +89,7 @@ def in_sessions_files():
 
 
 def places_in_the_service():
-    words = ['ent_places', 'ent_explain', 'ent_declared', 'ent_together']
+    words = ['ent_meaning', 'ent_places', 'ent_explain', 'ent_declared', 'ent_together']
     told = ['faults_told', 'attributes_told', 'together_told']
     yield from named(words, but=words + ['ent_program'] + told + TRIALS)
 
@@ -168,7 +168,8 @@ CHECKS = {
     'any other crate, and memory, in `ent_combine`': around_combining,
     'commands below `ent_dump` and `ent_line`':
         lambda: found(COMMANDS, but=['ent_dump/', 'ent_line/', 'ent_together/src/state.rt',
-                                     'ent_declared/src/lines.rt', 'ent_declared/src/listed.rt'] + TRIALS),
+                                     'ent_declared/src/claim.rt', 'ent_declared/src/listed.rt',
+                                     'ent_declared/src/setting.rt', 'attributes_told/'] + TRIALS),
     'sessions and marks in a review': lambda: found(r'(?i)session', BELOW_LINES, ('src', 'specs')),
     'the table in the log and in the index': table_in_the_log,
     'finders and modules in the evaluator':

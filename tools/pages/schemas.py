@@ -286,8 +286,8 @@ def lines():
     return [command(form) for form in commands.commands(commands.ASKED.read_text())]
 
 
-ANSWERS = ['Response', 'attributes', 'by_rule', 'can', 'cell', 'cells', 'changes', 'counts', 'documents', 'dump']
-ANSWERS += ['evaluations', 'explain', 'faults', 'format', 'mark', 'notices', 'state', 'table', 'who']
+ANSWERS = ['Response', 'attributes', 'by_rule', 'can', 'cell', 'cells', 'counts', 'documents', 'dump', 'evaluations']
+ANSWERS += ['explain', 'faults', 'format', 'mark', 'notices', 'state', 'table', 'who']
 
 
 def reply():
@@ -295,7 +295,8 @@ def reply():
     refusal = {'refused': {'type': 'integer', 'minimum': 1, 'maximum': 15}}
     refusal |= {'sub': {'type': 'integer', 'minimum': 1, 'maximum': 9}}
     answer = {'type': 'object', 'propertyNames': {'enum': ANSWERS}, 'maxProperties': 1}
-    counted = {'changes': NUMBER_FROM_0, 'serial': NUMBER_FROM_0}
+    # How many requests have another answer, or which.
+    counted = {'changes': NUMBER_FROM_0 | {'type': ['integer', 'array']}, 'serial': NUMBER_FROM_0}
     return {'anyOf': [closed(refusal, ['refused']), closed(counted), answer]}
 
 
