@@ -217,7 +217,7 @@ func TestDecisionsUnwritten(t *testing.T) {
 
 // TestTraced sees that what has no answer is logged with its traceparent.
 func TestTraced(t *testing.T) {
-	f := begin(t, t.TempDir(), "--lame", "5s", "--drain", "6s")
+	f := begin(t, t.TempDir(), "--lame", "1h", "--drain", "2h")
 	_ = f.process.Process.Signal(os.Interrupt)
 	eventually(t, "it isn't ready", func() bool {
 		asked, _ := http.NewRequest("GET", f.url("/readyz"), nil)

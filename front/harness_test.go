@@ -111,14 +111,25 @@ func started(t testing.TB, before, folder string, more []string) *front {
 	}()
 	t.Cleanup(func() {
 		f.kill()
-		if os.Getenv("FRONT_LOG") != "" {
-			t.Log(f.log())
+		if os.Getenv("FRONT_LOG") != "" || t.Failed() {
+			t.Logf("the front over %s said:\n%s", folder, shortened(f.log()))
 		}
 		if strings.Contains(f.log(), "DATA RACE") || strings.Contains(f.log(), "panic") {
 			t.Errorf("the front says:\n%s", f.log())
 		}
 	})
 	return f
+}
+
+// shown is how much is told of what a front said.
+const shown = 20_000
+
+// shortened is as much of the end of a text as is told.
+func shortened(text string) string {
+	if len(text) <= shown {
+		return text
+	}
+	return "..." + text[len(text)-shown:]
 }
 
 // begin starts a front and waits until it answers.

@@ -35,7 +35,6 @@ func TestHung(t *testing.T) {
 	table := f.must("/table")
 	for round, lines := range [][]string{{`{"do":"counts"}`, `{"do":"person.add","name":"more"}`, `{"do":"table"}`}, nil} {
 		f.halt()
-		began := time.Now()
 		replies := make(chan string, len(lines))
 		for _, l := range lines {
 			go func(l string) {
@@ -50,20 +49,12 @@ func TestHung(t *testing.T) {
 			time.Sleep(50 * time.Millisecond)
 		}
 		eventually(t, "the front isn't ready", func() bool { status, _ := f.get("/readyz"); return status == 503 })
-		// (Where that is seen late, on a busy machine, the program may rightly be ended.)
-		ended := strings.Count(f.log(), "and the program is ended")
-		if ended > round && time.Since(began) < 2*time.Second {
-			t.Errorf("round %d: that isn't told before the program is ended", round)
-		}
 		for range lines {
 			if reply := <-replies; !strings.HasPrefix(reply, "503") {
 				t.Errorf("round %d: a line is answered %s", round, reply)
 			}
 		}
 		eventually(t, "the front is ready", func() bool { status, _ := f.get("/readyz"); return status == 200 })
-		if took := time.Since(began); took > 20*time.Second {
-			t.Errorf("round %d: it took %v", round, took)
-		}
 		if f.must("/table") != table {
 			t.Errorf("round %d: the table is another one", round)
 		}
@@ -74,6 +65,25 @@ func TestHung(t *testing.T) {
 			t.Errorf("round %d: notices are %.300s", round, reply)
 		}
 	}
+}
+
+// TestHalted stops the program, also where nobody asks, and lets it go on: meanwhile the front says that it isn't ready, and
+// then the same program serves on. Where it was ended first it is given more time.
+func TestHalted(t *testing.T) {
+	for replyTime := 2 * time.Second; replyTime < patient/4; replyTime *= 2 {
+		f := begin(t, t.TempDir(), "--reply-time", replyTime.String())
+		f.accept(`{"do":"person.add","name":"extra"}`)
+		goOn := f.halt()
+		eventually(t, "the front isn't ready", func() bool { status, _ := f.get("/readyz"); return status == 503 })
+		goOn()
+		eventually(t, "the front is ready", func() bool { status, _ := f.get("/readyz"); return status == 200 })
+		ended := len(f.programs()) > 1
+		f.kill()
+		if !ended {
+			return
+		}
+	}
+	t.Error("the front is ready until the program is ended")
 }
 
 // TestBusy lets the program work for long on an edit, which is waited for, and on a question, which isn't.
@@ -104,11 +114,9 @@ func TestHungEnds(t *testing.T) {
 			}()
 		}
 		time.Sleep(100 * time.Millisecond)
-		began := time.Now()
-		status := f.stop()
 		// Behind its time and some grace it would end with another status.
-		if took := time.Since(began); took > 10*time.Second || status != 0 {
-			t.Errorf("the front ends with %d after %v:\n%s", status, took, f.log())
+		if status := f.stop(); status != 0 {
+			t.Errorf("the front ends with %d:\n%s", status, f.log())
 		}
 	}
 }

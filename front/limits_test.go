@@ -18,7 +18,7 @@ func TestUnread(t *testing.T) {
 	f := begin(t, t.TempDir(), "--write-time", "300ms")
 	f.accept(clinic(t)...)
 	s := f.connect("/lines")
-	_ = s.conn.SetDeadline(time.Now().Add(20 * time.Second))
+	_ = s.conn.SetDeadline(time.Now().Add(patient))
 	var err error
 	for err == nil {
 		err = s.send(`{"do":"table"}` + strings.Repeat(" ", 1<<16))

@@ -6,7 +6,6 @@ import (
 	"io"
 	"math/rand"
 	"net/http"
-	"os"
 	"strings"
 	"sync"
 	"testing"
@@ -42,6 +41,13 @@ func (f *fate) note(t testing.TB, l string, status int, body string) {
 	default:
 		t.Errorf("%s is answered %d %s", l, status, body)
 	}
+}
+
+// acknowledged is how many were.
+func (f *fate) acknowledged() int {
+	f.mutex.Lock()
+	defer f.mutex.Unlock()
+	return len(f.told)
 }
 
 // uniqueEdit is an edit that no other editor makes, nor this one again.
@@ -242,9 +248,6 @@ func TestLogOrder(t *testing.T) {
 	if status, body := fronts[1].post("/commands/person.add", `{"name":"ada"}`); status != http.StatusConflict {
 		t.Errorf("a name that is there is answered %d %s", status, body)
 	}
-	if status, body := fronts[1].post("/lines?whole=1", uniqueEdit(0, 0)); status != http.StatusNotImplemented {
-		t.Errorf("a whole body is answered %d %s", status, body)
-	}
 }
 
 // TestLogKeyed sends a body with a key to two fronts: its edits are made once, and both answer alike, also when they
@@ -381,27 +384,4 @@ func TestLogKilled(t *testing.T) {
 		fronts[2].await()
 		fates.same(t, fronts)
 	}
-}
-
-// TestLogServers ends each of three servers in turn while fronts edit, and starts it again. Killed servers now and then
-// lose what they acknowledged.
-func TestLogServers(t *testing.T) {
-	servers := natsServers(t, 3)
-	fronts := replicas(t, servers, number("FRONT_REPLICAS", 3))
-	fates, editors := newFate(), 0
-	for round := 0; round < number("FRONT_SERVERS", 1); round++ {
-		fates.during(t, fronts, 2, &editors, func() {
-			time.Sleep(time.Second)
-			server := servers[round%len(servers)]
-			if os.Getenv("FRONT_KILL_SERVERS") != "" {
-				server.kill()
-			} else {
-				server.stop()
-			}
-			time.Sleep(2 * time.Second)
-			server.start()
-			time.Sleep(2 * time.Second)
-		})
-	}
-	fates.same(t, fronts)
 }

@@ -19,7 +19,7 @@ cd "$aside/front"
 # names, marks, keys), what a client may take of the front (time, room, marks, how much is kept), what it is told and
 # a page of another site is not, bodies with keys and who is written down, the commands that the front knows, damage
 # of a folder, the time of a start, what listeners take, askers, edits that are made behind a serial or whole, requests
-# that are translated, AuthZEN, kept decisions, and who may what.
+# that are translated, AuthZEN, kept decisions, who may what, and a log of several fronts.
 grep -e "${2:-}" >"$aside/rows" <<'ROWS'
 folder/writing.go . TestOrder s/^\t\terr = f\.sync(f\.current)$/\t\terr = nil/
 folder/writing.go . TestOrder s/^\t\terr = file\.Sync()$/\t\terr = nil/
@@ -80,6 +80,16 @@ web/listing.go . TestAuthzenShapes s/^\t\tl\.change(edits)$//
 authzen/search.go . TestAuthzenShapes s/if string(read\[:sha256\.Size\]) != string(s\.identity\[:\]) {/if false {/
 decisions/decisions.go decisions TestFiles s/|| isOther) {/|| false \&\& isOther) {/
 web/server.go . TestTraced s/trace != "" && a\.status/false \&\& a.status/
+keeper/compared.go keeper TestWrongTells s/^\t\t\ts\.tell(doubted).*$//
+keeper/compared.go keeper TestStrayLater s/return fmt\.Errorf("the edits on disk can't be compared.*$/_ = err/
+keeper/compared.go . TestLogAstray s/if sum != own\.Sum {/if false {/
+jetstream/append.go . TestLogOrder s/message\.Header\.Set(nats\.ExpectedLastSeqHdr, /message.Header.Set("Nothing", /
+keeper/streamed.go . TestLogStrange s/if !isEditLine(l) {/if false {/
+keeper/appended.go . TestLogKeyed s/case err == nil && l\.passed(id, sequence):/case err == nil \&\& false:/
+keeper/streamed_whole.go . TestLogWhole s/if err == nil && refused != nil {/if false {/
+folder/copy.go . TestLogWhole s/if f\.head\.Stream == "" {/if true {/
+keeper/streamed_try.go . TestLogTried s/if k\.TryTime == 0 || call\.tried != nil {/if true {/
+keeper/streamed_try.go . TestLogTriedBoth s/ \&\& s\.own\[last\] != s\.broken//
 ROWS
 tests=$(awk '{ print "^" $3 "$" }' "$aside/rows" | sort -u | paste -sd '|')
 ./build.sh go test -count=1 -run "$tests" ./... >"$aside/said" 2>&1 || { cat "$aside/said"; exit 1; }

@@ -239,8 +239,6 @@ func (o options) wrongLog() string {
 		return "--log needs --stream, a name without blanks and . * > / \\"
 	case o.stream.Replicas < 1 || o.stream.Replicas > 5:
 		return "--stream-replicas is from 1 to 5"
-	case o.tryTime > 0:
-		return "--try-time isn't there with --log"
 	}
 	return ""
 }

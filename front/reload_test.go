@@ -51,12 +51,16 @@ func TestReload(t *testing.T) {
 			t.Errorf("after %d changes the front shows %s", i+1, name)
 		}
 	}
-	fmt.Fprint(old, "GET /readyz HTTP/1.1\r\nHost: localhost\r\n\r\n")
-	// (On a busy machine a front may not be ready so soon.)
-	answer, err := http.ReadResponse(bufio.NewReader(old), nil)
-	if err != nil || answer.StatusCode != http.StatusOK && answer.StatusCode != http.StatusServiceUnavailable {
-		t.Errorf("the connection of before is answered %v, %v", answer, err)
-	}
+	replies := bufio.NewReader(old)
+	eventually(t, "the connection of before is answered", func() bool {
+		fmt.Fprint(old, "GET /readyz HTTP/1.1\r\nHost: localhost\r\n\r\n")
+		answer, err := http.ReadResponse(replies, nil)
+		if err != nil {
+			t.Fatal(err)
+		}
+		status, _ := bodyOf(t, answer)
+		return status == http.StatusOK
+	})
 }
 
 // hangUp tells the front to read its certificates again, and waits until it says so.

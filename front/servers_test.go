@@ -20,6 +20,7 @@ import (
 // natsServer is one server of NATS.
 type natsServer struct {
 	t       testing.TB
+	name    string
 	config  string
 	address string
 	process *exec.Cmd
@@ -41,8 +42,9 @@ func natsServers(t testing.TB, count int) []*natsServer {
 	servers := make([]*natsServer, count)
 	for i := range servers {
 		stored := t.TempDir()
-		content := fmt.Sprintf("server_name: s%d\nlisten: 127.0.0.1:%s\nmax_payload: 2MB\njetstream { store_dir: %q }\n",
-			i, ports[i], stored)
+		name := fmt.Sprint("s", i)
+		content := fmt.Sprintf("server_name: %s\nlisten: 127.0.0.1:%s\nmax_payload: 2MB\njetstream { store_dir: %q }\n",
+			name, ports[i], stored)
 		if count > 1 {
 			content += fmt.Sprintf("cluster { name: review, listen: 127.0.0.1:%s, routes: [%s] }\n",
 				ports[count+i], strings.Join(routes, ", "))
@@ -51,7 +53,7 @@ func natsServers(t testing.TB, count int) []*natsServer {
 		if err := os.WriteFile(config, []byte(content), 0o600); err != nil {
 			t.Fatal(err)
 		}
-		servers[i] = &natsServer{t: t, config: config, address: "127.0.0.1:" + ports[i]}
+		servers[i] = &natsServer{t: t, name: name, config: config, address: "127.0.0.1:" + ports[i]}
 		servers[i].start()
 		t.Cleanup(servers[i].kill)
 	}

@@ -73,9 +73,10 @@ func (s *stream) receive() (string, error) {
 	return strings.TrimSuffix(reply, "\n"), err
 }
 
-// ask sends a line and reads its reply.
+// ask sends a line and reads its reply, however long others took.
 func (s *stream) ask(t testing.TB, l string) string {
 	t.Helper()
+	_ = s.conn.SetDeadline(time.Now().Add(patient))
 	if err := s.send(l); err != nil {
 		t.Fatal(err)
 	}

@@ -21,41 +21,56 @@ func undo(words []string, to, faults io.Writer) int {
 		fmt.Fprintln(faults, "review-front undo: behind --journal FOLDER stands the serial of an edit")
 		return 2
 	}
-	line, later, err := takenBack(journal, serial)
+	lines, later, err := takenBack(journal, serial)
 	if err != nil {
 		return failed("undo", faults, err)
 	}
 	for _, other := range later {
 		fmt.Fprintf(faults, "review-front undo: serial %d set the same, and would be taken back too\n", other)
 	}
-	fmt.Fprintf(to, "%s\n", line)
+	for i := len(lines) - 1; i >= 0; i-- {
+		fmt.Fprintf(to, "%s\n", lines[i])
+	}
 	return 0
 }
 
-// takenBack is the line that takes an edit back, and the serials of those behind it that set the same.
-func takenBack(journal string, serial uint64) (line []byte, later []uint64, err error) {
+// takenBack is, for each edit of a serial, the line that takes it back, and the serials of those behind them that set the
+// same. Several have one serial where they were made all together through a stream.
+func takenBack(journal string, serial uint64) (lines [][]byte, later []uint64, err error) {
 	past := back.Past{}
 	since, err := folder.Before(journal, serial, past.Add)
 	if err != nil {
 		return nil, nil, err
 	}
-	var sent []byte
+	var sent [][]byte
 	err = folder.History(journal, since, func(e folder.Entry) error {
 		switch {
 		case e.Serial < serial:
 			return past.Add(e.Line)
 		case e.Serial == serial:
-			sent = append(sent, e.Line...)
-			var err error
-			line, err = past.Back(sent)
-			return err
-		case back.Same(e.Line, sent):
+			line, err := past.Back(e.Line)
+			if err != nil {
+				return err
+			}
+			lines, sent = append(lines, line), append(sent, append([]byte(nil), e.Line...))
+			return past.Add(e.Line)
+		case sameAs(e.Line, sent):
 			later = append(later, e.Serial)
 		}
 		return nil
 	})
-	if err == nil && sent == nil {
+	if err == nil && lines == nil {
 		err = errors.New("the journals have no edit of that serial")
 	}
-	return line, later, err
+	return lines, later, err
+}
+
+// sameAs says whether a line sets the same as one of several.
+func sameAs(line []byte, some [][]byte) bool {
+	for _, one := range some {
+		if back.Same(line, one) {
+			return true
+		}
+	}
+	return false
 }

@@ -79,6 +79,11 @@ func TestWholeKilled(t *testing.T) {
 	known := map[string]bool{}
 	var mutex sync.Mutex
 	rounds := number("FRONT_KILLS", 6)
+	acknowledged := func() int {
+		mutex.Lock()
+		defer mutex.Unlock()
+		return len(known)
+	}
 	for round := 0; round < rounds; round++ {
 		more := []string{"--snapshot-every", "200"}
 		if round%3 != 0 {
@@ -115,7 +120,9 @@ func TestWholeKilled(t *testing.T) {
 				}
 			}(client)
 		}
-		time.Sleep(time.Duration(300+random.Intn(500)) * time.Millisecond)
+		before := acknowledged()
+		eventually(t, "a body is acknowledged", func() bool { return acknowledged() > before })
+		time.Sleep(time.Duration(random.Intn(500)) * time.Millisecond)
 		if round%2 == 1 {
 			f.killProgram()
 			time.Sleep(time.Duration(random.Intn(300)) * time.Millisecond)
@@ -143,9 +150,6 @@ func TestWholeKilled(t *testing.T) {
 		if found[name] != count {
 			t.Errorf("%s was acknowledged, and %d edits of it are there", name, found[name])
 		}
-	}
-	if len(known) < rounds {
-		t.Errorf("%d bodies were acknowledged", len(known))
 	}
 	t.Logf("%d bodies, of which %d were acknowledged", len(found), len(known))
 }

@@ -234,14 +234,18 @@ func (p *plan) edits(s *survey, f *Folder) error {
 			if entry.Serial > p.Ends {
 				return errEnough
 			}
-			if entry.Serial > p.Begins {
-				batch = append(batch, entry)
-			}
-			if len(batch) < copied {
+			if entry.Serial <= p.Begins {
 				return nil
 			}
-			err := f.Append(batch)
-			batch = batch[:0]
+			if f.head.Stream == "" {
+				entry.Together = 0 // the end may stand between those that were made all together
+			}
+			var err error
+			if len(batch) >= copied && batch[len(batch)-1].Serial < entry.Serial {
+				err = f.Append(batch)
+				batch = batch[:0]
+			}
+			batch = append(batch, entry)
 			return err
 		})
 		if f.Broken() != nil {

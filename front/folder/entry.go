@@ -36,9 +36,10 @@ type Head struct {
 	Before *Part `json:"before,omitempty"`
 }
 
-// goesOn says whether an edit may follow the one before it. In a stream stand edits that aren't accepted, too.
-func (h Head) goesOn(last, serial uint64) bool {
-	return serial == last+1 || h.Stream != "" && serial > last
+// goesOn says whether an edit may follow the one before it, with which it may have one record. In a stream stand edits
+// that aren't accepted, too, and those that are made all together have one serial.
+func (h Head) goesOn(last, serial uint64, together bool) bool {
+	return serial == last+1 || h.Stream != "" && (serial > last || together && serial == last)
 }
 
 // Part is the beginning of a journal, up to an edit.
@@ -53,7 +54,7 @@ type Part struct {
 type Entry struct {
 	Time    time.Time
 	By      string // who sent it, as far as the front knows
-	Serial  uint64 // how many edits were accepted with it, since the folder was new
+	Serial  uint64 // how many edits were accepted with it, since the folder was new; of a stream, its sequence there
 	Changes uint64 // how many requests have another answer by it
 	Line    []byte // the line as it was sent to the program
 	// Together, of the first of several edits that are made all together, is how many these are. They have one record.
@@ -131,6 +132,9 @@ func readEntries(record []byte) ([]Entry, error) {
 			return nil, err
 		}
 		entries = append(entries, entry)
+	}
+	if len(entries) > 1 {
+		entries[0].Together = len(entries)
 	}
 	return entries, nil
 }

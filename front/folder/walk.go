@@ -80,7 +80,10 @@ func walk(path string, number uint64, most int64, call func(*journal, Entry, Pla
 			return j, j.damage("%v", err)
 		}
 		place := Place{File: j.name, Byte: j.size}
-		for _, entry := range entries {
+		for i, entry := range entries {
+			if !j.head.goesOn(j.last, entry.Serial, i > 0) {
+				return j, j.damage("serial %d follows %d", entry.Serial, j.last)
+			}
 			if err := j.next(entry, place, records.Place(), call); err != nil {
 				return j, err
 			}
@@ -90,9 +93,6 @@ func walk(path string, number uint64, most int64, call func(*journal, Entry, Pla
 
 // next takes an edit of a record that stands at a place and ends at a byte.
 func (j *journal) next(entry Entry, place Place, end int64, call func(*journal, Entry, Place) error) error {
-	if !j.head.goesOn(j.last, entry.Serial) {
-		return j.damage("serial %d follows %d", entry.Serial, j.last)
-	}
 	if entry.synced > place.Byte {
 		return j.damage("it is written as if more had been on disk")
 	}

@@ -16,8 +16,12 @@ import (
 	"review-front/replicated"
 )
 
-// byHeader is the field of a message's head that says who sent the edit, as a text of JSON.
-const byHeader = "Review-By"
+const (
+	// byHeader is the field of a message's head that says who sent the edit, as a text of JSON.
+	byHeader = "Review-By"
+	// wholeHeader is that which says that it is several edits, as many lines, which are made all together.
+	wholeHeader = "Review-Whole"
+)
 
 // Append appends an edit right behind a sequence. Where an acknowledgement is lost it is looked what stands there
 // before the edit is sent again. Each try is for the same place, which only one message can have: none is appended
@@ -61,6 +65,9 @@ func (l *log) message(behind uint64, edit replicated.Edit) (*nats.Msg, error) {
 		return nil, err
 	}
 	message := &nats.Msg{Subject: l.subject, Data: edit.Line, Header: nats.Header{byHeader: []string{string(by)}}}
+	if edit.Whole {
+		message.Header.Set(wholeHeader, "1")
+	}
 	message.Header.Set(nats.MsgIdHdr, edit.ID)
 	message.Header.Set(nats.ExpectedStreamHdr, l.Stream)
 	message.Header.Set(nats.ExpectedLastSeqHdr, strconv.FormatUint(behind, 10))

@@ -8,6 +8,7 @@ import (
 	"errors"
 	"fmt"
 	"strings"
+	"sync/atomic"
 	"time"
 
 	"github.com/nats-io/nats.go"
@@ -37,6 +38,7 @@ type log struct {
 	jet        nats.JetStreamContext
 	acks       *acks
 	subject    string
+	replicas   atomic.Int64 // how many servers keep the stream
 	log        *logs.Log
 }
 
@@ -143,7 +145,11 @@ func (l *log) take(config nats.StreamConfig) error {
 func (l *log) info(ctx context.Context) (*nats.StreamInfo, error) {
 	ctx, cancel := context.WithTimeout(ctx, askTime)
 	defer cancel()
-	return l.jet.StreamInfo(l.Stream, nats.Context(ctx))
+	info, err := l.jet.StreamInfo(l.Stream, nats.Context(ctx))
+	if err == nil {
+		l.replicas.Store(int64(info.Config.Replicas))
+	}
+	return info, err
 }
 
 // Extent is what the stream has now.

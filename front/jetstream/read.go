@@ -4,7 +4,6 @@ package jetstream
 
 import (
 	"context"
-	"encoding/json"
 	"errors"
 	"fmt"
 	"time"
@@ -19,6 +18,11 @@ const (
 	quiet = time.Second
 	// mostShort is how often the stream may say that it ends before what was read: a new leader says so for a while.
 	mostShort = 30
+	// mostTogether and bytesTogether are how many edits are asked of the leader at once, and about how long these are.
+	mostTogether  = 64
+	bytesTogether = 1 << 20
+	// mostAsked is how often it is asked for them until the stream is read anew.
+	mostAsked = 10
 )
 
 // Read hands out all edits behind a sequence.
@@ -30,9 +34,7 @@ func (l *log) Read(ctx context.Context, behind uint64, take func(replicated.Edit
 	}
 	defer func() { _ = from.Unsubscribe() }()
 	for short := 0; ; {
-		waiting, cancel := context.WithTimeout(ctx, quiet)
-		message, err := from.NextMsgWithContext(waiting)
-		cancel()
+		messages, err := next(ctx, from)
 		switch {
 		case ctx.Err() != nil:
 			return ctx.Err()
@@ -51,22 +53,82 @@ func (l *log) Read(ctx context.Context, behind uint64, take func(replicated.Edit
 		case err != nil:
 			return fmt.Errorf("reading the stream: %w", err)
 		}
-		if behind, err = handOut(message, behind, take); err != nil {
+		edits, err := editsOf(messages, behind)
+		if err != nil {
 			return err
 		}
+		if err := l.handOut(ctx, from, edits, take); err != nil {
+			return err
+		}
+		behind += uint64(len(edits))
 	}
 }
 
-// handOut hands out the edit behind a sequence, and gives its own. One that came before is passed over.
-func handOut(message *nats.Msg, behind uint64, take func(replicated.Edit) error) (uint64, error) {
-	edit, err := editOf(message)
-	if err != nil || edit.Sequence <= behind {
-		return behind, err
+// next waits a while for messages, and gives those that there are.
+func next(ctx context.Context, from *nats.Subscription) ([]*nats.Msg, error) {
+	waiting, cancel := context.WithTimeout(ctx, quiet)
+	defer cancel()
+	message, err := from.NextMsgWithContext(waiting)
+	if err != nil {
+		return nil, err
 	}
-	if edit.Sequence != behind+1 {
-		return behind, fmt.Errorf("sequence %d of the stream follows %d", edit.Sequence, behind)
+	messages := []*nats.Msg{message}
+	for bytes := len(message.Data); len(messages) < mostTogether && bytes < bytesTogether; bytes += len(message.Data) {
+		if waits, _, err := from.Pending(); err != nil || waits == 0 {
+			break // what goes wrong is seen when there is none
+		}
+		if message, err = from.NextMsgWithContext(waiting); err != nil {
+			break
+		}
+		messages = append(messages, message)
 	}
-	return edit.Sequence, take(edit)
+	return messages, nil
+}
+
+// editsOf reads messages as the edits behind a sequence. Those that came before are passed over.
+func editsOf(messages []*nats.Msg, behind uint64) ([]replicated.Edit, error) {
+	var edits []replicated.Edit
+	for _, message := range messages {
+		about, err := message.Metadata()
+		if err != nil {
+			return nil, fmt.Errorf("a message of the stream: %w", err)
+		}
+		last := behind + uint64(len(edits))
+		if about.Sequence.Stream > last+1 {
+			return nil, fmt.Errorf("sequence %d of the stream follows %d", about.Sequence.Stream, last)
+		}
+		if about.Sequence.Stream == last+1 {
+			edits = append(edits, editAt(message.Header, message.Data, last+1, about.Timestamp))
+		}
+	}
+	return edits, nil
+}
+
+// handOut hands out edits that a server brought, as the one has them that leads the stream.
+func (l *log) handOut(
+	ctx context.Context, from *nats.Subscription, edits []replicated.Edit, take func(replicated.Edit) error,
+) error {
+	for asked, pause := 1, firstPause; len(edits) > 0; asked, pause = asked+1, longer(pause) {
+		led, err := edits, error(nil)
+		if l.replicas.Load() > 1 {
+			led, err = l.confirmed(ctx, edits, from)
+		}
+		for _, edit := range led {
+			if err := take(edit); err != nil {
+				return err
+			}
+		}
+		edits = edits[len(led):]
+		if err != nil && asked == mostAsked {
+			return err
+		}
+		if err != nil {
+			if err := rest(ctx, pause); err != nil {
+				return err
+			}
+		}
+	}
+	return nil
 }
 
 // missed is an error where the stream has more than was read, and says whether it has less.
@@ -82,19 +144,4 @@ func (l *log) missed(ctx context.Context, behind uint64) (bool, error) {
 		return false, fmt.Errorf("the stream has sequence %d, and nothing came behind %d", extent.Last, behind)
 	}
 	return extent.Last < behind, nil
-}
-
-// editOf reads a message as an edit.
-func editOf(message *nats.Msg) (replicated.Edit, error) {
-	about, err := message.Metadata()
-	if err != nil {
-		return replicated.Edit{}, fmt.Errorf("a message of the stream: %w", err)
-	}
-	edit := replicated.Edit{
-		ID: message.Header.Get(nats.MsgIdHdr), Line: message.Data, Sequence: about.Sequence.Stream, Time: about.Timestamp,
-	}
-	if by := message.Header.Get(byHeader); json.Unmarshal([]byte(by), &edit.By) != nil {
-		edit.By = "" // it isn't of a front
-	}
-	return edit, nil
 }

@@ -1,6 +1,7 @@
 package keeper
 
 import (
+	"bytes"
 	"context"
 	"crypto/rand"
 	"encoding/hex"
@@ -38,9 +39,19 @@ func (l *streamed) submit(ctx context.Context, call *Call) (<-chan Reply, error)
 		return nil, err
 	}
 	call.reply, call.fed = make(chan Reply, 1), make(chan struct{})
+	all := call.all() // once it is appended these are the reader's
 	err = l.append(ctx, id, call)
+	if err != nil && call.differs != nil {
+		l.keeper.spare.differs(call.differs) // it may have what isn't made
+	}
+	if _, told := err.(*Tried); told {
+		call.reply <- Reply{Err: err}
+		return call.reply, nil
+	}
 	if before, is := err.(*appendedBefore); is {
-		call.reply <- l.repeated(ctx, before.sequence)
+		for i, reply := range l.repeated(ctx, before.sequence) {
+			all[i].reply <- reply
+		}
 		return call.reply, nil
 	}
 	if err != nil {
@@ -62,32 +73,50 @@ type appendedBefore struct{ sequence uint64 }
 
 func (a *appendedBefore) Error() string { return fmt.Sprintf("it is that of sequence %d", a.sequence) }
 
-// repeated is the reply to an edit that stands in the stream already.
-func (l *streamed) repeated(ctx context.Context, sequence uint64) Reply {
+// repeated is the reply to an edit that stands in the stream already, or to each of those that are made all together.
+func (l *streamed) repeated(ctx context.Context, sequence uint64) []Reply {
 	k := l.keeper
 	if k.Reach(ctx, sequence) != nil {
-		return Reply{Err: ErrAppended}
+		return []Reply{{Err: ErrAppended}}
 	}
-	reply := Reply{Err: ErrRefused}
+	var replies []Reply
 	err := k.Folder.Each(sequence-1, func(entry folder.Entry, _ folder.Place) error {
-		if entry.Serial == sequence {
-			reply = Reply{Body: line.Accepted{Changes: entry.Changes, Serial: sequence}.Reply(), Serial: sequence}
+		if entry.Serial != sequence {
+			return errEnough
 		}
-		return errEnough
+		body := line.Accepted{Changes: entry.Changes, Serial: sequence}.Reply()
+		replies = append(replies, Reply{Body: body, Serial: sequence})
+		return nil
 	})
 	if err != nil && err != errEnough {
 		k.Log.Error("what was answered to an edit can't be read", "sequence", sequence, "error", err)
-		return Reply{Err: ErrAppended}
+		return []Reply{{Err: ErrAppended}}
 	}
-	return reply
+	if replies == nil {
+		return []Reply{{Err: ErrRefused}}
+	}
+	return replies
 }
 
-// idOf is the id of an edit: of one that came with a key the same wherever it is sent again.
-func idOf(call *Call) (string, error) {
-	if call.Remember != nil {
-		return call.Remember.Next(), nil
+// linesOf is what is appended of an edit, or of several that are made all together.
+func linesOf(call *Call) []byte {
+	var lines [][]byte
+	for _, one := range call.all() {
+		lines = append(lines, one.Line)
 	}
-	return newID()
+	return bytes.Join(lines, newline)
+}
+
+// idOf is the id of an edit: of one that came with a key the same wherever it is sent again. Several that are made all
+// together have another one than the first of them alone.
+func idOf(call *Call) (string, error) {
+	switch {
+	case call.Remember == nil:
+		return newID()
+	case call.group != nil:
+		return call.Remember.Next() + "-whole", nil
+	}
+	return call.Remember.Next(), nil
 }
 
 // newID is an id that no other edit has.
@@ -105,22 +134,26 @@ func (l *streamed) append(ctx context.Context, id string, call *Call) error {
 	if l.keeper.Folder.Broken() != nil || l.keeper.Keys.Broken() != nil {
 		return ErrJournal
 	}
-	limit, cancel := context.WithTimeout(context.Background(), appendTime)
+	limit, cancel := context.WithTimeout(context.Background(), appendTime+l.keeper.TryTime)
 	defer cancel()
-	edit := replicated.Edit{ID: id, By: call.By, Line: call.Line}
-	l.expect(id, call)
-	for {
-		behind, err := l.reserve(limit, call.Known)
-		if err != nil {
-			l.forget(id)
+	edit := replicated.Edit{ID: id, By: call.By, Line: linesOf(call), Whole: call.group != nil}
+	for expected := false; ; {
+		behind, err := l.reserve(limit, call)
+		if err != nil && (!expected || l.forget(id)) {
 			return after(ctx, err)
+		}
+		if err != nil {
+			return nil
+		}
+		if !expected {
+			l.expect(id, call)
+			expected = true
 		}
 		sequence, err := l.stream.Append(limit, behind, edit, l.keeper.edits.give)
 		l.landed(sequence, err)
 		var moved *replicated.Moved
 		switch {
-		case err == nil && sequence <= behind:
-			l.forget(id)
+		case err == nil && l.passed(id, sequence):
 			return &appendedBefore{sequence}
 		case err == nil:
 			return nil
@@ -128,8 +161,10 @@ func (l *streamed) append(ctx context.Context, id string, call *Call) error {
 			l.doubt(call, behind+1)
 			return nil
 		case !errors.As(err, &moved):
-			l.forget(id)
 			l.keeper.Log.Error("an edit can't be appended", "error", err)
+			if !l.forget(id) {
+				return nil
+			}
 			return ErrStream
 		}
 	}
@@ -137,16 +172,16 @@ func (l *streamed) append(ctx context.Context, id string, call *Call) error {
 
 // reserve waits for an edit's turn, and gives the sequence behind which it is to stand. Who has it gives the turn
 // back once the edit is sent: the next one is sent for the place behind it.
-func (l *streamed) reserve(ctx context.Context, known *uint64) (uint64, error) {
+func (l *streamed) reserve(ctx context.Context, call *Call) (uint64, error) {
 	k := l.keeper
 	waiting, cancel := k.waiting(ctx)
 	defer cancel()
-	if k.edits.take(waiting) != nil {
-		return 0, ErrBusy
+	if err := l.turn(waiting, call); err != nil {
+		return 0, err
 	}
 	for {
 		landed := l.landings.next()
-		behind, ok, err := l.free(waiting, known)
+		behind, ok, err := l.free(waiting, call.Known)
 		if ok {
 			return behind, nil
 		}
@@ -242,17 +277,32 @@ func (l *streamed) sees(sequence uint64) {
 	}
 }
 
-// expect says that the stream may bring an edit of a client, and forget that it won't.
+// expect says that the stream may bring an edit of a client, and forget that it won't. This is false where the stream
+// brought it already: one that came with a key another front may have appended, too.
 func (l *streamed) expect(id string, call *Call) {
 	l.mutex.Lock()
 	defer l.mutex.Unlock()
 	l.due[id] = call
 }
 
-func (l *streamed) forget(id string) {
+func (l *streamed) forget(id string) bool {
 	l.mutex.Lock()
 	defer l.mutex.Unlock()
+	_, due := l.due[id]
 	delete(l.due, id)
+	return due
+}
+
+// passed says whether an edit stands at a sequence which was read before it was expected. It is forgotten then.
+func (l *streamed) passed(id string, sequence uint64) bool {
+	l.mutex.Lock()
+	defer l.mutex.Unlock()
+	_, due := l.due[id]
+	if !due || sequence > l.taken {
+		return false
+	}
+	delete(l.due, id)
+	return true
 }
 
 // doubt says that an edit may stand at a sequence, and else nowhere.
@@ -260,6 +310,7 @@ func (l *streamed) doubt(call *Call, sequence uint64) {
 	l.mutex.Lock()
 	defer l.mutex.Unlock()
 	call.doubted = sequence
+	l.settleDoubts(l.taken)
 }
 
 // settleDoubts tells of edits that might have stood up to a sequence that they don't. It is for who has the mutex.
@@ -267,6 +318,7 @@ func (l *streamed) settleDoubts(sequence uint64) {
 	for id, call := range l.due {
 		if call.doubted != 0 && call.doubted <= sequence {
 			delete(l.due, id)
+			l.wasTried(call, Reply{Err: ErrStream})
 			call.finish(Reply{Err: ErrStream})
 		}
 	}
@@ -298,7 +350,8 @@ func (l *streamed) leaveAll() {
 }
 
 // finished says that an edit has its reply.
-func (l *streamed) finished(call *Call) {
+func (l *streamed) finished(call *Call, reply Reply) {
+	l.wasTried(call, reply)
 	l.mutex.Lock()
 	defer l.mutex.Unlock()
 	delete(l.brought, call)

@@ -8,6 +8,7 @@ import (
 	"errors"
 	"fmt"
 	"sync"
+	"time"
 
 	"review-front/folder"
 	"review-front/replicated"
@@ -25,16 +26,22 @@ var errStray = errors.New("the folder has another edit than the stream: set the 
 // dumpBegins is how the reply to a dump begins.
 var dumpBegins = []byte(`{"dump":`)
 
+// ownSum is this front's checksum at a sequence, and whether another front told another one.
+type ownSum struct {
+	sum     string
+	differs bool
+}
+
 // sums are the checksums of dumps at some sequences, of this front and of others.
 type sums struct {
 	keeper *Keeper
 	name   string // this front's, by chance
 	mutex  sync.Mutex
-	own    map[uint64]string
+	own    map[uint64]*ownSum
 	newest uint64 // the sequence of the last of these
 	others map[uint64][]replicated.Sum
 	told   chan replicated.Sum // this front's, which the others are to be told
-	differ chan uint64         // sequences at which another front has another one
+	differ chan replicated.Sum // this front's, where another front has another one
 }
 
 func newSums(k *Keeper) *sums {
@@ -43,8 +50,8 @@ func newSums(k *Keeper) *sums {
 		name = "a front"
 	}
 	return &sums{
-		keeper: k, name: name, own: map[uint64]string{}, others: map[uint64][]replicated.Sum{},
-		told: make(chan replicated.Sum, keptSums), differ: make(chan uint64, keptSums),
+		keeper: k, name: name, own: map[uint64]*ownSum{}, others: map[uint64][]replicated.Sum{},
+		told: make(chan replicated.Sum, keptSums), differ: make(chan replicated.Sum, keptSums),
 	}
 }
 
@@ -66,9 +73,13 @@ func (s *sums) add(sequence uint64, dump []byte) {
 	if !ok {
 		return
 	}
-	own := replicated.Sum{Front: s.name, Sequence: sequence, Sum: sum}
 	s.mutex.Lock()
-	s.own[sequence], s.newest = sum, sequence
+	defer s.mutex.Unlock()
+	s.own[sequence], s.newest = &ownSum{sum: sum}, sequence
+	select {
+	case s.told <- replicated.Sum{Front: s.name, Sequence: sequence, Sum: sum}:
+	default: // the stream is away, and others have told of this one
+	}
 	for at := range s.own {
 		if at+keptSums*s.keeper.CheckEvery < sequence {
 			delete(s.own, at)
@@ -83,11 +94,6 @@ func (s *sums) add(sequence uint64, dump []byte) {
 		if at <= sequence {
 			delete(s.others, at)
 		}
-	}
-	s.mutex.Unlock()
-	select {
-	case s.told <- own:
-	default: // the stream is away, and others have told of this one
 	}
 }
 
@@ -107,20 +113,23 @@ func (s *sums) hear(other replicated.Sum) {
 	}
 }
 
-// compare compares another front's with this one's. It is for who has the mutex.
+// compare compares another front's with this one's, of which it is told once that they differ. It is for who has the
+// mutex.
 func (s *sums) compare(other replicated.Sum) {
-	if s.own[other.Sequence] == other.Sum {
+	own := s.own[other.Sequence]
+	if own.sum == other.Sum || own.differs {
 		return
 	}
+	own.differs = true
 	s.keeper.Log.Error("another front has another state", "sequence", other.Sequence, "front", other.Front)
 	select {
-	case s.differ <- other.Sequence:
-	default: // one is looked at already
+	case s.differ <- replicated.Sum{Front: s.name, Sequence: other.Sequence, Sum: own.sum}:
+	default: // others are looked at already
 	}
 }
 
 // run tells checksums and hears those of others until the context is done, or this front has another state than its
-// edits give.
+// edits give. Where it can't be found out yet who is wrong, that is tried again.
 func (s *sums) run(ctx context.Context) error {
 	if s == nil || s.keeper.CheckEvery == 0 {
 		return nil
@@ -130,14 +139,24 @@ func (s *sums) run(ctx context.Context) error {
 		return err
 	}
 	defer stop()
+	var doubted replicated.Sum
+	var due <-chan time.Time
+	pause := firstPause
 	for {
 		select {
 		case own := <-s.told:
 			s.tell(own)
-		case sequence := <-s.differ:
-			s.tellAll() // who is wrong has to be heard by those who are right
-			if err := s.judge(ctx, sequence); err != nil {
+		case doubted = <-s.differ:
+			s.tell(doubted) // before this front stops, if it is wrong: the other may not have heard it
+			due, pause = time.After(0), firstPause
+		case <-due:
+			due = nil
+			if err := s.judge(ctx, doubted); isWrong(err) {
 				return err
+			} else if err != nil && ctx.Err() == nil {
+				s.keeper.Log.Error("it can't be said which front is wrong, and is tried again",
+					"sequence", doubted.Sequence, "error", err, "after", pause)
+				due, pause = time.After(pause), longer(pause)
 			}
 		case <-ctx.Done():
 			return nil
@@ -145,21 +164,10 @@ func (s *sums) run(ctx context.Context) error {
 	}
 }
 
-// tell tells other fronts a checksum, and tellAll all that wait.
+// tell tells other fronts a checksum.
 func (s *sums) tell(own replicated.Sum) {
 	if err := s.keeper.Stream.Tell(own); err != nil {
 		s.keeper.Log.Error("a checksum isn't told", "error", err)
-	}
-}
-
-func (s *sums) tellAll() {
-	for {
-		select {
-		case own := <-s.told:
-			s.tell(own)
-		default:
-			return
-		}
 	}
 }
 
@@ -175,8 +183,15 @@ func (k *Keeper) strays(ctx context.Context, upTo uint64) (uint64, error) {
 	}
 	since-- // both are at least 1: a journal is begun before anything is compared
 	held := map[uint64][sha256.Size]byte{}
+	var last uint64
+	var lines []byte // of its edit, or of those that were made all together
 	err = k.Folder.Each(since, func(entry folder.Entry, _ folder.Place) error {
-		held[entry.Serial] = sha256.Sum256(entry.Line)
+		if entry.Serial == last {
+			lines = append(append(lines, newline...), entry.Line...)
+		} else {
+			lines = append(lines[:0], entry.Line...)
+		}
+		last, held[entry.Serial] = entry.Serial, sha256.Sum256(lines)
 		return nil
 	})
 	if err != nil {
@@ -198,34 +213,32 @@ func (k *Keeper) strays(ctx context.Context, upTo uint64) (uint64, error) {
 	return found, nil
 }
 
+// isWrong says whether an error is that this front is wrong.
+func isWrong(err error) bool { return errors.Is(err, errDiffers) || errors.Is(err, errStray) }
+
 // judge sees whether the edits on disk are those of the stream, and whether a second program that is told the edits up to
-// a sequence comes to this front's checksum.
-func (s *sums) judge(ctx context.Context, sequence uint64) error {
+// a sequence comes to this front's checksum. Without an error another front is wrong.
+func (s *sums) judge(ctx context.Context, own replicated.Sum) error {
 	k := s.keeper
-	stray, err := k.strays(ctx, sequence)
-	if ctx.Err() != nil {
-		return nil
-	}
+	stray, err := k.strays(ctx, own.Sequence)
 	if err != nil {
-		k.Log.Error("the edits on disk can't be compared with the stream", "sequence", sequence, "error", err)
-	} else if stray != 0 {
+		return fmt.Errorf("the edits on disk can't be compared with the stream: %w", err)
+	}
+	if stray != 0 {
 		return fmt.Errorf("sequence %d: %w", stray, errStray)
 	}
-	dump, err := k.replayed(ctx, sequence)
+	dump, err := k.replayed(ctx, own.Sequence)
+	if err != nil {
+		return fmt.Errorf("the state can't be compared with that of a second program: %w", err)
+	}
 	sum, ok := sumOf(dump)
-	if ctx.Err() != nil {
-		return nil
+	if !ok {
+		return fmt.Errorf("a second program tells no dump: %.200s", dump)
 	}
-	if err != nil || !ok {
-		k.Log.Error("the state can't be compared with that of a second program", "sequence", sequence, "error", err)
-		return nil
+	if sum != own.Sum {
+		return fmt.Errorf("sequence %d: %w", own.Sequence, errDiffers)
 	}
-	s.mutex.Lock()
-	defer s.mutex.Unlock()
-	if s.own[sequence] != sum {
-		return fmt.Errorf("sequence %d: %w", sequence, errDiffers)
-	}
-	k.Log.Error("a second program has this front's state: another front is wrong", "sequence", sequence)
+	k.Log.Error("a second program has this front's state: another front is wrong", "sequence", own.Sequence)
 	return nil
 }
 

@@ -47,7 +47,19 @@ func (s *serving) lose(call *Call) {
 		call.finish(Reply{Err: ErrEnded})
 		return
 	}
-	s.unanswered = append(s.unanswered, call)
+	s.unanswered = anew(s.unanswered, call)
+}
+
+// anew adds an edit of a stream that the next program is told: of those that are made all together the first, once.
+func anew(calls []*Call, lost *Call) []*Call {
+	if lost.group != nil {
+		lost = lost.group.first
+		lost.group.parts = nil
+		if last := len(calls) - 1; last >= 0 && calls[last] == lost {
+			return calls
+		}
+	}
+	return append(calls, lost)
 }
 
 // await waits for the reply to a line.
@@ -205,7 +217,11 @@ func (s *serving) settle(batch []settled) bool {
 
 // remembered is the body with a key whose next line this is, if somebody still waits for its reply.
 func (c *Call) remembered() *keys.Use {
-	if c.sequence != 0 && !c.isAnswered() {
+	answered := c
+	if c.group != nil {
+		answered = c.group.first // who was told nothing of the first is told nothing of the others
+	}
+	if c.sequence != 0 && !answered.isAnswered() {
 		return nil
 	}
 	return c.Remember
@@ -245,6 +261,7 @@ func (k *Keeper) write(batch []settled) error {
 		k.Edited(entries)
 	}
 	k.askers.tell(entries)
+	k.spare.tell(entries)
 	k.accepted(entries[len(entries)-1].Serial)
 	return nil
 }
@@ -281,7 +298,7 @@ func (s *serving) fail(batch []settled) {
 		next.each(func(one settled) {
 			one.reply.Drop()
 			if one.call.sequence != 0 {
-				s.unkept = append(s.unkept, one.call)
+				s.unkept = anew(s.unkept, one.call)
 				return
 			}
 			reply := Reply{Err: ErrAfter}

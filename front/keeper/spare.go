@@ -3,6 +3,7 @@ package keeper
 import (
 	"context"
 	"fmt"
+	"sync"
 	"sync/atomic"
 	"time"
 
@@ -31,10 +32,19 @@ type spare struct {
 	broken *atomic.Bool  // whether `now` has ended, or another state than the table's program; for everybody
 	ready  *readiness    // whether there is one; for everybody
 	wanted chan struct{} // another one is wanted
+	// Of a stream: what came to the disk and `now` wasn't told, says that there is some of that, and which edits of it
+	// a spare program had.
+	mutex sync.Mutex
+	news  []folder.Entry
+	moved chan struct{}
+	own   map[uint64]*atomic.Bool
 }
 
 func newSpare(k *Keeper) *spare {
-	return &spare{keeper: k, broken: &atomic.Bool{}, ready: newReadiness(), wanted: make(chan struct{}, 1)}
+	return &spare{
+		keeper: k, broken: &atomic.Bool{}, ready: newReadiness(), wanted: make(chan struct{}, 1),
+		moved: make(chan struct{}, 1), own: map[uint64]*atomic.Bool{},
+	}
 }
 
 // stands says whether there is one that edits can be tried on.
@@ -66,10 +76,7 @@ func (s *spare) run(ctx context.Context) {
 	for pause := firstPause; ctx.Err() == nil; pause = longer(pause) {
 		err := s.make(ctx)
 		if err == nil {
-			select {
-			case <-s.wanted:
-			case <-ctx.Done():
-			}
+			s.stay(ctx)
 			pause = firstPause / 2
 			continue
 		}

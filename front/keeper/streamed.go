@@ -1,6 +1,7 @@
 package keeper
 
 import (
+	"bytes"
 	"context"
 	"errors"
 	"fmt"
@@ -22,8 +23,8 @@ const (
 // ErrRefused says that an edit which is sent again was refused before.
 var ErrRefused = errors.New("the edit was appended before, and refused")
 
-// ErrWhole says that edits aren't made all together.
-var ErrWhole = errors.New("edits aren't made all together through a stream")
+// newline stands between edits of a stream that are made all together.
+var newline = []byte("\n")
 
 // ErrAppended says that an edit has no reply, and that this isn't to say that it has no effect.
 var ErrAppended = errors.New("the edit is appended, or may be, and may be applied")
@@ -44,6 +45,7 @@ type streamed struct {
 	crossed time.Time        // when one had no place last
 	resumes time.Time        // from when on more are sent
 	read    uint64           // the sequence of the last edit that it brought; for the goroutine that reads
+	taken   uint64           // that of the last one which was looked for among those that are due
 	last    atomic.Uint64    // that of the last one which is known of
 	applied atomic.Uint64    // that of the last one which the program has answered, and what it accepted is on disk
 	target  uint64           // that of the last one when the front began
@@ -52,6 +54,7 @@ type streamed struct {
 	stuck   uint64           // the sequence of that over which a program ended
 	ends    int              // how many ended over it
 	short   bool             // whether the last of these had no memory
+	beside  *running         // a program that has the state of edits which were tried; for the goroutine that reads
 	// landings says that one of those on their way has its place, or has none.
 	landings *progress
 }
@@ -89,7 +92,7 @@ func (l *streamed) begin(ctx context.Context) (string, error) {
 		return "", fmt.Errorf("the stream begins at sequence %d, and the folder ends at %d: "+
 			"--snapshot-from a front that has more", extent.First, last)
 	}
-	l.read, l.target = last, extent.Last
+	l.read, l.taken, l.target = last, last, extent.Last
 	l.last.Store(extent.Last)
 	l.applied.Store(last)
 	l.caught.Store(last >= l.target)
@@ -153,6 +156,7 @@ func (l *streamed) run(ctx context.Context) {
 	if l == nil {
 		return
 	}
+	defer l.discard()
 	for pause := firstPause; ctx.Err() == nil; pause = longer(pause) {
 		err := l.stream.Read(ctx, l.read, func(edit replicated.Edit) error {
 			pause = firstPause
@@ -172,38 +176,82 @@ func (l *streamed) run(ctx context.Context) {
 // feed puts an edit that the stream brought among the lines for the program.
 func (l *streamed) feed(ctx context.Context, edit replicated.Edit) error {
 	call := l.take(edit)
-	select {
-	case l.keeper.queue <- call:
-	case <-ctx.Done():
-		return ctx.Err()
+	fed := call.fed
+	if call.group != nil && fed != nil {
+		close(fed) // nothing of their client comes behind them, and to try them may take a while
+		fed = nil
+	}
+	if err := l.put(ctx, call); err != nil {
+		call.leaveAppended() // it isn't lost: it is read anew
+		return err
 	}
 	l.read = edit.Sequence
 	l.sees(edit.Sequence)
-	if call.fed != nil {
-		close(call.fed)
+	if fed != nil {
+		close(fed)
 	}
 	return nil
+}
+
+// put puts it there, and before that sees whether edits that are made all together are made.
+func (l *streamed) put(ctx context.Context, call *Call) error {
+	if call.group != nil {
+		if err := l.settleWhole(ctx, call); err != nil {
+			return err
+		}
+	} else if l.caught.Load() {
+		l.discard()
+	}
+	select {
+	case l.keeper.queue <- call:
+		return nil
+	case <-ctx.Done():
+		return ctx.Err()
+	}
 }
 
 // take is the client's edit that the stream brought, or that of another front.
 func (l *streamed) take(edit replicated.Edit) *Call {
 	l.mutex.Lock()
 	defer l.mutex.Unlock()
+	l.taken = edit.Sequence
 	call := l.due[edit.ID]
 	delete(l.due, edit.ID)
 	if call == nil {
-		call = &Call{Line: edit.Line, By: edit.By, kind: line.Edit, reply: make(chan Reply, 1)}
+		call = callOf(edit)
 	} else {
 		l.brought[call] = true
-		call.settle = func(*Reply) { l.finished(call) }
+		call.settle = func(reply *Reply) { l.finished(call, *reply) }
 	}
 	l.settleDoubts(edit.Sequence)
-	if !isEditLine(edit.Line) {
-		call.Line = nil // it isn't of a front, and each replica refuses it
+	for _, one := range call.all() {
+		one.sequence, one.at = edit.Sequence, edit.Time
 	}
-	call.sequence, call.at = edit.Sequence, edit.Time
+	l.keeper.spare.had(call)
 	return call
 }
+
+// callOf is the edit of another front. What isn't one, or several that are made all together, each replica refuses.
+func callOf(edit replicated.Edit) *Call {
+	lines := [][]byte{edit.Line}
+	if edit.Whole {
+		lines = bytes.Split(edit.Line, newline)
+	}
+	var calls []*Call
+	for _, l := range lines {
+		if !isEditLine(l) {
+			return &Call{By: edit.By, kind: line.Edit, reply: make(chan Reply, 1)}
+		}
+		calls = append(calls, &Call{Line: l, By: edit.By, kind: line.Edit, reply: make(chan Reply, 1)})
+	}
+	if edit.Whole {
+		return grouped(calls)
+	}
+	return calls[0]
+}
+
+// all is a call and those that are sent behind it.
+func (c *Call) all() []*Call { return append([]*Call{c}, c.behind...) }
 
 // isEditLine says whether something is one line, and an edit.
 func isEditLine(l []byte) bool {

@@ -17,8 +17,19 @@ func (p *Part) Error() string {
 
 // group is edits that are made all together, as far as they have their replies.
 type group struct {
+	first *Call
 	count int
 	parts []settled
+}
+
+// grouped has edits be made all together, the others behind the first.
+func grouped(calls []*Call) *Call {
+	together := &group{first: calls[0], count: len(calls)}
+	for _, call := range calls {
+		call.reply, call.group = make(chan Reply, 1), together
+	}
+	calls[0].behind = calls[1:]
+	return calls[0]
 }
 
 // add adds one of them, and gives all once they are whole.
@@ -35,13 +46,15 @@ func (g *group) add(next settled) (settled, bool) {
 	return first, true
 }
 
-// abandon tells those that were added that they aren't made.
+// abandon tells those that were added that they aren't made. Edits of a stream are told to the next program.
 func (g *group) abandon() {
 	if g == nil {
 		return
 	}
 	for _, part := range g.parts {
-		part.call.finish(Reply{Err: ErrEnded})
+		if part.call.sequence == 0 {
+			part.call.finish(Reply{Err: ErrEnded})
+		}
 	}
 	g.parts = nil
 }
@@ -60,7 +73,7 @@ func (s settled) each(call func(settled)) {
 // that has the state of the table's. `known`, if there is one, is how many edits there are to be before them.
 func (k *Keeper) Whole(ctx context.Context, calls []*Call, known *uint64) ([]Reply, error) {
 	if k.streamed != nil {
-		return nil, ErrWhole
+		return k.streamed.whole(ctx, calls, known)
 	}
 	beside, err := k.besideForOne(ctx)
 	if err != nil {
@@ -72,6 +85,11 @@ func (k *Keeper) Whole(ctx context.Context, calls []*Call, known *uint64) ([]Rep
 	if err := k.inTurn(ctx, func() error { return k.submitAll(ctx, beside, calls, known) }); err != nil {
 		return nil, err
 	}
+	return repliesTo(ctx, calls)
+}
+
+// repliesTo waits for the replies to edits that are made all together.
+func repliesTo(ctx context.Context, calls []*Call) ([]Reply, error) {
 	replies := make([]Reply, len(calls))
 	for i, call := range calls {
 		if replies[i] = call.wait(ctx, nil); replies[i].Err != nil {
@@ -102,13 +120,10 @@ func (k *Keeper) submitAll(ctx context.Context, beside *running, calls []*Call, 
 	if err := k.tryAll(ctx, beside, calls); err != nil {
 		return err
 	}
-	together := &group{count: len(calls)}
+	first := grouped(calls)
 	for _, call := range calls {
-		call.reply, call.group = make(chan Reply, 1), together
 		k.count(call)
 	}
-	first := calls[0]
-	first.behind = calls[1:]
 	_, err := k.submit(context.Background(), k.queue, first)
 	return err
 }

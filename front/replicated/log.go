@@ -14,6 +14,8 @@ type Edit struct {
 	ID   string // by which it is known to be the same one when it is sent again
 	By   string // who sent it
 	Line []byte
+	// Whole says that it is several edits, a line each, which are made all together or not at all.
+	Whole bool
 	// Sequence is its place in the stream, counted from 1 without a gap; 0 before it was appended.
 	Sequence uint64
 	// Time is when it was appended, as the stream says.

@@ -89,8 +89,6 @@ func problemFor(err error) problem {
 		return problem{Title: "no reply yet", Status: http.StatusGatewayTimeout, Detail: err.Error()}
 	case errors.Is(err, keeper.ErrRefused):
 		return problem{Title: "refused before", Status: http.StatusConflict, Detail: err.Error()}
-	case errors.Is(err, keeper.ErrWhole):
-		return problem{Title: "not with a log", Status: http.StatusNotImplemented, Detail: err.Error()}
 	case errors.Is(err, sessions.ErrGone):
 		return noSession()
 	case errors.Is(err, keys.ErrOther):
