@@ -13,7 +13,8 @@ import re
 import sys
 import tempfile
 
-from try_check import HERE, Trial, match, policy
+import try_check
+from try_check import HERE, Trial, policy
 
 FUNCTION = 'urn:oasis:names:tc:xacml:1.0:function:'
 COMBINING = 'urn:oasis:names:tc:xacml:{}:combining-algorithm:{}'
@@ -39,6 +40,13 @@ def the(attribute, datatype):
     """The one value of an attribute of the environment."""
     designator = {'Category': ENVIRONMENT, 'AttributeId': attribute, 'DataType': datatype}
     return apply(f'{datatype}-one-and-only', {'AttributeDesignator': designator})
+
+
+def match(value, function='string-equal'):
+    """A target that compares the id of the resource with a literal by a function."""
+    target = try_check.match(value)
+    target['AnyOf'][0]['AllOf'][0]['Match'][0]['MatchId'] = FUNCTION + function
+    return target
 
 
 def time(comparison, value):
@@ -71,6 +79,7 @@ COPIES = [rule('a', Target=match('plan'), Condition=ASKS), rule('b', 'Deny', Tar
 NAMED = [{'VariableId': 'v', 'Expression': ASKS}, {'VariableId': 'w', 'Expression': variable('v')}]
 UNTIL = 'no value meets this and argument {} of the same `and`'
 FIXED = 'this condition asks for nothing, so it is the same for each request'
+LEAST = 'nothing is less than the literal here'
 REFERENCE = {'PolicyIdReference': {'Id': 'p'}}
 NEVER = '/PolicySet/ObligationExpressions/0: the set never gives {}, so this never comes'
 
@@ -101,6 +110,12 @@ CASES = {
     'two values': (one(apply('and', ASKS, apply('string-equal', literal('office'), the('place', 'string')))), [
         f'{CONDITION}/Apply/Arguments/1: {UNTIL.format(0)}']),
     'two attributes': (one(apply('and', ASKS, apply('string-equal', literal('office'), the('room', 'string')))), []),
+    'before midnight': (one(apply('and', ASKS, time('less-than', '00:00:00'))), [
+        f'{CONDITION}/Apply/Arguments/1: {LEAST}']),
+    'up to midnight': (one(apply('and', ASKS, time('less-than-or-equal', '00:00:00'))), []),
+    'the empty string first': (
+        policy('p', Target=match('', 'string-greater-than')), [f'/Policy/Target/AnyOf/0/AllOf/0/Match/0: {LEAST}']),
+    'behind the empty string': (policy('p', Target=match('', 'string-less-than')), []),
     'a set that never denies': (given('Deny', policy('p')), [NEVER.format('Deny')]),
     'a set that denies by its algorithm': (given('Deny', policy('p'), algorithm='deny-unless-permit'), []),
     'a set with a reference': (given('Deny', policy('p'), REFERENCE), []),

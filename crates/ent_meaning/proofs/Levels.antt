@@ -1,11 +1,12 @@
 -- One level of what is told of an expression, of a child and of a set.
 use Rattle.std.proofs.Common.{◌≡◌, ℕ, List, ◌∷◌, [], ◌++◌, ap, ◌∙◌, refl, append_assoc, codes, map, subst, sym}
 use Rattle.ent_functions.specs.declared.function.Function.{Function}
-use Rattle.ent_meaning.specs.Bounds.{told_of_arguments}
-use Rattle.ent_meaning.specs.Effects.{both, policy_effects, set_effects}
+use Rattle.ent_meaning.specs.Bounds.{application_told}
+use Rattle.ent_meaning.specs.Effects.{set_effects}
 use Rattle.ent_meaning.specs.Expressions as expressions
 use Rattle.ent_meaning.specs.Expressions.{inside, seen_step}
 use Rattle.ent_meaning.specs.Places.{at_key, numbered}
+use Rattle.ent_meaning.specs.Targets.{target_told}
 use Rattle.ent_meaning.specs.Warnings as warnings
 use Rattle.ent_meaning.specs.Warnings.{child_step, given_told, policy_told, set_step}
 use Rattle.ent_meaning.specs.declared.warning.Warning.{Warning}
@@ -13,14 +14,12 @@ use Rattle.ent_meaning.specs.proofs_only.Views.{seen_set}
 use Rattle.ent_policy.specs.declared.document.Child.TheFolds.{fold-roll-Child, fold_out-PolicySet}
 use Rattle.ent_policy.specs.declared.document.Child.TheOpen.{Child-F}
 use Rattle.ent_policy.specs.declared.document.Child.TheVariants as children
-use Rattle.ent_policy.specs.declared.document.Policy.{Policy}
 use Rattle.ent_policy.specs.declared.document.PolicySet.{PolicySet}
 use Rattle.ent_policy.specs.declared.expression.Expression.{Expression}
 use Rattle.ent_policy.specs.declared.expression.Expression.TheFolds.{fold-roll-Expression, ind-Expression, map-Expression}
 use Rattle.ent_policy.specs.declared.expression.Expression.TheOpen.{Expression-F}
 use Rattle.ent_policy.specs.declared.expression.Expression.TheVariants as expression
 use Rattle.ent_policy.specs.declared.expression.Expression.TheViews.{roll-Expression}
-use Rattle.ent_policy.specs.declared.key.Reference.{Reference}
 
 -- ---- expressions
 
@@ -58,21 +57,21 @@ all_told [] = refl
 all_told (e ∷ es) = ap (λ rest. inside e ∷ rest) (all_told es)
 
 -- what is told inside of an application
-pub application_told : (f : Function) (es : List Expression) (pointer : List ℕ)
-    → inside (expression.Apply f es) pointer ≡ told_of_arguments f es pointer ++ numbered (codes "Apply/Arguments") 0 (map inside es) pointer
+pub inside_application : (f : Function) (es : List Expression) (pointer : List ℕ)
+    → inside (expression.Apply f es) pointer ≡ application_told f es pointer ++ numbered (codes "Apply/Arguments") 0 (map inside es) pointer
 unfolding Rattle.ent_policy.specs.declared.expression.Expression.TheViews.roll-Expression denote.Hole.Carrier.roll
-application_told f es pointer =
+inside_application f es pointer =
     ap (λ s. s.told pointer) (fold-roll-Expression expressions.Seen seen_step (Expression-F.Apply f es))
-    ∙ (λ i. told_of_arguments f (all_are es i) pointer ++ numbered (codes "Apply/Arguments") 0 (all_told es i) pointer)
+    ∙ (λ i. application_told f (all_are es i) pointer ++ numbered (codes "Apply/Arguments") 0 (all_told es i) pointer)
 
 -- what is put last of its arguments, and then inside of them, is that
 pub application_put : (e : Expression) (f : Function) (es : List Expression) (pointer : List ℕ) (before between after : List Warning)
-    → e ≡ expression.Apply f es → between ≡ before ++ told_of_arguments f es pointer → after ≡ between ++ numbered (codes "Apply/Arguments") 0 (map inside es) pointer
+    → e ≡ expression.Apply f es → between ≡ before ++ application_told f es pointer → after ≡ between ++ numbered (codes "Apply/Arguments") 0 (map inside es) pointer
     → after ≡ before ++ inside e pointer
 application_put e f es pointer before between after is own others =
     others ∙ ap (λ ws. ws ++ numbered (codes "Apply/Arguments") 0 (map inside es) pointer) own
-    ∙ append_assoc before (told_of_arguments f es pointer) (numbered (codes "Apply/Arguments") 0 (map inside es) pointer)
-    ∙ ap (λ ws. before ++ ws) (sym (application_told f es pointer)) ∙ ap (λ e. before ++ inside e pointer) (sym is)
+    ∙ append_assoc before (application_told f es pointer) (numbered (codes "Apply/Arguments") 0 (map inside es) pointer)
+    ∙ ap (λ ws. before ++ ws) (sym (inside_application f es pointer)) ∙ ap (λ e. before ++ inside e pointer) (sym is)
 
 -- ---- children and sets
 
@@ -83,6 +82,6 @@ set_told set pointer = ap (λ s. s.told pointer) (fold-roll-Child warnings.Seen 
 
 -- what is told of a set, by its children
 pub set_level : (set : PolicySet) (pointer : List ℕ) → (seen_set set).told pointer
-    ≡ numbered (codes "Children") 0 (map (λ c. c.told) (map warnings.seen set.children)) pointer
-    ++ given_told (set_effects set.algorithm (map (λ c. c.gives) (map warnings.seen set.children))) set.given pointer
+    ≡ target_told set.target pointer ++ (numbered (codes "Children") 0 (map (λ c. c.told) (map warnings.seen set.children)) pointer
+    ++ given_told (set_effects set.algorithm (map (λ c. c.gives) (map warnings.seen set.children))) set.given pointer)
 set_level set pointer = ap (λ s. s.told pointer) (fold_out-PolicySet warnings.Seen warnings.Seen child_step set_step set)

@@ -1,3 +1,4 @@
 pub mod Named
 pub mod Levels
 pub mod Limits
+pub mod Least

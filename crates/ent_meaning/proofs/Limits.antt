@@ -5,7 +5,7 @@ use Rattle.std.specs.Cmp.{IsTotalOrder}
 use Rattle.std.specs.Ordering.{ordering_reverse}
 use Rattle.std.specs.declared.cmp.Ordering.TheVariants as order
 use Rattle.ent_functions.specs.declared.function.Comparison.TheVariants as comparison
-use Rattle.ent_meaning.specs.Bounds.{ComparisonsAskForLimits, NoValueMeetsBoth, TurnedLimitsAskTheSame, is_ceiling, is_empty, is_empty_between, is_floor, is_met, leaves_none, lies, meets, turned}
+use Rattle.ent_meaning.specs.Bounds.{ComparisonsAskForLimits, NoValueMeetsBoth, TurnedLimitsAskTheSame, is_ceiling, is_empty_between, is_floor, is_met, leaves_none, lies, meets, turned}
 use Rattle.ent_meaning.specs.declared.bounds.Limit.{Limit}
 use Rattle.ent_meaning.specs.declared.bounds.Limit.TheVariants as limit
 use Rattle.ent_values.specs.Order.{value_cmp}

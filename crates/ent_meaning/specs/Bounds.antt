@@ -1,5 +1,5 @@
 -- Arguments of one `and` (appendix A.3.5) that no value meets together.
-use Rattle.std.specs.Prelude.{◌≡◌, ℕ, suc, List, [], ◌∷◌, ◌++◌, Bool, true, false, not, ◌&&◌, ◌||◌, Option, Some, None, option_map, if◌then◌else◌, codes, take}
+use Rattle.std.specs.Prelude.{◌≡◌, ℕ, suc, List, [], ◌∷◌, ◌++◌, Bool, true, false, not, ◌&&◌, ◌||◌, ◌==◌, Option, Some, None, option_map, if◌then◌else◌, codes, take}
 use Rattle.std.specs.declared.cmp.Ordering.{Ordering}
 use Rattle.std.specs.declared.cmp.Ordering.TheVariants as order
 use Rattle.ent_functions.specs.Orders.{stands}
@@ -9,15 +9,18 @@ use Rattle.ent_functions.specs.declared.function.Ordered.{Ordered}
 use Rattle.ent_functions.specs.declared.function.Function.{Function}
 use Rattle.ent_functions.specs.declared.function.Function.TheVariants as function
 use Rattle.ent_meaning.specs.Copies.{same_expression}
-use Rattle.ent_meaning.specs.Places.{Told, member, told_of}
+use Rattle.ent_meaning.specs.Places.{Told, member, told_if, told_of}
 use Rattle.ent_meaning.specs.declared.bounds.Limit.{Limit}
 use Rattle.ent_meaning.specs.declared.bounds.Limit.TheVariants as limit
 use Rattle.ent_meaning.specs.declared.warning.Meaning.TheVariants as meaning
 use Rattle.ent_policy.specs.declared.expression.Expression.{Expression}
 use Rattle.ent_policy.specs.declared.expression.Expression.TheOpen.{Expression-F}
 use Rattle.ent_policy.specs.declared.expression.Expression.TheViews.{out-Expression}
+use Rattle.ent_values.specs.Calendar.{TimeOfDay}
 use Rattle.ent_values.specs.Order.{value_cmp}
+use Rattle.ent_values.specs.Types.{datatype_of}
 use Rattle.ent_values.specs.declared.value.Value.{Value}
+use Rattle.ent_values.specs.declared.value.Value.TheVariants as values
 
 -- ---- what an argument asks of a value
 
@@ -106,6 +109,37 @@ are_apart _ _ = false
 abbrev pub excludes : Expression → Expression → Bool
 excludes a b = are_apart (bound_of a) (bound_of b)
 
+-- ---- a bound by itself
+
+-- nothing comes before a time in a day
+abbrev pub is_midnight : TimeOfDay → Bool
+is_midnight t = t.hour == 0 && (t.minute == 0 && t.second == 0)
+
+-- a text has no byte
+abbrev pub is_empty_text : List ℕ → Bool
+is_empty_text [] = true
+is_empty_text (b ∷ bs) = false
+
+-- no value of its type is less: 00:00:00, and the empty string
+abbrev pub is_least : Value → Bool
+is_least (values.Time t) = is_midnight t
+is_least (values.Text bytes) = is_empty_text bytes
+is_least _ = false
+
+-- no value lies there: less is asked for than the least
+abbrev pub is_nowhere : Limit → Value → Bool
+is_nowhere limit.Below literal = is_least literal
+is_nowhere _ literal = false
+
+abbrev pub is_unmet : Option Bound → Bool
+is_unmet None = false
+is_unmet (Some b) = is_nowhere b.limit b.value
+
+-- so of a function with the literal first, as in a match (section 7.6)
+abbrev pub is_unmet_from : Option Limit → Value → Bool
+is_unmet_from None literal = false
+is_unmet_from (Some l) literal = is_nowhere (turned l) literal
+
 -- ---- those of one `and`
 
 -- the number of the first of some arguments that excludes another, where the first of them has this number
@@ -123,6 +157,10 @@ apart_from all n (e ∷ others) pointer =
 abbrev pub told_of_arguments : Function → List Expression → Told
 told_of_arguments function.And arguments pointer = apart_from arguments 0 arguments pointer
 told_of_arguments _ arguments pointer = []
+
+-- what is told of an application
+abbrev pub application_told : Function → List Expression → Told
+application_told f arguments pointer = told_if (is_unmet (bound_between (limit_of f) arguments)) meaning.Least pointer ++ told_of_arguments f arguments pointer
 
 -- ---- what a bound says of a value
 
@@ -148,6 +186,10 @@ NoValueMeetsBoth = (a b : Limit) (v w value : Value) → is_empty a v b w ≡ tr
 abbrev pub ComparisonsAskForLimits : Type 0
 ComparisonsAskForLimits =
     (c : Comparison) (o : Ordered) (lying : Ordering) → option_map (λ l. lies l lying) (limit_of (function.Compare c o)) ≡ Some (stands c lying)
+
+-- no value of its type meets a limit that is told alone
+abbrev pub NoValueLiesBelowTheLeast : Type 0
+NoValueLiesBelowTheLeast = (l : Limit) (literal value : Value) → datatype_of value ≡ datatype_of literal → is_nowhere l literal ≡ true → meets l literal value ≡ false
 
 -- with the literal first, where the value meets the limit turned
 abbrev pub TurnedLimitsAskTheSame : Type 0

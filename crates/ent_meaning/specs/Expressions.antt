@@ -1,6 +1,6 @@
 -- What is told of conditions, and of the expressions in them, in definitions and in assignments.
-use Rattle.std.specs.Prelude.{List, [], ◌++◌, Option, Some, None, codes, map}
-use Rattle.ent_meaning.specs.Bounds.{told_of_arguments}
+use Rattle.std.specs.Prelude.{[], ◌++◌, Option, Some, None, codes, map}
+use Rattle.ent_meaning.specs.Bounds.{application_told}
 use Rattle.ent_meaning.specs.Fixed.{is_fixed}
 use Rattle.ent_meaning.specs.Places.{Told, at_key, numbered, told_if}
 use Rattle.ent_meaning.specs.declared.warning.Meaning.TheVariants as meaning
@@ -20,7 +20,7 @@ nothing pointer = []
 
 -- what is told of one level of an expression, with each argument already seen
 abbrev pub level_told : Expression-F Seen → Told
-level_told (Expression-F.Apply function arguments) pointer = told_of_arguments function (map (λ s. s.it) arguments) pointer
+level_told (Expression-F.Apply function arguments) pointer = application_told function (map (λ s. s.it) arguments) pointer
     ++ numbered (codes "Apply/Arguments") 0 (map (λ s. s.told) arguments) pointer
 level_told _ pointer = []
 

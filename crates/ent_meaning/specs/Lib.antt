@@ -5,5 +5,6 @@ pub mod Copies
 pub mod Bounds
 pub mod Effects
 pub mod Expressions
+pub mod Targets
 pub mod Warnings
 pub mod proofs_only

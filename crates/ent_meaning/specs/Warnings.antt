@@ -5,6 +5,7 @@ use Rattle.ent_meaning.specs.Effects.{both, may_give, policy_effects, set_effect
 use Rattle.ent_meaning.specs.Expressions.{condition_told, inside, nothing}
 use Rattle.ent_meaning.specs.Names.{named}
 use Rattle.ent_meaning.specs.Places.{Told, at_key, member, numbered, told_if, told_of}
+use Rattle.ent_meaning.specs.Targets.{target_told}
 use Rattle.ent_meaning.specs.declared.effects.Effects.{Effects}
 use Rattle.ent_meaning.specs.declared.warning.Meaning.TheVariants as meaning
 use Rattle.ent_meaning.specs.declared.warning.Warning.{Warning}
@@ -45,7 +46,7 @@ definition_told is_named d pointer = told_if (not (is_named d.id)) meaning.Unuse
 
 -- of a rule by itself; which effects it gives its own warnings tell
 abbrev pub rule_told : Rule → Told
-rule_told r pointer = condition_told r.condition pointer ++ given_told both r.given pointer
+rule_told r pointer = target_told r.target pointer ++ (condition_told r.condition pointer ++ given_told both r.given pointer)
 
 -- of the rules of a policy, of which those from this number on are given last
 abbrev pub rules_told : Policy → ℕ → List Rule → Told
@@ -56,7 +57,7 @@ rules_told p n (r ∷ others) pointer = told_of meaning.Overruled (overruling p.
 -- of a policy
 abbrev pub policy_told : Policy → Told
 policy_told p pointer = numbered (codes "VariableDefinition") 0 (map (definition_told (is_among (named p))) p.variables) pointer
-    ++ (rules_told p 0 p.rules pointer ++ given_told both p.given pointer)
+    ++ (target_told p.target pointer ++ (rules_told p 0 p.rules pointer ++ given_told both p.given pointer))
 
 -- ---- sets
 
@@ -75,8 +76,8 @@ child_step (Child-F.Reference reference) = record { gives = both; told = nothing
 abbrev pub set_step : PolicySet-F Seen Seen → Seen
 set_step s = record {
   gives = set_effects s.algorithm (map (λ c. c.gives) s.children);
-  told = λ pointer. numbered (codes "Children") 0 (map (λ c. c.told) s.children) pointer
-      ++ given_told (set_effects s.algorithm (map (λ c. c.gives) s.children)) s.given pointer;
+  told = λ pointer. target_told s.target pointer ++ (numbered (codes "Children") 0 (map (λ c. c.told) s.children) pointer
+      ++ given_told (set_effects s.algorithm (map (λ c. c.gives) s.children)) s.given pointer);
 }
 
 abbrev pub seen : Child → Seen

@@ -2,11 +2,13 @@
 
 ghost use Rattle.std.specs.Prelude.{◌≡◌, ◌≤◌, ◌++◌, OnOk, codes, length, option_map, take};
 ghost use Rattle.ent_policy.specs.declared.expression.Expression.TheViews.{out-Expression};
-ghost use Rattle.ent_meaning.specs.Bounds.{ComparisonsAskForLimits, NoValueMeetsBoth, TurnedLimitsAskTheSame};
+ghost use Rattle.ent_meaning.specs.Bounds.{ComparisonsAskForLimits, NoValueLiesBelowTheLeast, NoValueMeetsBoth};
+ghost use Rattle.ent_meaning.specs.Bounds.{TurnedLimitsAskTheSame, application_told, bound_between, is_least};
+ghost use Rattle.ent_meaning.specs.Bounds.{is_nowhere, is_unmet, is_unmet_from};
 ghost use Rattle.ent_meaning.specs.Bounds.{apart_from, bound_by, bound_of, excludes, first_excluding, is_ceiling};
 ghost use Rattle.ent_meaning.specs.Bounds.{is_empty, is_empty_between, is_floor, is_met, leaves_none, limit_of};
 ghost use Rattle.ent_meaning.specs.Bounds.{told_of_arguments, turned};
-ghost use Rattle.ent_meaning.specs.Places.{member, told_of};
+ghost use Rattle.ent_meaning.specs.Places.{member, told_if, told_of};
 ghost use Rattle.ent_meaning.specs.declared.warning.Meaning.TheVariants as meaning;
 ghost use Rattle.ent_meaning.specs.proofs_only.Views.{bound};
 
@@ -115,18 +117,66 @@ fn bound_by<'a>(
     }
 }
 
+/// The bound that the arguments of a function make, if they do.
+fn bound_between(function: Function, arguments: &[Expression]) -> Option<LentBound<'_>>
+    ensures { option_map bound result ≡ bound_between (limit_of function) arguments.now }
+{
+    let limit = limit_of(function)?;
+    let [first, second] = arguments else {
+        return None;
+    };
+    bound_by(limit, first, second)
+}
+
 /// What an argument asks, if it asks so.
 fn bound_of(argument: &Expression) -> Option<LentBound<'_>>
     ensures { option_map bound result ≡ bound_of argument.now }
 {
-    let Expression::Apply(function, arguments) = argument else {
-        return None;
-    };
-    let limit = limit_of(*function)?;
-    let [first, second] = arguments.as_slice() else {
-        return None;
-    };
-    bound_by(limit, first, second)
+    match argument {
+        Expression::Apply(function, arguments) => bound_between(*function, arguments.as_slice()),
+        _ => None,
+    }
+}
+
+/// Whether no value of its type is less.
+fn is_least(value: &Value) -> bool
+    ensures { result ≡ is_least value.now }
+{
+    match value {
+        Value::Time(time) => time.hour() == 0 && time.minute() == 0 && time.second() == 0,
+        Value::Text(text) => text.as_str().is_empty(),
+        _ => false,
+    }
+}
+
+/// Whether no value lies there.
+fn is_nowhere(limit: Limit, literal: &Value) -> bool
+    ensures { result ≡ is_nowhere limit literal.now }
+{
+    match limit {
+        Limit::Below => is_least(literal),
+        _ => false,
+    }
+}
+
+/// Whether no value meets the bound that the arguments of a function make.
+fn is_unmet(function: Function, arguments: &[Expression]) -> bool
+    ensures { result ≡ is_unmet (bound_between (limit_of function) arguments.now) }
+{
+    match bound_between(function, arguments) {
+        Some(bound) => is_nowhere(bound.limit, bound.value),
+        None => false,
+    }
+}
+
+/// Whether a function with a literal first is true of no value.
+pub(crate) fn is_unmet_from(function: Function, literal: &Value) -> bool
+    ensures { result ≡ is_unmet_from (limit_of function) literal.now }
+{
+    match limit_of(function) {
+        Some(limit) => is_nowhere(limit.turned(), literal),
+        None => false,
+    }
 }
 
 /// Whether a floor that lies so to a ceiling leaves nothing between, where the literal of both may meet both or not.
@@ -218,8 +268,25 @@ fn tell_apart(
     Ok(())
 }
 
+/// Puts that no value meets the bound that the arguments of a function make last, if none does.
+fn tell_unmet(
+    alloc: Global,
+    pointer: &str,
+    function: Function,
+    arguments: &[Expression],
+    warnings: &mut Items<Warning>,
+) -> Result<(), AllocError>
+    ensures { OnOk result (warnings.new ≡ warnings.old
+        ++ told_if (is_unmet (bound_between (limit_of function) arguments.now)) meaning.Least pointer.now) }
+{
+    if is_unmet(function, arguments) {
+        return put(alloc, pointer, Meaning::Least, warnings);
+    }
+    Ok(())
+}
+
 /// Puts what is told of the arguments of a function last, which stand in its application at a place.
-pub(crate) fn tell_arguments(
+fn tell_arguments(
     alloc: Global,
     pointer: &str,
     function: Function,
@@ -234,10 +301,25 @@ pub(crate) fn tell_arguments(
     }
 }
 
-/// A law, with nothing to run: of two limits that are told as such no value meets both; comparisons ask for the limits
-/// that stand for them, and with the literal first for them turned.
+/// Puts what is told of the application of a function at a place last.
+pub(crate) fn tell_application(
+    alloc: Global,
+    pointer: &str,
+    function: Function,
+    arguments: &[Expression],
+    warnings: &mut Items<Warning>,
+) -> Result<(), AllocError>
+    ensures { OnOk result (warnings.new ≡ warnings.old ++ application_told function arguments.now pointer.now) }
+{
+    tell_unmet(alloc, pointer, function, arguments, warnings)?;
+    tell_arguments(alloc, pointer, function, arguments, warnings)
+}
+
+/// A law, with nothing to run: of two limits that are told as such no value meets both, and none of its type one that is
+/// told alone; comparisons ask for the limits that stand for them, and with the literal first for them turned.
 pub fn no_value_meets_both()
     ensures none { NoValueMeetsBoth }
+    ensures least { NoValueLiesBelowTheLeast }
     ensures comparisons { ComparisonsAskForLimits }
     ensures turned { TurnedLimitsAskTheSame }
 {}

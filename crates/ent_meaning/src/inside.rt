@@ -6,7 +6,7 @@ ghost use Rattle.ent_meaning.specs.Places.{numbered, told_if};
 ghost use Rattle.ent_meaning.specs.Fixed.{is_fixed};
 ghost use Rattle.ent_meaning.specs.declared.warning.Meaning.TheVariants as meaning;
 
-use crate::bounds::tell_arguments;
+use crate::bounds::tell_application;
 use crate::fixed::is_fixed;
 use crate::places::{at_key, member, put};
 use crate::warning::{Meaning, Warning};
@@ -27,7 +27,7 @@ pub(crate) fn tell_inside(
     match expression {
         Expression::Apply(function, arguments) => {
             let arguments = arguments.as_slice();
-            tell_arguments(alloc, pointer, *function, arguments, warnings)?;
+            tell_application(alloc, pointer, *function, arguments, warnings)?;
             tell_inside_each(alloc, pointer, arguments, warnings)?;
             Ok(())
         }

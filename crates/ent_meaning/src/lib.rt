@@ -8,6 +8,7 @@ mod fixed;
 mod inside;
 mod names;
 mod places;
+mod targets;
 mod walk;
 mod warning;
 

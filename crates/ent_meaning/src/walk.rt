@@ -18,6 +18,7 @@ use crate::effects::{Effects, policy_effects, set_unless};
 use crate::inside::{tell_condition, tell_inside};
 use crate::names::names_of;
 use crate::places::{at_key, member, put};
+use crate::targets::tell_target;
 use crate::warning::{Meaning, Warning};
 use ent_policy::{
     AssignmentExpression, Child, Document, GivenExpression, GivenExpressions, Policy, PolicySet,
@@ -197,6 +198,7 @@ fn tell_rule(
 ) -> Result<(), AllocError>
     ensures { OnOk result (warnings.new ≡ warnings.old ++ rule_told rule.now pointer.now) }
 {
+    tell_target(alloc, pointer, &rule.target, warnings)?;
     tell_condition(alloc, pointer, &rule.condition, warnings)?;
     tell_given(alloc, pointer, Effects::both(), &rule.given, warnings)
 }
@@ -229,6 +231,7 @@ fn tell_policy(
     ensures { OnOk result (warnings.new ≡ warnings.old ++ policy_told policy.now pointer.now) }
 {
     tell_definitions(alloc, pointer, policy, warnings)?;
+    tell_target(alloc, pointer, &policy.target, warnings)?;
     tell_rules(alloc, pointer, policy, warnings)?;
     tell_given(alloc, pointer, Effects::both(), &policy.given, warnings)
 }
@@ -271,6 +274,7 @@ fn tell_set(
     ensures effects { IfOk result (λ e. e ≡ (seen_set set.now).gives) }
     ensures told { OnOk result (warnings.new ≡ warnings.old ++ (seen_set set.now).told pointer.now) }
 {
+    tell_target(alloc, pointer, &set.target, warnings)?;
     let none = set_unless(set.algorithm);
     let effects = tell_children(alloc, pointer, set.children.as_slice(), none, warnings)?;
     tell_given(alloc, pointer, effects, &set.given, warnings)?;

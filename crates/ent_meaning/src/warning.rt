@@ -14,6 +14,8 @@ pub enum Meaning {
     Overruled(Text),
     /// An argument of an `and` asks of a value what the argument of that number excludes (appendix A.3.5).
     Apart(usize),
+    /// Nothing is less than a literal, and less is asked for (appendices A.2, A.3.6 and A.3.8).
+    Least,
     /// An obligation or an advice is for an effect that its set never gives (section 7.18).
     Never(Effect),
 }

@@ -39,6 +39,7 @@ fn sentence(alloc: Global, meaning: &Meaning) -> Result<String, AllocError> {
         Meaning::Apart(number) => {
             format!(in alloc; "no value meets this and argument {number} of the same `and`")
         }
+        Meaning::Least => String::from_str(alloc, "nothing is less than the literal here"),
         Meaning::Never(effect) => {
             let effect = word(*effect);
             format!(in alloc; "the set never gives {effect}, so this never comes")

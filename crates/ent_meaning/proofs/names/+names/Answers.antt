@@ -1,4 +1,3 @@
-use Rattle.std.proofs.Common.{arith}
 use Rattle.ent_policy.specs.Variables.{variables}
 use Rattle.ent_meaning.proofs.Named.{all_added, next_added, none_added, variable_added}
 use Rattle.ent_meaning.proofs.names.+names.Goals as goal

@@ -1,6 +1,5 @@
 use Rattle.ent_meaning.proofs.Named.{all_added, next_added, none_added}
 use Rattle.ent_meaning.proofs.names.put_each.Goals as goal
-use Rattle.std.proofs.Common.{arith}
 
 pub loop-part-init : goal.loop-part-init
 loop-part-init g c = none_added c.args.names.now
