@@ -15,7 +15,8 @@ PAGE = ROOT / 'docs' / 'ARCHITECTURE.md'
 COMMANDS = (r'"(?:(?:person|action|resource)\.(?:add|drop)|(?:attr|day|moment|root)\.set'
             r'|policy\.(?:add|replace|withdraw))')
 PROGRAMS = ['conformance', 'faults_told', 'attributes_told', 'together_told', 'review', 'review_with_options']
-BELOW_LINES = ['ent_values', 'ent_functions', 'ent_combine', 'ent_policy', 'ent_finder', 'ent_eval', 'ent_reach',
+EVALUATING = ['ent_request', 'ent_notes', 'ent_walk', 'ent_eval']
+BELOW_LINES = ['ent_values', 'ent_functions', 'ent_combine', 'ent_policy', 'ent_finder', *EVALUATING, 'ent_reach',
                'ent_index', 'ent_log', 'ent_cells', 'ent_table', 'ent_rebuild']
 
 
@@ -141,7 +142,7 @@ def memory_at_commit():
 
 
 def unseen():
-    known = ['ent_finder/src/hints.rt', 'ent_eval/src/paths.rt', 'ent_eval/src/notes.rt']
+    known = ['ent_finder/src/hints.rt', 'ent_notes/src/paths.rt', 'ent_notes/src/notes.rt']
     units = [where(path) for path in files() if re.search(r'ghost Value = \{ Unit\b', code(path))]
     yield from (f'{place} has a model that says nothing' for place in units if place not in known)
     yield from found(r'\bCell(?:<|::)', but=['ent_finder/src/hints.rt'])
@@ -158,7 +159,7 @@ def unsafe():
 def libraries():
     yield from named(['jiff', 'jiff_core'], but=['ent_values'])
     yield from named(['slab'], but=['ent_index', 'ent_cells'])
-    yield from named(['indexmap'], but=['ent_table', 'ent_eval'])
+    yield from named(['indexmap'], but=['ent_table', 'ent_request', 'ent_notes', 'ent_eval'])
 
 
 CHECKS = {
@@ -173,7 +174,7 @@ CHECKS = {
     'sessions and marks in a review': lambda: found(r'(?i)session', BELOW_LINES, ('src', 'specs')),
     'the table in the log and in the index': table_in_the_log,
     'finders and modules in the evaluator':
-        lambda: found(r'\b(?:Attributes|Policies)\b', ['ent_eval'], but=['ent_eval/src/pdp.rt']),
+        lambda: found(r'\b(?:Attributes|Policies)\b', EVALUATING, but=['ent_eval/src/pdp.rt']),
     'keys of look-ups above the table':
         lambda: found(r'\bReadKey\b', ['ent_report', 'ent_dump', 'ent_line', 'ent_program'], ('src', 'specs')),
     'evaluations made elsewhere': evaluations,

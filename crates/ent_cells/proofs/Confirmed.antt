@@ -8,8 +8,8 @@ use Rattle.std.proofs.lemmas.Bool.{true≢false}
 use Rattle.std.proofs.lemmas.Bool.Decides.{eqb_tells}
 use Rattle.std.proofs.lemmas.Map.Keys.{IsDistinct-from_sorted, IsDistinct-head, sorted_tail}
 use Rattle.slab.specs.Slab.{Slab, get}
-use Rattle.ent_eval.specs.declared.key.ReadKey.{ReadKey}
-use Rattle.ent_eval.specs.declared.question.Question.{Question}
+use Rattle.ent_request.specs.declared.key.ReadKey.{ReadKey}
+use Rattle.ent_request.specs.declared.question.Question.{Question}
 use Rattle.ent_index.proofs.Views.{cell_itself, not_cell}
 use Rattle.ent_index.specs.declared.groups.Groups.{Groups}
 use Rattle.ent_index.specs.declared.wanted.Wanted.{Wanted}

@@ -4,10 +4,10 @@ use Rattle.std.proofs.lemmas.Bool.{eqb-true}
 use Rattle.std.proofs.lemmas.Bool.Decides.{eqb_tells}
 use Rattle.std.proofs.lemmas.List.{get_or_append_left}
 use Rattle.slab.specs.Slab.{Slab, get}
-use Rattle.ent_eval.specs.declared.question.Question.{Question}
-use Rattle.ent_eval.specs.declared.question.Question.TheVariants.{Root}
-use Rattle.ent_eval.specs.Listed.{listed}
-use Rattle.ent_eval.specs.Questions.{AreNumbers, BeginsWith, at_numbers, keys_at}
+use Rattle.ent_request.specs.declared.question.Question.{Question}
+use Rattle.ent_request.specs.declared.question.Question.TheVariants.{Root}
+use Rattle.ent_request.specs.Listed.{listed}
+use Rattle.ent_request.specs.Questions.{AreNumbers, BeginsWith, at_numbers, keys_at}
 use Rattle.ent_index.specs.declared.groups.Groups.{Groups}
 use Rattle.ent_index.specs.declared.names.Names.{Names}
 use Rattle.ent_index.specs.Groups.{HasSameNames, IsNamed, KeepsGroups, KeepsGroupsBut, KeepsNamesBut, holds_in, is_under, numbers_in, numbers_of}

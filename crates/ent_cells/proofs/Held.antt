@@ -2,7 +2,7 @@
 use Rattle.std.proofs.Common.{◌≡◌, ℕ, List, Option, Some, None, option_map, refl, sym, ap, ◌∙◌}
 use Rattle.std.specs.Prelude.{if◌then◌else◌, option_and_then}
 use Rattle.slab.specs.Slab.{Slab, get}
-use Rattle.ent_eval.specs.declared.question.Question.{Question}
+use Rattle.ent_request.specs.declared.question.Question.{Question}
 use Rattle.ent_index.specs.declared.groups.Groups.{Groups}
 use Rattle.ent_cells.specs.declared.cell.Cell.{Cell}
 use Rattle.ent_cells.specs.declared.cell.Grouped.{Grouped}

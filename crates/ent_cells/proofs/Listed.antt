@@ -8,8 +8,8 @@ use Rattle.std.proofs.lemmas.List.{length-map, map-append, take-map, drop-map}
 use Rattle.std.proofs.lemmas.Option.{slice_get-map}
 use Rattle.std.proofs.lemmas.Simd.{map-map}
 use Rattle.slab.specs.Slab.{Slab, get}
-use Rattle.ent_eval.specs.declared.key.ReadKey.{ReadKey}
-use Rattle.ent_eval.specs.Noted.{has_key}
+use Rattle.ent_request.specs.declared.key.ReadKey.{ReadKey}
+use Rattle.ent_request.specs.Noted.{has_key}
 use Rattle.ent_index.proofs.RowsAsked.{alike}
 use Rattle.ent_cells.specs.Cell.{AreReadKeys, Kept, is_read}
 use Rattle.ent_cells.specs.Entries.{Entry, IsLive, kept_of}

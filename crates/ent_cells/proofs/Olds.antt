@@ -8,11 +8,11 @@ use Rattle.std.proofs.lemmas.Bool.Decides.{eqb_tells}
 use Rattle.std.proofs.lemmas.List.{take_more}
 use Rattle.std.proofs.lemmas.List.Elements.{All-from_recursion, filter_map-append}
 use Rattle.slab.specs.Slab.{Slab, get}
-use Rattle.ent_eval.specs.declared.answer.Answer.{Answer}
-use Rattle.ent_eval.specs.declared.key.ReadKey.{ReadKey}
-use Rattle.ent_eval.specs.Looks.{Looks}
-use Rattle.ent_eval.specs.Same.{same_answer}
-use Rattle.ent_eval.proofs.Sames.{answer-Decides}
+use Rattle.ent_request.specs.declared.answer.Answer.{Answer}
+use Rattle.ent_request.specs.declared.key.ReadKey.{ReadKey}
+use Rattle.ent_request.specs.Looks.{Looks}
+use Rattle.ent_request.specs.Same.{same_answer}
+use Rattle.ent_request.proofs.Sames.{answer-Decides}
 use Rattle.ent_log.specs.declared.entry.OldAnswer.{OldAnswer}
 use Rattle.ent_log.proofs.Before.{undoes-listed}
 use Rattle.ent_cells.specs.declared.who.Who.{Who}

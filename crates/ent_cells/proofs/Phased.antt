@@ -2,7 +2,7 @@
 use Rattle.std.proofs.Common.{◌≡◌, inl, inr, ℕ, ◌+◌, ◌<◌, ◌≤◌, Bool, true, false, cond, List, take, length, Option, Some, None, IsSome, option_map, refl, sym, ap, subst, ◌∙◌, slice_index_or as get_or}
 use Rattle.std.proofs.lemmas.Bool.Decides.{eqb_tells}
 use Rattle.slab.specs.Slab.{Slab, Updates, get}
-use Rattle.ent_eval.specs.Looks.{Looks}
+use Rattle.ent_request.specs.Looks.{Looks}
 use Rattle.ent_cells.specs.Entries.{AreFree, Entry}
 use Rattle.ent_cells.specs.proofs_only.Entries.{Becomes, IsFree, given_up}
 use Rattle.ent_cells.specs.Grid.{times}

@@ -9,15 +9,15 @@ use Rattle.slab.specs.Slab.{Slab, get}
 use Rattle.ent_policy.specs.declared.key.Kind.{Kind}
 use Rattle.ent_policy.specs.declared.key.Reference.{Reference}
 use Rattle.ent_finder.specs.declared.row.RowKey.{RowKey}
-use Rattle.ent_eval.proofs.Sames.{question-Decides}
-use Rattle.ent_eval.specs.declared.key.ReadKey.{ReadKey}
-use Rattle.ent_eval.specs.declared.key.ReadKey.TheVariants as key
-use Rattle.ent_eval.specs.declared.question.Question.{Question}
-use Rattle.ent_eval.specs.declared.question.Question.TheVariants.{Root, Ref, Of}
-use Rattle.ent_eval.specs.Noted.{has_key, read_cmp}
-use Rattle.ent_eval.specs.QuestionOf.{question_of}
-use Rattle.ent_eval.specs.Questions.{AreNumbers, at_numbers, is_asked, same_question}
-use Rattle.ent_eval.specs.Readers.{ListedLookUps, looks_up}
+use Rattle.ent_request.proofs.Sames.{question-Decides}
+use Rattle.ent_request.specs.declared.key.ReadKey.{ReadKey}
+use Rattle.ent_request.specs.declared.key.ReadKey.TheVariants as key
+use Rattle.ent_request.specs.declared.question.Question.{Question}
+use Rattle.ent_request.specs.declared.question.Question.TheVariants.{Root, Ref, Of}
+use Rattle.ent_request.specs.Noted.{has_key, read_cmp}
+use Rattle.ent_request.specs.QuestionOf.{question_of}
+use Rattle.ent_request.specs.Questions.{AreNumbers, at_numbers, is_asked, same_question}
+use Rattle.ent_request.specs.Readers.{ListedLookUps, looks_up}
 use Rattle.ent_index.proofs.RowsAsked.{asked_both, asked_plain}
 use Rattle.ent_index.proofs.Views.{key_itself, key_turned, same_key}
 use Rattle.ent_index.specs.Asked.{asks_policy, asks_row}

@@ -6,10 +6,10 @@ use Rattle.std.specs.Option.{option_map_or}
 use Rattle.std.proofs.lemmas.List.Sums.{length-filter}
 use Rattle.std.proofs.lemmas.List.Elements.{All-from_recursion}
 use Rattle.slab.specs.Slab.{Slab, get}
-use Rattle.ent_eval.specs.declared.answer.Answer.{Answer}
-use Rattle.ent_eval.specs.declared.key.ReadKey.{ReadKey}
-use Rattle.ent_eval.specs.Looks.{Looks}
-use Rattle.ent_eval.specs.Same.{same_answer}
+use Rattle.ent_request.specs.declared.answer.Answer.{Answer}
+use Rattle.ent_request.specs.declared.key.ReadKey.{ReadKey}
+use Rattle.ent_request.specs.Looks.{Looks}
+use Rattle.ent_request.specs.Same.{same_answer}
 use Rattle.ent_cells.specs.Cell.{IsRightBut, Kept, Said, answers_in, reads_any, renewed, says, unlike_count}
 use Rattle.ent_cells.specs.Entries.{Entry, IsLive, kept_of}
 use Rattle.ent_cells.specs.proofs_only.Entries.{changes, entry_of_cell, given_up, settled, touched_at}

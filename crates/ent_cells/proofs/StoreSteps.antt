@@ -4,10 +4,10 @@ use Rattle.std.specs.Prelude.{Err, Ok, OnErr, Result}
 use Rattle.std.proofs.lemmas.Option.{same_Some}
 use Rattle.slab.specs.Slab.{Slab, Updates, get}
 use Rattle.ent_eval.specs.declared.pdp.ListedEvaluation.{ListedEvaluation}
-use Rattle.ent_eval.specs.declared.question.Question.{Question}
-use Rattle.ent_eval.specs.Listed.{listed}
-use Rattle.ent_eval.specs.Looks.{Looks}
-use Rattle.ent_eval.specs.Questions.{AreNumbers, BeginsWith, at_numbers, keys_at}
+use Rattle.ent_request.specs.declared.question.Question.{Question}
+use Rattle.ent_request.specs.Listed.{listed}
+use Rattle.ent_request.specs.Looks.{Looks}
+use Rattle.ent_request.specs.Questions.{AreNumbers, BeginsWith, at_numbers, keys_at}
 use Rattle.ent_index.specs.declared.groups.Groups.{Groups}
 use Rattle.ent_index.specs.Groups.{IsNamed, holds, numbers_of}
 use Rattle.ent_index.proofs.Views.{some_none}

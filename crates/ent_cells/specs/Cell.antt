@@ -1,13 +1,13 @@
 -- The cells of a table: of each listed request the answer to it, and the look-ups that the answer rests on.
 use Rattle.std.specs.Prelude.{◌≡◌, ℕ, ◌+◌, List, [], ◌∷◌, Bool, false, ◌&&◌, if◌then◌else◌, map}
 use Rattle.std.specs.List.{list_any}
-use Rattle.ent_eval.specs.declared.answer.Answer.{Answer}
-use Rattle.ent_eval.specs.declared.key.ReadKey.{ReadKey}
-use Rattle.ent_eval.specs.Answer.{answer, has_cause, recorded}
-use Rattle.ent_eval.specs.Listed.{listed}
-use Rattle.ent_eval.specs.Looks.{Looks}
-use Rattle.ent_eval.specs.Noted.{has_key}
-use Rattle.ent_eval.specs.Same.{same_answer}
+use Rattle.ent_request.specs.declared.answer.Answer.{Answer}
+use Rattle.ent_request.specs.declared.key.ReadKey.{ReadKey}
+use Rattle.ent_walk.specs.Answer.{answer, has_cause, recorded}
+use Rattle.ent_request.specs.Listed.{listed}
+use Rattle.ent_request.specs.Looks.{Looks}
+use Rattle.ent_request.specs.Noted.{has_key}
+use Rattle.ent_request.specs.Same.{same_answer}
 use Rattle.ent_cells.specs.declared.who.Who.{Who}
 
 -- what a request is answered, the keys of the look-ups that this rests on, and whether a part of the evaluation failed by itself

@@ -1,7 +1,7 @@
 -- Cells under keys that last, each beside what is to be said of it next, if an edit has that ready.
 use Rattle.std.specs.Prelude.{◌≡◌, ℕ, List, map, Option, Some, None}
 use Rattle.slab.specs.Slab.{Slab, get}
-use Rattle.ent_eval.specs.declared.question.Question.{Question}
+use Rattle.ent_request.specs.declared.question.Question.{Question}
 use Rattle.ent_cells.specs.Cell.{Kept, Said}
 use Rattle.ent_cells.specs.Grid.{IsGrid, entries_of, values}
 

@@ -1,9 +1,9 @@
 //! The keys that look at a row, or at documents of a kind and an id.
 
 ghost use Rattle.std.specs.Prelude.{◌≡◌, IfOk, filter_map};
-ghost use Rattle.ent_eval.specs.declared.key.ReadKey.{ReadKey as Key};
-ghost use Rattle.ent_eval.specs.declared.key.ReadKey.TheVariants.{Ref};
-ghost use Rattle.ent_eval.specs.Noted.{has_key};
+ghost use Rattle.ent_request.specs.declared.key.ReadKey.{ReadKey as Key};
+ghost use Rattle.ent_request.specs.declared.key.ReadKey.TheVariants.{Ref};
+ghost use Rattle.ent_request.specs.Noted.{has_key};
 ghost use Rattle.ent_index.specs.Asked.{asks_policy, asks_row};
 ghost use Rattle.ent_cells.specs.proofs_only.Asked.{key_of_row, reference_of};
 

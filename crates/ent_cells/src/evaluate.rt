@@ -3,7 +3,7 @@
 ghost use Rattle.std.specs.Prelude.{◌≡◌, IfOk, OnOk};
 ghost use Rattle.ent_eval.specs.LooksOf.{looks_of};
 ghost use Rattle.ent_eval.specs.Memory.{Remembers};
-ghost use Rattle.ent_eval.specs.Questions.{AreNumbers, BeginsWith};
+ghost use Rattle.ent_request.specs.Questions.{AreNumbers, BeginsWith};
 ghost use Rattle.ent_cells.specs.Cell.{says};
 ghost use Rattle.ent_cells.specs.Count.{Counts, CountsAtMost};
 ghost use Rattle.ent_cells.specs.proofs_only.Grouping.{said_in};

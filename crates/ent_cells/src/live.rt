@@ -38,8 +38,8 @@ pub struct Live {
 impl Model for Live {
     ghost use Rattle.std.specs.Prelude.{List};
     ghost use Rattle.std.specs.Coded.{coded_list};
-    ghost use Rattle.ent_eval.specs.contracts.answer.Answer as answer;
-    ghost use Rattle.ent_eval.specs.contracts.key.ReadKey as key;
+    ghost use Rattle.ent_request.specs.contracts.answer.Answer as answer;
+    ghost use Rattle.ent_request.specs.contracts.key.ReadKey as key;
     ghost use Rattle.ent_cells.specs.contracts.who.Who as whose;
     ghost use Rattle.ent_cells.specs.Cell.{Kept};
     ghost use Rattle.ent_cells.specs.proofs_only.Codes.{kept_code};

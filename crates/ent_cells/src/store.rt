@@ -3,7 +3,7 @@
 ghost use Rattle.std.specs.Prelude.{◌≡◌, ◌++◌, ◌∷◌, [], ℕ, List, cond, IfOk, IsSome, None, OnErr, OnOk};
 ghost use Rattle.std.specs.Prelude.{option_and_then, option_copied, option_map};
 ghost use Rattle.slab.specs.Slab.{Updates, get};
-ghost use Rattle.ent_eval.specs.declared.key.ReadKey.{ReadKey as Key};
+ghost use Rattle.ent_request.specs.declared.key.ReadKey.{ReadKey as Key};
 ghost use Rattle.ent_eval.specs.LooksOf.{looks_of};
 ghost use Rattle.ent_eval.specs.Memory.{Remembers};
 ghost use Rattle.ent_index.specs.Asked.{asks_policy, asks_row};
@@ -47,9 +47,9 @@ pub(crate) struct Store {
 }
 
 impl Model for Store {
-    ghost use Rattle.ent_eval.specs.contracts.answer.Answer as answer;
-    ghost use Rattle.ent_eval.specs.contracts.key.ReadKey as key;
-    ghost use Rattle.ent_eval.specs.contracts.question.Question as question;
+    ghost use Rattle.ent_request.specs.contracts.answer.Answer as answer;
+    ghost use Rattle.ent_request.specs.contracts.key.ReadKey as key;
+    ghost use Rattle.ent_request.specs.contracts.question.Question as question;
     ghost use Rattle.ent_cells.specs.contracts.who.Who as whose;
     ghost use Rattle.ent_cells.specs.Entries.{Stored};
     ghost use Rattle.ent_cells.specs.proofs_only.Codes.{stored_code};

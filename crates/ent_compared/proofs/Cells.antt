@@ -22,12 +22,12 @@ use Rattle.ent_policy.specs.declared.key.Kind.TheVariants as kinds
 use Rattle.ent_polform.specs.Written.{value_written}
 use Rattle.ent_polform.proofs.Fitting.{Fits, boolean_fits, list_fits, maybe_text_fits, object_fits}
 use Rattle.ent_polform.proofs.Fitting.{text_fits}
-use Rattle.ent_eval.specs.declared.answer.Answer.{Answer}
-use Rattle.ent_eval.specs.declared.answer.Status.{Status}
-use Rattle.ent_eval.specs.declared.answer.Status.TheVariants as statuses
-use Rattle.ent_eval.specs.declared.answer.WhyEntry.{WhyEntry}
-use Rattle.ent_eval.specs.declared.given.Assignment.{Assignment}
-use Rattle.ent_eval.specs.declared.given.Given.{Given}
+use Rattle.ent_request.specs.declared.answer.Answer.{Answer}
+use Rattle.ent_request.specs.declared.answer.Status.{Status}
+use Rattle.ent_request.specs.declared.answer.Status.TheVariants as statuses
+use Rattle.ent_request.specs.declared.answer.WhyEntry.{WhyEntry}
+use Rattle.ent_request.specs.declared.given.Assignment.{Assignment}
+use Rattle.ent_request.specs.declared.given.Given.{Given}
 use Rattle.ent_held.specs.Paths.{key_data, path_data, rule_data, status_text}
 use Rattle.ent_profile.specs.Response.{assignment_written, given_written}
 use Rattle.ent_table.specs.Names.{Triple}

@@ -11,7 +11,7 @@ use Rattle.std.proofs.lemmas.List.Kept.{IsStrictlySortedBy-filter}
 use Rattle.serde_json.specs.Data as json
 use Rattle.serde_json.specs.Data.{Data, Members}
 use Rattle.ent_json.specs.Line.{data_of}
-use Rattle.ent_eval.specs.declared.answer.Answer.{Answer}
+use Rattle.ent_request.specs.declared.answer.Answer.{Answer}
 use Rattle.ent_table.specs.Names.{Triple, is_listed, triples}
 use Rattle.ent_table.specs.State.{State, answer_at, answer_to, table_of}
 use Rattle.ent_table.proofs.Members.{none_contained, first_contained, passed, passes}

@@ -30,19 +30,19 @@ use Rattle.ent_policy.specs.declared.key.DocKey.{DocKey}
 use Rattle.ent_policy.specs.declared.key.Reference.{Reference}
 use Rattle.ent_polform.specs.Written.{advice_written, child_written, obligations_written, set_with}
 use Rattle.ent_polform.specs.Written.{child_step as written_step}
-use Rattle.ent_eval.specs.Answer.{answer, most_hops, root_part}
-use Rattle.ent_eval.specs.Given.{advice_after, assignment_part, effect_of, finished, given_in_turn, given_of}
-use Rattle.ent_eval.specs.Given.{given_part, given_with, givens_part, goes_with, with_own}
-use Rattle.ent_eval.specs.Looks.{Looks}
-use Rattle.ent_eval.specs.Node.{Node, child_step, children_part, followed, found_node}
-use Rattle.ent_eval.specs.Node.{node_with, policy_key, policy_part, policy_rules, refer, set_key, set_step}
-use Rattle.ent_eval.specs.Part.{mapped, without_look}
-use Rattle.ent_eval.specs.Rule.{condition_part, decided, rule_part}
-use Rattle.ent_eval.specs.declared.answer.Answer.{Answer}
-use Rattle.ent_eval.specs.declared.answer.Status.{Status}
-use Rattle.ent_eval.specs.declared.given.Assignment.{Assignment}
-use Rattle.ent_eval.specs.declared.given.Given.{Given}
-use Rattle.ent_eval.specs.declared.request.Request.{Request}
+use Rattle.ent_walk.specs.Answer.{answer, most_hops, root_part}
+use Rattle.ent_walk.specs.Given.{advice_after, assignment_part, effect_of, finished, given_in_turn, given_of}
+use Rattle.ent_walk.specs.Given.{given_part, given_with, givens_part, goes_with, with_own}
+use Rattle.ent_request.specs.Looks.{Looks}
+use Rattle.ent_walk.specs.Node.{Node, child_step, children_part, followed, found_node}
+use Rattle.ent_walk.specs.Node.{node_with, policy_key, policy_part, policy_rules, refer, set_key, set_step}
+use Rattle.ent_request.specs.Part.{mapped, without_look}
+use Rattle.ent_walk.specs.Rule.{condition_part, decided, rule_part}
+use Rattle.ent_request.specs.declared.answer.Answer.{Answer}
+use Rattle.ent_request.specs.declared.answer.Status.{Status}
+use Rattle.ent_request.specs.declared.given.Assignment.{Assignment}
+use Rattle.ent_request.specs.declared.given.Given.{Given}
+use Rattle.ent_request.specs.declared.request.Request.{Request}
 use Rattle.ent_restart.proofs.Utf8Data.{IfThere, IsUtf8Data}
 use Rattle.ent_compared.proofs.GoodExpressions.{AreGoodLooks, IsGoodRequest, IsGoodTree, meaning_good}
 use Rattle.ent_compared.proofs.GoodParts.{AreGoodGivens, AreSmall, IsGoodAssignment, IsGoodDefinition}

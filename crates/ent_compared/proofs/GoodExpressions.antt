@@ -32,16 +32,16 @@ use Rattle.ent_policy.specs.declared.key.DocKey.{DocKey}
 use Rattle.ent_policy.specs.declared.key.Reference.{Reference}
 use Rattle.ent_polform.specs.Written.{expression_step, expression_written, literal_written, value_written, written}
 use Rattle.ent_finder.specs.declared.row.AttrKey.{AttrKey}
-use Rattle.ent_eval.specs.Expression.{arguments_of, bag_of, defined_part, evaluated_of, is_result, meaning}
-use Rattle.ent_eval.specs.Expression.{meaning_step, meaning_with, result_of, variable_part}
-use Rattle.ent_eval.specs.Looks.{Looks}
-use Rattle.ent_eval.specs.Own.{is_empty, own_values}
-use Rattle.ent_eval.specs.Part.{Part, values as values_of_parts}
-use Rattle.ent_eval.specs.Sources.{asks_for, designated_values, entity_of, entity_values, known_values, source_values}
-use Rattle.ent_eval.specs.Uris as uris
-use Rattle.ent_eval.specs.Given.{assigned, assignment_of}
-use Rattle.ent_eval.specs.Rule.{decided, truth_of}
-use Rattle.ent_eval.specs.declared.request.Request.{Request}
+use Rattle.ent_walk.specs.Expression.{arguments_of, bag_of, defined_part, evaluated_of, is_result, meaning}
+use Rattle.ent_walk.specs.Expression.{meaning_step, meaning_with, result_of, variable_part}
+use Rattle.ent_request.specs.Looks.{Looks}
+use Rattle.ent_request.specs.Own.{is_empty, own_values}
+use Rattle.ent_request.specs.Part.{Part, values as values_of_parts}
+use Rattle.ent_request.specs.Sources.{asks_for, designated_values, entity_of, entity_values, known_values, source_values}
+use Rattle.ent_request.specs.Uris as uris
+use Rattle.ent_walk.specs.Given.{assigned, assignment_of}
+use Rattle.ent_walk.specs.Rule.{decided, truth_of}
+use Rattle.ent_request.specs.declared.request.Request.{Request}
 use Rattle.ent_restart.proofs.Utf8Data.{IsUtf8Data}
 use Rattle.ent_compared.proofs.GoodTold.{IfAll, IsGoodAnswer, IsToldAssignment, IsToldEntry, IsToldPath, either}
 use Rattle.ent_compared.proofs.GoodTold.{none_good}

@@ -22,15 +22,15 @@ use Rattle.ent_finder.specs.Rows.{Source, is_filled, supports}
 use Rattle.ent_finder.specs.Slots.{Docs}
 use Rattle.ent_finder.specs.declared.row.AttrKey.{AttrKey}
 use Rattle.ent_finder.specs.declared.row.RowKey.{RowKey}
-use Rattle.ent_eval.specs.Environment.{date_in, date_time_in, time_in}
-use Rattle.ent_eval.specs.Held.{looks_in}
-use Rattle.ent_eval.specs.Listed.{listed}
-use Rattle.ent_eval.specs.Own.{attributes_in, attributes_of, is_designated, values_among, values_in}
-use Rattle.ent_eval.specs.Sources.{known_values}
-use Rattle.ent_eval.specs.declared.environment.Environment.{Environment}
-use Rattle.ent_eval.specs.declared.environment.Environment.TheVariants as environments
-use Rattle.ent_eval.specs.declared.request.Attribute.{Attribute}
-use Rattle.ent_eval.specs.declared.request.Category.{Category}
+use Rattle.ent_request.specs.Environment.{date_in, date_time_in, time_in}
+use Rattle.ent_request.specs.Held.{looks_in}
+use Rattle.ent_request.specs.Listed.{listed}
+use Rattle.ent_request.specs.Own.{attributes_in, attributes_of, is_designated, values_among, values_in}
+use Rattle.ent_request.specs.Sources.{known_values}
+use Rattle.ent_request.specs.declared.environment.Environment.{Environment}
+use Rattle.ent_request.specs.declared.environment.Environment.TheVariants as environments
+use Rattle.ent_request.specs.declared.request.Attribute.{Attribute}
+use Rattle.ent_request.specs.declared.request.Category.{Category}
 use Rattle.ent_table.specs.State.{State}
 use Rattle.ent_table.specs.declared.edit.Edit.{Edit}
 use Rattle.ent_table.specs.declared.edit.Edit.TheVariants.{AddPolicy, SetAttribute}

@@ -17,20 +17,21 @@ use Rattle.ent_policy.specs.declared.document.Match.{Match}
 use Rattle.ent_policy.specs.declared.document.Rule.{Rule}
 use Rattle.ent_policy.specs.declared.document.Target.{Target}
 use Rattle.ent_policy.specs.declared.key.DocKey.{DocKey}
-use Rattle.ent_eval.specs.Given.{given_in_turn}
-use Rattle.ent_eval.specs.Given.{joined}
-use Rattle.ent_eval.specs.Judged.{decided_by, default_why, has_default, judged, lists_of, nothing, stops, told_by}
-use Rattle.ent_eval.specs.Judged.{under_target}
-use Rattle.ent_eval.specs.Looks.{Looks}
-use Rattle.ent_eval.specs.Node.{children_after, combined}
-use Rattle.ent_eval.specs.Only.{chosen, chosen_part}
-use Rattle.ent_eval.specs.Part.{Part, values as values_of_parts, without_look}
-use Rattle.ent_eval.specs.Rule.{decided, rule_after, truth_of}
-use Rattle.ent_eval.specs.Target.{all_match, all_of_part, any_of_part, is_indeterminate, is_match, is_no_match}
-use Rattle.ent_eval.specs.Target.{is_true, match_part, matched, one_matches, target_part}
-use Rattle.ent_eval.specs.declared.answer.Answer.{Answer}
-use Rattle.ent_eval.specs.declared.answer.Status.{Status}
-use Rattle.ent_eval.specs.declared.request.Request.{Request}
+use Rattle.ent_walk.specs.Given.{given_in_turn}
+use Rattle.ent_walk.specs.Given.{joined}
+use Rattle.ent_walk.specs.Judged.{decided_by, default_why, has_default, judged, lists_of, stops, told_by}
+use Rattle.ent_request.specs.Plain.{nothing}
+use Rattle.ent_walk.specs.Judged.{under_target}
+use Rattle.ent_request.specs.Looks.{Looks}
+use Rattle.ent_walk.specs.Node.{children_after, combined}
+use Rattle.ent_walk.specs.Only.{chosen, chosen_part}
+use Rattle.ent_request.specs.Part.{Part, values as values_of_parts, without_look}
+use Rattle.ent_walk.specs.Rule.{decided, rule_after, truth_of}
+use Rattle.ent_walk.specs.Target.{all_match, all_of_part, any_of_part, is_indeterminate, is_match, is_no_match}
+use Rattle.ent_walk.specs.Target.{is_true, match_part, matched, one_matches, target_part}
+use Rattle.ent_request.specs.declared.answer.Answer.{Answer}
+use Rattle.ent_request.specs.declared.answer.Status.{Status}
+use Rattle.ent_request.specs.declared.request.Request.{Request}
 use Rattle.ent_compared.proofs.GoodTold.{IfAll, IsGoodAnswer, IsToldEntry, IsToldGiven}
 use Rattle.ent_compared.proofs.GoodTold.{IsToldPath, either, none_good}
 

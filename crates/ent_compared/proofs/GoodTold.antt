@@ -3,11 +3,11 @@ use Rattle.std.proofs.Common.{◌≡◌, List, [], Bool, true, false, sym, subst
 use Rattle.std.specs.Prelude.{Result, Ok, Err, if◌then◌else◌}
 use Rattle.std.specs.List.{AllByRecursion}
 use Rattle.ent_policy.specs.declared.key.DocKey.{DocKey}
-use Rattle.ent_eval.specs.declared.answer.Answer.{Answer}
-use Rattle.ent_eval.specs.declared.answer.Status.{Status}
-use Rattle.ent_eval.specs.declared.answer.WhyEntry.{WhyEntry}
-use Rattle.ent_eval.specs.declared.given.Assignment.{Assignment}
-use Rattle.ent_eval.specs.declared.given.Given.{Given}
+use Rattle.ent_request.specs.declared.answer.Answer.{Answer}
+use Rattle.ent_request.specs.declared.answer.Status.{Status}
+use Rattle.ent_request.specs.declared.answer.WhyEntry.{WhyEntry}
+use Rattle.ent_request.specs.declared.given.Assignment.{Assignment}
+use Rattle.ent_request.specs.declared.given.Given.{Given}
 use Rattle.ent_restart.proofs.Utf8Data.{IfThere}
 use Rattle.ent_compared.proofs.GoodFunctions.{IsGood}
 

@@ -16,9 +16,9 @@ use Rattle.serde_json.specs.View.{items_of}
 use Rattle.serde_json.specs.Written.{compact_text}
 use Rattle.ent_json.specs.Line.{data_of}
 use Rattle.ent_polform.proofs.Fitting.{Fits, list_fits, one_fits}
-use Rattle.ent_eval.specs.Held.{looks_in}
-use Rattle.ent_eval.specs.Listed.{listed as asked}
-use Rattle.ent_eval.specs.declared.answer.Answer.{Answer}
+use Rattle.ent_request.specs.Held.{looks_in}
+use Rattle.ent_request.specs.Listed.{listed as asked}
+use Rattle.ent_request.specs.declared.answer.Answer.{Answer}
 use Rattle.ent_table.specs.Names.{Triple, has_name, is_listed, triples}
 use Rattle.ent_table.specs.State.{State, answer_to, table_of}
 use Rattle.ent_table.proofs.Listed.{any_listed, same_request, same_triple}

@@ -7,7 +7,7 @@ use Rattle.std.specs.Ordering.{nat_cmp}
 use Rattle.std.specs.declared.cmp.Ordering.{Ordering}
 use Rattle.serde_json.specs.Data.{Data}
 use Rattle.ent_combine.specs.declared.outcome.Outcome.{Outcome}
-use Rattle.ent_eval.specs.declared.answer.Answer.{Answer}
+use Rattle.ent_request.specs.declared.answer.Answer.{Answer}
 use Rattle.ent_table.specs.Names.{Triple, is_listed}
 use Rattle.ent_table.specs.State.{State, answer_at}
 use Rattle.ent_line.specs.Cells.{cell_data}

@@ -3,12 +3,12 @@ use Rattle.std.proofs.Common.{◌≡◌, ℕ, Bool, true, false, ◌||◌, List,
 use Rattle.std.specs.Prelude.{if◌then◌else◌}
 use Rattle.std.specs.List.{list_any}
 use Rattle.std.specs.Option.{option_or}
-use Rattle.ent_eval.specs.declared.cause.Cause.{Cause}
-use Rattle.ent_eval.specs.declared.causes.Causes.{Causes}
-use Rattle.ent_eval.specs.declared.question.Question.{Question}
-use Rattle.ent_eval.specs.Causes.{are_any, same_cause, told_once, with_cause}
-use Rattle.ent_eval.specs.Note.{Note, asks, causes_in, fails, questions_in}
-use Rattle.ent_eval.specs.proofs_only.Noted.{Notes, asked_once, noting, with_asked, with_failure, with_note, with_question}
+use Rattle.ent_request.specs.declared.cause.Cause.{Cause}
+use Rattle.ent_notes.specs.declared.causes.Causes.{Causes}
+use Rattle.ent_request.specs.declared.question.Question.{Question}
+use Rattle.ent_request.specs.Causes.{are_any, same_cause, told_once, with_cause}
+use Rattle.ent_request.specs.Note.{Note, asks, causes_in, fails, questions_in}
+use Rattle.ent_notes.specs.proofs_only.Noted.{Notes, asked_once, noting, with_asked, with_failure, with_note, with_question}
 
 -- the questions are those that were noted, each once
 pub told_questions : (n : Notes) (questions : List Question) (ns : List Note) → n.questions ≡ Some questions → (noting n ns).questions ≡ Some (asked_once questions (questions_in ns))

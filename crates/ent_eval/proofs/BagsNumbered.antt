@@ -1,10 +1,8 @@
 -- Bags that have numbers, and what a hasher is fed of them.
-use Rattle.std.proofs.Common.{◌≡◌, ℕ, ◌+◌, ◌<◌, ◌≤◌, Bool, true, false, List, [], ◌∷◌, ◌++◌, length, get_or, map, take, Some, slice_get, sym, ap, ◌∙◌}
-use Rattle.std.specs.Prelude.{fold, if◌then◌else◌, option_map}
-use Rattle.std.specs.Hash.{fed_then}
-use Rattle.std.specs.List.{AllByRecursion, IsDistinct, flat_map, list_any}
-use Rattle.std.proofs.lemmas.List.{append-nil, map-append, take_more, take_all}
-use Rattle.std.proofs.lemmas.List.Concat.{flat_map-append}
+use Rattle.std.proofs.Common.{◌≡◌, ℕ, ◌+◌, Bool, true, false, List, [], ◌∷◌, ◌++◌, map, Some, slice_get, sym, ap, ◌∙◌}
+use Rattle.std.specs.Prelude.{if◌then◌else◌, option_map}
+use Rattle.std.specs.List.{AllByRecursion, IsDistinct, list_any}
+use Rattle.std.proofs.lemmas.List.{map-append}
 use Rattle.std.proofs.lemmas.Option.{slice_get-map}
 use Rattle.indexmap.specs.IndexSet.{insert_key}
 use Rattle.ent_values.specs.Bags.{Contents}
@@ -42,16 +40,3 @@ put_at new f k n at same =
     slice_get-map (λ (x : Found). x.bag) new n ∙ ap (option_map (λ (x : Found). x.bag)) at ∙ ap Some (sym ((same_bag-Decides f.bag k.bag).0 same))
 
 -- ---- the loop over what a hasher is fed of
-
-module _ {A S : Type 0} (write : S → List ℕ → S) (writes : A → List (List ℕ)) where
-  pub fed_next : (items : List A) (i : ℕ) (x : A) (s t u : S) → i < length items → x ≡ get_or items i x → t ≡ fold write s (flat_map writes (take i items)) → u ≡ fold write t (writes x)
-      → u ≡ fold write s (flat_map writes (take (i + 1) items))
-  fed_next items i x s t u below read before fed =
-      let first = take i items in
-      let all : flat_map writes first ++ writes x ≡ flat_map writes (take (i + 1) items) =
-      ap (λ ws. flat_map writes first ++ ws) (sym (append-nil (writes x))) ∙ sym (flat_map-append writes first (x ∷ []))
-      ∙ ap (λ y. flat_map writes (first ++ y ∷ [])) read ∙ ap (flat_map writes) (sym (take_more items i x below)) in
-      fed_then write s t u (flat_map writes first) (writes x) before fed ∙ ap (fold write s) all
-
-  pub fed_all : (items : List A) (i : ℕ) (s t : S) → length items ≤ i → t ≡ fold write s (flat_map writes (take i items)) → t ≡ fold write s (flat_map writes items)
-  fed_all items i s t past is = is ∙ ap (λ xs. fold write s (flat_map writes xs)) (take_all i items past)

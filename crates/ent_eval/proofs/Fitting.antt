@@ -12,27 +12,28 @@ use Rattle.ent_eval.specs.declared.cases.Cases.{Cases}
 use Rattle.ent_eval.specs.declared.findings.Findings.{Findings}
 use Rattle.ent_eval.specs.declared.memory.Memory.{Memory}
 use Rattle.ent_eval.specs.declared.pdp.ListedEvaluation.{ListedEvaluation}
-use Rattle.ent_eval.specs.declared.question.Question.{Question}
-use Rattle.ent_eval.specs.declared.question.Question.TheVariants.{Root}
-use Rattle.ent_eval.specs.declared.readers.Place.{Place}
-use Rattle.ent_eval.specs.declared.request.Request.{Request}
+use Rattle.ent_request.specs.declared.question.Question.{Question}
+use Rattle.ent_request.specs.declared.question.Question.TheVariants.{Root}
+use Rattle.ent_request.specs.declared.readers.Place.{Place}
+use Rattle.ent_request.specs.declared.request.Request.{Request}
 use Rattle.ent_eval.specs.declared.scene.Scene.{Scene}
-use Rattle.ent_eval.specs.Answer.{answer, asked, causes, has_cause, recorded}
-use Rattle.ent_eval.specs.Law.{FindsSame}
-use Rattle.ent_eval.specs.Listed.{listed}
-use Rattle.ent_eval.specs.Looks.{Looks}
-use Rattle.ent_eval.specs.Causes.{are_any}
+use Rattle.ent_walk.specs.Answer.{answer, asked, causes, has_cause, recorded}
+use Rattle.ent_walk.specs.Law.{FindsSame}
+use Rattle.ent_request.specs.Listed.{listed}
+use Rattle.ent_request.specs.Looks.{Looks}
+use Rattle.ent_request.specs.Causes.{are_any}
 use Rattle.ent_eval.specs.Memory.{AreFindings, FindsBag, Fits, Gives, HasCase, IsCase, IsFinding, IsKnown, Remembers, bag_for, most_cases, place_of}
-use Rattle.ent_eval.specs.Questions.{AreNumbers, asked_once, at_numbers, is_asked, keys_at, same_question, with_question}
+use Rattle.ent_request.specs.Questions.{AreNumbers, asked_once, at_numbers, is_asked, keys_at, same_question, with_question}
 use Rattle.ent_eval.specs.proofs_only.Remembered.{AreReady, Begins, FindsAll, IsAbout, KeepsReady, NoneFits, NotesFinding, PutsCase, TellsAll, TellsPlace, request_of}
-use Rattle.ent_eval.proofs.AnswersRest.{findings-rest}
-use Rattle.ent_eval.proofs.Growing.{all_append, all_first, all_later, all_set, all_take, at_end, get_set, one_place, some_same, starts_get, starts_itself, starts_then, take_shorter}
+use Rattle.ent_walk.proofs.AnswersRest.{findings-rest}
+use Rattle.ent_request.proofs.Lists.{all_append}
+use Rattle.ent_eval.proofs.Growing.{all_first, all_later, all_set, all_take, at_end, get_set, one_place, some_same, starts_get, starts_itself, starts_then, take_shorter}
 use Rattle.ent_eval.proofs.ListedBags.{bags_same, none_same}
-use Rattle.ent_eval.proofs.Numbered.{recorded_by}
-use Rattle.ent_eval.proofs.Numbering.{all_at}
-use Rattle.ent_eval.proofs.Recorded.{from_recursion}
+use Rattle.ent_walk.proofs.Recorded.{recorded_by}
+use Rattle.ent_request.proofs.Numbering.{all_at}
+use Rattle.ent_request.proofs.Lists.{from_recursion}
 use Rattle.ent_eval.proofs.Remembering.{all_back, all_more, are_more, cases_more, none_more}
-use Rattle.ent_eval.proofs.Sames.{question-Decides}
+use Rattle.ent_request.proofs.Sames.{question-Decides}
 
 -- the items before a place, and the one there
 pub taken : {A : Type 0} (xs : List A) (i : ℕ) (x : A) → slice_get xs i ≡ Some x → take (i + 1) xs ≡ take i xs ++ x ∷ []

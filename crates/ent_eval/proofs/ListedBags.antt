@@ -7,20 +7,20 @@ use Rattle.ent_values.specs.Same.{same_type}
 use Rattle.ent_values.specs.declared.datatype.DataType.TheVariants as types
 use Rattle.ent_values.specs.declared.value.Value.{Value}
 use Rattle.ent_values.specs.declared.value.Value.TheVariants as value
-use Rattle.ent_eval.specs.declared.question.Asked.{Asked}
-use Rattle.ent_eval.specs.declared.question.Question.{Question}
-use Rattle.ent_eval.specs.declared.question.Question.TheVariants.{Root, Ref, Of}
-use Rattle.ent_eval.specs.declared.readers.Place.{Place}
-use Rattle.ent_eval.specs.declared.readers.Place.TheVariants.{Person, Action, Resource}
-use Rattle.ent_eval.specs.declared.request.Request.{Request}
-use Rattle.ent_eval.specs.Law.{FindsSame}
-use Rattle.ent_eval.specs.Listed.{about, listed, named}
-use Rattle.ent_eval.specs.Looks.{Looks}
+use Rattle.ent_request.specs.declared.question.Asked.{Asked}
+use Rattle.ent_request.specs.declared.question.Question.{Question}
+use Rattle.ent_request.specs.declared.question.Question.TheVariants.{Root, Ref, Of}
+use Rattle.ent_request.specs.declared.readers.Place.{Place}
+use Rattle.ent_request.specs.declared.readers.Place.TheVariants.{Person, Action, Resource}
+use Rattle.ent_request.specs.declared.request.Request.{Request}
+use Rattle.ent_walk.specs.Law.{FindsSame}
+use Rattle.ent_request.specs.Listed.{about, listed, named}
+use Rattle.ent_request.specs.Looks.{Looks}
 use Rattle.ent_eval.specs.Memory.{bag_for, place_in, place_of}
-use Rattle.ent_eval.specs.Own.{is_empty, own_values, values_among}
-use Rattle.ent_eval.specs.Readers.{is_own, name_at}
-use Rattle.ent_eval.specs.Sources.{asks_for, designator_for, entity_of, entity_values, id_attribute, key_for, known_values, only_text, source_values, values_of}
-use Rattle.ent_eval.specs.Uris as uris
+use Rattle.ent_request.specs.Own.{is_empty, own_values, values_among}
+use Rattle.ent_request.specs.Readers.{is_own, name_at}
+use Rattle.ent_request.specs.Sources.{asks_for, designator_for, entity_of, entity_values, id_attribute, key_for, known_values, only_text, source_values, values_of}
+use Rattle.ent_request.specs.Uris as uris
 use Rattle.ent_eval.specs.proofs_only.Remembered.{FindsForName, bag_in}
 use Rattle.ent_eval.proofs.Growing.{some_same}
 

@@ -8,20 +8,21 @@ use Rattle.ent_eval.specs.declared.case.Finding.{Finding}
 use Rattle.ent_eval.specs.declared.memory.Memory.{Memory}
 use Rattle.ent_eval.specs.declared.names.Names.{Names}
 use Rattle.ent_eval.specs.declared.names.Row.{Row}
-use Rattle.ent_eval.specs.declared.question.Asked.{Asked}
-use Rattle.ent_eval.specs.declared.question.Question.{Question}
-use Rattle.ent_eval.specs.declared.question.Question.TheVariants.{Root, Of}
-use Rattle.ent_eval.specs.declared.readers.Place.{Place}
-use Rattle.ent_eval.specs.declared.readers.Place.TheVariants.{Person, Action, Resource}
-use Rattle.ent_eval.specs.declared.request.Request.{Request}
-use Rattle.ent_eval.specs.Listed.{listed}
-use Rattle.ent_eval.specs.Looks.{Looks}
+use Rattle.ent_request.specs.declared.question.Asked.{Asked}
+use Rattle.ent_request.specs.declared.question.Question.{Question}
+use Rattle.ent_request.specs.declared.question.Question.TheVariants.{Root, Of}
+use Rattle.ent_request.specs.declared.readers.Place.{Place}
+use Rattle.ent_request.specs.declared.readers.Place.TheVariants.{Person, Action, Resource}
+use Rattle.ent_request.specs.declared.request.Request.{Request}
+use Rattle.ent_request.specs.Listed.{listed}
+use Rattle.ent_request.specs.Looks.{Looks}
 use Rattle.ent_eval.specs.Memory.{FindsBag, Fits, IsCase, IsFinding, IsRow, Remembers, bag_for, place_of}
-use Rattle.ent_eval.specs.Questions.{AreNumbers, BeginsWith, at_numbers}
+use Rattle.ent_request.specs.Questions.{AreNumbers, BeginsWith, at_numbers}
 use Rattle.ent_eval.specs.proofs_only.Remembered.{AddsRows, AreRows, Begins, FindsAll, FindsForName, IsAbout, IsAt, Knows, KnowsLatest, LearnsLatest, NoneFits, bag_in}
-use Rattle.ent_eval.proofs.Growing.{all_append, all_map, all_set, get_set, some_same, starts_back, starts_get, starts_itself, starts_length}
+use Rattle.ent_request.proofs.Lists.{all_append}
+use Rattle.ent_eval.proofs.Growing.{all_map, all_set, get_set, some_same, starts_back, starts_get, starts_itself, starts_length}
 use Rattle.ent_eval.proofs.ListedBags.{found_for}
-use Rattle.ent_eval.proofs.Numbering.{all_at}
+use Rattle.ent_request.proofs.Numbering.{all_at}
 
 -- ---- growth
 

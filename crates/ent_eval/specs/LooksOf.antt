@@ -3,8 +3,8 @@ use Rattle.std.specs.Prelude.{List, map}
 use Rattle.ent_finder.specs.Rows.{Source, filled_source}
 use Rattle.ent_finder.specs.Slots.{Slots, held}
 use Rattle.ent_eval.specs.declared.pdp.Pdp.{Pdp}
-use Rattle.ent_eval.specs.Held.{Held, looks_in}
-use Rattle.ent_eval.specs.Looks.{Looks}
+use Rattle.ent_request.specs.Held.{Held, looks_in}
+use Rattle.ent_request.specs.Looks.{Looks}
 
 -- its root, what its modules hold, where an empty slot or row counts as none, and its environment
 abbrev pub held_by : {A P : Type 0} → (A → List Source) → (P → List Slots) → Pdp A P → Held

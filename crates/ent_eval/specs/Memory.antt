@@ -10,18 +10,18 @@ use Rattle.ent_eval.specs.declared.findings.Findings.{Findings}
 use Rattle.ent_eval.specs.declared.memory.Memory.{Memory}
 use Rattle.ent_eval.specs.declared.names.Row.{Row}
 use Rattle.ent_eval.specs.declared.pdp.ListedEvaluation.{ListedEvaluation}
-use Rattle.ent_eval.specs.declared.question.Question.{Question}
-use Rattle.ent_eval.specs.declared.question.Question.TheVariants.{Of}
-use Rattle.ent_eval.specs.declared.readers.Place.{Place}
-use Rattle.ent_eval.specs.declared.readers.Place.TheVariants.{Person, Action, Resource}
-use Rattle.ent_eval.specs.declared.request.Request.{Request}
-use Rattle.ent_eval.specs.Answer.{answer, asked, has_cause}
-use Rattle.ent_eval.specs.Listed.{listed}
-use Rattle.ent_eval.specs.Looks.{Looks}
-use Rattle.ent_eval.specs.Questions.{AreNumbers, asked_once, at_numbers}
-use Rattle.ent_eval.specs.Readers.{name_at}
-use Rattle.ent_eval.specs.Sources.{values_of}
-use Rattle.ent_eval.specs.Uris as uris
+use Rattle.ent_request.specs.declared.question.Question.{Question}
+use Rattle.ent_request.specs.declared.question.Question.TheVariants.{Of}
+use Rattle.ent_request.specs.declared.readers.Place.{Place}
+use Rattle.ent_request.specs.declared.readers.Place.TheVariants.{Person, Action, Resource}
+use Rattle.ent_request.specs.declared.request.Request.{Request}
+use Rattle.ent_walk.specs.Answer.{answer, asked, has_cause}
+use Rattle.ent_request.specs.Listed.{listed}
+use Rattle.ent_request.specs.Looks.{Looks}
+use Rattle.ent_request.specs.Questions.{AreNumbers, asked_once, at_numbers}
+use Rattle.ent_request.specs.Readers.{name_at}
+use Rattle.ent_request.specs.Sources.{values_of}
+use Rattle.ent_request.specs.Uris as uris
 
 -- so many cases are remembered at most
 abbrev pub most_cases : ℕ

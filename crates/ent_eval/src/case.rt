@@ -1,7 +1,6 @@
 //! Cases: what was found for listed requests, and which answer it gave.
 
-use crate::answer::Answer;
-use crate::readers::Place;
+use ent_request::{Answer, Place};
 use ent_values::{Items, Shared};
 
 /// A question that is about one of a request's names, by its number, and the bag that it found, by its own.

@@ -10,9 +10,9 @@ ghost use Rattle.ent_eval.specs.declared.case.Case.{Case};
 
 use crate::case::{Case, Finding};
 use crate::findings::Findings;
-use crate::look_ups::LookUps;
 use crate::pdp::ListedEvaluation;
 use crate::scene::Scene;
+use ent_request::LookUps;
 use std::alloc::{AllocError, Global};
 
 /// So many cases are remembered at most.

@@ -3,22 +3,19 @@
 ghost use Rattle.std.specs.Prelude.{◌≡◌, List, IfNone, IfOk, IfSome, None, OnOk, Some, slice_get};
 ghost use Rattle.std.specs.List.{IsDistinct};
 ghost use Rattle.ent_values.specs.Same.{same_bag};
-ghost use Rattle.ent_eval.specs.Looks.{Looks};
+ghost use Rattle.ent_request.specs.Looks.{Looks};
 ghost use Rattle.ent_eval.specs.Memory.{AreFindings, FindsBag};
 ghost use Rattle.ent_eval.specs.Memory as memory;
 ghost use Rattle.ent_eval.specs.proofs_only.Remembered.{AreAt, AreReady, AreRows, Begins, FindsForName};
 ghost use Rattle.ent_eval.specs.proofs_only.Remembered.{IsAbout, IsAt, KeepsReady, bag_in};
 ghost use Rattle.ent_eval.specs.proofs_only.Remembered.{in_scene, request_of};
-ghost use Rattle.ent_eval.specs.declared.question.Question.{Question};
+ghost use Rattle.ent_request.specs.declared.question.Question.{Question};
 
 use crate::bags::Bags;
-use crate::look_ups::LookUps;
 use crate::names::Names;
-use crate::question::{Asked, Question};
-use crate::questions::Questions;
-use crate::readers::{Place, is_own};
 use crate::scene::Scene;
-use crate::uris::{ACCESS_SUBJECT, ACTION, RESOURCE};
+use ent_request::readers::is_own;
+use ent_request::{ACCESS_SUBJECT, ACTION, Asked, LookUps, Place, Question, Questions, RESOURCE};
 use ent_values::{Bag, Text, Value};
 use std::alloc::{AllocError, Global};
 

@@ -2,20 +2,20 @@
 
 ghost use Rattle.std.specs.Prelude.{◌≡◌, List, IfNone, IfOk, IfSome, OnOk};
 ghost use Rattle.std.specs.List.{AllByRecursion};
-ghost use Rattle.ent_eval.specs.Looks.{Looks};
+ghost use Rattle.ent_request.specs.Looks.{Looks};
 ghost use Rattle.ent_eval.specs.Memory.{Gives, HasCase, IsFinding, Remembers};
-ghost use Rattle.ent_eval.specs.Questions.{AreNumbers};
+ghost use Rattle.ent_request.specs.Questions.{AreNumbers};
 ghost use Rattle.ent_eval.specs.proofs_only.Remembered.{AreReady, FindsAll, IsEvaluated, KeepsReady, NoneFits};
 ghost use Rattle.ent_eval.specs.proofs_only.Remembered.{NotesFinding, TellsAll};
 ghost use Rattle.ent_eval.specs.proofs_only.Remembered.{in_scene, request_of};
-ghost use Rattle.ent_eval.specs.declared.question.Question.{Question};
+ghost use Rattle.ent_request.specs.declared.question.Question.{Question};
 
 use crate::case::{Case, Finding};
 use crate::cases::{Cases, fitting};
 use crate::findings::{Findings, place_of};
-use crate::look_ups::LookUps;
 use crate::pdp::ListedEvaluation;
 use crate::scene::Scene;
+use ent_request::LookUps;
 use ent_values::Items;
 use std::alloc::{AllocError, Global};
 

@@ -2,30 +2,24 @@
 
 ghost use Rattle.std.specs.Prelude.{◌≡◌, ◌+◌, ◌-◌, ◌^◌, min, [], None, IfNone, IfOk, IfSome, OnOk};
 ghost use Rattle.std.specs.Borrow.{sem};
-ghost use Rattle.ent_eval.specs.Answer.{answer, answer_part, asked, causes, has_cause, recorded};
+ghost use Rattle.ent_walk.specs.Answer.{answer, answer_part, asked, causes, has_cause, recorded};
 ghost use Rattle.ent_eval.specs.Lending.{LendsAttributes, LendsPolicies};
-ghost use Rattle.ent_eval.specs.Listed.{listed};
+ghost use Rattle.ent_request.specs.Listed.{listed};
 ghost use Rattle.ent_eval.specs.LooksOf.{looks_of};
 ghost use Rattle.ent_eval.specs.Memory.{Gives, HasCase, IsKnown, Remembers};
-ghost use Rattle.ent_eval.specs.Questions.{AreNumbers, BeginsWith, asked_once, at_numbers, keys_at};
-ghost use Rattle.ent_eval.specs.proofs_only.Noted.{noting};
+ghost use Rattle.ent_request.specs.Questions.{AreNumbers, BeginsWith, asked_once, at_numbers, keys_at};
+ghost use Rattle.ent_notes.specs.proofs_only.Noted.{noting};
 ghost use Rattle.ent_eval.specs.proofs_only.Remembered.{IsEvaluated, NoneFits};
-ghost use Rattle.ent_eval.specs.declared.environment.Environment.TheVariants.{Empty};
+ghost use Rattle.ent_request.specs.declared.environment.Environment.TheVariants.{Empty};
 
-use crate::answer::Answer;
-use crate::cause::Cause;
-use crate::environment::Environment;
-use crate::look_ups::LookUps;
 use crate::memory::Memory;
-use crate::notes::{Notebook, Notes};
-use crate::questions::Questions;
-use crate::reads::Reads;
-use crate::request::Request;
 use crate::scene::Scene;
-use crate::walk::Walk;
 use ent_finder::{AttrKey, AttributeFinder, Attributes, Policies, PolicyFinder};
+use ent_notes::{Notebook, Notes};
 use ent_policy::{Document, Reference};
+use ent_request::{Answer, Cause, Environment, LookUps, Questions, Reads, Request};
 use ent_values::{Bag, Date, DateTime, Items, Shared, Text, Time};
+use ent_walk::Walk;
 use std::alloc::{AllocError, Global};
 use std::mem;
 

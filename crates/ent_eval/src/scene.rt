@@ -1,6 +1,6 @@
 //! What a listed request is evaluated over.
 
-use crate::questions::Questions;
+use ent_request::Questions;
 use ent_values::Text;
 use std::alloc::Global;
 

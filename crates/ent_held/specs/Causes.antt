@@ -12,10 +12,10 @@ use Rattle.ent_functions.specs.declared.function.Function.{Function}
 use Rattle.ent_json.specs.Members.{only_member}
 use Rattle.ent_polform.specs.Written.{reference_written}
 use Rattle.ent_held.specs.Paths.{path_data, rule_data, status_text}
-use Rattle.ent_eval.specs.declared.cause.Cause.{Cause}
-use Rattle.ent_eval.specs.declared.cause.What.{What}
-use Rattle.ent_eval.specs.declared.cause.What.TheVariants as what
-use Rattle.ent_eval.specs.declared.question.Asked.{Asked}
+use Rattle.ent_request.specs.declared.cause.Cause.{Cause}
+use Rattle.ent_request.specs.declared.cause.What.{What}
+use Rattle.ent_request.specs.declared.cause.What.TheVariants as what
+use Rattle.ent_request.specs.declared.question.Asked.{Asked}
 
 -- the word of what a function fails by
 abbrev pub fault_word : Fault → List ℕ

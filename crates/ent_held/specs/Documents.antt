@@ -14,7 +14,7 @@ use Rattle.ent_policy.specs.declared.key.DocKey.{DocKey}
 use Rattle.ent_finder.specs.Slots.{Docs}
 use Rattle.ent_json.specs.Members.{only_member, optional}
 use Rattle.ent_polform.specs.Written.{written}
-use Rattle.ent_eval.specs.Held.{Held}
+use Rattle.ent_request.specs.Held.{Held}
 use Rattle.ent_reach.specs.Reached.{is_reached}
 use Rattle.ent_reach.specs.declared.place.Place.{Place}
 

@@ -15,12 +15,12 @@ use Rattle.ent_finder.specs.Looking.{looked}
 use Rattle.ent_finder.specs.declared.row.AttrKey.{AttrKey}
 use Rattle.ent_json.specs.Members.{only_member}
 use Rattle.ent_polform.specs.Written.{reference_written, value_written}
-use Rattle.ent_eval.specs.Answer.{recorded}
-use Rattle.ent_eval.specs.Environment.{date_in, date_time_in, time_in}
-use Rattle.ent_eval.specs.Held.{Held, looks_in}
-use Rattle.ent_eval.specs.declared.key.ReadKey.{ReadKey}
-use Rattle.ent_eval.specs.declared.key.ReadKey.TheVariants.{Root, Ref, Attr, CurrentDate, CurrentTime, CurrentDateTime}
-use Rattle.ent_eval.specs.declared.request.Request.{Request}
+use Rattle.ent_walk.specs.Answer.{recorded}
+use Rattle.ent_request.specs.Environment.{date_in, date_time_in, time_in}
+use Rattle.ent_request.specs.Held.{Held, looks_in}
+use Rattle.ent_request.specs.declared.key.ReadKey.{ReadKey}
+use Rattle.ent_request.specs.declared.key.ReadKey.TheVariants.{Root, Ref, Attr, CurrentDate, CurrentTime, CurrentDateTime}
+use Rattle.ent_request.specs.declared.request.Request.{Request}
 
 -- what may be absent, which is null then
 abbrev pub or_null : {A : Type 0} → (A → Data) → Option A → Data

@@ -7,8 +7,8 @@ use Rattle.serde_json.specs.View.{items_of}
 use Rattle.ent_policy.specs.Key.{kind_word}
 use Rattle.ent_policy.specs.Versions.{version_text}
 use Rattle.ent_policy.specs.declared.key.DocKey.{DocKey}
-use Rattle.ent_eval.specs.declared.answer.Status.{Status}
-use Rattle.ent_eval.specs.declared.answer.Status.TheVariants as status
+use Rattle.ent_request.specs.declared.answer.Status.{Status}
+use Rattle.ent_request.specs.declared.answer.Status.TheVariants as status
 
 -- a document on the path to a rule: its kind, id and version
 abbrev pub key_data : DocKey → Data

@@ -27,9 +27,9 @@ use Rattle.ent_finder.proofs.Names.{is_of-decides, name_cmp_total, name_tied}
 use Rattle.ent_finder.proofs.Orders.{then_assoc, then_less}
 use Rattle.ent_finder.proofs.Sorted.{both, first, is_true, less, second}
 use Rattle.ent_finder.specs.proofs_only.Order.{Name, kind_cmp, name_cmp}
-use Rattle.ent_eval.specs.Noted.{read_cmp}
-use Rattle.ent_eval.specs.declared.key.ReadKey.{ReadKey}
-use Rattle.ent_eval.specs.declared.key.ReadKey.TheVariants.{Attr, CurrentDate, CurrentDateTime, CurrentTime, Ref, Root}
+use Rattle.ent_request.specs.Noted.{read_cmp}
+use Rattle.ent_request.specs.declared.key.ReadKey.{ReadKey}
+use Rattle.ent_request.specs.declared.key.ReadKey.TheVariants.{Attr, CurrentDate, CurrentDateTime, CurrentTime, Ref, Root}
 use Rattle.ent_index.specs.Asked.{asks_policy}
 use Rattle.slab.specs.Slab.{Slab}
 use Rattle.ent_index.proofs.Views.{read_cmp-total}

@@ -5,11 +5,11 @@ use Rattle.std.specs.Option.{option_map_or}
 use Rattle.slab.proofs.SlabLemmas.{Contains-cons, Contains-entries}
 use Rattle.slab.specs.Slab.{Slab, entries, get}
 use Rattle.ent_finder.specs.declared.row.AttrKey.{AttrKey}
-use Rattle.ent_eval.specs.declared.key.ReadKey.TheVariants.{Attr}
-use Rattle.ent_eval.specs.declared.readers.Place.{Place}
-use Rattle.ent_eval.specs.declared.readers.Place.TheVariants.{Person, Action, Resource}
-use Rattle.ent_eval.specs.declared.readers.Readers.TheVariants.{Named}
-use Rattle.ent_eval.specs.Readers.{entity_in}
+use Rattle.ent_request.specs.declared.key.ReadKey.TheVariants.{Attr}
+use Rattle.ent_request.specs.declared.readers.Place.{Place}
+use Rattle.ent_request.specs.declared.readers.Place.TheVariants.{Person, Action, Resource}
+use Rattle.ent_request.specs.declared.readers.Readers.TheVariants.{Named}
+use Rattle.ent_request.specs.Readers.{entity_in}
 use Rattle.ent_index.specs.declared.group.Group.{Group}
 use Rattle.ent_index.specs.declared.groups.Groups.{Groups}
 use Rattle.ent_index.specs.declared.wanted.Wanted.{Wanted}

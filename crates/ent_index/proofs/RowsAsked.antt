@@ -21,10 +21,10 @@ use Rattle.ent_finder.proofs.Sorted.{equal, first, none_below, none_tied, second
 use Rattle.ent_finder.specs.Looking.{is_wanted, names_row}
 use Rattle.ent_finder.specs.declared.row.AttrKey.{AttrKey}
 use Rattle.ent_finder.specs.declared.row.RowKey.{RowKey}
-use Rattle.ent_eval.proofs.Keys.{read_cmp-IsAntisymmetric}
-use Rattle.ent_eval.specs.Noted.{read_cmp}
-use Rattle.ent_eval.specs.declared.key.ReadKey.{ReadKey}
-use Rattle.ent_eval.specs.declared.key.ReadKey.TheVariants.{Attr, CurrentDate, CurrentDateTime, CurrentTime, Ref, Root}
+use Rattle.ent_request.proofs.Keys.{read_cmp-IsAntisymmetric}
+use Rattle.ent_request.specs.Noted.{read_cmp}
+use Rattle.ent_request.specs.declared.key.ReadKey.{ReadKey}
+use Rattle.ent_request.specs.declared.key.ReadKey.TheVariants.{Attr, CurrentDate, CurrentDateTime, CurrentTime, Ref, Root}
 use Rattle.ent_index.proofs.Views.{key_itself, read_cmp-total, same_key}
 use Rattle.ent_index.specs.Asked.{asks_row}
 use Rattle.ent_index.specs.Index.{ReadIndex, Readers}

@@ -8,8 +8,8 @@ use Rattle.std.proofs.lemmas.Bool.{cases_eq, true≢false}
 use Rattle.std.proofs.lemmas.Option.{same_Some}
 use Rattle.slab.specs.Slab as slab
 use Rattle.slab.specs.Slab.{Slab, Updates}
-use Rattle.ent_eval.specs.Noted.{read_cmp}
-use Rattle.ent_eval.specs.declared.key.ReadKey.{ReadKey}
+use Rattle.ent_request.specs.Noted.{read_cmp}
+use Rattle.ent_request.specs.declared.key.ReadKey.{ReadKey}
 use Rattle.ent_index.proofs.Views.{cell_itself, cells_elsewhere, cells_there, has-index_of, has_cell-none, has_cell-without, key_itself, key_stays, key_turned, not_cell, not_key, number_of-index_of, same_cell, same_key, some_none, under}
 use Rattle.ent_index.specs.Cells.{has_cell, no_cells}
 use Rattle.ent_index.specs.proofs_only.Steps.{with_cells, without_cell}

@@ -16,10 +16,10 @@ use Rattle.std.proofs.lemmas.Cmp.{tied_itself}
 use Rattle.std.proofs.lemmas.Option.{same_Some}
 use Rattle.slab.specs.Slab as slab
 use Rattle.slab.specs.Slab.{Slab, SameValues, Updates}
-use Rattle.ent_eval.proofs.Keys.{read_cmp-IsAntisymmetric}
-use Rattle.ent_eval.specs.Noted.{read_cmp}
-use Rattle.ent_eval.specs.contracts.key.ReadKeyOrd.TheImpl.Laws.{total-law}
-use Rattle.ent_eval.specs.declared.key.ReadKey.{ReadKey}
+use Rattle.ent_request.proofs.Keys.{read_cmp-IsAntisymmetric}
+use Rattle.ent_request.specs.Noted.{read_cmp}
+use Rattle.ent_request.specs.contracts.key.ReadKeyOrd.TheImpl.Laws.{total-law}
+use Rattle.ent_request.specs.declared.key.ReadKey.{ReadKey}
 use Rattle.ent_index.specs.Cells.{CellSet, has_cell, in_order, no_cells}
 use Rattle.ent_index.specs.proofs_only.Steps.{is_pair, with_cell, with_cells, without_cell}
 use Rattle.ent_index.specs.Index.{Adds, IsSound, ReadIndex, Readers, cells_at, cells_of, has, is_number, key_of, number_of}

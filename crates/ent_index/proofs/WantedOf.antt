@@ -8,21 +8,21 @@ use Rattle.std.proofs.lemmas.List.{take_all}
 use Rattle.std.proofs.lemmas.List.Folds.{list_any-append, list_any_at, list_any_more}
 use Rattle.std.proofs.lemmas.Slice.Eq.{bytes_eq-Decides}
 use Rattle.ent_finder.specs.declared.row.AttrKey.{AttrKey}
-use Rattle.ent_eval.specs.declared.key.ReadKey.{ReadKey}
-use Rattle.ent_eval.specs.declared.question.Question.{Question}
-use Rattle.ent_eval.specs.declared.question.Question.TheVariants.{Root}
-use Rattle.ent_eval.specs.declared.readers.Place.{Place}
-use Rattle.ent_eval.specs.declared.readers.Place.TheVariants.{Person, Action, Resource}
-use Rattle.ent_eval.specs.declared.key.ReadKey.TheVariants.{Attr}
-use Rattle.ent_eval.specs.declared.readers.Readers.TheVariants.{Named, Nobody}
-use Rattle.ent_eval.specs.Listed.{listed}
-use Rattle.ent_eval.specs.Noted.{has_key}
-use Rattle.ent_eval.specs.QuestionOf.{question_of}
-use Rattle.ent_eval.specs.Questions.{AreNumbers, at_numbers, is_asked, keys_at, number_of, same_question}
-use Rattle.ent_eval.specs.Readers.{entity_in, is_reader, looks_up, name_at, readers_of}
-use Rattle.ent_eval.proofs.Numbered.{found_at}
-use Rattle.ent_eval.proofs.Numbering.{number_there}
-use Rattle.ent_eval.proofs.ReadersAre.{listed_look_ups}
+use Rattle.ent_request.specs.declared.key.ReadKey.{ReadKey}
+use Rattle.ent_request.specs.declared.question.Question.{Question}
+use Rattle.ent_request.specs.declared.question.Question.TheVariants.{Root}
+use Rattle.ent_request.specs.declared.readers.Place.{Place}
+use Rattle.ent_request.specs.declared.readers.Place.TheVariants.{Person, Action, Resource}
+use Rattle.ent_request.specs.declared.key.ReadKey.TheVariants.{Attr}
+use Rattle.ent_request.specs.declared.readers.Readers.TheVariants.{Named, Nobody}
+use Rattle.ent_request.specs.Listed.{listed}
+use Rattle.ent_request.specs.Noted.{has_key}
+use Rattle.ent_request.specs.QuestionOf.{question_of}
+use Rattle.ent_request.specs.Questions.{AreNumbers, at_numbers, is_asked, keys_at, number_of, same_question}
+use Rattle.ent_request.specs.Readers.{entity_in, is_reader, looks_up, name_at, readers_of}
+use Rattle.ent_request.proofs.Numbered.{found_at}
+use Rattle.ent_request.proofs.Numbering.{number_there}
+use Rattle.ent_request.proofs.ReadersAre.{listed_look_ups}
 use Rattle.slab.proofs.SlabLemmas.{Contains-cons_cases, Contains-entries}
 use Rattle.slab.specs.Slab.{Slab, entries, get}
 use Rattle.ent_index.specs.declared.group.Group.{Group}

@@ -4,8 +4,8 @@ use Rattle.ent_policy.specs.Same.{same_kind}
 use Rattle.ent_policy.specs.declared.key.Kind.{Kind}
 use Rattle.ent_finder.specs.Looking.{names_row}
 use Rattle.ent_finder.specs.declared.row.RowKey.{RowKey}
-use Rattle.ent_eval.specs.declared.key.ReadKey.{ReadKey}
-use Rattle.ent_eval.specs.declared.key.ReadKey.TheVariants.{Attr, Ref}
+use Rattle.ent_request.specs.declared.key.ReadKey.{ReadKey}
+use Rattle.ent_request.specs.declared.key.ReadKey.TheVariants.{Attr, Ref}
 
 -- a key of values that names the row: category, entity, attribute and type agree, and it has no issuer or the row's
 abbrev pub asks_row : RowKey → ReadKey → Bool

@@ -6,15 +6,15 @@ use Rattle.std.specs.List.{list_any}
 use Rattle.std.specs.Option.{option_map_or}
 use Rattle.std.specs.Ordering.{nat_cmp}
 use Rattle.slab.specs.Slab.{Slab, get}
-use Rattle.ent_eval.specs.declared.key.ReadKey.{ReadKey}
-use Rattle.ent_eval.specs.declared.question.Question.{Question}
-use Rattle.ent_eval.specs.declared.readers.Place.TheVariants.{Person, Action, Resource}
-use Rattle.ent_eval.specs.declared.readers.Readers.{Readers}
-use Rattle.ent_eval.specs.declared.readers.Readers.TheVariants.{Named}
-use Rattle.ent_eval.specs.Listed.{listed}
-use Rattle.ent_eval.specs.Noted.{has_key}
-use Rattle.ent_eval.specs.Questions.{AreNumbers, at_numbers, keys_at}
-use Rattle.ent_eval.specs.Readers.{entity_in, is_reader}
+use Rattle.ent_request.specs.declared.key.ReadKey.{ReadKey}
+use Rattle.ent_request.specs.declared.question.Question.{Question}
+use Rattle.ent_request.specs.declared.readers.Place.TheVariants.{Person, Action, Resource}
+use Rattle.ent_request.specs.declared.readers.Readers.{Readers}
+use Rattle.ent_request.specs.declared.readers.Readers.TheVariants.{Named}
+use Rattle.ent_request.specs.Listed.{listed}
+use Rattle.ent_request.specs.Noted.{has_key}
+use Rattle.ent_request.specs.Questions.{AreNumbers, at_numbers, keys_at}
+use Rattle.ent_request.specs.Readers.{entity_in, is_reader}
 use Rattle.ent_index.specs.declared.group.Group.{Group}
 use Rattle.ent_index.specs.declared.groups.Groups.{Groups}
 use Rattle.ent_index.specs.declared.names.Names.{Names}

@@ -4,8 +4,8 @@ use Rattle.std.specs.FinMap.{FinMap, get, keys}
 use Rattle.std.specs.List.{list_any}
 use Rattle.std.specs.Option.{option_map, option_map_or}
 use Rattle.std.specs.Ordering.{is_eq, nat_cmp}
-use Rattle.ent_eval.specs.Noted.{has_key, read_cmp}
-use Rattle.ent_eval.specs.declared.key.ReadKey.{ReadKey}
+use Rattle.ent_request.specs.Noted.{has_key, read_cmp}
+use Rattle.ent_request.specs.declared.key.ReadKey.{ReadKey}
 use Rattle.ent_index.specs.Cells.{CellSet, has_cell, in_order}
 
 -- of a key: its number, and the cells that read it

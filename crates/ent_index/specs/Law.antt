@@ -3,8 +3,8 @@ use Rattle.std.specs.Prelude.{◌≡◌, ℕ, List, Some, map, true}
 use Rattle.std.specs.List.{list_any}
 use Rattle.std.specs.List.Sorted.{IsStrictlyIncreasing}
 use Rattle.std.specs.Ordering.{is_eq, nat_cmp}
-use Rattle.ent_eval.specs.Noted.{has_key}
-use Rattle.ent_eval.specs.declared.key.ReadKey.{ReadKey}
+use Rattle.ent_request.specs.Noted.{has_key}
+use Rattle.ent_request.specs.declared.key.ReadKey.{ReadKey}
 use Rattle.ent_index.specs.Index.{IsSound, KeepsNumbers, ReadIndex, cells_of, has, is_numbered, number_of}
 
 -- the cells of a key are those that read it

@@ -5,8 +5,8 @@ use Rattle.std.specs.BTreeMap.{BTreeMap}
 use Rattle.std.specs.FinMap.{from_entries}
 use Rattle.std.specs.Option.{option_map, option_map_or}
 use Rattle.slab.specs.Slab.{Slab, get}
-use Rattle.ent_eval.specs.Noted.{read_cmp}
-use Rattle.ent_eval.specs.declared.key.ReadKey.{ReadKey}
+use Rattle.ent_request.specs.Noted.{read_cmp}
+use Rattle.ent_request.specs.declared.key.ReadKey.{ReadKey}
 use Rattle.ent_index.specs.Cells.{CellSet, no_cells}
 use Rattle.ent_index.specs.Index.{ReadIndex, Readers}
 use Rattle.ent_index.specs.declared.entry.Entry.{Entry}

@@ -4,13 +4,13 @@ ghost use Rattle.std.specs.Prelude.{◌≡◌, IfOk, T};
 ghost use Rattle.std.specs.FinMap.{is_sorted};
 ghost use Rattle.std.specs.List.{filter};
 ghost use Rattle.std.specs.Map.{keys_of};
-ghost use Rattle.ent_eval.specs.Noted.{read_cmp};
+ghost use Rattle.ent_request.specs.Noted.{read_cmp};
 ghost use Rattle.ent_index.specs.Asked.{asks_policy};
 ghost use Rattle.ent_index.specs.proofs_only.Asked.{IsFirst, key_of_row, policy_order};
 
-use ent_eval::ReadKey;
 use ent_finder::{AttrKey, RowKey};
 use ent_policy::{Kind, Name, Reference, VersionConstraints};
+use ent_request::ReadKey;
 use ent_values::{Items, Text};
 use std::alloc::{AllocError, Global};
 use std::cmp::Ordering;

@@ -4,13 +4,13 @@ ghost use Rattle.std.specs.Prelude.{◌≡◌, IfOk, IsSome, None, OnErr, OnOk, 
 ghost use Rattle.std.specs.BTreeMap as tree;
 ghost use Rattle.std.specs.Bool.{OnFalse, OnTrue};
 ghost use Rattle.slab.specs.Slab.{SameValues, Updates, get};
-ghost use Rattle.ent_eval.specs.Noted.{read_cmp};
+ghost use Rattle.ent_request.specs.Noted.{read_cmp};
 ghost use Rattle.ent_index.specs.Cells.{has_cell, no_cells};
 ghost use Rattle.ent_index.specs.proofs_only.Steps.{AddsEntry, ChangesCells, with_cell, without_cell};
 ghost use Rattle.ent_index.specs.Layout.{IsRead, entry_cells, number_at};
 
 use crate::cells::Cells;
-use ent_eval::ReadKey;
+use ent_request::ReadKey;
 use slab::Slab;
 use std::alloc::{AllocError, Global};
 use std::collections::BTreeMap;

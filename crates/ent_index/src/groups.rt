@@ -4,7 +4,7 @@ ghost use Rattle.std.specs.Prelude.{◌≡◌, IfOk, IfSome, OnErr, OnOk, option
 ghost use Rattle.std.specs.List.{list_any};
 ghost use Rattle.std.specs.List.Sorted.{IsStrictlySortedBy};
 ghost use Rattle.std.specs.Ordering.{nat_cmp};
-ghost use Rattle.ent_eval.specs.declared.readers.Readers.TheVariants.{Named};
+ghost use Rattle.ent_request.specs.declared.readers.Readers.TheVariants.{Named};
 ghost use Rattle.ent_index.specs.Groups.{Covers, HasLeft, HasNoCells, HasSameNames, IsAsking, IsLikely};
 ghost use Rattle.ent_index.specs.Groups.{IsNamed, IsUnnamed, KeepsGroups, KeepsGroupsBut, KeepsNamesBut};
 ghost use Rattle.ent_index.specs.Groups.{holds, is_among, is_wanted, numbers_of};
@@ -15,7 +15,7 @@ use crate::group::{Group, is_group_of, make_group, mixed, put_cell, take_cell};
 use crate::names::Names;
 use crate::roll::Roll;
 use crate::wanted::{Wanted, is_one_read};
-use ent_eval::{Place, ReadKey, Readers};
+use ent_request::{Place, ReadKey, Readers};
 use ent_values::Text;
 use slab::Slab;
 use std::alloc::{AllocError, Global};

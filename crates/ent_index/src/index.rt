@@ -16,9 +16,9 @@ ghost use Rattle.ent_index.specs.Index.{is_pair_of};
 
 use crate::asked::{first_key, key_of_row, references};
 use crate::entry::{Entry, make_entry, put_cell, take_cell};
-use ent_eval::ReadKey;
 use ent_finder::RowKey;
 use ent_policy::Kind;
+use ent_request::ReadKey;
 use ent_values::Items;
 use slab::Slab;
 use std::alloc::{AllocError, Global};
@@ -36,7 +36,7 @@ pub struct Index {
 
 impl Model for Index {
     ghost use Rattle.std.specs.FinMap.{code};
-    ghost use Rattle.ent_eval.specs.contracts.key.ReadKey as key;
+    ghost use Rattle.ent_request.specs.contracts.key.ReadKey as key;
     ghost use Rattle.ent_index.specs.Index.{ReadIndex};
     ghost use Rattle.ent_index.specs.proofs_only.Stored.{readers_code};
 

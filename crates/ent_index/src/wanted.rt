@@ -6,7 +6,7 @@ ghost use Rattle.ent_index.specs.Groups.{AreWanted, is_wanted};
 ghost use Rattle.ent_index.specs.proofs_only.Groups.{AddsKey};
 
 use crate::numbers::Numbers;
-use ent_eval::{Question, Questions, ReadKey, Readers};
+use ent_request::{Question, Questions, ReadKey, Readers};
 use ent_values::Text;
 use std::alloc::{AllocError, Global};
 

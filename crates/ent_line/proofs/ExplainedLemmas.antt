@@ -5,13 +5,13 @@ use Rattle.json.specs.Print.{print}
 use Rattle.json.specs.Token as token
 use Rattle.json.specs.Token.{Token}
 use Rattle.serde_json.specs.Data.{Data}
-use Rattle.ent_eval.specs.Answer.{recorded}
-use Rattle.ent_eval.specs.Held.{Held, looks_in}
-use Rattle.ent_eval.specs.Listed.{listed}
-use Rattle.ent_eval.specs.declared.answer.Answer.{Answer}
-use Rattle.ent_eval.specs.declared.cause.Cause.{Cause}
-use Rattle.ent_eval.specs.declared.key.ReadKey.{ReadKey}
-use Rattle.ent_eval.specs.declared.request.Request.{Request}
+use Rattle.ent_walk.specs.Answer.{recorded}
+use Rattle.ent_request.specs.Held.{Held, looks_in}
+use Rattle.ent_request.specs.Listed.{listed}
+use Rattle.ent_request.specs.declared.answer.Answer.{Answer}
+use Rattle.ent_request.specs.declared.cause.Cause.{Cause}
+use Rattle.ent_request.specs.declared.key.ReadKey.{ReadKey}
+use Rattle.ent_request.specs.declared.request.Request.{Request}
 use Rattle.ent_held.specs.Causes.{causes_data, untold}
 use Rattle.ent_held.specs.Facts.{facts_data}
 use Rattle.ent_json.specs.Text.{tokens_of}

@@ -7,8 +7,8 @@ use Rattle.std.specs.Result.{result_ok, result_unwrap_or}
 use Rattle.std.proofs.lemmas.List.{get_or-set_same, get_or-set_other, length-set}
 use Rattle.std.proofs.lemmas.Bool.Decides.{eqb_tells}
 use Rattle.serde_json.specs.Data.{Data}
-use Rattle.ent_eval.specs.declared.answer.Answer.{Answer as Evaluated}
-use Rattle.ent_eval.specs.declared.request.Request.{Request}
+use Rattle.ent_request.specs.declared.answer.Answer.{Answer as Evaluated}
+use Rattle.ent_request.specs.declared.request.Request.{Request}
 use Rattle.ent_profile.specs.Asks.{asks}
 use Rattle.ent_table.specs.AnswerMap.{AnswerMap}
 use Rattle.ent_table.specs.Doubles.{HasNoDoubles}

@@ -4,8 +4,8 @@ use Rattle.std.specs.Prelude.{codes, decimal, filter, if◌then◌else◌, nat_l
 use Rattle.std.specs.List.{list_all}
 use Rattle.serde_json.specs.Data as json
 use Rattle.serde_json.specs.Data.{Data}
-use Rattle.ent_eval.specs.declared.answer.Answer.{Answer as Evaluated}
-use Rattle.ent_eval.specs.declared.request.Request.{Request}
+use Rattle.ent_request.specs.declared.answer.Answer.{Answer as Evaluated}
+use Rattle.ent_request.specs.declared.request.Request.{Request}
 use Rattle.ent_json.specs.Members.{only_member}
 use Rattle.ent_profile.specs.Asks.{asks}
 use Rattle.ent_profile.specs.Response.{response}

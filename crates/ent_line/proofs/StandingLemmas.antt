@@ -15,7 +15,7 @@ use Rattle.ent_finder.specs.Rows.{Source, filled_source, is_filled}
 use Rattle.ent_finder.specs.declared.row.RowKey.{RowKey}
 use Rattle.ent_policy.specs.declared.key.Reference.{Reference}
 use Rattle.ent_finder.specs.Slots.{document_count}
-use Rattle.ent_eval.specs.declared.environment.Environment.{Environment}
+use Rattle.ent_request.specs.declared.environment.Environment.{Environment}
 use Rattle.ent_json.specs.Text.{tokens_of}
 use Rattle.ent_json.specs.proofs_only.Text.{items_tokens_of}
 use Rattle.ent_table.specs.State.{table_of}

@@ -7,9 +7,9 @@ use Rattle.serde_json.specs.Written.{compact_text}
 use Rattle.ent_combine.specs.declared.outcome.IndKind.TheVariants as kind
 use Rattle.ent_combine.specs.declared.outcome.Outcome.{Outcome}
 use Rattle.ent_combine.specs.declared.outcome.Outcome.TheVariants as outcome
-use Rattle.ent_eval.specs.declared.answer.Answer.{Answer}
-use Rattle.ent_eval.specs.declared.answer.WhyEntry.{WhyEntry}
-use Rattle.ent_eval.specs.declared.request.Request.{Request}
+use Rattle.ent_request.specs.declared.answer.Answer.{Answer}
+use Rattle.ent_request.specs.declared.answer.WhyEntry.{WhyEntry}
+use Rattle.ent_request.specs.declared.request.Request.{Request}
 use Rattle.ent_held.specs.Paths.{path_data, rule_data, status_text}
 use Rattle.ent_profile.specs.Response.{given_written, response}
 use Rattle.ent_table.specs.Names.{Triple}

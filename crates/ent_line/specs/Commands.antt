@@ -4,8 +4,8 @@ use Rattle.std.specs.Prelude.{ℕ, List, filter, length, nat_lt, if◌then◌els
 use Rattle.std.specs.Result.{result_ok}
 use Rattle.serde_json.specs.Data.{Data}
 use Rattle.ent_json.specs.Line.{data_of}
-use Rattle.ent_eval.specs.declared.answer.Answer.{Answer as Evaluated}
-use Rattle.ent_eval.specs.declared.request.Request.{Request}
+use Rattle.ent_request.specs.declared.answer.Answer.{Answer as Evaluated}
+use Rattle.ent_request.specs.declared.request.Request.{Request}
 use Rattle.ent_profile.specs.Asks.{asks}
 use Rattle.ent_table.specs.AnswerMap.{AnswerMap}
 use Rattle.ent_table.specs.Ask.{answer_in}

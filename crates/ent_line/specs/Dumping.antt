@@ -1,7 +1,7 @@
 -- Which versions lines have, and what can be told in them.
 use Rattle.std.specs.Prelude.{ℕ, ◌==◌, ◌&&◌, ◌||◌, not, List, ◌++◌, Bool, true, false, codes, decimal}
-use Rattle.ent_eval.specs.declared.environment.Environment.{Environment}
-use Rattle.ent_eval.specs.declared.environment.Environment.TheVariants.{Moment}
+use Rattle.ent_request.specs.declared.environment.Environment.{Environment}
+use Rattle.ent_request.specs.declared.environment.Environment.TheVariants.{Moment}
 
 -- lines have the version 1 or 2
 abbrev pub is_version : ℕ → Bool

@@ -3,12 +3,12 @@ use Rattle.std.specs.Prelude.{ℕ, List, codes}
 use Rattle.serde_json.specs.Data as json
 use Rattle.serde_json.specs.Data.{Data}
 use Rattle.serde_json.specs.Written.{compact_text}
-use Rattle.ent_eval.specs.Answer.{causes}
-use Rattle.ent_eval.specs.declared.answer.Answer.{Answer}
-use Rattle.ent_eval.specs.declared.cause.Cause.{Cause}
-use Rattle.ent_eval.specs.declared.request.Request.{Request}
-use Rattle.ent_eval.specs.Held.{Held, looks_in}
-use Rattle.ent_eval.specs.Listed.{listed}
+use Rattle.ent_walk.specs.Answer.{causes}
+use Rattle.ent_request.specs.declared.answer.Answer.{Answer}
+use Rattle.ent_request.specs.declared.cause.Cause.{Cause}
+use Rattle.ent_request.specs.declared.request.Request.{Request}
+use Rattle.ent_request.specs.Held.{Held, looks_in}
+use Rattle.ent_request.specs.Listed.{listed}
 use Rattle.ent_held.specs.Causes.{causes_data, untold}
 use Rattle.ent_held.specs.Facts.{facts}
 use Rattle.ent_held.specs.Paths.{status_text}

@@ -8,7 +8,7 @@ use Rattle.ent_policy.specs.Key.{kind_word}
 use Rattle.ent_policy.specs.declared.key.Kind.{Kind}
 use Rattle.ent_policy.specs.declared.key.Kind.TheVariants.{Policy, PolicySet}
 use Rattle.ent_json.specs.Objects.{text_at, text_or_absent}
-use Rattle.ent_eval.specs.Uris as uris
+use Rattle.ent_request.specs.Uris as uris
 
 -- what is read next, where what comes before is there
 infixl 10 ◌>>=◌

@@ -8,8 +8,8 @@ use Rattle.serde_json.specs.Written.{compact_text}
 use Rattle.ent_values.specs.Writing.{date_text, date_time_text}
 use Rattle.ent_finder.specs.Slots.{document_count}
 use Rattle.ent_json.specs.Members.{only_member}
-use Rattle.ent_eval.specs.declared.environment.Environment.{Environment}
-use Rattle.ent_eval.specs.declared.environment.Environment.TheVariants.{Empty, Day, Moment}
+use Rattle.ent_request.specs.declared.environment.Environment.{Environment}
+use Rattle.ent_request.specs.declared.environment.Environment.TheVariants.{Empty, Day, Moment}
 use Rattle.ent_table.specs.State.{table_of}
 use Rattle.ent_dump.specs.Edits.{written_root}
 use Rattle.ent_report.specs.World.{Mark, World}

@@ -8,7 +8,7 @@ use Rattle.serde_json.specs.Find.{as_array, as_str, get}
 use Rattle.ent_combine.specs.declared.outcome.IndKind.TheVariants.{P, D, DP}
 use Rattle.ent_combine.specs.declared.outcome.Outcome.{Outcome}
 use Rattle.ent_combine.specs.declared.outcome.Outcome.TheVariants.{Permit, Deny, NotApplicable, Ind}
-use Rattle.ent_eval.specs.declared.answer.Answer.{Answer}
+use Rattle.ent_request.specs.declared.answer.Answer.{Answer}
 use Rattle.ent_json.specs.Objects.{text_at, text_or_absent}
 use Rattle.ent_table.specs.Names.{Names, Triple, has_name}
 use Rattle.ent_line.specs.Cells.{decision_text}

@@ -6,7 +6,7 @@ ghost use Rattle.std.specs.List.{list_any};
 ghost use Rattle.std.specs.Option.{option_map_or};
 ghost use Rattle.serde_json.specs.View.{items_of};
 ghost use Rattle.ent_combine.specs.declared.outcome.Outcome.{Outcome};
-ghost use Rattle.ent_eval.specs.declared.answer.Answer.{Answer};
+ghost use Rattle.ent_request.specs.declared.answer.Answer.{Answer};
 ghost use Rattle.ent_json.specs.Members.{only_member};
 ghost use Rattle.ent_json.specs.Text.{tokens_of};
 ghost use Rattle.ent_json.specs.proofs_only.Text.{items_tokens_of};

@@ -3,7 +3,7 @@ use Rattle.std.proofs.Common.{◌≡◌, ℕ, ◌-◌, ◌≤◌, List, [], ◌�
 use Rattle.std.proofs.Math.Seq.{take-length}
 use Rattle.std.specs.List.{list_any}
 use Rattle.ent_policy.specs.Limits.{has_double}
-use Rattle.ent_eval.specs.declared.request.Category.{Category}
+use Rattle.ent_request.specs.declared.request.Category.{Category}
 use Rattle.ent_profile.proofs.ReadLemmas.{any_seen}
 
 -- all but the first

@@ -18,9 +18,9 @@ use Rattle.ent_polform.specs.Values.{value_in}
 use Rattle.ent_json.specs.Members.{only_member, optional}
 use Rattle.ent_polform.specs.Written.{value_written}
 use Rattle.ent_polform.proofs.BackValues.{values_back}
-use Rattle.ent_eval.specs.declared.request.Attribute.{Attribute}
-use Rattle.ent_eval.specs.declared.request.Category.{Category}
-use Rattle.ent_eval.specs.declared.request.Request.{Request}
+use Rattle.ent_request.specs.declared.request.Attribute.{Attribute}
+use Rattle.ent_request.specs.declared.request.Category.{Category}
+use Rattle.ent_request.specs.declared.request.Request.{Request}
 use Rattle.ent_profile.specs.Asks.{asks, attribute_of, attributes_of, bag_of, categories_of, category_at, category_of, has_request_form, name_in, request_of, values_of}
 use Rattle.ent_profile.specs.Categories.{expanded, named, short_name}
 use Rattle.ent_profile.specs.Reading.{◌>>=◌, at_most, each, maybe, one_or_many, provided}

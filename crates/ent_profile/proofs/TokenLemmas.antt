@@ -13,12 +13,12 @@ use Rattle.ent_json.specs.proofs_only.Keyed.{optional_tokens}
 use Rattle.ent_json.specs.proofs_only.Text.{items_tokens_of}
 use Rattle.ent_json.specs.Members.{filled_list, optional}
 use Rattle.ent_polform.specs.Written.{value_written}
-use Rattle.ent_eval.specs.declared.answer.Answer.{Answer}
-use Rattle.ent_eval.specs.declared.given.Assignment.{Assignment}
-use Rattle.ent_eval.specs.declared.given.Given.{Given}
-use Rattle.ent_eval.specs.declared.request.Attribute.{Attribute}
-use Rattle.ent_eval.specs.declared.request.Category.{Category}
-use Rattle.ent_eval.specs.declared.request.Request.{Request}
+use Rattle.ent_request.specs.declared.answer.Answer.{Answer}
+use Rattle.ent_request.specs.declared.given.Assignment.{Assignment}
+use Rattle.ent_request.specs.declared.given.Given.{Given}
+use Rattle.ent_request.specs.declared.request.Attribute.{Attribute}
+use Rattle.ent_request.specs.declared.request.Category.{Category}
+use Rattle.ent_request.specs.declared.request.Request.{Request}
 use Rattle.ent_profile.specs.Response.{assignment_written, attribute_written, category_with, category_written, decision_word, given_written, included, response, result_written, status_written, values_written}
 use Rattle.ent_profile.specs.proofs_only.Written.{tokens_if_any}
 

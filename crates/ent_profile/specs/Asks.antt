@@ -12,9 +12,9 @@ use Rattle.ent_policy.specs.Limits.{has_double}
 use Rattle.ent_policy.specs.Names.{name_of}
 use Rattle.ent_json.specs.Objects.{has_only, text_or_absent, flag_at}
 use Rattle.ent_polform.specs.Values.{value_in}
-use Rattle.ent_eval.specs.declared.request.Attribute.{Attribute}
-use Rattle.ent_eval.specs.declared.request.Category.{Category}
-use Rattle.ent_eval.specs.declared.request.Request.{Request}
+use Rattle.ent_request.specs.declared.request.Attribute.{Attribute}
+use Rattle.ent_request.specs.declared.request.Category.{Category}
+use Rattle.ent_request.specs.declared.request.Request.{Request}
 use Rattle.ent_profile.specs.Categories.{short_name, uri_of, named_categories, expanded}
 use Rattle.ent_profile.specs.declared.categories.NamedCategory.{NamedCategory}
 use Rattle.ent_profile.specs.Reading.{◌>>=◌, provided, maybe, each, gathered, none_or_many, one_or_many, at_most}

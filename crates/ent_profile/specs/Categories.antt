@@ -1,7 +1,7 @@
 -- The categories that have a short name in the JSON Profile, beside their URI (appendix B.2).
 use Rattle.std.specs.Prelude.{ℕ, List, [], ◌∷◌, Option, codes, bytes_eq, find}
 use Rattle.std.specs.Option.{option_map_or}
-use Rattle.ent_eval.specs.Uris.{access_subject, action, environment, resource}
+use Rattle.ent_request.specs.Uris.{access_subject, action, environment, resource}
 use Rattle.ent_profile.specs.declared.categories.NamedCategory.{NamedCategory}
 use Rattle.ent_profile.specs.declared.categories.NamedCategory.TheVariants.{AccessSubject, Action, Resource, Environment, RecipientSubject, IntermediarySubject, Codebase, RequestingMachine}
 

@@ -10,14 +10,14 @@ use Rattle.ent_combine.specs.declared.outcome.Outcome.{Outcome}
 use Rattle.ent_combine.specs.declared.outcome.Outcome.TheVariants as outcome
 use Rattle.ent_json.specs.Members.{filled_list, only_member, optional}
 use Rattle.ent_polform.specs.Written.{value_written}
-use Rattle.ent_eval.specs.declared.answer.Answer.{Answer}
-use Rattle.ent_eval.specs.declared.answer.Status.{Status}
-use Rattle.ent_eval.specs.declared.answer.Status.TheVariants as status
-use Rattle.ent_eval.specs.declared.given.Assignment.{Assignment}
-use Rattle.ent_eval.specs.declared.given.Given.{Given}
-use Rattle.ent_eval.specs.declared.request.Attribute.{Attribute}
-use Rattle.ent_eval.specs.declared.request.Category.{Category}
-use Rattle.ent_eval.specs.declared.request.Request.{Request}
+use Rattle.ent_request.specs.declared.answer.Answer.{Answer}
+use Rattle.ent_request.specs.declared.answer.Status.{Status}
+use Rattle.ent_request.specs.declared.answer.Status.TheVariants as status
+use Rattle.ent_request.specs.declared.given.Assignment.{Assignment}
+use Rattle.ent_request.specs.declared.given.Given.{Given}
+use Rattle.ent_request.specs.declared.request.Attribute.{Attribute}
+use Rattle.ent_request.specs.declared.request.Category.{Category}
+use Rattle.ent_request.specs.declared.request.Request.{Request}
 
 -- ---- obligations and advice
 

@@ -10,9 +10,9 @@ use Rattle.ent_policy.specs.Limits.{has_double}
 use Rattle.ent_policy.specs.Names.{name_of}
 use Rattle.ent_json.specs.Members.{only_member, optional}
 use Rattle.ent_polform.specs.Written.{value_written}
-use Rattle.ent_eval.specs.declared.request.Attribute.{Attribute}
-use Rattle.ent_eval.specs.declared.request.Category.{Category}
-use Rattle.ent_eval.specs.declared.request.Request.{Request}
+use Rattle.ent_request.specs.declared.request.Attribute.{Attribute}
+use Rattle.ent_request.specs.declared.request.Category.{Category}
+use Rattle.ent_request.specs.declared.request.Request.{Request}
 use Rattle.ent_profile.specs.Asks.{asks}
 use Rattle.ent_profile.specs.Categories.{named}
 

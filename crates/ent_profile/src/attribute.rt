@@ -10,9 +10,9 @@ ghost use Rattle.ent_profile.specs.Reading.{Reads, each};
 
 use crate::fault::RequestFault;
 use crate::form::{MOST_MEMBERS, at_most, maybe_name_at, name_in, none_or_many, one_or_many};
-use ent_eval::Attribute;
 use ent_json::{JsonTree, flag_at, text_or_absent};
 use ent_polform::read_value;
+use ent_request::Attribute;
 use ent_values::{Bag, DataType, Items, Text, Value as AttributeValue};
 use std::alloc::Global;
 

@@ -3,7 +3,7 @@
 ghost use Rattle.std.specs.Prelude.{◌≡◌};
 ghost use Rattle.ent_profile.specs.Categories.{expanded, named, named_categories, short_name, uri_of};
 
-use ent_eval::{ACCESS_SUBJECT, ACTION, RESOURCE};
+use ent_request::{ACCESS_SUBJECT, ACTION, RESOURCE};
 
 /// A category that has a short name (appendix B.2 and B.3).
 #[derive(Clone, Copy, PartialEq, Eq)]

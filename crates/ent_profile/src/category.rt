@@ -8,8 +8,8 @@ use crate::attribute::attributes;
 use crate::categories::{NamedCategory, expanded};
 use crate::fault::RequestFault;
 use crate::form::{MOST_MEMBERS, at_most, name_in, none_or_many};
-use ent_eval::Category;
 use ent_json::JsonTree;
+use ent_request::Category;
 use ent_values::{Items, Text};
 use std::alloc::Global;
 

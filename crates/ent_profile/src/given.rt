@@ -5,9 +5,9 @@ ghost use Rattle.serde_json.specs.Data.{array, string};
 ghost use Rattle.serde_json.specs.View.{items_of, view};
 ghost use Rattle.ent_profile.specs.Response.{assignment_written, given_written};
 
-use ent_eval::{Assignment, Given};
 use ent_json::{put_optional, put_text};
 use ent_polform::write_value;
+use ent_request::{Assignment, Given};
 use ent_values::Text;
 use serde_json::{Map, Value, json, put};
 use std::alloc::{AllocError, Global};

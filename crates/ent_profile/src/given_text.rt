@@ -7,9 +7,9 @@ ghost use Rattle.ent_json.specs.Text.{tokens_of};
 ghost use Rattle.ent_json.specs.proofs_only.Text.{items_tokens_of};
 ghost use Rattle.ent_profile.specs.Response.{assignment_written, given_written};
 
-use ent_eval::{Assignment, Given};
 use ent_json::{JsonText, write_optional, write_text};
 use ent_polform::write_value_text;
+use ent_request::{Assignment, Given};
 use std::alloc::{AllocError, Global};
 
 /// Writes an AttributeAssignment.

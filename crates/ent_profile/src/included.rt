@@ -7,9 +7,9 @@ ghost use Rattle.ent_polform.specs.Written.{value_written};
 ghost use Rattle.ent_profile.specs.Response.{attribute_written, category_written, included, values_written};
 
 use crate::given::optional_text;
-use ent_eval::{Attribute, Category};
 use ent_json::{filled, put_optional, put_text};
 use ent_polform::write_value;
+use ent_request::{Attribute, Category};
 use ent_values::Value as AttributeValue;
 use serde_json::{Map, Value, json, put};
 use std::alloc::{AllocError, Global};

@@ -10,9 +10,9 @@ ghost use Rattle.ent_polform.specs.Written.{value_written};
 ghost use Rattle.ent_profile.specs.Response.{attribute_written, category_written, included, values_written};
 ghost use Rattle.ent_profile.specs.proofs_only.Written.{tokens_if_any};
 
-use ent_eval::{Attribute, Category};
 use ent_json::{JsonText, write_optional, write_text};
 use ent_polform::write_value_text;
+use ent_request::{Attribute, Category};
 use ent_values::Value;
 use std::alloc::{AllocError, Global};
 

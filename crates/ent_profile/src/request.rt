@@ -9,8 +9,8 @@ ghost use Rattle.ent_profile.specs.Reading.{Reads};
 use crate::category::categories;
 use crate::fault::RequestFault;
 use crate::form::is_unset;
-use ent_eval::{Category, Request};
 use ent_json::{JsonTree, text_or_absent};
+use ent_request::{Category, Request};
 use std::alloc::Global;
 
 /// Whether the value has the keys of a request, and no wish that isn't met.

@@ -7,8 +7,8 @@ ghost use Rattle.ent_profile.specs.Response.{decision_word, response, result_wri
 use crate::given::each_given;
 use crate::included::categories;
 use ent_combine::Outcome;
-use ent_eval::{Answer, Request, Status};
 use ent_json::{filled, put_optional, put_text};
+use ent_request::{Answer, Request, Status};
 use serde_json::{Map, Value, json, put};
 use std::alloc::{AllocError, Global};
 

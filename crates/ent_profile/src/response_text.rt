@@ -10,8 +10,8 @@ ghost use Rattle.ent_json.specs.proofs_only.Keyed.{optional_tokens};
 use crate::given_text::write_given_text;
 use crate::included_text::write_categories;
 use crate::response::{decision_word, status_uri};
-use ent_eval::{Answer, Given, Request, Status};
 use ent_json::JsonText;
+use ent_request::{Answer, Given, Request, Status};
 use std::alloc::{AllocError, Global};
 
 /// Writes obligations or advice at a key, if there are some.

@@ -11,7 +11,7 @@ use Rattle.ent_finder.specs.Slots.{Slots, held, key_cmp}
 use Rattle.ent_finder.proofs.Filled.{entries-filled}
 use Rattle.ent_finder.proofs.Held.{entries-held, filled}
 use Rattle.ent_eval.specs.LooksOf.{held_by}
-use Rattle.ent_eval.specs.declared.environment.Environment.TheVariants.{Empty}
+use Rattle.ent_request.specs.declared.environment.Environment.TheVariants.{Empty}
 use Rattle.ent_eval.specs.declared.pdp.Pdp.{Pdp}
 use Rattle.ent_table.specs.Limits.{standard_limits}
 use Rattle.ent_table.specs.State.{initial}

@@ -2,7 +2,7 @@
 use Rattle.std.specs.Prelude.{ℕ, ◌≤◌, List, [], ◌∷◌}
 use Rattle.std.specs.FinMap.{empty}
 use Rattle.ent_finder.specs.Rows.{Source}
-use Rattle.ent_eval.specs.Uris as uris
+use Rattle.ent_request.specs.Uris as uris
 use Rattle.ent_table.specs.Limits.{standard_limits}
 use Rattle.ent_table.specs.State.{State}
 use Rattle.ent_rebuild.specs.Rebuilding.{new_state}

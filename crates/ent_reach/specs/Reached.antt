@@ -11,7 +11,7 @@ use Rattle.ent_policy.specs.declared.document.Child.TheOpen.{Child-F, PolicySet-
 use Rattle.ent_policy.specs.declared.key.Reference.{Reference}
 use Rattle.ent_finder.specs.Finding.{resolved}
 use Rattle.ent_finder.specs.Slots.{Docs, module_at}
-use Rattle.ent_eval.specs.Answer.{most_hops}
+use Rattle.ent_walk.specs.Answer.{most_hops}
 use Rattle.ent_reach.specs.contracts.place.PlacePartialEq.TheImpl as places
 use Rattle.ent_reach.specs.declared.place.Place.{Place}
 

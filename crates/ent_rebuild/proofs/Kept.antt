@@ -21,9 +21,9 @@ use Rattle.ent_finder.specs.Rows.{Source, source_at, supports, with_row}
 use Rattle.ent_finder.specs.Slots.{Docs, document_count, module_at, with_document}
 use Rattle.ent_finder.specs.declared.row.RowKey.{RowKey}
 use Rattle.ent_finder.proofs.Keys.{key_cmp_antisymmetric}
-use Rattle.ent_eval.specs.Environment.{of_day, of_moment}
-use Rattle.ent_eval.specs.declared.environment.Environment.{Environment}
-use Rattle.ent_eval.specs.declared.environment.Environment.TheVariants as environments
+use Rattle.ent_request.specs.Environment.{of_day, of_moment}
+use Rattle.ent_request.specs.declared.environment.Environment.{Environment}
+use Rattle.ent_request.specs.declared.environment.Environment.TheVariants as environments
 use Rattle.ent_table.proofs.Changes.{less_names, more_names}
 use Rattle.ent_table.specs.declared.edit.Edit.{Edit}
 use Rattle.ent_table.specs.declared.edit.Edit.TheVariants.{AddPolicy, ReplacePolicy, WithdrawPolicy, SetAttribute, AddName, DropName, SetRoot, SetDay}

@@ -12,8 +12,8 @@ use Rattle.ent_policy.specs.declared.key.Reference.{Reference}
 use Rattle.ent_finder.proofs.Totals.{key_cmp_total, row_cmp_total}
 use Rattle.ent_finder.specs.Rows.{Source, source_at}
 use Rattle.ent_finder.specs.Slots.{Docs, module_at}
-use Rattle.ent_eval.specs.declared.environment.Environment.{Environment}
-use Rattle.ent_eval.specs.declared.environment.Environment.TheVariants as environments
+use Rattle.ent_request.specs.declared.environment.Environment.{Environment}
+use Rattle.ent_request.specs.declared.environment.Environment.TheVariants as environments
 use Rattle.ent_table.specs.declared.edit.Edit.{Edit}
 use Rattle.ent_table.specs.declared.edit.Edit.TheVariants.{AddName, SetDay, SetMoment, SetRoot}
 use Rattle.ent_table.specs.declared.edit.List.TheVariants as which

@@ -1,7 +1,7 @@
 -- The permits among the cells of one person, and among the answers to one action and one resource.
 use Rattle.std.proofs.Common.{◌≡◌, ℕ, List, [], ◌∷◌, map, Bool, true, false, cond, refl, ap, ◌∙◌}
 use Rattle.std.specs.Prelude.{◌&&◌, bytes_eq, filter}
-use Rattle.ent_eval.specs.declared.answer.Answer.{Answer}
+use Rattle.ent_request.specs.declared.answer.Answer.{Answer}
 use Rattle.ent_table.specs.Names.{Triple}
 use Rattle.ent_table.specs.Parts.{answers_to, cells_of}
 use Rattle.ent_report.specs.proofs_only.Permitted.{permitted, permitted_people}

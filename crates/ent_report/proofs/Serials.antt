@@ -4,7 +4,7 @@ use Rattle.std.specs.Prelude.{nat_le, nat_lt}
 use Rattle.ent_policy.specs.Key.{key_of}
 use Rattle.ent_policy.specs.Names.{is_bad_name}
 use Rattle.ent_finder.specs.Slots.{document_count}
-use Rattle.ent_eval.specs.Environment.{of_day, of_moment}
+use Rattle.ent_request.specs.Environment.{of_day, of_moment}
 use Rattle.ent_table.specs.Names.{has_name, list_of, with_name, without_name}
 use Rattle.ent_table.specs.State.{State}
 use Rattle.ent_table.specs.Step.{IsAnswered, exceeds, is_bad_row, is_last, is_module, is_reserved, is_source, module_holds, module_lacks}

@@ -1,7 +1,7 @@
 -- Notices: the difference of a table that was marked and the present one.
 use Rattle.std.specs.Prelude.{List, map, Option, option_map}
 use Rattle.ent_combine.specs.declared.outcome.Outcome.{Outcome}
-use Rattle.ent_eval.specs.declared.answer.Answer.{Answer}
+use Rattle.ent_request.specs.declared.answer.Answer.{Answer}
 use Rattle.ent_table.specs.AnswerMap.{AnswerMap}
 use Rattle.ent_table.specs.State.{State}
 use Rattle.ent_table.specs.Tables.{changes_from}

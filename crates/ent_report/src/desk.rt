@@ -1,8 +1,8 @@
 //! The desk: a review, and the marks of its sessions.
 
 ghost use Rattle.std.specs.Prelude.{◌≡◌, ◌+◌, ◌-◌, ◌<◌, ◌≤◌, ◌^◌, min, IfOk, Some, option_copied};
-ghost use Rattle.ent_eval.specs.Answer.{causes, recorded};
-ghost use Rattle.ent_eval.specs.Held.{looks_in};
+ghost use Rattle.ent_walk.specs.Answer.{causes, recorded};
+ghost use Rattle.ent_request.specs.Held.{looks_in};
 ghost use Rattle.ent_table.specs.Ask.{answer_in};
 ghost use Rattle.ent_table.specs.Change.{Edits, IsSure};
 ghost use Rattle.ent_table.specs.Counted.{IsCounted};

@@ -5,7 +5,7 @@ use Rattle.json.proofs.Printed.Utf8.{IsUtf8-are_ascii}
 use Rattle.serde_json.specs.Data.{Data, Items}
 use Rattle.serde_json.specs.Find.{as_array, get}
 use Rattle.ent_json.specs.Objects.{text_at, text_or_absent}
-use Rattle.ent_eval.specs.Uris as uris
+use Rattle.ent_request.specs.Uris as uris
 use Rattle.ent_line.proofs.ChangeLemmas.{HoldsOfReads, change_asked}
 use Rattle.ent_line.specs.Asked as asked
 use Rattle.ent_line.specs.Asked.{Change, command_in, naming, setting, storing, withdrawing}

@@ -27,8 +27,8 @@ use Rattle.ent_polform.proofs.Fitting.{Fits, fits_more, list_fits, maybe_text_fi
 use Rattle.ent_polform.proofs.FittingDocuments.{document_fits}
 use Rattle.ent_polform.proofs.FittingParts.{reference_fits, value_fits}
 use Rattle.ent_values.specs.declared.date_time.DateTime.{DateTime}
-use Rattle.ent_eval.specs.declared.environment.Environment.{Environment}
-use Rattle.ent_eval.specs.declared.environment.Environment.TheVariants as environments
+use Rattle.ent_request.specs.declared.environment.Environment.{Environment}
+use Rattle.ent_request.specs.declared.environment.Environment.TheVariants as environments
 use Rattle.ent_rebuild.specs.Rebuilding.{environment_edits}
 use Rattle.ent_dump.specs.Dumped.{format_data}
 use Rattle.ent_dump.specs.Edits.{adding, document_data, dropping, edit_data, name_data, written_day, written_moment, written_root}

@@ -8,7 +8,7 @@ use Rattle.std.specs.Ordering.{eq_by_cmp}
 use Rattle.std.proofs.lemmas.Cmp.{eq_by_cmp_equiv}
 use Rattle.ent_cells.specs.Order.{request_order}
 use Rattle.ent_cells.proofs.Orders.{requests-total, same_request as same_by_order}
-use Rattle.ent_eval.specs.declared.answer.Answer.{Answer}
+use Rattle.ent_request.specs.declared.answer.Answer.{Answer}
 use Rattle.ent_table.specs.Names.{Triple, triples}
 use Rattle.ent_table.specs.State.{State, answer_at, answer_to, table_of}
 use Rattle.ent_table.specs.AnswerMap.{answers_of}

@@ -4,9 +4,9 @@ use Rattle.std.specs.Prelude.{◌&&◌, not, filter}
 use Rattle.std.specs.Cmp.Lexicographic.{pointwise}
 use Rattle.std.proofs.lemmas.List.{length-map}
 use Rattle.ent_cells.specs.Cell.{unlike_count}
-use Rattle.ent_eval.specs.declared.answer.Answer.{Answer}
-use Rattle.ent_eval.specs.Same.{same_answer}
-use Rattle.ent_eval.proofs.Sames.{answer-Decides}
+use Rattle.ent_request.specs.declared.answer.Answer.{Answer}
+use Rattle.ent_request.specs.Same.{same_answer}
+use Rattle.ent_request.proofs.Sames.{answer-Decides}
 use Rattle.ent_table.specs.declared.edit.List.{List as Which}
 use Rattle.ent_table.specs.declared.edit.List.TheVariants as which
 use Rattle.ent_table.specs.Difference.{differs, changes}

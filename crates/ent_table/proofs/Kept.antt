@@ -3,7 +3,7 @@ use Rattle.std.proofs.Common.{◌≡◌, List, [], ◌∷◌, Bool, ap, map, ref
 use Rattle.std.proofs.lemmas.Simd.{map-map}
 use Rattle.std.specs.List.{zip}
 use Rattle.ent_cells.specs.Cell.{Kept, answers_in, cell_of, failures_in}
-use Rattle.ent_eval.specs.Held.{looks_in}
+use Rattle.ent_request.specs.Held.{looks_in}
 use Rattle.ent_table.specs.Failed.{has_failed}
 use Rattle.ent_table.specs.Names.{triples}
 use Rattle.ent_table.specs.State.{State, fresh, fresh_cells}

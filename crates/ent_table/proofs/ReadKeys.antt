@@ -6,10 +6,10 @@ use Rattle.std.specs.Ordering.{is_eq}
 use Rattle.std.proofs.lemmas.Bool.{and_from}
 use Rattle.std.proofs.lemmas.Cmp.{tied_itself}
 use Rattle.ent_finder.proofs.Sorted.{equal}
-use Rattle.ent_eval.specs.Noted.{has_key, read_cmp}
-use Rattle.ent_eval.specs.contracts.key.ReadKeyOrd.TheImpl.Laws.{total-law}
-use Rattle.ent_eval.specs.declared.key.ReadKey.{ReadKey}
-use Rattle.ent_eval.proofs.Keys.{read_cmp-IsAntisymmetric}
+use Rattle.ent_request.specs.Noted.{has_key, read_cmp}
+use Rattle.ent_request.specs.contracts.key.ReadKeyOrd.TheImpl.Laws.{total-law}
+use Rattle.ent_request.specs.declared.key.ReadKey.{ReadKey}
+use Rattle.ent_request.proofs.Keys.{read_cmp-IsAntisymmetric}
 use Rattle.ent_cells.specs.Cell.{AreReadKeys, Kept, is_read}
 use Rattle.ent_table.specs.proofs_only.Look.{HasReadKeys}
 use Rattle.ent_table.proofs.Bits.{or_cases, or_left, or_right, same_test}

@@ -3,20 +3,21 @@ use Rattle.std.proofs.Common.{◌≡◌, Bool, true, false, ◌||◌, cond, not,
 use Rattle.std.specs.List.{All, AllByRecursion, list_any}
 use Rattle.std.proofs.lemmas.List.Sums.{length-filter}
 use Rattle.std.proofs.lemmas.Simd.{map-map}
-use Rattle.ent_eval.specs.Answer.{asked, has_cause, looked_up, recorded}
-use Rattle.ent_eval.specs.Causes.{are_any}
-use Rattle.ent_eval.specs.Held.{looks_in}
-use Rattle.ent_eval.specs.Law.{FindsSame, IsSameLook}
-use Rattle.ent_eval.specs.Listed.{listed}
-use Rattle.ent_eval.specs.Looks.{Looks}
-use Rattle.ent_eval.specs.Noted.{has_key}
-use Rattle.ent_eval.specs.declared.key.ReadKey.{ReadKey}
-use Rattle.ent_eval.specs.declared.request.Request.{Request}
-use Rattle.ent_eval.proofs.AnswersRest.{answers-rest, findings-rest}
-use Rattle.ent_eval.proofs.Finds.{all-find}
-use Rattle.ent_eval.proofs.Keys.{all_noted, by_recursion}
-use Rattle.ent_eval.proofs.Recorded.{from_recursion}
-use Rattle.ent_eval.proofs.SameLooks.{same_look-Decides}
+use Rattle.ent_walk.specs.Answer.{asked, has_cause, looked_up, recorded}
+use Rattle.ent_request.specs.Causes.{are_any}
+use Rattle.ent_request.specs.Held.{looks_in}
+use Rattle.ent_walk.specs.Law.{FindsSame}
+use Rattle.ent_request.specs.SameLook.{IsSameLook}
+use Rattle.ent_request.specs.Listed.{listed}
+use Rattle.ent_request.specs.Looks.{Looks}
+use Rattle.ent_request.specs.Noted.{has_key}
+use Rattle.ent_request.specs.declared.key.ReadKey.{ReadKey}
+use Rattle.ent_request.specs.declared.request.Request.{Request}
+use Rattle.ent_walk.proofs.AnswersRest.{answers-rest, findings-rest}
+use Rattle.ent_walk.proofs.Finds.{all-find}
+use Rattle.ent_request.proofs.Keys.{all_noted, by_recursion}
+use Rattle.ent_request.proofs.Lists.{from_recursion}
+use Rattle.ent_request.proofs.SameLooks.{same_look-Decides}
 use Rattle.ent_cells.specs.Cell.{IsRightBut, Kept, cell_of, is_read, reads_any, renewed}
 use Rattle.ent_table.specs.declared.change.Exchange.{Exchange}
 use Rattle.ent_table.specs.declared.change.Exchange.TheVariants.{Document, Row, Root, Environment}

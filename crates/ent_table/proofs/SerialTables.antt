@@ -14,10 +14,10 @@ use Rattle.ent_cells.specs.Old.{AreOld, IsTableOf}
 use Rattle.ent_cells.specs.Order.{request_order}
 use Rattle.ent_cells.specs.declared.who.Who.{Who}
 use Rattle.ent_cells.proofs.Orders.{requests-exact, requests-respected, requests-total}
-use Rattle.ent_eval.specs.Held.{looks_in}
-use Rattle.ent_eval.specs.Same.{same_answer}
-use Rattle.ent_eval.specs.contracts.answer.AnswerEq.TheImpl.Laws.{laws-law}
-use Rattle.ent_eval.specs.declared.answer.Answer.{Answer}
+use Rattle.ent_request.specs.Held.{looks_in}
+use Rattle.ent_request.specs.Same.{same_answer}
+use Rattle.ent_request.specs.contracts.answer.AnswerEq.TheImpl.Laws.{laws-law}
+use Rattle.ent_request.specs.declared.answer.Answer.{Answer}
 use Rattle.ent_finder.specs.Rows.{Source}
 use Rattle.ent_finder.specs.Slots.{Slots}
 use Rattle.ent_log.specs.Difference.{IsDifference}

@@ -2,7 +2,7 @@
 use Rattle.std.proofs.Common.{◌≡◌, ℕ, List, length, map, sym, ap, ◌∙◌, arith}
 use Rattle.std.proofs.lemmas.List.{length-map}
 use Rattle.ent_cells.specs.Cell.{cell_of}
-use Rattle.ent_eval.specs.Held.{looks_in}
+use Rattle.ent_request.specs.Held.{looks_in}
 use Rattle.ent_table.specs.declared.edit.List.{List as Which}
 use Rattle.ent_table.specs.declared.table.Table.{Table}
 use Rattle.ent_table.specs.Difference.{changes}

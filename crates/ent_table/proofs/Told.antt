@@ -15,16 +15,16 @@ use Rattle.ent_policy.specs.declared.key.Kind.{Kind}
 use Rattle.ent_policy.specs.declared.key.Reference.{Reference}
 use Rattle.ent_policy.proofs.Documents.{same_document-Decides}
 use Rattle.ent_policy.proofs.Same.{same_kind-Decides}
-use Rattle.ent_eval.specs.Change.{asks_document}
-use Rattle.ent_eval.specs.Environment.{date_in, date_time_in, time_in}
-use Rattle.ent_eval.specs.Held.{looks_in}
-use Rattle.ent_eval.specs.Law.{IsSameLook}
-use Rattle.ent_eval.specs.Noted.{has_key}
-use Rattle.ent_eval.specs.Sources.{known_values}
-use Rattle.ent_eval.specs.declared.key.ReadKey.{ReadKey}
-use Rattle.ent_eval.specs.declared.key.ReadKey.TheVariants as keys
-use Rattle.ent_eval.proofs.Changes.{document-leaves, environment-leaves, root-leaves, values-leave}
-use Rattle.ent_eval.proofs.SameLooks.{same_look-Decides}
+use Rattle.ent_request.specs.Change.{asks_document}
+use Rattle.ent_request.specs.Environment.{date_in, date_time_in, time_in}
+use Rattle.ent_request.specs.Held.{looks_in}
+use Rattle.ent_request.specs.SameLook.{IsSameLook}
+use Rattle.ent_request.specs.Noted.{has_key}
+use Rattle.ent_request.specs.Sources.{known_values}
+use Rattle.ent_request.specs.declared.key.ReadKey.{ReadKey}
+use Rattle.ent_request.specs.declared.key.ReadKey.TheVariants as keys
+use Rattle.ent_request.proofs.Changes.{document-leaves, environment-leaves, root-leaves, values-leave}
+use Rattle.ent_request.proofs.SameLooks.{same_look-Decides}
 use Rattle.ent_index.specs.Asked.{asks_policy}
 use Rattle.ent_cells.specs.Cell.{Kept}
 use Rattle.ent_table.specs.declared.change.Exchange.{Exchange}

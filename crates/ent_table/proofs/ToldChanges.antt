@@ -12,9 +12,9 @@ use Rattle.ent_cells.specs.Order.{request_order}
 use Rattle.ent_cells.specs.declared.who.Who.{Who}
 use Rattle.ent_cells.proofs.Orders as requests
 use Rattle.ent_cells.proofs.Orders.{requests-total}
-use Rattle.ent_eval.specs.Same.{same_answer}
-use Rattle.ent_eval.specs.contracts.answer.AnswerEq.TheImpl.Laws as answers
-use Rattle.ent_eval.specs.declared.answer.Answer.{Answer}
+use Rattle.ent_request.specs.Same.{same_answer}
+use Rattle.ent_request.specs.contracts.answer.AnswerEq.TheImpl.Laws as answers
+use Rattle.ent_request.specs.declared.answer.Answer.{Answer}
 use Rattle.ent_log.specs.Difference.{HasAnswers, IsDifference}
 use Rattle.ent_log.specs.Difference as log
 use Rattle.ent_log.specs.Maps.{map_difference}

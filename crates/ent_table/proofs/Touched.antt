@@ -1,15 +1,15 @@
 -- How many cells an edit of names touches.
 use Rattle.std.proofs.Common.{◌≡◌, ℕ, List, [], ◌∷◌, Bool, true, false, ◌||◌, not, length, refl, sym, ap, ◌∙◌}
 use Rattle.std.specs.List.{list_any}
-use Rattle.ent_eval.specs.Answer.{recorded}
-use Rattle.ent_eval.specs.Held.{looks_in}
-use Rattle.ent_eval.specs.Law.{IsSameLook}
-use Rattle.ent_eval.specs.Listed.{listed}
-use Rattle.ent_eval.specs.Looks.{Looks}
-use Rattle.ent_eval.specs.SameLook.{same_look}
-use Rattle.ent_eval.specs.declared.key.ReadKey.{ReadKey}
-use Rattle.ent_eval.specs.declared.key.ReadKey.TheVariants as keys
-use Rattle.ent_eval.proofs.SameLooks.{same_look-Decides}
+use Rattle.ent_walk.specs.Answer.{recorded}
+use Rattle.ent_request.specs.Held.{looks_in}
+use Rattle.ent_request.specs.SameLook.{IsSameLook}
+use Rattle.ent_request.specs.Listed.{listed}
+use Rattle.ent_request.specs.Looks.{Looks}
+use Rattle.ent_request.specs.SameLook.{same_look}
+use Rattle.ent_request.specs.declared.key.ReadKey.{ReadKey}
+use Rattle.ent_request.specs.declared.key.ReadKey.TheVariants as keys
+use Rattle.ent_request.proofs.SameLooks.{same_look-Decides}
 use Rattle.ent_table.specs.declared.edit.List.{List as Which}
 use Rattle.ent_table.specs.Counted.{touched, touched_count}
 use Rattle.ent_table.specs.Names.{Triple, has_name, is_listed, list_of, triples}

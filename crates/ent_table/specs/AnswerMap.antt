@@ -1,7 +1,7 @@
 -- The table as a finite map.
 use Rattle.std.specs.FinMap.{FinMap, from_entries}
 use Rattle.ent_cells.specs.Order.{request_order}
-use Rattle.ent_eval.specs.declared.answer.Answer.{Answer}
+use Rattle.ent_request.specs.declared.answer.Answer.{Answer}
 use Rattle.ent_table.specs.State.{State, table_of}
 
 -- for each listed request its answer

@@ -1,8 +1,8 @@
 -- What any request is answered.
-use Rattle.ent_eval.specs.Answer.{answer}
-use Rattle.ent_eval.specs.Held.{looks_in}
-use Rattle.ent_eval.specs.declared.answer.Answer.{Answer}
-use Rattle.ent_eval.specs.declared.request.Request.{Request}
+use Rattle.ent_walk.specs.Answer.{answer}
+use Rattle.ent_request.specs.Held.{looks_in}
+use Rattle.ent_request.specs.declared.answer.Answer.{Answer}
+use Rattle.ent_request.specs.declared.request.Request.{Request}
 use Rattle.ent_table.specs.State.{State}
 
 -- the answer of a state to a request, listed or not, by what is held alone

@@ -2,10 +2,10 @@
 use Rattle.std.specs.Prelude.{◌≡◌, ℕ, ◌≤◌, ◌||◌, Bool, not, filter, length, Result, Ok, Err}
 use Rattle.std.specs.List.{list_any}
 use Rattle.ent_cells.specs.Count.{raised}
-use Rattle.ent_eval.specs.Answer.{recorded}
-use Rattle.ent_eval.specs.Held.{looks_in}
-use Rattle.ent_eval.specs.Listed.{listed}
-use Rattle.ent_eval.specs.SameLook.{same_look}
+use Rattle.ent_walk.specs.Answer.{recorded}
+use Rattle.ent_request.specs.Held.{looks_in}
+use Rattle.ent_request.specs.Listed.{listed}
+use Rattle.ent_request.specs.SameLook.{same_look}
 use Rattle.ent_table.specs.declared.edit.Accepted.{Accepted}
 use Rattle.ent_table.specs.declared.edit.EditFault.{EditFault}
 use Rattle.ent_table.specs.declared.edit.EditFault.TheVariants.{Memory}

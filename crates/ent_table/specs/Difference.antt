@@ -1,7 +1,7 @@
 -- The difference of two tables.
 use Rattle.std.specs.Prelude.{ℕ, List, ◌++◌, Bool, true, false, not, filter, length, Option, Some, None}
-use Rattle.ent_eval.specs.declared.answer.Answer.{Answer}
-use Rattle.ent_eval.specs.Same.{same_answer}
+use Rattle.ent_request.specs.declared.answer.Answer.{Answer}
+use Rattle.ent_request.specs.Same.{same_answer}
 use Rattle.ent_table.specs.Names.{Triple, triples, is_listed}
 use Rattle.ent_table.specs.State.{State, answer_at}
 

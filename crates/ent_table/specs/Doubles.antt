@@ -2,7 +2,7 @@
 use Rattle.std.specs.Prelude.{◌≡◌, nat_eq, Ok}
 use Rattle.std.specs.Cmp.Lexicographic.{pointwise}
 use Rattle.std.specs.List.{IsDistinct}
-use Rattle.ent_eval.specs.Held.{Held}
+use Rattle.ent_request.specs.Held.{Held}
 use Rattle.ent_table.specs.declared.edit.Edit.{Edit}
 use Rattle.ent_table.specs.declared.limits.Limits.{Limits}
 use Rattle.ent_table.specs.Names.{Names}

@@ -1,9 +1,9 @@
 -- Of which requests of the table a part failed.
 use Rattle.std.specs.Prelude.{List, Bool, map}
-use Rattle.ent_eval.specs.Answer.{has_cause}
-use Rattle.ent_eval.specs.Held.{looks_in}
-use Rattle.ent_eval.specs.Listed.{listed}
-use Rattle.ent_eval.specs.declared.answer.Answer.{Answer}
+use Rattle.ent_walk.specs.Answer.{has_cause}
+use Rattle.ent_request.specs.Held.{looks_in}
+use Rattle.ent_request.specs.Listed.{listed}
+use Rattle.ent_request.specs.declared.answer.Answer.{Answer}
 use Rattle.ent_table.specs.Names.{Triple}
 use Rattle.ent_table.specs.State.{State, table_of}
 

@@ -2,7 +2,7 @@
 use Rattle.std.specs.Prelude.{ℕ, List, [], ◌∷◌, ◌++◌, Bool, drop}
 use Rattle.std.specs.List.{zip}
 use Rattle.ent_cells.specs.Cell.{answers_in, failures_in}
-use Rattle.ent_eval.specs.declared.answer.Answer.{Answer}
+use Rattle.ent_request.specs.declared.answer.Answer.{Answer}
 use Rattle.ent_table.specs.declared.cells.Cells.{Cells}
 use Rattle.ent_table.specs.declared.judged.Judged.{Judged}
 use Rattle.std.specs.Borrow.{Bor}

@@ -2,7 +2,7 @@
 use Rattle.std.specs.Prelude.{ℕ, List, [], ◌∷◌, ◌&&◌, bytes_eq, drop, filter, map}
 use Rattle.std.specs.Borrow.{Bor}
 use Rattle.ent_cells.specs.Cell.{answers_in}
-use Rattle.ent_eval.specs.declared.answer.Answer.{Answer}
+use Rattle.ent_request.specs.declared.answer.Answer.{Answer}
 use Rattle.ent_table.specs.declared.column.Column.{Column}
 use Rattle.ent_table.specs.Names.{Triple, texts}
 

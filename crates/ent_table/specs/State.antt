@@ -1,11 +1,11 @@
 -- What a review holds, and the table that it stands for.
 use Rattle.std.specs.Prelude.{ℕ, List, map, Option, Some, None, if◌then◌else◌}
 use Rattle.ent_cells.specs.Cell.{Kept, cell_of}
-use Rattle.ent_eval.specs.declared.answer.Answer.{Answer}
-use Rattle.ent_eval.specs.Answer.{answer}
-use Rattle.ent_eval.specs.Held.{Held, looks_in}
-use Rattle.ent_eval.specs.Listed.{listed}
-use Rattle.ent_eval.specs.Looks.{Looks}
+use Rattle.ent_request.specs.declared.answer.Answer.{Answer}
+use Rattle.ent_walk.specs.Answer.{answer}
+use Rattle.ent_request.specs.Held.{Held, looks_in}
+use Rattle.ent_request.specs.Listed.{listed}
+use Rattle.ent_request.specs.Looks.{Looks}
 use Rattle.std.specs.List.{zip}
 use Rattle.ent_table.specs.declared.limits.Limits.{Limits}
 use Rattle.ent_table.specs.Names.{Names, Triple, triples, is_listed, no_names}

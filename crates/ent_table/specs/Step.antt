@@ -16,9 +16,9 @@ use Rattle.ent_finder.specs.Finding.{has_document}
 use Rattle.ent_finder.specs.Rows.{source_at, supports, with_row}
 use Rattle.ent_finder.specs.Slots.{document_count, module_at, with_document}
 use Rattle.ent_finder.specs.declared.row.RowKey.{RowKey}
-use Rattle.ent_eval.specs.Environment.{of_day, of_moment}
-use Rattle.ent_eval.specs.Sources.{id_attribute}
-use Rattle.ent_eval.specs.declared.environment.Environment.{Environment}
+use Rattle.ent_request.specs.Environment.{of_day, of_moment}
+use Rattle.ent_request.specs.Sources.{id_attribute}
+use Rattle.ent_request.specs.declared.environment.Environment.{Environment}
 use Rattle.ent_table.specs.declared.edit.Accepted.{Accepted}
 use Rattle.ent_table.specs.declared.edit.Edit.{Edit}
 use Rattle.ent_table.specs.declared.edit.Edit.TheVariants.{AddPolicy, ReplacePolicy, WithdrawPolicy, SetAttribute}

@@ -1,8 +1,8 @@
 //! What the answers to requests rest on, and why parts of them are Indeterminate.
 
 ghost use Rattle.std.specs.Prelude.{◌≡◌, ◌+◌, ◌-◌, ◌^◌, min, IfOk};
-ghost use Rattle.ent_eval.specs.Answer.{causes, recorded};
-ghost use Rattle.ent_eval.specs.Held.{looks_in};
+ghost use Rattle.ent_walk.specs.Answer.{causes, recorded};
+ghost use Rattle.ent_request.specs.Held.{looks_in};
 ghost use Rattle.ent_table.specs.Ask.{answer_in};
 ghost use Rattle.ent_table.specs.Review.{IsFresh, OnlyEvaluates, state_of};
 

@@ -4,7 +4,7 @@ ghost use Rattle.std.specs.Prelude.{◌≡◌, IfOk, OnErr, OnOk, filter};
 ghost use Rattle.std.specs.List.{AllByRecursion};
 ghost use Rattle.std.specs.Option.{option_copied, option_eq};
 ghost use Rattle.ent_policy.specs.Same.{same_document};
-ghost use Rattle.ent_eval.specs.Held.{looks_in};
+ghost use Rattle.ent_request.specs.Held.{looks_in};
 ghost use Rattle.ent_table.specs.Change.{Stays};
 ghost use Rattle.ent_table.specs.proofs_only.Change.{Becomes};
 ghost use Rattle.ent_table.specs.proofs_only.Exchange.{IsThere, IsWithin, OnlyHeld, document_in, taken, with_exchange};

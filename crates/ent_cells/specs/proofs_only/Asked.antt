@@ -3,11 +3,11 @@ use Rattle.std.specs.Prelude.{◌≡◌, ℕ, List, Bool, true, false, if◌then
 use Rattle.slab.specs.Slab.{Slab, get}
 use Rattle.ent_policy.specs.declared.key.Kind.{Kind}
 use Rattle.ent_finder.specs.declared.row.RowKey.{RowKey}
-use Rattle.ent_eval.specs.declared.key.ReadKey.{ReadKey}
-use Rattle.ent_eval.specs.declared.key.ReadKey.TheVariants as key
-use Rattle.ent_eval.specs.declared.question.Question.{Question}
-use Rattle.ent_eval.specs.declared.question.Question.TheVariants.{Ref}
-use Rattle.ent_eval.specs.Noted.{has_key}
+use Rattle.ent_request.specs.declared.key.ReadKey.{ReadKey}
+use Rattle.ent_request.specs.declared.key.ReadKey.TheVariants as key
+use Rattle.ent_request.specs.declared.question.Question.{Question}
+use Rattle.ent_request.specs.declared.question.Question.TheVariants.{Ref}
+use Rattle.ent_request.specs.Noted.{has_key}
 use Rattle.ent_index.specs.Asked.{asks_policy}
 use Rattle.ent_cells.specs.Entries.{Entry}
 

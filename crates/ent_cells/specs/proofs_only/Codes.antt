@@ -2,9 +2,9 @@
 use Rattle.std.specs.Prelude.{Bool, List, refl, Option}
 use Rattle.std.specs.Coded.{Coded, code_by, coded×, coded_bool, coded_list, coded_option}
 use Rattle.slab.specs.Slab.{Slab, slab_code}
-use Rattle.ent_eval.specs.declared.answer.Answer.{Answer}
-use Rattle.ent_eval.specs.declared.key.ReadKey.{ReadKey}
-use Rattle.ent_eval.specs.declared.question.Question.{Question}
+use Rattle.ent_request.specs.declared.answer.Answer.{Answer}
+use Rattle.ent_request.specs.declared.key.ReadKey.{ReadKey}
+use Rattle.ent_request.specs.declared.question.Question.{Question}
 use Rattle.ent_cells.specs.declared.who.Who.{Who}
 use Rattle.ent_cells.specs.Cell.{Kept, Said}
 use Rattle.ent_cells.specs.Entries.{Entry, Stored}

@@ -2,12 +2,12 @@
 use Rattle.std.specs.Prelude.{◌≡◌, ◌≢◌, ℕ, List, map, Bool, true, false, not, IfSome, option_map, Option, Some, None}
 use Rattle.std.specs.List.{list_any}
 use Rattle.slab.specs.Slab.{Slab, get}
-use Rattle.ent_eval.specs.declared.answer.Answer.{Answer}
+use Rattle.ent_request.specs.declared.answer.Answer.{Answer}
 use Rattle.ent_eval.specs.declared.pdp.ListedEvaluation.{ListedEvaluation}
-use Rattle.ent_eval.specs.declared.question.Question.{Question}
-use Rattle.ent_eval.specs.Listed.{listed}
-use Rattle.ent_eval.specs.Questions.{AreNumbers, at_numbers, keys_at}
-use Rattle.ent_eval.specs.Same.{same_answer}
+use Rattle.ent_request.specs.declared.question.Question.{Question}
+use Rattle.ent_request.specs.Listed.{listed}
+use Rattle.ent_request.specs.Questions.{AreNumbers, at_numbers, keys_at}
+use Rattle.ent_request.specs.Same.{same_answer}
 use Rattle.ent_index.specs.declared.groups.Groups.{Groups}
 use Rattle.ent_index.specs.declared.wanted.Wanted.{Wanted}
 use Rattle.ent_index.specs.Groups.{IsNamed, holds, is_wanted, numbers_of, reads_in}

@@ -1,7 +1,7 @@
 -- Which old answers the steps of an edit find, and put into a log.
 use Rattle.std.specs.Prelude.{◌≡◌, ℕ, ◌+◌, List, filter_map, if◌then◌else◌, length, option_and_then, option_map, Option, Some, None}
 use Rattle.slab.specs.Slab.{Slab, get}
-use Rattle.ent_eval.specs.declared.answer.Answer.{Answer}
+use Rattle.ent_request.specs.declared.answer.Answer.{Answer}
 use Rattle.ent_log.specs.Tables.{KeepsTables, room_of}
 use Rattle.ent_log.specs.declared.entry.OldAnswer.{OldAnswer}
 use Rattle.ent_log.specs.declared.log.Log.{Log}

@@ -2,7 +2,7 @@
 use Rattle.std.specs.Prelude.{◌≡◌, ℕ, List, Bool, cond, nat_eq, option_map, Option, Some}
 use Rattle.std.specs.List.{list_any}
 use Rattle.slab.specs.Slab.{Slab, get}
-use Rattle.ent_eval.specs.Looks.{Looks}
+use Rattle.ent_request.specs.Looks.{Looks}
 use Rattle.ent_cells.specs.Cell.{says}
 use Rattle.ent_cells.specs.Entries.{Entry}
 use Rattle.ent_cells.specs.proofs_only.Entries.{given_up}

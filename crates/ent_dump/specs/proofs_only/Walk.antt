@@ -5,7 +5,7 @@ use Rattle.json.specs.Token.{Token}
 use Rattle.ent_values.specs.declared.value.Value.{Value}
 use Rattle.ent_policy.specs.declared.document.Tree.{Tree}
 use Rattle.ent_finder.specs.declared.row.RowKey.{RowKey}
-use Rattle.ent_eval.specs.Held.{Held}
+use Rattle.ent_request.specs.Held.{Held}
 use Rattle.ent_table.specs.declared.edit.Edit.{Edit}
 use Rattle.ent_table.specs.declared.edit.Edit.TheVariants.{AddPolicy, SetAttribute}
 use Rattle.ent_rebuild.specs.Rebuilding.{all_documents, all_rows, environment_edits, root_edits}

@@ -12,19 +12,19 @@ use Rattle.ent_eval.specs.declared.findings.Findings.{Findings}
 use Rattle.ent_eval.specs.declared.names.Names.{Names}
 use Rattle.ent_eval.specs.declared.names.Row.{Row}
 use Rattle.ent_eval.specs.declared.pdp.ListedEvaluation.{ListedEvaluation}
-use Rattle.ent_eval.specs.declared.question.Asked.{Asked}
-use Rattle.ent_eval.specs.declared.question.Question.{Question}
-use Rattle.ent_eval.specs.declared.readers.Place.{Place}
-use Rattle.ent_eval.specs.declared.request.Request.{Request}
+use Rattle.ent_request.specs.declared.question.Asked.{Asked}
+use Rattle.ent_request.specs.declared.question.Question.{Question}
+use Rattle.ent_request.specs.declared.readers.Place.{Place}
+use Rattle.ent_request.specs.declared.request.Request.{Request}
 use Rattle.ent_eval.specs.declared.scene.Scene.{Scene}
-use Rattle.ent_eval.specs.Answer.{answer, asked, has_cause}
-use Rattle.ent_eval.specs.Law.{FindsSame}
-use Rattle.ent_eval.specs.Listed.{listed}
-use Rattle.ent_eval.specs.Looks.{Looks}
+use Rattle.ent_walk.specs.Answer.{answer, asked, has_cause}
+use Rattle.ent_walk.specs.Law.{FindsSame}
+use Rattle.ent_request.specs.Listed.{listed}
+use Rattle.ent_request.specs.Looks.{Looks}
 use Rattle.ent_eval.specs.Memory.{AreFindings, FindsBag, Fits, IsRow, most_cases, place_of}
-use Rattle.ent_eval.specs.Questions.{AreNumbers, asked_once, at_numbers}
-use Rattle.ent_eval.specs.Readers.{is_own, name_at}
-use Rattle.ent_eval.specs.Sources.{designator_for, key_for}
+use Rattle.ent_request.specs.Questions.{AreNumbers, asked_once, at_numbers}
+use Rattle.ent_request.specs.Readers.{is_own, name_at}
+use Rattle.ent_request.specs.Sources.{designator_for, key_for}
 
 -- ---- what a hasher is fed with
 

@@ -10,7 +10,7 @@ use Rattle.ent_values.specs.declared.value.Value.{Value}
 use Rattle.ent_policy.specs.declared.document.Tree.{Tree}
 use Rattle.ent_policy.specs.declared.key.DocKey.{DocKey}
 use Rattle.ent_finder.specs.declared.row.RowKey.{RowKey}
-use Rattle.ent_eval.specs.Held.{Held}
+use Rattle.ent_request.specs.Held.{Held}
 use Rattle.ent_finder.specs.Rows.{Source}
 use Rattle.ent_json.specs.Members.{only_member}
 use Rattle.ent_json.specs.Text.{tokens_of}

@@ -5,9 +5,9 @@ use Rattle.std.specs.declared.cmp.Ordering.{Ordering}
 use Rattle.std.specs.declared.cmp.Ordering.TheVariants.{Greater, Less}
 use Rattle.ent_policy.specs.declared.key.Kind.{Kind}
 use Rattle.ent_finder.specs.declared.row.RowKey.{RowKey}
-use Rattle.ent_eval.specs.Noted.{read_cmp}
-use Rattle.ent_eval.specs.declared.key.ReadKey.{ReadKey}
-use Rattle.ent_eval.specs.declared.key.ReadKey.TheVariants.{Attr, Ref, Root}
+use Rattle.ent_request.specs.Noted.{read_cmp}
+use Rattle.ent_request.specs.declared.key.ReadKey.{ReadKey}
+use Rattle.ent_request.specs.declared.key.ReadKey.TheVariants.{Attr, Ref, Root}
 use Rattle.ent_finder.specs.proofs_only.Order.{name_cmp}
 use Rattle.ent_index.specs.Asked.{asks_policy}
 

@@ -1,13 +1,13 @@
 -- Words of the contracts of groups that only their own crate needs.
 use Rattle.std.specs.Prelude.{◌≡◌, ◌||◌, ℕ, List, Option, None, Some, true}
 use Rattle.std.specs.List.{list_any}
-use Rattle.ent_eval.specs.declared.key.ReadKey.{ReadKey}
-use Rattle.ent_eval.specs.declared.question.Question.{Question}
-use Rattle.ent_eval.specs.declared.readers.Place.{Place}
-use Rattle.ent_eval.specs.declared.readers.Place.TheVariants.{Person, Action, Resource}
-use Rattle.ent_eval.specs.Listed.{listed}
-use Rattle.ent_eval.specs.Noted.{has_key}
-use Rattle.ent_eval.specs.Questions.{AreNumbers, at_numbers, keys_at}
+use Rattle.ent_request.specs.declared.key.ReadKey.{ReadKey}
+use Rattle.ent_request.specs.declared.question.Question.{Question}
+use Rattle.ent_request.specs.declared.readers.Place.{Place}
+use Rattle.ent_request.specs.declared.readers.Place.TheVariants.{Person, Action, Resource}
+use Rattle.ent_request.specs.Listed.{listed}
+use Rattle.ent_request.specs.Noted.{has_key}
+use Rattle.ent_request.specs.Questions.{AreNumbers, at_numbers, keys_at}
 use Rattle.ent_index.specs.declared.groups.Groups.{Groups}
 use Rattle.ent_index.specs.declared.names.Names.{Names}
 use Rattle.ent_index.specs.declared.wanted.Wanted.{Wanted}

@@ -5,8 +5,8 @@ use Rattle.std.specs.List.{list_any}
 use Rattle.std.specs.Option.{option_map_or}
 use Rattle.std.specs.Ordering.{is_eq, nat_cmp}
 use Rattle.slab.specs.Slab.{Slab, Updates, get}
-use Rattle.ent_eval.specs.Noted.{read_cmp}
-use Rattle.ent_eval.specs.declared.key.ReadKey.{ReadKey}
+use Rattle.ent_request.specs.Noted.{read_cmp}
+use Rattle.ent_request.specs.declared.key.ReadKey.{ReadKey}
 use Rattle.ent_index.specs.Cells.{CellSet, no_cells}
 use Rattle.ent_index.specs.Index.{ReadIndex, has, number_of}
 use Rattle.ent_index.specs.declared.entry.Entry.{Entry}

@@ -1,6 +1,6 @@
 -- The cells of an iterator of which a part failed.
 use Rattle.std.specs.Prelude.{List, Bool, filter, map}
-use Rattle.ent_eval.specs.declared.answer.Answer.{Answer}
+use Rattle.ent_request.specs.declared.answer.Answer.{Answer}
 use Rattle.ent_table.specs.Names.{Triple}
 
 abbrev pub failed_in : List ((Triple × Answer) × Bool) → List (Triple × Answer)

@@ -4,7 +4,7 @@ use Rattle.std.specs.Option.{option_map_or}
 use Rattle.ent_combine.specs.declared.outcome.IndKind.TheVariants as kind
 use Rattle.ent_combine.specs.declared.outcome.Outcome.{Outcome}
 use Rattle.ent_combine.specs.declared.outcome.Outcome.TheVariants as outcome
-use Rattle.ent_eval.specs.declared.answer.Answer.{Answer}
+use Rattle.ent_request.specs.declared.answer.Answer.{Answer}
 use Rattle.ent_table.specs.Names.{Names, Triple, has_name}
 use Rattle.ent_line.specs.declared.selecting.Decisions.{Decisions}
 use Rattle.ent_line.specs.declared.selecting.Selection.{Selection}

@@ -1,6 +1,6 @@
 -- The permits among the cells that a report is made of.
 use Rattle.std.specs.Prelude.{ℕ, List, filter, map}
-use Rattle.ent_eval.specs.declared.answer.Answer.{Answer}
+use Rattle.ent_request.specs.declared.answer.Answer.{Answer}
 use Rattle.ent_table.specs.Names.{Triple}
 use Rattle.ent_report.specs.Reports.{is_permit}
 

@@ -3,13 +3,13 @@ use Rattle.std.specs.Prelude.{◌≡◌, List, [], ◌∷◌, Bool, true, not, i
 use Rattle.std.specs.Option.{option_eq}
 use Rattle.ent_policy.specs.Same.{same_document}
 use Rattle.ent_policy.specs.declared.document.Tree.{Tree}
-use Rattle.ent_eval.specs.Change.{asks_environment, asks_root}
-use Rattle.ent_eval.specs.Environment.{date_in, date_time_in, time_in}
-use Rattle.ent_eval.specs.Held.{looks_in}
-use Rattle.ent_eval.specs.Noted.{has_key}
-use Rattle.ent_eval.specs.SameLook.{same_look}
-use Rattle.ent_eval.specs.declared.key.ReadKey.{ReadKey}
-use Rattle.ent_eval.specs.declared.key.ReadKey.TheVariants as keys
+use Rattle.ent_request.specs.Change.{asks_environment, asks_root}
+use Rattle.ent_request.specs.Environment.{date_in, date_time_in, time_in}
+use Rattle.ent_request.specs.Held.{looks_in}
+use Rattle.ent_request.specs.Noted.{has_key}
+use Rattle.ent_request.specs.SameLook.{same_look}
+use Rattle.ent_request.specs.declared.key.ReadKey.{ReadKey}
+use Rattle.ent_request.specs.declared.key.ReadKey.TheVariants as keys
 use Rattle.ent_index.specs.Asked.{asks_policy, asks_row}
 use Rattle.ent_cells.specs.Cell.{Kept, is_read}
 use Rattle.ent_table.specs.contracts.look.LookPartialEq.TheImpl as looks

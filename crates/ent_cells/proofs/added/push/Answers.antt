@@ -1,6 +1,6 @@
 use Rattle.std.proofs.Common.{◌≡◌, ◌++◌, ◌∷◌, [], ℕ, List, refl}
 use Rattle.ent_eval.specs.LooksOf.{looks_of}
-use Rattle.ent_eval.specs.Looks.{Looks}
+use Rattle.ent_request.specs.Looks.{Looks}
 use Rattle.ent_cells.specs.Cell.{says}
 use Rattle.ent_cells.specs.Entries.{Entry, kept_of}
 use Rattle.ent_cells.specs.proofs_only.Entries.{entry_of_cell}

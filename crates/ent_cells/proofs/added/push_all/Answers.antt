@@ -1,6 +1,6 @@
 use Rattle.std.proofs.Common.{◌≡◌, ◌++◌, List, map, append-nil, refl, sym, ◌∙◌}
 use Rattle.ent_eval.specs.LooksOf.{looks_of}
-use Rattle.ent_eval.specs.Looks.{Looks}
+use Rattle.ent_request.specs.Looks.{Looks}
 use Rattle.ent_cells.specs.Cell.{Kept, cell_of}
 use Rattle.ent_cells.specs.Entries.{kept_of}
 use Rattle.ent_cells.proofs.Listed.{first_kept}

@@ -3,8 +3,8 @@ use Rattle.std.specs.Prelude.{filter_map}
 use Rattle.std.specs.List.{cons_option}
 use Rattle.std.proofs.lemmas.List.{take_more}
 use Rattle.std.proofs.lemmas.List.Elements.{filter_map-append}
-use Rattle.ent_eval.specs.declared.key.ReadKey.{ReadKey}
-use Rattle.ent_eval.specs.declared.question.Question.{Question}
+use Rattle.ent_request.specs.declared.key.ReadKey.{ReadKey}
+use Rattle.ent_request.specs.declared.question.Question.{Question}
 use Rattle.ent_cells.specs.proofs_only.Asked.{reference_of}
 use Rattle.ent_cells.proofs.asked.references.Goals as goal
 use Rattle.ent_cells.proofs.asked.references.Goals.{in-Some+in_ok-push, in_default}

@@ -2,7 +2,7 @@ use Rattle.std.proofs.Common.{◌≡◌, ℕ, refl, rules, sym, ap, subst, take,
 use Rattle.std.proofs.lemmas.List.{take_all}
 use Rattle.ent_finder.proofs.Refusals.{refused}
 use Rattle.ent_eval.specs.LooksOf.{looks_of}
-use Rattle.ent_eval.specs.Looks.{Looks}
+use Rattle.ent_request.specs.Looks.{Looks}
 use Rattle.ent_eval.specs.Memory.{Remembers}
 use Rattle.ent_cells.specs.proofs_only.Entries.{Becomes}
 use Rattle.ent_cells.specs.proofs_only.Phases.{IsPrepared, KeepsCells, made_ready}

@@ -1,5 +1,5 @@
 use Rattle.std.proofs.Common.{sym, ◌∙◌}
-use Rattle.ent_eval.proofs.Sames.{answer-Decides}
+use Rattle.ent_request.proofs.Sames.{answer-Decides}
 use Rattle.ent_cells.proofs.sharing.same_answer.Goals as goal
 
 pub returns-then-eq : goal.returns-then-eq

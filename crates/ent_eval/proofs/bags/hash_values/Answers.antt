@@ -1,6 +1,6 @@
 use Rattle.std.proofs.Common.{arith}
 use Rattle.ent_eval.specs.proofs_only.Remembered.{value_writes}
-use Rattle.ent_eval.proofs.BagsNumbered.{fed_all, fed_next}
+use Rattle.ent_request.proofs.Lists.{fed_all, fed_next}
 use Rattle.ent_eval.proofs.bags.hash_values.Goals as goal
 
 pub loop-value-preserved : goal.loop-value-preserved

@@ -5,7 +5,7 @@ use Rattle.ent_eval.specs.Memory.{IsCase, IsFinding}
 use Rattle.ent_eval.specs.proofs_only.Remembered.{FindsAll, request_of}
 use Rattle.ent_eval.proofs.Fitting.{on_false, on_true, scanning_next}
 use Rattle.ent_eval.proofs.Growing.{starts_itself}
-use Rattle.ent_eval.proofs.Numbering.{all_at}
+use Rattle.ent_request.proofs.Numbering.{all_at}
 use Rattle.ent_eval.proofs.Remembering.{are_more}
 use Rattle.ent_eval.proofs.cases.first_fitting.Goals as goal
 

@@ -1,7 +1,7 @@
 use Rattle.std.proofs.Common.{◌≡◌, Some, get_or, slice_get}
 use Rattle.std.proofs.lemmas.Option.{slice_get-get_or}
 use Rattle.ent_eval.specs.declared.case.Finding.{Finding}
-use Rattle.ent_eval.specs.declared.readers.Place.TheVariants.{Person}
+use Rattle.ent_request.specs.declared.readers.Place.TheVariants.{Person}
 use Rattle.ent_eval.proofs.Fitting.{fitting_fails, fitting_next}
 use Rattle.ent_eval.proofs.cases.fits.Goals as goal
 

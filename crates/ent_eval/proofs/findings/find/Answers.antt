@@ -1,6 +1,6 @@
 use Rattle.std.proofs.Common.{◌≡◌, Some, slice_get, sym, ap, ◌∙◌}
 use Rattle.std.proofs.lemmas.Option.{slice_get_within}
-use Rattle.ent_eval.specs.declared.question.Question.TheVariants.{Of}
+use Rattle.ent_request.specs.declared.question.Question.TheVariants.{Of}
 use Rattle.ent_eval.proofs.Remembering.{found_now, known_for, learnt_at, learnt_now}
 use Rattle.ent_eval.proofs.findings.find.Goals as goal
 

@@ -1,7 +1,7 @@
 use Rattle.std.proofs.Common.{◌∙◌}
 use Rattle.std.specs.Ordering.{is_le}
-use Rattle.ent_eval.specs.Noted.{read_cmp}
-use Rattle.ent_eval.specs.declared.key.ReadKey.TheVariants.{Ref}
+use Rattle.ent_request.specs.Noted.{read_cmp}
+use Rattle.ent_request.specs.declared.key.ReadKey.TheVariants.{Ref}
 use Rattle.ent_index.proofs.KeyOrders.{first_of, name_is}
 use Rattle.ent_index.proofs.asked.first_key.Goals as goal
 

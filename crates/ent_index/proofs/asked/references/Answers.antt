@@ -1,5 +1,5 @@
 use Rattle.std.proofs.Common.{ap, sym, ◌∷◌, ◌++◌, [], ◌∙◌, ℕ}
-use Rattle.ent_eval.specs.declared.key.ReadKey.{ReadKey}
+use Rattle.ent_request.specs.declared.key.ReadKey.{ReadKey}
 use Rattle.ent_index.proofs.KeyOrders.{before_them, behind_them, one_of_them, sorted_rest}
 use Rattle.ent_index.proofs.asked.references.Goals as goal
 

@@ -2,7 +2,7 @@ use Rattle.std.proofs.Common.{◌≡◌, ◌++◌, T}
 use Rattle.std.specs.FinMap.{is_sorted}
 use Rattle.std.specs.List.{filter}
 use Rattle.std.specs.Map.{keys_of}
-use Rattle.ent_eval.specs.Noted.{read_cmp}
+use Rattle.ent_request.specs.Noted.{read_cmp}
 use Rattle.ent_index.specs.Asked.{asks_policy}
 use Rattle.ent_index.proofs.asked.references.Given as goal
 

@@ -1,5 +1,5 @@
 use Rattle.std.proofs.Common.{ap, refl, sym, ◌∙◌}
-use Rattle.ent_eval.specs.Questions.{is_asked, number_of}
+use Rattle.ent_request.specs.Questions.{is_asked, number_of}
 use Rattle.ent_index.proofs.WantedOf.{adds_none, adds_one}
 use Rattle.ent_index.proofs.wanted.push_wanted.Goals as goal
 

@@ -1,6 +1,6 @@
 use Rattle.std.proofs.Common.{◌≡◌, ◌≤◌, ◌+◌, ℕ, Bool, true, false, cond, is_some, List, length, sym, ap, subst, ◌∙◌, arith}
 use Rattle.slab.specs.Slab.{Slab, get}
-use Rattle.ent_eval.specs.declared.answer.Answer.{Answer}
+use Rattle.ent_request.specs.declared.answer.Answer.{Answer}
 use Rattle.ent_log.specs.Tables.{room_of}
 use Rattle.ent_log.specs.declared.log.Log.{Log}
 use Rattle.ent_cells.specs.declared.who.Who.{Who}

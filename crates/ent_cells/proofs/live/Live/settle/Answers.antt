@@ -2,10 +2,10 @@ use Rattle.std.proofs.Common.{◌≡◌, ℕ, List, length, count_by, map, sym, 
 use Rattle.std.specs.List.{AllByRecursion}
 use Rattle.std.proofs.lemmas.List.{length-map}
 use Rattle.slab.specs.Slab.{Slab, get}
-use Rattle.ent_eval.specs.declared.answer.Answer.{Answer}
-use Rattle.ent_eval.specs.declared.key.ReadKey.{ReadKey}
+use Rattle.ent_request.specs.declared.answer.Answer.{Answer}
+use Rattle.ent_request.specs.declared.key.ReadKey.{ReadKey}
 use Rattle.ent_eval.specs.LooksOf.{looks_of}
-use Rattle.ent_eval.specs.Looks.{Looks}
+use Rattle.ent_request.specs.Looks.{Looks}
 use Rattle.ent_log.specs.declared.entry.OldAnswer.{OldAnswer}
 use Rattle.ent_cells.specs.declared.who.Who.{Who}
 use Rattle.ent_cells.specs.Cell.{IsRightBut, Kept, answers_in, reads_any, renewed, unlike_count}

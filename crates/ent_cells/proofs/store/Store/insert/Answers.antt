@@ -1,6 +1,6 @@
 use Rattle.std.proofs.Common.{◌≡◌, refl, sym, subst, ◌∙◌}
 use Rattle.ent_eval.specs.LooksOf.{looks_of}
-use Rattle.ent_eval.specs.Looks.{Looks}
+use Rattle.ent_request.specs.Looks.{Looks}
 use Rattle.ent_cells.proofs.Grouped.{stays_itself, still_seen, still_store}
 use Rattle.ent_cells.proofs.StoreSteps.{is_grouped, on_err, put_seen, put_store, roomier_seen, roomier_store, said_right, vacant_seen, vacant_store}
 use Rattle.ent_cells.specs.Cell.{says}

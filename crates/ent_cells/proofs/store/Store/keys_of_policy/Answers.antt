@@ -2,8 +2,8 @@ use Rattle.std.proofs.Common.{◌≡◌, ap, sym, ◌∙◌}
 use Rattle.std.specs.Prelude.{filter_map}
 use Rattle.std.proofs.lemmas.Result.{IfOk-weaker}
 use Rattle.slab.specs.Slab.{get}
-use Rattle.ent_eval.proofs.ReadersAre.{listed_look_ups}
-use Rattle.ent_eval.specs.Noted.{has_key}
+use Rattle.ent_request.proofs.ReadersAre.{listed_look_ups}
+use Rattle.ent_request.specs.Noted.{has_key}
 use Rattle.ent_index.specs.Asked.{asks_policy}
 use Rattle.ent_cells.proofs.ReadKeys.{kept_keys, read_asked, references_asked, references_there}
 use Rattle.ent_cells.specs.proofs_only.Asked.{AreKeysOf, AreReadOf, reads_at, reference_of}

@@ -1,7 +1,7 @@
 use Rattle.std.proofs.Common.{◌≡◌, ap, sym, ◌∙◌}
 use Rattle.std.proofs.lemmas.Result.{IfOk-weaker}
-use Rattle.ent_eval.specs.Noted.{has_key}
-use Rattle.ent_eval.specs.declared.key.ReadKey.{ReadKey}
+use Rattle.ent_request.specs.Noted.{has_key}
+use Rattle.ent_request.specs.declared.key.ReadKey.{ReadKey}
 use Rattle.ent_index.specs.Asked.{asks_row}
 use Rattle.ent_cells.proofs.ReadKeys.{kept_keys}
 use Rattle.ent_cells.specs.proofs_only.Asked.{AreKeysOf, AreReadOf}

@@ -1,7 +1,7 @@
 use Rattle.std.proofs.Common.{◌≡◌, refl, sym, subst, ap, ◌∙◌}
 use Rattle.std.proofs.lemmas.Option.{same_Some}
 use Rattle.ent_eval.specs.LooksOf.{looks_of}
-use Rattle.ent_eval.specs.Looks.{Looks}
+use Rattle.ent_request.specs.Looks.{Looks}
 use Rattle.ent_cells.proofs.Grouped.{joined_stays, stays_itself, still_seen, still_store}
 use Rattle.ent_cells.proofs.StoreSteps.{is_grouped, on_err, prepared_seen, prepared_store, said_right}
 use Rattle.ent_cells.specs.Cell.{says}

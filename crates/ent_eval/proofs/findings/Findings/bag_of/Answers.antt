@@ -1,5 +1,5 @@
 use Rattle.std.proofs.Common.{refl, subst}
-use Rattle.ent_eval.specs.declared.readers.Place.TheVariants.{Person, Action, Resource}
+use Rattle.ent_request.specs.declared.readers.Place.TheVariants.{Person, Action, Resource}
 use Rattle.ent_eval.specs.proofs_only.Remembered.{AreRows}
 use Rattle.ent_eval.proofs.Growing.{starts_itself}
 use Rattle.ent_eval.proofs.Remembering.{rows_more}

@@ -1,5 +1,5 @@
 use Rattle.ent_eval.specs.Memory.{IsRow}
-use Rattle.ent_eval.specs.declared.readers.Place.TheVariants.{Person, Action, Resource}
+use Rattle.ent_request.specs.declared.readers.Place.TheVariants.{Person, Action, Resource}
 use Rattle.ent_eval.proofs.Growing.{all_none, none_distinct}
 use Rattle.ent_eval.proofs.findings.Findings.new.Goals as goal
 

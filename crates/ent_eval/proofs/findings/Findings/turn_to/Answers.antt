@@ -1,4 +1,4 @@
-use Rattle.ent_eval.specs.declared.readers.Place.TheVariants.{Person, Action, Resource}
+use Rattle.ent_request.specs.declared.readers.Place.TheVariants.{Person, Action, Resource}
 use Rattle.ent_eval.proofs.Remembering.{added_rows}
 use Rattle.ent_eval.proofs.findings.Findings.turn_to.Goals as goal
 

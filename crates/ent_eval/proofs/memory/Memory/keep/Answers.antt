@@ -2,7 +2,7 @@ use Rattle.std.proofs.Common.{refl, sym, ap, subst, ◌∙◌}
 use Rattle.ent_eval.specs.declared.case.Case.{Case}
 use Rattle.ent_eval.specs.declared.memory.Memory.{Memory}
 use Rattle.ent_eval.specs.Memory.{IsCase, Remembers}
-use Rattle.ent_eval.specs.Questions.{AreNumbers, at_numbers}
+use Rattle.ent_request.specs.Questions.{AreNumbers, at_numbers}
 use Rattle.ent_eval.specs.proofs_only.Remembered.{Begins, TellsAll, request_of}
 use Rattle.ent_eval.proofs.Fitting.{is_case, keeps, put_there, recalls}
 use Rattle.ent_eval.proofs.Growing.{starts_itself, starts_then}

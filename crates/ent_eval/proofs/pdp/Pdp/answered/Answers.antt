@@ -1,7 +1,7 @@
 use Rattle.std.proofs.Common.{◌≡◌, rules}
-use Rattle.ent_eval.specs.Answer.{answer_part}
+use Rattle.ent_walk.specs.Answer.{answer_part}
 use Rattle.ent_eval.specs.LooksOf.{looks_of}
-use Rattle.ent_eval.proofs.Parts.{notes_came, value_came}
+use Rattle.ent_walk.proofs.Parts.{notes_came, value_came}
 use Rattle.ent_eval.proofs.pdp.Pdp.answered.Goals as goal
 
 pub returns-clause-answer : goal.returns-clause-answer

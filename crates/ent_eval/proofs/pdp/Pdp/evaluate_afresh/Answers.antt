@@ -1,6 +1,6 @@
 use Rattle.std.proofs.Common.{◌≡◌, subst}
 use Rattle.std.specs.Prelude.{IfOk}
-use Rattle.ent_eval.specs.Listed.{listed}
+use Rattle.ent_request.specs.Listed.{listed}
 use Rattle.ent_eval.specs.LooksOf.{looks_of}
 use Rattle.ent_eval.specs.proofs_only.Remembered.{IsEvaluated}
 use Rattle.ent_eval.proofs.pdp.Pdp.evaluate_afresh.Goals as goal

@@ -1,7 +1,7 @@
 use Rattle.std.proofs.Common.{◌≡◌, sym, ap, subst}
-use Rattle.ent_eval.specs.Listed.{listed}
+use Rattle.ent_request.specs.Listed.{listed}
 use Rattle.ent_eval.specs.LooksOf.{looks_of}
-use Rattle.ent_eval.specs.Looks.{Looks}
+use Rattle.ent_request.specs.Looks.{Looks}
 use Rattle.ent_eval.specs.Memory.{Remembers}
 use Rattle.ent_eval.specs.proofs_only.Remembered.{IsEvaluated}
 use Rattle.ent_eval.proofs.Remembering.{remembers_more}

@@ -1,10 +1,10 @@
 use Rattle.std.proofs.Common.{◌≡◌, ◌∙◌, [], ap, sym, subst}
 use Rattle.std.specs.Prelude.{IfNone, IfSome}
-use Rattle.ent_eval.specs.Answer.{answer, asked, has_cause, recorded}
-use Rattle.ent_eval.specs.Listed.{listed}
+use Rattle.ent_walk.specs.Answer.{answer, asked, has_cause, recorded}
+use Rattle.ent_request.specs.Listed.{listed}
 use Rattle.ent_eval.specs.LooksOf.{looks_of}
 use Rattle.ent_eval.specs.Memory.{Gives, HasCase}
-use Rattle.ent_eval.specs.Questions.{AreNumbers, asked_once, at_numbers, keys_at}
+use Rattle.ent_request.specs.Questions.{AreNumbers, asked_once, at_numbers, keys_at}
 use Rattle.ent_eval.specs.declared.pdp.ListedEvaluation.{ListedEvaluation}
 use Rattle.ent_eval.specs.proofs_only.Remembered.{IsEvaluated, NoneFits}
 use Rattle.ent_eval.proofs.Fitting.{case_failed, case_reads, if_ok, none_known, reads_by}

@@ -1,8 +1,8 @@
 use Rattle.std.proofs.Common.{◌≡◌, ◌∙◌, Some, [], ap, subst, sym}
 use Rattle.std.specs.Prelude.{IfSome}
-use Rattle.ent_eval.specs.Answer.{answer_part, asked}
+use Rattle.ent_walk.specs.Answer.{answer_part, asked}
 use Rattle.ent_eval.specs.LooksOf.{looks_of}
-use Rattle.ent_eval.specs.Questions.{AreNumbers, asked_once, at_numbers}
+use Rattle.ent_request.specs.Questions.{AreNumbers, asked_once, at_numbers}
 use Rattle.ent_eval.proofs.AtEnd.{told_failed, told_questions}
 use Rattle.ent_eval.proofs.pdp.Pdp.evaluate_numbered.Goals as goal
 

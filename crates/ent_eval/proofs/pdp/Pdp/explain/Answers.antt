@@ -1,12 +1,12 @@
 use Rattle.std.proofs.Common.{◌≡◌, ◌∙◌, Some, [], ap, subst}
 use Rattle.std.specs.Prelude.{IfSome}
 use Rattle.std.specs.List.{flat_map}
-use Rattle.ent_eval.specs.Answer.{answer_part, asked}
+use Rattle.ent_walk.specs.Answer.{answer_part, asked}
 use Rattle.ent_eval.specs.LooksOf.{looks_of}
-use Rattle.ent_eval.specs.Noted.{noted}
-use Rattle.ent_eval.specs.Sources.{keys_of}
-use Rattle.ent_eval.specs.proofs_only.Noted.{asked_once}
-use Rattle.ent_eval.proofs.KeysAsked.{asked_keys}
+use Rattle.ent_request.specs.Noted.{noted}
+use Rattle.ent_request.specs.Sources.{keys_of}
+use Rattle.ent_notes.specs.proofs_only.Noted.{asked_once}
+use Rattle.ent_notes.proofs.KeysAsked.{asked_keys}
 use Rattle.ent_eval.proofs.AtEnd.{told_causes, told_questions}
 use Rattle.ent_eval.proofs.pdp.Pdp.explain.Goals as goal
 

@@ -2,7 +2,7 @@ use Rattle.std.proofs.Common.{◌&&◌, ap, false, sym, ◌∙◌}
 use Rattle.std.specs.Option.{option_map_or}
 use Rattle.std.specs.Ordering.{is_eq, nat_cmp}
 use Rattle.std.proofs.lemmas.Option.{slice_get_past}
-use Rattle.ent_eval.specs.Noted.{read_cmp}
+use Rattle.ent_request.specs.Noted.{read_cmp}
 use Rattle.ent_index.proofs.Changes.{at_place, forgets_nothing, forgets_same}
 use Rattle.ent_index.specs.proofs_only.Steps.{is_at, is_pair}
 use Rattle.ent_index.proofs.index.Index.forget_place.Goals as goal

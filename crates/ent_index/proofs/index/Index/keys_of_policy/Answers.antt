@@ -5,7 +5,7 @@ use Rattle.std.specs.FinMap.Entries.{is_sorted-where_key}
 use Rattle.std.specs.List.{filter}
 use Rattle.std.specs.Map.{keys_of}
 use Rattle.std.specs.declared.ops.Bound.TheVariants.{Included, Unbounded}
-use Rattle.ent_eval.specs.Noted.{read_cmp}
+use Rattle.ent_request.specs.Noted.{read_cmp}
 use Rattle.ent_index.proofs.KeyCells.{asked_have_cells}
 use Rattle.ent_index.proofs.KeyOrders.{from_first, if_ok_also, is_sorted-from_ordered, keys-index_of}
 use Rattle.ent_index.proofs.Views.{sound}

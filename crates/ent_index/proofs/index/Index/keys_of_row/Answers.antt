@@ -1,6 +1,6 @@
 use Rattle.std.proofs.Common.{◌∷◌, ◌++◌, [], List, Some, ap, if◌then◌else◌, subst, sym, ◌∙◌}
-use Rattle.ent_eval.specs.declared.key.ReadKey.{ReadKey}
-use Rattle.ent_eval.specs.declared.key.ReadKey.TheVariants.{Attr}
+use Rattle.ent_request.specs.declared.key.ReadKey.{ReadKey}
+use Rattle.ent_request.specs.declared.key.ReadKey.TheVariants.{Attr}
 use Rattle.ent_index.proofs.KeyCells.{asked_have_cells}
 use Rattle.ent_index.proofs.RowsAsked.{given, row_both, row_plain}
 use Rattle.ent_index.proofs.Views.{sound}

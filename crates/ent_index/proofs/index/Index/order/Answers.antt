@@ -1,6 +1,6 @@
 use Rattle.std.proofs.Common.{Some, ap, sym, ◌∙◌}
 use Rattle.std.specs.Option.{option_map}
-use Rattle.ent_eval.proofs.Keys.{read_cmp-IsAntisymmetric}
+use Rattle.ent_request.proofs.Keys.{read_cmp-IsAntisymmetric}
 use Rattle.ent_index.proofs.Views.{number_of-index_of}
 use Rattle.ent_index.specs.Index.{number_of}
 use Rattle.ent_index.specs.declared.entry.Entry.{Entry}

@@ -1,7 +1,7 @@
 use Rattle.std.proofs.Common.{◌≡◌, None, Option, Some, not, ap, refl, rules, sym, ◌∙◌}
 use Rattle.std.specs.Option.{IsSome, option_map}
 use Rattle.slab.specs.Slab.{get}
-use Rattle.ent_eval.specs.declared.key.ReadKey.{ReadKey}
+use Rattle.ent_request.specs.declared.key.ReadKey.{ReadKey}
 use Rattle.ent_index.proofs.Views.{make_adds, make_kept, make_number, make_was, put_adds, put_kept, put_number, put_was, same_layout_kept, number_of-index_of}
 use Rattle.ent_index.specs.Index.{has, number_of}
 use Rattle.ent_index.specs.Layout.{number_at}

@@ -1,5 +1,5 @@
 use Rattle.std.proofs.Common.{◌≡◌, ◌&&◌, ℕ, Some, map, not, take}
-use Rattle.ent_eval.specs.declared.key.ReadKey.{ReadKey}
+use Rattle.ent_request.specs.declared.key.ReadKey.{ReadKey}
 use Rattle.ent_index.specs.Index.{Adds, has, is_pair_of, number_of}
 use Rattle.ent_index.specs.proofs_only.Steps.{is_pair_at}
 use Rattle.ent_index.proofs.index.Index.put_all.Given as goal

@@ -2,7 +2,7 @@ use Rattle.std.proofs.Common.{◌≡◌, length, ap, ◌∙◌, arith}
 use Rattle.std.proofs.lemmas.List.{length-map}
 use Rattle.std.proofs.lemmas.Slice.Zip.{length-zip}
 use Rattle.ent_cells.specs.Cell.{cell_of}
-use Rattle.ent_eval.specs.Held.{looks_in}
+use Rattle.ent_request.specs.Held.{looks_in}
 use Rattle.ent_table.specs.Names.{triples}
 use Rattle.ent_table.specs.Review.{state_of}
 use Rattle.ent_table.specs.State.{State, answer_to, fresh}

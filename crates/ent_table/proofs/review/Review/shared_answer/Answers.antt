@@ -2,7 +2,7 @@ use Rattle.std.proofs.Common.{List, Some, None, if◌then◌else◌, sym, ap, �
 use Rattle.std.specs.Prelude.{slice_get}
 use Rattle.std.specs.Option.{option_map}
 use Rattle.std.proofs.lemmas.Option.{slice_get-map}
-use Rattle.ent_eval.specs.declared.answer.Answer.{Answer}
+use Rattle.ent_request.specs.declared.answer.Answer.{Answer}
 use Rattle.ent_table.specs.Names.{triple_of, triples}
 use Rattle.ent_table.specs.Review.{state_of}
 use Rattle.ent_table.specs.State.{answer_to}

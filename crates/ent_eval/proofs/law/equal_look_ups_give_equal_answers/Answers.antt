@@ -1,5 +1,0 @@
-use Rattle.ent_eval.proofs.AnswersRest.{answers-rest}
-use Rattle.ent_eval.proofs.law.equal_look_ups_give_equal_answers.Goals as goal
-
-pub returns : goal.returns
-returns c = answers-rest

@@ -1,7 +1,0 @@
-use Rattle.ent_eval.specs.Own.{values_in}
-use Rattle.ent_eval.specs.proofs_only.Sought.{designator_of}
-use Rattle.ent_eval.proofs.Apart.{IsSoFar}
-use Rattle.ent_eval.proofs.own.values_of.Given as goal
-
-abbrev pub invariant-loop-attribute : goal.invariant-loop-attribute
-invariant-loop-attribute l = IsSoFar l.sought.datatype (values_in (designator_of l.sought)) l.attribute-items l.attribute-index l.so_far

@@ -1,5 +1,0 @@
-use Rattle.ent_eval.proofs.ReadersAre.{of_one_question}
-use Rattle.ent_eval.proofs.readers.a_key_is_looked_up_for_one_question.Goals as goal
-
-pub returns : goal.returns
-returns c = of_one_question

@@ -1,5 +1,0 @@
-use Rattle.ent_eval.proofs.SameLooks.{same_look-Decides}
-use Rattle.ent_eval.proofs.same.same_look_is_equal.Goals as goal
-
-pub returns : goal.returns
-returns c = same_look-Decides

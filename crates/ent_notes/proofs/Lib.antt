@@ -1,0 +1,3 @@
+pub mod KeysAsked
+pub mod MetBefore
+pub mod Noting

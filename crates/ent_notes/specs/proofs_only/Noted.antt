@@ -1,0 +1,71 @@
+-- What is noted of an evaluation so far: words of the code's own contracts.
+use Rattle.std.specs.Prelude.{ℕ, List, [], ◌∷◌, ◌++◌, Bool, true, Option, Some, None, option_and_then, option_map, length, take, ◌-◌, ◌≡◌}
+use Rattle.std.specs.Option.{option_or}
+use Rattle.ent_policy.specs.declared.document.Designator.{Designator}
+use Rattle.ent_policy.specs.declared.key.DocKey.{DocKey}
+use Rattle.ent_request.specs.declared.cause.Cause.{Cause}
+use Rattle.ent_notes.specs.declared.causes.Causes.{Causes}
+use Rattle.ent_request.specs.declared.question.Question.{Question}
+use Rattle.ent_request.specs.declared.question.Question.TheVariants.{Of}
+use Rattle.ent_request.specs.Causes.{with_cause}
+use Rattle.ent_request.specs.Note.{Note, asks, fails}
+use Rattle.ent_request.specs.Sources.{asked_of}
+pub use Rattle.ent_request.specs.Questions.{asked_once, is_asked, same_question, with_question}
+
+-- the questions, each once so far, if they are asked for; what failed, each once, if that is asked for; and whether
+-- anything did
+pub record Notes : Type 0 where
+  pub questions : Option (List Question)
+  pub causes : Option Causes
+  pub failed : Bool
+
+-- the questions, with one more
+abbrev pub with_asked : Option (List Question) → Question → Option (List Question)
+with_asked None question = None
+with_asked (Some questions) question = Some (with_question questions question)
+
+-- what failed, with one more, if it isn't there yet: it stands where the evaluation is
+abbrev pub with_failed : Causes → Cause → Causes
+with_failed k cause =
+    record k { told = with_cause k.told (record cause { path = k.path ++ cause.path; rule = option_or cause.rule k.rule }) }
+
+-- the same, if that is asked for
+abbrev pub with_failure : Option Causes → Cause → Option Causes
+with_failure None cause = None
+with_failure (Some k) cause = Some (with_failed k cause)
+
+-- the notes, with one more
+abbrev pub with_note : Notes → Note → Notes
+with_note notes (asks question) = record notes { questions = with_asked notes.questions question }
+with_note notes (fails cause) = record notes { causes = with_failure notes.causes cause; failed = true }
+
+-- the notes, with several more
+abbrev pub noting : Notes → List Note → Notes
+noting notes [] = notes
+noting notes (more ∷ others) = noting (with_note notes more) others
+
+-- the notes of an evaluation that goes into a policy or a set
+abbrev pub entering : Notes → DocKey → Notes
+entering notes key = record notes { causes = option_map (λ (k : Causes). record k { path = k.path ++ key ∷ [] }) notes.causes }
+
+-- and out of it
+abbrev pub leaving : Notes → Notes
+leaving notes = record notes { causes = option_map (λ (k : Causes). record k { path = take (length k.path - 1) k.path }) notes.causes }
+
+-- the rule that an evaluation is in, if it is told
+abbrev pub rule_in : Notes → Option (List ℕ)
+rule_in notes = option_and_then (λ (k : Causes). k.rule) notes.causes
+
+-- the notes of an evaluation that goes into a rule, or out of it into what it was in before
+abbrev pub in_rule : Notes → Option (List ℕ) → Notes
+in_rule notes rule = record notes { causes = option_map (λ (k : Causes). record k { rule = rule }) notes.causes }
+
+-- what is asked for a designator, if there is one
+abbrev pub asked_by : Option Designator → List Note
+asked_by None = []
+asked_by (Some d) = asks (Of (asked_of d)) ∷ []
+
+-- a question is among those that are noted, if they are asked for
+abbrev pub IsNoted : Option (List Question) → Question → Type 0
+IsNoted None question = Unit {0}
+IsNoted (Some questions) question = is_asked questions question ≡ true

@@ -1,0 +1,12 @@
+pub mod Apart
+pub mod Changes
+pub mod KeyOrders
+pub mod Keys
+pub mod Numbered
+pub mod Numbering
+pub mod ReadersAre
+pub mod SameLooks
+pub mod Sames
+pub mod Sourced
+pub mod Among
+pub mod Lists

@@ -1,0 +1,5 @@
+use Rattle.ent_walk.proofs.NamedNodes.{indeterminate_has_its_cause}
+use Rattle.ent_walk.proofs.law.an_indeterminate_answer_has_its_cause.Goals as goal
+
+pub returns : goal.returns
+returns c = indeterminate_has_its_cause

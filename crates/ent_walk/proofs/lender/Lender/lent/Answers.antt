@@ -1,0 +1,24 @@
+use Rattle.std.proofs.Common.{◌≡◌, Some, slice_get, refl, sym, ap, subst, arith, ◌∙◌}
+use Rattle.std.specs.List.{AllByRecursion}
+use Rattle.std.proofs.lemmas.Option.{slice_get-get_or}
+use Rattle.ent_values.specs.Bags.{Contents}
+use Rattle.ent_request.specs.Sources.{asked_of, designated_values, values_of}
+use Rattle.ent_request.specs.declared.question.Asked.{Asked}
+use Rattle.ent_walk.specs.proofs_only.Basis.{Basis}
+use Rattle.ent_walk.specs.proofs_only.Lender.{IsLent}
+use Rattle.ent_request.proofs.Numbering.{all_at}
+use Rattle.ent_walk.proofs.lender.Lender.lent.Goals as goal
+
+pub returns-then-is_of : goal.returns-then-is_of
+returns-then-is_of g c =
+    let looks = g.L.LookUps.looks c.self.inside.held.now in
+    let request = c.self.inside.request.now in
+    let d = c.args.designator.now in
+    let lent = c.lent-item.result in
+    let all : AllByRecursion (IsLent looks request) c.deref-lent-items.result.now = subst (AllByRecursion (IsLent looks request)) (sym c.deref-lent-items.ensures.value) c.self.invariant.1 in
+    let at : slice_get c.deref-lent-items.result.now c.loop-lent.lent-index ≡ Some lent =
+    slice_get-get_or c.deref-lent-items.result.now c.loop-lent.lent-index lent (omega (arith, c.loop-lent-test.true)) ∙ ap Some (sym c.lent-item.is) in
+    let same : lent.asked ≡ asked_of d = c.if-is_of.ensures refl in
+    let found : Asked → Contents = λ a. record { datatype = a.datatype; values = values_of looks request a } in
+    let over : Basis g.row.L.Denot → Contents = λ b. record { datatype = d.datatype; values = designated_values (g.L.LookUps.looks b.held) b.request d } in
+    c.in_ok-copy.ensures ∙ all_at (IsLent looks request) c.deref-lent-items.result.now c.loop-lent.lent-index lent all at ∙ ap found same ∙ ap over c.self.view_is

@@ -1,0 +1,11 @@
+use Rattle.ent_walk.specs.proofs_only.Comes.{Keeps}
+use Rattle.ent_walk.specs.Target.{match_part, is_no_match}
+use Rattle.ent_walk.specs.declared.target.Targeted.TheVariants as is
+use Rattle.ent_walk.proofs.Targets.{IsSoFar}
+use Rattle.ent_walk.proofs.walk.Walk.all_matches.Given as goal
+
+abbrev pub invariant-loop-test : goal.invariant-loop-test
+invariant-loop-test g l = record {
+  so_far : IsSoFar is_no_match is.Match (match_part (g.L.LookUps.looks l.initial.self.lender.held) l.initial.self.lender.request) l.matches l.test-index l.so_far l.initial.self.notes l.self.notes;
+  keeps : Keeps l.initial.self l.self;
+}

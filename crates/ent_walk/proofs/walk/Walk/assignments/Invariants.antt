@@ -1,0 +1,10 @@
+use Rattle.ent_walk.specs.Given.{assignment_part}
+use Rattle.ent_walk.specs.proofs_only.Comes.{Keeps}
+use Rattle.ent_walk.proofs.Giving.{IsGiving}
+use Rattle.ent_walk.proofs.walk.Walk.assignments.Given as goal
+
+abbrev pub invariant-loop-expression : goal.invariant-loop-expression
+invariant-loop-expression g l = record {
+  giving : IsGiving (assignment_part (g.L.LookUps.looks l.initial.self.lender.held) l.initial.self.lender.request l.definitions) l.expressions l.expression-index l.assignments l.initial.self.notes l.self.notes;
+  keeps : Keeps l.initial.self l.self;
+}

@@ -1,0 +1,11 @@
+pub mod Answer
+pub mod Expression
+pub mod Given
+pub mod Judged
+pub mod Law
+pub mod Named
+pub mod Node
+pub mod Only
+pub mod Rule
+pub mod Target
+pub mod proofs_only

@@ -1,0 +1,15 @@
+pub mod Basis
+pub mod Comes
+pub mod Expression
+pub mod Gathered
+pub mod Given
+pub mod Hops
+pub mod Judged
+pub mod Lender
+pub mod Looked
+pub mod Node
+pub mod Only
+pub mod Opened
+pub mod Target
+pub mod Typed
+pub mod Uncopied

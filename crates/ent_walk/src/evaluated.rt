@@ -1,0 +1,20 @@
+//! What expressions and conditions come to.
+
+use ent_functions::Arg;
+use ent_request::Status;
+
+/// What an expression comes to.
+#[derive(Drop)]
+pub(crate) enum Evaluated {
+    /// A value, a bag, or a function as an argument.
+    Known(Arg),
+    Indeterminate(Status),
+}
+
+/// What a condition comes to (section 7.9).
+#[derive(Clone, Copy)]
+pub(crate) enum Truth {
+    True,
+    False,
+    Indeterminate(Status),
+}

@@ -1,0 +1,287 @@
+//! What expressions come to.
+
+ghost use Rattle.std.specs.Prelude.{◌≡◌, ◌∷◌, IfOk, IsSome, MatchResult, OnOk, Some, map, true, false};
+ghost use Rattle.std.specs.Option.{option_copied};
+ghost use Rattle.ent_functions.specs.Applied.{applied};
+ghost use Rattle.ent_functions.specs.Arguments.{type_of_arg};
+ghost use Rattle.ent_functions.specs.Types.{boolean, result_type_of};
+ghost use Rattle.ent_functions.specs.declared.arg.Arg.TheVariants.{One};
+ghost use Rattle.ent_functions.specs.declared.types.ArgType.TheVariants.{Many};
+ghost use Rattle.ent_policy.specs.Typing.{variable_type};
+ghost use Rattle.ent_policy.specs.Variables.{definition_of};
+ghost use Rattle.ent_walk.specs.proofs_only.Comes.{Adds, Comes, in_walk};
+ghost use Rattle.ent_walk.specs.Expression.{designated, evaluated_of, fault_in, is_result, meaning, settles};
+ghost use Rattle.ent_request.specs.Note.{asks};
+ghost use Rattle.ent_request.specs.Sources.{asked_of, missing};
+ghost use Rattle.ent_request.specs.declared.question.Question.TheVariants.{Of};
+ghost use Rattle.ent_walk.specs.proofs_only.Expression.{apply_part};
+ghost use Rattle.ent_walk.specs.Expression.{variable_part};
+ghost use Rattle.ent_walk.specs.declared.evaluated.Evaluated.TheVariants.{Known};
+ghost use Rattle.ent_walk.specs.proofs_only.Typed.{HasType, Tests, apply_type, type_of};
+ghost use Rattle.ent_notes.specs.proofs_only.Noted.{asked_by};
+ghost use Rattle.ent_walk.specs.proofs_only.Uncopied.{any, equal_part, member, member_part, only_part};
+
+use crate::evaluated::Evaluated;
+use crate::uncopied::{
+    Sole, any, any_of, compared, equal, is_found, member, membership, one_and_only,
+};
+use crate::walk::Walk;
+use ent_functions::{Arg, Fault, Function, apply};
+use ent_policy::{Designator, Expression, VariableDefinition};
+use ent_request::{LookUps, Reason, Status, is_empty, is_own};
+use ent_values::{Bag, Items, Text, Value};
+use std::alloc::AllocError;
+
+impl<L: LookUps> Walk<'_, L> {
+    // An expression among the definitions of its policy, through at most so many references. It has its type.
+    #[cycle(expression)]
+    pub(crate) fn expression(
+        &mut self,
+        definitions: &[VariableDefinition],
+        references: usize,
+        expression: &Expression,
+    ) -> Result<Evaluated, AllocError>
+        requires typed { IsSome (type_of definitions.now references expression.now) }
+        ensures comes { IfOk result (Comes
+            (in_walk L.looks self.old meaning definitions.now references expression.now)
+            self.old self.new) }
+        ensures typed { IfOk result (λ v. HasType (type_of definitions.now references expression.now) v) }
+    {
+        match expression {
+            Expression::Value(value) => Ok(Evaluated::Known(Arg::One(value.copy(self.alloc)?))),
+            Expression::Designator(designator) => self.designator(designator),
+            Expression::Variable(id) => self.variable(definitions, references, id),
+            Expression::Apply(function, arguments) => self.application(
+                definitions,
+                references,
+                *function,
+                arguments.as_slice(),
+            ),
+            Expression::Function(function) => Ok(Evaluated::Known(Arg::Fun(*function))),
+        }
+    }
+
+    // A variable: the expression of its definition, with one reference less.
+    #[cycle(expression)]
+    fn variable(
+        &mut self,
+        definitions: &[VariableDefinition],
+        references: usize,
+        id: &Text,
+    ) -> Result<Evaluated, AllocError>
+        requires typed { IsSome (variable_type definitions.now references id.now) }
+        ensures comes { IfOk result (Comes
+            (in_walk L.looks self.old variable_part definitions.now references id.now)
+            self.old self.new) }
+        ensures typed { IfOk result (λ v. HasType (variable_type definitions.now references id.now) v) }
+    {
+        match definition_of(definitions, id) {
+            None => unreachable!(),
+            Some(definition) => self.expression(
+                definitions,
+                references - 1,
+                &definition.expression,
+            ),
+        }
+    }
+
+    // A function of its arguments, which are evaluated up to the first that is the result.
+    #[cycle(expression)]
+    fn application(
+        &mut self,
+        definitions: &[VariableDefinition],
+        references: usize,
+        function: Function,
+        arguments: &[Expression],
+    ) -> Result<Evaluated, AllocError>
+        requires typed { IsSome (apply_type definitions.now references function arguments.now) }
+        ensures comes { IfOk result (Comes
+            (in_walk L.looks self.old apply_part definitions.now references function arguments.now)
+            self.old self.new) }
+        ensures typed { IfOk result (λ v. HasType (apply_type definitions.now references function arguments.now) v) }
+    {
+        let request = self.lender.request();
+        if let Some((sole, designator)) = membership(request, function, arguments) {
+            return self.is_in(&sole, designator);
+        }
+        if let Some((first, second)) = equal(request, function, arguments) {
+            return self.are_equal(&first, &second);
+        }
+        if let Some(designator) = one_and_only(function, arguments) {
+            if let Some(only) = self.lender.sole(self.alloc, designator)? {
+                return self.is_only(designator, only);
+            }
+        }
+        if let Some((test, literal, designator)) = any_of(function, arguments) {
+            if let Some(bag) = self.lender.lent(designator)? {
+                return self.is_any(test, literal, designator, bag.get());
+            }
+        }
+        let mut evaluated = Items::new(self.alloc);
+        for argument in arguments {
+            let value = self.expression(definitions, references, argument)?;
+            match argument_of(function, value) {
+                Err(value) => return Ok(value),
+                Ok(argument) => evaluated.push(argument)?,
+            }
+        }
+        self.applied_to(function, evaluated.as_slice())
+    }
+
+    // The only value of a designator.
+    fn is_only(&mut self, designator: &Designator, value: Value) -> Result<Evaluated, AllocError>
+        ensures value { IfOk result (λ v. v ≡ Known (One value)) }
+        ensures comes { IfOk result (Comes (only_part designator.now value) self.old self.new) }
+    {
+        self.notes.note_values(self.alloc, designator)?;
+        Ok(Evaluated::Known(Arg::One(value)))
+    }
+
+    // Whether a function is True of a literal and one of the values of a designator.
+    fn is_any(
+        &mut self,
+        function: Function,
+        literal: &Value,
+        designator: &Designator,
+        bag: &Bag,
+    ) -> Result<Evaluated, AllocError>
+        requires { Tests function literal.now bag.now.datatype }
+        ensures value { IfOk result (λ v. v ≡ any function literal.now designator.now bag.now.values) }
+        ensures typed { IfOk result (λ v. HasType (Some boolean) v) }
+        ensures notes { OnOk result (Adds
+            (asks (Of (asked_of designator.now)) ∷ missing designator.now bag.now.values)
+            self.old self.new) }
+    {
+        self.notes.note_values(self.alloc, designator)?;
+        self.demand(designator, bag)?;
+        any(self.alloc, function, literal, designator, bag.values())
+    }
+
+    // Is-in of a value and a designator, of whose values the request's own aren't copied.
+    #[tactic(auto, using(crate::proofs::Going::noting_then))]
+    fn is_in(&mut self, sole: &Sole<'_>, designator: &Designator) -> Result<Evaluated, AllocError>
+        ensures comes { IfOk result (Comes
+            (in_walk L.looks self.old member_part sole.now designator.now) self.old self.new) }
+        ensures typed { IfOk result (λ v. HasType (Some boolean) v) }
+    {
+        self.note_sole(sole)?;
+        self.notes.note_values(self.alloc, designator)?;
+        if let Some(bag) = self.lender.lent(designator)? {
+            return self.member_of(sole, designator, bag.get());
+        }
+        if let Some(found) = is_own(self.lender.request(), designator, sole.value) {
+            return Ok(is_found(found));
+        }
+        let bag = self.lender.lend(self.alloc, designator)?;
+        self.member_of(sole, designator, bag.get())
+    }
+
+    // Is-in of a value and of the values of a designator.
+    pub(crate) fn member_of(
+        &mut self,
+        sole: &Sole<'_>,
+        designator: &Designator,
+        bag: &Bag,
+    ) -> Result<Evaluated, AllocError>
+        ensures value { IfOk result (λ v. v ≡ member sole.now.value.now designator.now bag.now.values) }
+        ensures typed { IfOk result (λ v. HasType (Some boolean) v) }
+        ensures notes { OnOk result (Adds (missing designator.now bag.now.values) self.old self.new) }
+    {
+        self.demand(designator, bag)?;
+        Ok(member(sole.value, designator, bag.values()))
+    }
+
+    // Equal of two values.
+    #[tactic(auto, using(crate::proofs::Going::noting_both))]
+    fn are_equal(&mut self, first: &Sole<'_>, second: &Sole<'_>) -> Result<Evaluated, AllocError>
+        ensures comes { IfOk result (Comes (equal_part first.now second.now) self.old self.new) }
+        ensures typed { IfOk result (λ v. HasType (Some boolean) v) }
+    {
+        self.note_sole(first)?;
+        self.note_sole(second)?;
+        Ok(compared(first.value, second.value))
+    }
+
+    // Notes what is asked for a value.
+    pub(crate) fn note_sole(&mut self, sole: &Sole<'_>) -> Result<(), AllocError>
+        ensures { OnOk result (Adds (asked_by (option_copied sole.now.asked)) self.old self.new) }
+    {
+        match sole.asked {
+            None => Ok(()),
+            Some(designator) => self.notes.note_values(self.alloc, designator),
+        }
+    }
+
+    // A designator.
+    fn designator(&mut self, designator: &Designator) -> Result<Evaluated, AllocError>
+        ensures comes { IfOk result (Comes
+            (in_walk L.looks self.old designated designator.now) self.old self.new) }
+        ensures typed { IfOk result (λ v. HasType (Some (Many designator.now.datatype)) v) }
+    {
+        let bag = self.demanded(designator)?;
+        if designator.must_be_present && is_empty(bag.get()) {
+            return Ok(Evaluated::Indeterminate(Status::MissingAttribute));
+        }
+        Ok(Evaluated::Known(Arg::Many(bag.get().copy(self.alloc)?)))
+    }
+
+    // The value of a function of arguments that it takes. A fault is a processing error.
+    fn applied_to(&mut self, function: Function, arguments: &[Arg]) -> Result<Evaluated, AllocError>
+        requires { IsSome (result_type_of function (map type_of_arg arguments.now)) }
+        ensures value { IfOk result (λ v. v ≡ evaluated_of (applied function arguments.now)) }
+        ensures typed { IfOk result (λ v. HasType (result_type_of function (map type_of_arg arguments.now)) v) }
+        ensures notes { OnOk result (Adds (fault_in function (applied function arguments.now)) self.old self.new) }
+    {
+        match apply(self.alloc, function, arguments) {
+            Ok(outcome) => Ok(Evaluated::Known(outcome)),
+            Err(Fault::Memory) => Err(AllocError),
+            Err(fault) => {
+                self.fail(Reason::Fault(function, fault))?;
+                Ok(Evaluated::Indeterminate(Status::ProcessingError))
+            }
+        }
+    }
+}
+
+// The definition of that id.
+fn definition_of<'a>(
+    definitions: &'a [VariableDefinition],
+    id: &Text,
+) -> Option<&'a VariableDefinition>
+    ensures { option_copied result ≡ definition_of definitions.now id.now }
+{
+    for definition in definitions {
+        if definition.id == *id {
+            return Some(definition);
+        }
+    }
+    None
+}
+
+// An argument, unless it is the result of the function.
+fn argument_of(function: Function, value: Evaluated) -> Result<Arg, Evaluated>
+    ensures { MatchResult result (λ a. (value ≡ Known a) × (is_result function value ≡ false))
+        (λ v. (v ≡ value) × (is_result function value ≡ true)) }
+{
+    match value {
+        Evaluated::Indeterminate(_) => Err(value),
+        Evaluated::Known(argument) => {
+            if settles(function, &argument) {
+                Err(Evaluated::Known(argument))
+            } else {
+                Ok(argument)
+            }
+        }
+    }
+}
+
+// Whether an argument is the result whatever the others are.
+fn settles(function: Function, argument: &Arg) -> bool
+    ensures { result ≡ settles function argument.now }
+{
+    match (function, argument) {
+        (Function::Or, Arg::One(Value::Boolean(boolean))) => *boolean,
+        (Function::And, Arg::One(Value::Boolean(boolean))) => !*boolean,
+        _ => false,
+    }
+}

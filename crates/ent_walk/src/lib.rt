@@ -1,0 +1,33 @@
+//! The walk over a policy (OASIS XACML 3.0 core, section 7): what targets, expressions, rules, policies and sets come
+//! to, and the laws of the answer.
+#![tactic(auto)]
+
+mod assignments;
+mod choose;
+mod evaluated;
+mod expression;
+mod gather;
+mod holds;
+mod law;
+mod lender;
+mod looked;
+mod node;
+mod only;
+mod opened;
+mod own_given;
+mod reference;
+mod rule;
+mod set;
+mod target;
+mod told;
+mod uncopied;
+mod values;
+mod walk;
+
+pub use law::{
+    an_indeterminate_answer_has_its_cause, each_key_is_recorded_once,
+    equal_findings_give_equal_answers, equal_look_ups_give_equal_answers,
+    what_is_looked_up_is_recorded,
+};
+pub use target::Targeted;
+pub use walk::Walk;

@@ -1,0 +1,48 @@
+//! The values of a designator, as a walk has them.
+
+ghost use Rattle.std.specs.Prelude.{IfOk, OnOk};
+ghost use Rattle.ent_request.specs.Sources.{demanded, missing, values_part};
+ghost use Rattle.ent_walk.specs.proofs_only.Comes.{Adds, Comes, bag_part, in_walk};
+
+use crate::walk::Walk;
+use ent_policy::Designator;
+use ent_request::{LookUps, Reason, is_empty};
+use ent_values::{Bag, Shared};
+use std::alloc::AllocError;
+
+impl<L: LookUps> Walk<'_, L> {
+    // The values of a designator: the request's own, or else those of its source. The question is noted.
+    pub(crate) fn values(&mut self, designator: &Designator) -> Result<Shared<Bag>, AllocError>
+        ensures comes { IfOk result (Comes
+            (bag_part designator.now.datatype (in_walk L.looks self.old values_part designator.now))
+            self.old self.new) }
+    {
+        self.notes.note_values(self.alloc, designator)?;
+        match self.lender.lent(designator)? {
+            Some(bag) => Ok(bag),
+            None => self.lender.lend(self.alloc, designator),
+        }
+    }
+
+    // The same, of which there must be one where the designator says so.
+    #[tactic(auto, using(crate::proofs::Going::noting_both))]
+    pub(crate) fn demanded(&mut self, designator: &Designator) -> Result<Shared<Bag>, AllocError>
+        ensures comes { IfOk result (Comes
+            (bag_part designator.now.datatype (in_walk L.looks self.old demanded designator.now))
+            self.old self.new) }
+    {
+        let bag = self.values(designator)?;
+        self.demand(designator, bag.get())?;
+        Ok(bag)
+    }
+
+    // Notes that values are missing, where there are none and one must be present.
+    pub(crate) fn demand(&mut self, designator: &Designator, bag: &Bag) -> Result<(), AllocError>
+        ensures { OnOk result (Adds (missing designator.now bag.now.values) self.old self.new) }
+    {
+        if designator.must_be_present && is_empty(bag) {
+            return self.fail(Reason::Missing(designator));
+        }
+        Ok(())
+    }
+}
