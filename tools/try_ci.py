@@ -3,9 +3,9 @@
 
     tools/try_ci.py PROGRAM
 
-The hook has to let a commit pass, and tell what it does to the table. It has to refuse a policy that may not be stored
-and a test that fails, and look at nothing that isn't about to be committed. The workflow's last step has to tell what a
-branch does to the table of another. Ends with status 3 where git or jq isn't there."""
+The hook has to let a commit pass, and tell what it does to the table. It has to refuse a policy that may not be stored,
+a test that fails, and what FAIL_ON says, and look at nothing that isn't about to be committed. The workflow's last step
+has to tell what a branch does to the table of another. Ends with status 3 where git or jq isn't there."""
 import json
 import os
 import pathlib
@@ -46,10 +46,10 @@ class Repository:
     def run(self, *words, **more):
         return subprocess.run(words, cwd=self.folder, env=self.around | more, capture_output=True, text=True)
 
-    def commit(self):
+    def commit(self, **more):
         """Commits all that stands there: the status, and what was told."""
         self.run('git', 'add', '-A')
-        ran = self.run('git', 'commit', '-qm', 'policies')
+        ran = self.run('git', 'commit', '-qm', 'policies', **more)
         return ran.returncode, ran.stdout + ran.stderr
 
 
@@ -72,8 +72,11 @@ def faults(repository, program):
         yield f'a test that fails: status {status}: {told}'
     repository.run('git', 'checkout', '-q', '-b', 'moves', '--force')
     repository.write('state.jsonl', stands + moved)
+    table = (CLINIC / 'moved.md').read_text(encoding='utf-8')
+    status, told = repository.commit(FAIL_ON='loss')
+    if not status or table not in told:
+        yield f'a change by which Permit is lost, which may not be: status {status}: {told}'
     status, told = repository.commit()
-    table = (CLINIC / 'moved.txt').read_text(encoding='utf-8')
     if status or table not in told:
         yield f'a change: status {status}: {told}'
     step = re.findall(r'run: (ci/.*)', (CI / 'policies.yml').read_text(encoding='utf-8'))[-1]

@@ -54,7 +54,7 @@ fn text_in_cell<'v>(cell: Option<&'v Value>, key: &str) -> Option<&'v str>
 }
 
 /// The name of a request at a key, as the cell before tells it, or else the one after.
-fn name_at<'v>(change: &'v Value, key: &str) -> &'v str
+pub(crate) fn name_at<'v>(change: &'v Value, key: &str) -> &'v str
     ensures { result.now ≡ name_at key.now (view change.now) }
 {
     match text_in_cell(change.get("before"), key) {
@@ -127,7 +127,7 @@ fn push_entries(alloc: Global, entries: &[Value], texts: &mut Vec<u8>) -> Result
 }
 
 /// The rules that decided a cell, if there is one.
-fn rules_of(alloc: Global, cell: Option<&Value>) -> Result<Vec<u8>, AllocError>
+pub(crate) fn rules_of(alloc: Global, cell: Option<&Value>) -> Result<Vec<u8>, AllocError>
     ensures { IfOk result (λ v. v.items ≡ rules_of (option_map (λ v. view v.now) cell.entry)) }
 {
     let mut texts = Vec::new(alloc);

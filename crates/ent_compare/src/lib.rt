@@ -3,9 +3,14 @@
 
 mod changes;
 mod column;
+mod gains;
+mod lines;
 mod report;
 mod showing;
 mod table;
+mod writing;
 
+pub use gains::{Way, has};
 pub use report::{difference, is_nothing};
 pub use showing::shown;
+pub use writing::markdown;

@@ -15,7 +15,7 @@ use serde_json::{Map, Value, put};
 use std::alloc::{AllocError, Global};
 
 /// The kind of a change: both decisions.
-fn kind_of(alloc: Global, change: &Value) -> Result<String, AllocError>
+pub(crate) fn kind_of(alloc: Global, change: &Value) -> Result<String, AllocError>
     ensures { IfOk result (λ s. string_bytes s ≡ kind_of (view change.now)) }
 {
     let before = decision_of(change.get("before"));

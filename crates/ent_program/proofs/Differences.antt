@@ -6,6 +6,8 @@ use Rattle.std.specs.Io.KnownBytes.{Appends}
 use Rattle.std.proofs.KnownBytes.{Appends-trans}
 use Rattle.serde_json.specs.Data.{Data}
 use Rattle.ent_sessions.specs.declared.session.Step.{Step}
+use Rattle.ent_compare.specs.Gains.{has}
+use Rattle.ent_compare.specs.declared.gains.Way.TheVariants.{Gained, Lost}
 use Rattle.ent_compare.specs.Changes.{difference_of, is_nothing}
 use Rattle.ent_line.specs.declared.fault.ServeFault.{ServeFault}
 use Rattle.ent_line.specs.declared.fault.ServeFault.TheVariants as fault
@@ -122,9 +124,9 @@ refused_second state changes base first before mid after is (table, nothing) tol
     ))
 
 -- a comparison that says whether anything differs refused nothing
-not_refused : (b : Bool) → Refused ≡ cond b Same Different → ⊥
-not_refused true is = cc
-not_refused false is = cc
+not_refused : (b gain loss : Bool) → Refused ≡ cond b Same (Different gain loss) → ⊥
+not_refused true gain loss is = cc
+not_refused false gain loss is = cc
 
 -- two tables were compared, and nothing but what differs was written
 module _ (form : Form) (state changes : Lines) (base : List Step) (first second : List ℕ) (told : Data) (begins one two after : Option (List ℕ))
@@ -148,6 +150,6 @@ module _ (form : Form) (state changes : Lines) (base : List Step) (first second 
   pub compared : (r : Result Ending ServeFault) → OnOk r ((text : List ℕ) × IsTextOf form told text × Appends two after text)
       → IfOk r (λ ended. ended ≡ ended_by told) → IfErr r (λ e. e ≢ fault.Read) → Compares form state changes begins after r
   compared (Ok Same) (text, spelled, wrote) result fine = tells text Same spelled wrote result
-  compared (Ok Different) (text, spelled, wrote) result fine = tells text Different spelled wrote result
-  compared (Ok Refused) (text, spelled, wrote) result fine = absurd (not_refused (is_nothing told) result)
+  compared (Ok (Different gain loss)) (text, spelled, wrote) result fine = tells text (Different gain loss) spelled wrote result
+  compared (Ok Refused) (text, spelled, wrote) result fine = absurd (not_refused (is_nothing told) (has Gained told) (has Lost told) result)
   compared (Err e) sent result fine = fine

@@ -7,7 +7,9 @@ use Rattle.serde_json.specs.Written.{compact_text, has_float}
 use Rattle.ent_json.specs.Line.{data_of}
 use Rattle.ent_json.specs.Objects.{text_at}
 use Rattle.ent_compare.specs.Changes.{difference_of, is_nothing}
+use Rattle.ent_compare.specs.Gains.{has, markdown_text}
 use Rattle.ent_compare.specs.Shown.{shown_text}
+use Rattle.ent_compare.specs.declared.gains.Way.TheVariants.{Gained, Lost}
 use Rattle.ent_sessions.specs.declared.session.Step.{Step}
 use Rattle.ent_line.specs.declared.fault.ServeFault.{ServeFault}
 use Rattle.ent_line.specs.declared.fault.ServeFault.TheVariants as fault
@@ -16,7 +18,7 @@ use Rattle.ent_program.specs.Testing.{AreRepliesTo, asked}
 use Rattle.ent_program.specs.declared.differing.Ending.{Ending}
 use Rattle.ent_program.specs.declared.differing.Lines.{Lines}
 use Rattle.ent_program.specs.declared.differing.Form.{Form}
-use Rattle.ent_program.specs.declared.differing.Form.TheVariants.{Json, Table}
+use Rattle.ent_program.specs.declared.differing.Form.TheVariants.{Json, Markdown, Table}
 use Rattle.ent_program.specs.declared.differing.Ending.TheVariants.{Same, Different, Refused}
 
 -- the line that asks for the table
@@ -55,14 +57,15 @@ abbrev pub GivesTable : List ℕ → List Step → Lines → Option (List ℕ) �
 GivesTable name base lines before after (Some reply) = IsTableBehind (base ++ lines.steps.now) reply × Appends before after []
 GivesTable name base lines before after None = Refuses name base lines before after
 
--- a comparison ended so: something differs, or nothing does
+-- a comparison ended so: nothing differs, or something does, and requests gain Permit or lose it
 abbrev pub ended_by : Data → Ending
-ended_by told = if is_nothing told then Same else Different
+ended_by told = if is_nothing told then Same else Different (has Gained told) (has Lost told)
 
--- a text is what is told, in a form: a line of JSON, if it has no fraction, or a table
+-- a text is what is told, in a form: a line of JSON, if it has no fraction, a table, or Markdown
 abbrev pub IsTextOf : Form → Data → List ℕ → Type 0
 IsTextOf Json told text = has_float told ≡ false → text ≡ compact_text told ++ codes "\n"
 IsTextOf Table told text = text ≡ shown_text told
+IsTextOf Markdown told text = text ≡ markdown_text told
 
 -- what was written is what differs between the table behind the lines of a state and that behind the changes
 pub record TellsDifference (form : Form) (state changes : Lines) (before after : Option (List ℕ)) (ended : Ending) : Type 0 where

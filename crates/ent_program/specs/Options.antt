@@ -7,8 +7,10 @@ use Rattle.ent_program.specs.Starting.{IsFew}
 use Rattle.ent_program.specs.declared.asked_check.AskedCheck.{AskedCheck}
 use Rattle.ent_program.specs.declared.asked_states.AskedStates.{AskedStates}
 use Rattle.ent_program.specs.declared.asked_tests.AskedTests.{AskedTests}
+use Rattle.ent_program.specs.declared.differing.Failing.{Failing}
+use Rattle.ent_program.specs.declared.differing.Failing.TheVariants.{Gain, Loss, Any}
 use Rattle.ent_program.specs.declared.differing.Form.{Form}
-use Rattle.ent_program.specs.declared.differing.Form.TheVariants.{Json, Table}
+use Rattle.ent_program.specs.declared.differing.Form.TheVariants.{Json, Markdown, Table}
 use Rattle.ent_program.specs.declared.options.Task.{Task}
 use Rattle.ent_program.specs.declared.options.Task.TheVariants.{Serve, Check, Compare, Lines, Test}
 use Rattle.ent_program.specs.declared.options.Modules.{Modules}
@@ -41,15 +43,20 @@ pub record IsCheckOf (options : List Row) (check : AskedCheck) : Type 0 where
   pub is_all : check.is_all ≡ is_given (first_of (codes "all") options)
   pub is_strict : check.is_strict ≡ is_given (first_of (codes "strict") options)
 
--- how what differs is written: as a table where the option for it is given, else as JSON
-abbrev pub form_of : Option (List ℕ) → Form
-form_of text = if is_given text then Table else Json
+-- how what differs is written: as a table or as Markdown where the option for it is given, else as JSON
+abbrev pub form_of : Option (List ℕ) → Option (List ℕ) → Form
+form_of text markdown = if is_given text then Table else if is_given markdown then Markdown else Json
 
--- the states of the two files that are named, and how what differs is written
+-- which differences fail by a word: the third that the command line takes is any
+abbrev pub failing_named : List ℕ → Failing
+failing_named word = if bytes_eq word (codes "gain") then Gain else if bytes_eq word (codes "loss") then Loss else Any
+
+-- the states of the two files that are named, how what differs is written, and which differences fail
 pub record AreStates (options : List Row) (states : AskedStates) : Type 0 where
   pub state : path_of states.state ≡ path_named (unwrap_or (first_of (codes "STATE") options) [])
   pub changes : path_of states.changes ≡ path_named (unwrap_or (first_of (codes "CHANGES") options) [])
-  pub form : states.form ≡ form_of (first_of (codes "text") options)
+  pub form : states.form ≡ form_of (first_of (codes "text") options) (first_of (codes "markdown") options)
+  pub failing : states.failing ≡ option_map failing_named (first_of (codes "fail-on") options)
 
 -- the tests of the files that are named, behind the lines of a file if the option for it is given, and those of a name if one is given; they are
 -- listed if the option for that is given, and what becomes of them is written to a file if that is named

@@ -1,5 +1,5 @@
 -- The exit statuses of the program.
-use Rattle.std.specs.Prelude.{ℕ, ◌==◌, ◌&&◌, ◌||◌, nat_lt, Bool, true, false, not, Result, Ok, Err, ⊤, if◌then◌else◌}
+use Rattle.std.specs.Prelude.{ℕ, ◌==◌, ◌&&◌, ◌||◌, nat_lt, Bool, true, false, not, Option, Some, None, Result, Ok, Err, ⊤, if◌then◌else◌}
 use Rattle.clap.specs.declared.error.kind.ErrorKind.{ErrorKind}
 use Rattle.clap.specs.declared.error.kind.ErrorKind.TheVariants.{DisplayHelp, DisplayVersion, OutOfMemory}
 use Rattle.ent_dump.specs.declared.fault.LinesFault.{LinesFault}
@@ -8,6 +8,8 @@ use Rattle.ent_line.specs.declared.fault.ServeFault.{ServeFault}
 use Rattle.ent_line.specs.declared.fault.ServeFault.TheVariants as fault
 use Rattle.ent_program.specs.declared.differing.Ending.{Ending}
 use Rattle.ent_program.specs.declared.differing.Ending.TheVariants as compared
+use Rattle.ent_program.specs.declared.differing.Failing.{Failing}
+use Rattle.ent_program.specs.declared.differing.Failing.TheVariants.{Gain, Loss, Any}
 use Rattle.ent_program.specs.declared.tally.Tally.{Tally}
 use Rattle.ent_program.specs.declared.words.WordsFault.{WordsFault}
 use Rattle.ent_program.specs.declared.words.WordsFault.TheVariants as words
@@ -50,12 +52,23 @@ abbrev pub test_status : Result Tally ServeFault → ℕ
 test_status (Ok tally) = if tally.failed == 0 && nat_lt 0 tally.passed then 0 else 1
 test_status (Err e) = fault_status e
 
--- states that don't differ give 0, those that do 1, a refused line 2, and a fault its own status
-abbrev pub compare_status : Result Ending ServeFault → ℕ
-compare_status (Ok compared.Same) = 0
-compare_status (Ok compared.Different) = 1
-compare_status (Ok compared.Refused) = 2
-compare_status (Err e) = fault_status e
+-- differences fail, of which a request gains Permit or not, and one loses it or not
+abbrev pub fails : Failing → Bool → Bool → Bool
+fails Gain gain loss = gain
+fails Loss gain loss = loss
+fails Any gain loss = true
+
+-- states that differ give 1; where it is said which differences fail, those give 4, and the others 0
+abbrev pub different_status : Option Failing → Bool → Bool → ℕ
+different_status None gain loss = 1
+different_status (Some failing) gain loss = if fails failing gain loss then 4 else 0
+
+-- states that don't differ give 0, a refused line 2, and a fault its own status
+abbrev pub compare_status : Option Failing → Result Ending ServeFault → ℕ
+compare_status failing (Ok compared.Same) = 0
+compare_status failing (Ok (compared.Different gain loss)) = different_status failing gain loss
+compare_status failing (Ok compared.Refused) = 2
+compare_status failing (Err e) = fault_status e
 
 -- a word of the command line that isn't UTF-8 gives 1, want of memory 3
 abbrev pub words_status : WordsFault → ℕ

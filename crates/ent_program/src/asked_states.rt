@@ -1,15 +1,15 @@
 //! Which states the command line asks to be compared.
 
-ghost use Rattle.std.specs.Prelude.{◌≡◌, [], codes, unwrap_or};
+ghost use Rattle.std.specs.Prelude.{◌≡◌, [], codes, option_map, unwrap_or};
 ghost use Rattle.clap.specs.Matches.{found_of};
 ghost use Rattle.clap.specs.Walk.{first_of, rows_of};
-ghost use Rattle.ent_program.specs.Options.{AreStates, form_of};
+ghost use Rattle.ent_program.specs.Options.{AreStates, failing_named, form_of};
 ghost use Rattle.ent_program.specs.Sources.{path_named, path_of};
 
 use crate::asked_tests::is_given;
-use crate::differing::Form;
+use crate::differing::{Failing, Form};
 use crate::sources::Source;
-use crate::words::{CHANGES, FIRST_STATE, TEXT};
+use crate::words::{CHANGES, FAIL_ON, FIRST_STATE, MARKDOWN, TEXT};
 use clap::ArgMatches;
 
 /// The states that are compared.
@@ -21,16 +21,44 @@ pub struct AskedStates<'a> {
     pub changes: Source<'a>,
     /// How what differs is written.
     pub form: Form,
+    /// Which differences fail, where that is said.
+    pub failing: Option<Failing>,
 }
 
-/// How what differs is to be written: as a table where the option for it is given.
+/// How what differs is to be written: as a table or as Markdown where the option for it is given.
 fn form_of(options: &ArgMatches<'_>) -> Form
-    ensures { result ≡ form_of (first_of (codes "text") (rows_of (found_of options.now))) }
+    ensures { result ≡ form_of (first_of (codes "text") (rows_of (found_of options.now)))
+        (first_of (codes "markdown") (rows_of (found_of options.now))) }
 {
     if is_given(options, TEXT) {
         Form::Table
+    } else if is_given(options, MARKDOWN) {
+        Form::Markdown
     } else {
         Form::Json
+    }
+}
+
+/// Which differences a word of the command line says: the third of those that it takes is any.
+fn failing_named(word: &str) -> Failing
+    ensures { result ≡ failing_named word.now }
+{
+    if word == "gain" {
+        Failing::Gain
+    } else if word == "loss" {
+        Failing::Loss
+    } else {
+        Failing::Any
+    }
+}
+
+/// Which differences fail, where that is said.
+fn failing_of(options: &ArgMatches<'_>) -> Option<Failing>
+    ensures { result ≡ option_map failing_named (first_of (codes "fail-on") (rows_of (found_of options.now))) }
+{
+    match options.get_str(FAIL_ON) {
+        Some(word) => Some(failing_named(word)),
+        None => None,
     }
 }
 
@@ -49,5 +77,6 @@ pub(crate) fn asked_states<'a>(options: &ArgMatches<'a>) -> AskedStates<'a>
         state: source_at(options, FIRST_STATE),
         changes: source_at(options, CHANGES),
         form: form_of(options),
+        failing: failing_of(options),
     }
 }

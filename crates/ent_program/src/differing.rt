@@ -10,7 +10,7 @@ ghost use Rattle.ent_program.specs.Testing.{asked};
 
 use crate::comparing::{compare, is_wanting, split_reply};
 use crate::testing::{push_asked, replies_to};
-use ent_compare::{difference, is_nothing, shown};
+use ent_compare::{Way, difference, has, is_nothing, markdown, shown};
 use ent_json::{read_json, text_at};
 use ent_line::{ServeFault, send_all};
 use ent_sessions::Step;
@@ -41,6 +41,19 @@ pub enum Form {
     Json,
     /// As a table that a person reads.
     Table,
+    /// As Markdown for those who look a change over.
+    Markdown,
+}
+
+/// Which differences fail.
+#[derive(Clone, Copy, Debug, PartialEq, Eq)]
+pub enum Failing {
+    /// That a request gains Permit.
+    Gain,
+    /// That a request loses it.
+    Loss,
+    /// Any.
+    Any,
 }
 
 /// How a comparison ended.
@@ -48,8 +61,8 @@ pub enum Form {
 pub enum Ending {
     /// Nothing differs.
     Same,
-    /// Something differs.
-    Different,
+    /// Something differs: whether a request gains Permit, and whether one loses it.
+    Different(bool, bool),
     /// A line was refused, so nothing was compared.
     Refused,
 }
@@ -149,6 +162,10 @@ fn send_told<W: Write>(
             let text = shown(alloc, told)?;
             send_all(writer, &[text.as_slice()])
         }
+        Form::Markdown => {
+            let text = markdown(alloc, told)?;
+            send_all(writer, &[text.as_slice()])
+        }
     }
 }
 
@@ -168,7 +185,7 @@ fn send_difference<W: Write>(
     if is_nothing(told) {
         Ok(Ending::Same)
     } else {
-        Ok(Ending::Different)
+        Ok(Ending::Different(has(Way::Gained, told), has(Way::Lost, told)))
     }
 }
 
@@ -176,8 +193,9 @@ fn send_difference<W: Write>(
 ///
 /// The changes are lines that are sent behind those of the state; or, where the first of them is `format`, as in a dump,
 /// the lines of a state of their own. Each service is a new one, over two modules of each sort. What differs is one line
-/// of JSON ([`difference`](ent_compare::difference)), or a table ([`shown`](ent_compare::shown)). Where a line is refused, it is told by two lines, `NAME:LINE:
-/// expected no refusal` and `NAME:LINE: replied REPLY`, and nothing is compared.
+/// of JSON ([`difference`](ent_compare::difference)), a table ([`shown`](ent_compare::shown)), or Markdown
+/// ([`markdown`](ent_compare::markdown)). Where a line is refused, it is told by two lines, `NAME:LINE: expected no refusal`
+/// and `NAME:LINE: replied REPLY`, and nothing is compared.
 /// Faults: the writer's, which may have taken a front of what is written, and want of memory.
 #[tactic(auto, using(crate::proofs::Differences::compared, crate::proofs::Differences::refused_second))]
 pub fn compare_from<W: Write>(

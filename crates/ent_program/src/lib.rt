@@ -39,7 +39,7 @@ pub use asked_states::AskedStates;
 pub use asked_tests::AskedTests;
 pub use checking::{FILE_LIMIT, FileFault, check_from};
 pub use declaring::DeclaredFault;
-pub use differing::{Ending, Form, Lines, compare_from};
+pub use differing::{Ending, Failing, Form, Lines, compare_from};
 pub use junit::send_junit;
 pub use listing::list_tests;
 pub use options::{Modules, Task, task_of};

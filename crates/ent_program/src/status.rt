@@ -2,11 +2,12 @@
 
 ghost use Rattle.std.specs.Prelude.{◌≡◌};
 ghost use Rattle.clap.specs.Values.{kind_of};
-ghost use Rattle.ent_program.specs.Statuses.{check_status, compare_status, fault_status, found_status};
+ghost use Rattle.ent_program.specs.Statuses.{check_status, compare_status, different_status, fails, fault_status};
+ghost use Rattle.ent_program.specs.Statuses.{found_status};
 ghost use Rattle.ent_program.specs.Statuses.{lines_fault_status, lines_status, serve_status};
 ghost use Rattle.ent_program.specs.Statuses.{test_status, usage_status, words_status};
 
-use crate::differing::Ending;
+use crate::differing::{Ending, Failing};
 use crate::sentences::{fault_sentence, lines_sentence, words_sentence};
 use crate::tally::Tally;
 use crate::words::WordsFault;
@@ -24,6 +25,9 @@ const BROKEN: u8 = 2;
 
 /// Memory was wanting.
 const NO_MEMORY: u8 = 3;
+
+/// A difference was found that is to fail.
+const FAILING: u8 = 4;
 
 /// Says on standard error why serving or a check ended early, and gives the exit status for it.
 pub fn status_of(rt: &impl Eprint, fault: ServeFault) -> u8
@@ -102,13 +106,39 @@ pub fn test_status(rt: &impl Eprint, tested: Result<Tally, ServeFault>) -> u8
     }
 }
 
-/// The exit status of a comparison; a fault is told on standard error.
-pub fn compare_status(rt: &impl Eprint, compared: Result<Ending, ServeFault>) -> u8
-    ensures { result ≡ compare_status compared }
+/// Whether differences fail, of which a request gains Permit or not, and one loses it or not.
+fn fails(failing: Failing, gain: bool, loss: bool) -> bool
+    ensures { result ≡ fails failing gain loss }
+{
+    match failing {
+        Failing::Gain => gain,
+        Failing::Loss => loss,
+        Failing::Any => true,
+    }
+}
+
+/// The exit status where tables differ: where it is said which differences fail, the others don't count.
+fn different_status(failing: Option<Failing>, gain: bool, loss: bool) -> u8
+    ensures { result ≡ different_status failing gain loss }
+{
+    match failing {
+        None => REFUSED,
+        Some(failing) if fails(failing, gain, loss) => FAILING,
+        Some(_) => OKAY,
+    }
+}
+
+/// The exit status of a comparison, by which differences fail, where that is said; a fault is told on standard error.
+pub fn compare_status(
+    rt: &impl Eprint,
+    failing: Option<Failing>,
+    compared: Result<Ending, ServeFault>,
+) -> u8
+    ensures { result ≡ compare_status failing compared }
 {
     match compared {
         Ok(Ending::Same) => OKAY,
-        Ok(Ending::Different) => REFUSED,
+        Ok(Ending::Different(gain, loss)) => different_status(failing, gain, loss),
         Ok(Ending::Refused) => BROKEN,
         Err(fault) => status_of(rt, fault),
     }

@@ -48,11 +48,11 @@ fn compare_sources<R: Files + Input + Print + Eprint + AllocGlobal>(
         steps: second.as_slice(),
     };
     let compared = write_difference(alloc, states.form, state, changes, &mut writer);
-    Ok(compare_status(rt, compared))
+    Ok(compare_status(rt, states.failing, compared))
 }
 
 /// Does the comparison that is asked for, and gives the exit status: 0 where nothing differs, 1 where something does, and
-/// 2 where a line was refused.
+/// 2 where a line was refused; where it is said which differences fail, 4 where there are such, and else 0.
 pub(crate) fn compare_states<R: Files + Input + Print + Eprint + AllocGlobal>(
     rt: &R,
     states: AskedStates<'_>,

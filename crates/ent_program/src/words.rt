@@ -59,6 +59,15 @@ pub const CHANGES: &str = "CHANGES";
 /// The option of `compare` that asks for a table that a person reads.
 pub const TEXT: &str = "text";
 
+/// The option of `compare` that asks for Markdown.
+pub const MARKDOWN: &str = "markdown";
+
+/// The option of `compare` that says which differences fail.
+pub const FAIL_ON: &str = "fail-on";
+
+/// The words that it takes.
+const FAILING: &[&str] = &["gain", "loss", "any"];
+
 /// The option of `check` that names a file of declared attributes.
 pub const ATTRIBUTES: &str = "attributes";
 
@@ -193,9 +202,23 @@ fn compare<'a>(alloc: Global) -> Result<Command<'a>, AllocError> {
         .long(TEXT)
         .action(ArgAction::SetTrue)
         .help("Write a table for a person, and no JSON");
+    let markdown = Arg::new(alloc, MARKDOWN)
+        .long(MARKDOWN)
+        .action(ArgAction::SetTrue)
+        .conflicts_with(TEXT)?
+        .help("Write Markdown of at most 50 lines: who gains Permit and who loses it, by rule");
+    let failing = Arg::new(alloc, FAIL_ON)
+        .long(FAIL_ON)
+        .value_name("KIND")
+        .value_parser(FAILING)
+        .help(
+            "End with 4 where a request gains Permit, loses it, or anything differs, and else with 0",
+        );
     Command::new(alloc, "compare")
         .about("Says which requests have another decision or other reasons in another state")
         .arg(text)?
+        .arg(markdown)?
+        .arg(failing)?
         .arg(state)?
         .arg(changes)
 }

@@ -81,8 +81,11 @@ Arguments:
   <CHANGES>  Lines that change it, or those of a dump of another state; - is standard input
 
 Options:
-      --text  Write a table for a person, and no JSON
-  -h, --help  Print help
+      --text            Write a table for a person, and no JSON
+      --markdown        Write Markdown of at most 50 lines: who gains Permit and who loses it, by rule
+      --fail-on <KIND>  End with 4 where a request gains Permit, loses it, or anything differs, and else with 0 \
+[possible values: gain, loss, any]
+  -h, --help            Print help
 ";
 
 const NO_COMMAND: &str = "\

@@ -132,11 +132,15 @@ const TAKEN: &[(&[&str], &str)] = &[
     ),
     (
         &["compare", "a", "-"],
-        "Compare(AskedStates { state: File(\"a\"), changes: Input, form: Json })",
+        "Compare(AskedStates { state: File(\"a\"), changes: Input, form: Json, failing: None })",
     ),
     (
         &["compare", "--text", "-", "b"],
-        "Compare(AskedStates { state: Input, changes: File(\"b\"), form: Table })",
+        "Compare(AskedStates { state: Input, changes: File(\"b\"), form: Table, failing: None })",
+    ),
+    (
+        &["compare", "--markdown", "--fail-on", "loss", "a", "b"],
+        "Compare(AskedStates { state: File(\"a\"), changes: File(\"b\"), form: Markdown, failing: Some(Loss) })",
     ),
 ];
 
