@@ -1,5 +1,6 @@
 pub mod Alone
 pub mod ArgumentLemmas
+pub mod Each
 pub mod Finding
 pub mod Gathered
 pub mod Inside

@@ -86,7 +86,7 @@ one_noted at xs ss i x are lt here =
     let same : get_or (map at xs) i (at x) ≡ at x = get_or-map at xs i x (at x) lt ∙ ap at (sym here) in
     subst (HasOne ss) same (held i (at x) within)
 
-any_of : {X : Type 0} (at : X → FaultAt) (p : FaultAt → Bool) (xs : List X) → list_any p (map at xs) ≡ list_any (λ x. p (at x)) xs
+pub any_of : {X : Type 0} (at : X → FaultAt) (p : FaultAt → Bool) (xs : List X) → list_any p (map at xs) ≡ list_any (λ x. p (at x)) xs
 any_of at p [] = refl
 any_of at p (x ∷ xs) = rw (any_of at p xs) refl
 

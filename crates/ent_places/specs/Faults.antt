@@ -1,8 +1,9 @@
--- All faults that are told of a document: each where it stands, before them the first, and none twice.
-use Rattle.std.specs.Prelude.{◌≡◌, ℕ, zero, suc, List, [], ◌∷◌, Option, Some, None, bytes_eq, find, if◌then◌else◌, map}
-use Rattle.std.specs.List.{All, Contains, IsDistinct, flat_map}
+-- All faults that are told of a document: each where it stands, before them the first, none twice, and none left out.
+use Rattle.std.specs.Prelude.{◌≡◌, ℕ, zero, suc, List, [], ◌∷◌, Bool, true, false, not, ◌||◌, Option, Some, None, bytes_eq, find, if◌then◌else◌, map}
+use Rattle.std.specs.List.{All, Contains, IsDistinct, flat_map, list_any}
 use Rattle.serde_json.specs.Data.{Data}
 use Rattle.ent_policy.specs.declared.fault.DocFault.{DocFault}
+use Rattle.ent_policy.specs.declared.fault.DocFault.TheVariants as fault
 use Rattle.ent_places.specs.Places.{Spot, StandsAt, has_fault, inside, is_fault, whole}
 use Rattle.ent_places.specs.Told.{scope_told, told}
 
@@ -61,3 +62,26 @@ pub record AreFaults (f : DocFault) (d : Data) (all : List FaultAt) : Type 0 whe
   pub is_first : IsFirst f first d
   pub stand : All (λ t. StandsAt t.0 t.1 d) all
   pub apart : IsDistinct bytes_eq (map (λ t. t.1.pointer) all)
+
+-- ---- none is left out
+
+-- a part one level inside of a part has the same fault by itself
+abbrev pub has_inside : FaultAt → Bool
+has_inside t = list_any (λ u. is_fault t.0 (Some u.0)) (faulty (inside t.1))
+
+-- a part with a fault is looked into, unless it can't be read
+abbrev pub is_looked_into : FaultAt → Bool
+is_looked_into t = has_inside t || not (is_fault fault.Form (Some t.0))
+
+-- from a part with a fault one comes to the parts inside of it that have one by themselves, and so on, so many levels down
+abbrev pub LooksAt : ℕ → FaultAt → FaultAt → Type 0
+LooksAt zero t from = t ≡ from
+LooksAt (suc n) t from = (is_looked_into from ≡ true) × ((u : FaultAt) × Contains (faulty (inside from.1)) u × LooksAt n t u)
+
+-- a fault is told at a pointer
+abbrev pub is_told_at : List FaultAt → List ℕ → Bool
+is_told_at all pointer = list_any (λ t. bytes_eq t.1.pointer pointer) all
+
+-- of each part to which one comes, and whose fault no part inside of it has, a fault is told
+abbrev pub TellsEach : FaultAt → List FaultAt → Type 0
+TellsEach from all = (n : ℕ) (t : FaultAt) → LooksAt n t from → has_inside t ≡ false → is_told_at all t.1.pointer ≡ true

@@ -1,13 +1,16 @@
 //! All faults of a document: the first one, and those of other parts.
 
-ghost use Rattle.std.specs.Prelude.{◌≡◌, ◌++◌, ◌∷◌, [], Err, IfOk, OnOk, bytes_eq, map, string_bytes, true};
+ghost use Rattle.std.specs.Prelude.{◌≡◌, ◌++◌, ◌∷◌, ◌||◌, [], Err, IfOk, OnOk, bytes_eq, false, map};
+ghost use Rattle.std.specs.Prelude.{not, string_bytes, true};
 ghost use Rattle.std.specs.List.{list_any};
 ghost use Rattle.ent_polform.specs.Form.{document_of};
-ghost use Rattle.ent_places.specs.Faults.{AreFaults, LeadsToOne, faulty};
-ghost use Rattle.ent_places.specs.Places.{IsSmallest, has_fault, inside};
-ghost use Rattle.ent_places.specs.proofs_only.Walk.{Keeps};
+ghost use Rattle.ent_places.specs.Faults.{AreFaults, LeadsToOne, TellsEach, faulty, has_inside, is_looked_into};
+ghost use Rattle.ent_places.specs.Faults.{is_told_at};
+ghost use Rattle.ent_places.specs.Places.{IsSmallest, has_fault, inside, whole};
+ghost use Rattle.ent_places.specs.proofs_only.Walk.{Keeps, TellsMore};
 ghost use Rattle.ent_places.specs.Views.{fault_at, faults_in, spot_of};
 
+use crate::faulty::is_fault;
 use crate::own::{Faulty, is_inside};
 use crate::place::{Place, place_of};
 use ent_json::JsonTree;
@@ -59,7 +62,8 @@ impl<'a, J: JsonTree> Faults<'a, J> {
 
     /// Whether what stands inside of a place may be judged; where it may, it counts as judged.
     fn may_judge(&mut self, alloc: Global, place: &Place<'a, J>) -> Result<bool, AllocError>
-        ensures { OnOk result (self.new.places ≡ self.old.places) }
+        ensures places { OnOk result (self.new.places ≡ self.old.places) }
+        ensures cut { IfOk result (λ may. self.new.is_cut ≡ (self.old.is_cut || not may)) }
     {
         let cost = place.cost_inside(alloc)?;
         if self.places.len() >= MOST_FAULTS || cost > self.left {
@@ -77,8 +81,9 @@ impl<'a, J: JsonTree> Faults<'a, J> {
         fault: DocFault,
         place: &Place<'a, J>,
     ) -> Result<(), AllocError>
-        ensures { OnOk result (faults_in J.content self.new
+        ensures added { OnOk result (faults_in J.content self.new
             ≡ faults_in J.content self.old ++ (fault, spot_of J.content place.now) ∷ []) }
+        ensures cut { self.new.is_cut ≡ self.old.is_cut }
     {
         let place = place.unmarked(alloc)?;
         self.places.push(Faulty { fault, place })?;
@@ -93,8 +98,12 @@ impl<'a, J: JsonTree> Faults<'a, J> {
         place: &Place<'a, J>,
     ) -> Result<(), AllocError>
         requires { IsSmallest fault (spot_of J.content place.now) (spot_of J.content place.now) }
-        ensures { OnOk result (Keeps (spot_of J.content place.now)
+        ensures right { OnOk result (Keeps (spot_of J.content place.now)
             (faults_in J.content self.old) (faults_in J.content self.new)) }
+        ensures more { OnOk result (TellsMore (faults_in J.content self.old) (faults_in J.content self.new)) }
+        ensures here { OnOk result (is_told_at (faults_in J.content self.new)
+            (spot_of J.content place.now).pointer ≡ true) }
+        ensures cut { self.new.is_cut ≡ self.old.is_cut }
     {
         let told = self.places.as_slice();
         let pointer = place.pointer.as_str();
@@ -116,14 +125,19 @@ impl<'a, J: JsonTree> Faults<'a, J> {
     ) -> Result<bool, AllocError>
         requires faulty { has_fault fault (spot_of J.content place.now) ≡ true }
         requires parts { map (fault_at J.content) parts.now ≡ faulty (inside (spot_of J.content place.now)) }
-        ensures { OnOk result (Keeps (spot_of J.content place.now)
+        ensures right { OnOk result (Keeps (spot_of J.content place.now)
             (faults_in J.content self.old) (faults_in J.content self.new)) }
+        ensures more { OnOk result (TellsMore (faults_in J.content self.old) (faults_in J.content self.new)) }
+        ensures here { OnOk result (has_inside (fault, spot_of J.content place.now) ≡ false
+            → is_told_at (faults_in J.content self.new) (spot_of J.content place.now).pointer ≡ true) }
+        ensures into { IfOk result (λ into. into ≡ is_looked_into (fault, spot_of J.content place.now)) }
+        ensures cut { self.new.is_cut ≡ self.old.is_cut }
     {
         if is_inside(parts, fault) {
             return Ok(true);
         }
         self.tell(alloc, fault, place)?;
-        Ok(fault != DocFault::Form)
+        Ok(!is_fault(DocFault::Form, Some(fault)))
     }
 }
 
@@ -135,8 +149,12 @@ fn walk<'a, J: JsonTree>(
     faults: &mut Faults<'a, J>,
 ) -> Result<(), AllocError>
     requires { has_fault fault (spot_of J.content place.now) ≡ true }
-    ensures { OnOk result (Keeps (spot_of J.content place.now)
+    ensures right { OnOk result (Keeps (spot_of J.content place.now)
         (faults_in J.content faults.old) (faults_in J.content faults.new)) }
+    ensures more { OnOk result (TellsMore (faults_in J.content faults.old) (faults_in J.content faults.new)) }
+    ensures cut { OnOk result (faults.old.is_cut ≡ true → faults.new.is_cut ≡ true) }
+    ensures each { OnOk result (faults.new.is_cut ≡ false
+        → TellsEach (fault, spot_of J.content place.now) (faults_in J.content faults.new)) }
 {
     if !faults.may_judge(alloc, place)? {
         return Ok(());
@@ -153,7 +171,8 @@ fn walk<'a, J: JsonTree>(
 
 /// Where the first fault of a document stands, and then others that parts of it have by themselves: of each part that can
 /// be read those of the parts inside of it, as far as they have other faults than the variable definitions around them.
-/// At most `MOST_FAULTS` are told, and so much is judged at most that the search ends soon.
+/// At most `MOST_FAULTS` are told, and so much is judged at most that the search ends soon; where it isn't cut, none is
+/// left out.
 ///
 /// # Errors
 ///
@@ -164,7 +183,9 @@ pub fn places_of<'a, J: JsonTree>(
     fault: DocFault,
 ) -> Result<Faults<'a, J>, AllocError>
     requires { document_of (J.content json.now) ≡ Err fault }
-    ensures { IfOk result (λ a. AreFaults fault (J.content json.now) (faults_in J.content a)) }
+    ensures right { IfOk result (λ a. AreFaults fault (J.content json.now) (faults_in J.content a)) }
+    ensures each { IfOk result (λ a. a.is_cut ≡ false
+        → TellsEach (fault, whole (J.content json.now)) (faults_in J.content a)) }
 {
     let first = place_of(alloc, json, fault)?;
     let mut faults = Faults::of_one(alloc, fault, first)?;
