@@ -1,10 +1,12 @@
 pub mod Counting
-pub mod Followed
 pub mod Endless
+pub mod Filing
 pub mod Flags
+pub mod Followed
 pub mod Levels
 pub mod NoneNamed
 pub mod Numbers
+pub mod Reading
 pub mod Searched
 pub mod Settled
 pub mod Steps

@@ -1,4 +1,5 @@
 pub mod Found
 pub mod Level
+pub mod Refused
 pub mod Root
 pub mod Rows

@@ -1,5 +1,13 @@
 //! The documents and the root of a state, by the lines of its dump.
 
+ghost use Rattle.std.specs.Prelude.{◌≡◌, IfErr, IfOk, None, OnOk, Some};
+ghost use Rattle.serde_json.specs.Find.{get};
+ghost use Rattle.std.specs.Prelude.{codes};
+ghost use Rattle.std.specs.FinMap.{insert};
+ghost use Rattle.ent_policy.specs.Key.{key_of};
+ghost use Rattle.ent_together.specs.Stored.{added, after_data, after_line, nothing, rooted, stored_in, stored_of};
+ghost use Rattle.ent_together.specs.proofs_only.Refused.{IsNotDump, IsNotOfDump};
+
 use ent_finder::{MapDocs, PolicyFinderModule};
 use ent_json::{JsonTree, read_json, text_at};
 use ent_polform::{read_document, read_reference};
@@ -26,7 +34,7 @@ pub enum StateFault {
 }
 
 /// Why a line can't be read.
-#[derive(Drop)]
+#[derive(Clone, Copy)]
 enum LineFault {
     /// It isn't one of a dump.
     NotDump,
@@ -34,27 +42,22 @@ enum LineFault {
     Memory,
 }
 
-impl From<AllocError> for LineFault {
-    fn from(_: AllocError) -> LineFault {
-        LineFault::Memory
-    }
-}
-
-impl From<CheckFault> for LineFault {
-    fn from(fault: CheckFault) -> LineFault {
-        match fault {
-            CheckFault::Doc(_) => LineFault::NotDump,
-            CheckFault::Memory => LineFault::Memory,
+impl LineFault {
+    /// The same of the line of this number.
+    fn at(self, number: usize) -> StateFault
+        ensures { IsNotDump result → IsNotOfDump self }
+    {
+        match self {
+            LineFault::NotDump => StateFault::NotDump(number),
+            LineFault::Memory => StateFault::Memory,
         }
     }
 }
 
 /// Puts a document under its key, in the place of the one that stands there, if one does. Gives whether one did.
-pub(crate) fn put(
-    alloc: Global,
-    docs: &mut MapDocs,
-    document: Document,
-) -> Result<bool, AllocError> {
+pub(crate) fn put(alloc: Global, docs: &mut MapDocs, document: Document) -> Result<bool, AllocError>
+    ensures { OnOk result (docs.new ≡ insert docs.old (key_of document) (Some document)) }
+{
     let key = document.key(alloc)?;
     let mut document = Some(document);
     docs.swap_document(&key, &mut document)?;
@@ -63,7 +66,9 @@ pub(crate) fn put(
 
 impl State {
     /// No documents and no root.
-    pub fn new(alloc: Global) -> State {
+    pub fn new(alloc: Global) -> State
+        ensures { stored_in result ≡ nothing }
+    {
         State {
             docs: MapDocs::new(alloc),
             root: None,
@@ -71,31 +76,63 @@ impl State {
     }
 
     /// Reads a line that adds a document.
-    fn add<J: JsonTree>(&mut self, alloc: Global, line: &J) -> Result<(), LineFault> {
-        let json = line.get("document").ok_or(LineFault::NotDump)?;
-        let document = read_document(alloc, json)?;
-        put(alloc, &mut self.docs, document)?;
-        Ok(())
+    fn add<J: JsonTree>(&mut self, alloc: Global, line: &J) -> Result<(), LineFault>
+        ensures ok { OnOk result (added (stored_in self.old) (get (codes "document") (J.content line.now))
+            ≡ Some (stored_in self.new)) }
+        ensures err { IfErr result (λ e. IsNotOfDump e
+            → added (stored_in self.old) (get (codes "document") (J.content line.now)) ≡ None) }
+    {
+        let Some(json) = line.get("document") else {
+            return Err(LineFault::NotDump);
+        };
+        let document = match read_document(alloc, json) {
+            Ok(document) => document,
+            Err(CheckFault::Doc(_)) => return Err(LineFault::NotDump),
+            Err(CheckFault::Memory) => return Err(LineFault::Memory),
+        };
+        match put(alloc, &mut self.docs, document) {
+            Ok(_) => Ok(()),
+            Err(_) => Err(LineFault::Memory),
+        }
     }
 
     /// Reads a line that sets the root.
-    fn set_root<J: JsonTree>(&mut self, alloc: Global, line: &J) -> Result<(), LineFault> {
-        let json = line.get("reference").ok_or(LineFault::NotDump)?;
-        self.root = if json.is_null() {
-            None
-        } else {
-            Some(read_reference(alloc, json)?)
+    fn set_root<J: JsonTree>(&mut self, alloc: Global, line: &J) -> Result<(), LineFault>
+        ensures ok { OnOk result (rooted (stored_in self.old) (get (codes "reference") (J.content line.now))
+            ≡ Some (stored_in self.new)) }
+        ensures err { IfErr result (λ e. IsNotOfDump e
+            → rooted (stored_in self.old) (get (codes "reference") (J.content line.now)) ≡ None) }
+    {
+        let Some(json) = line.get("reference") else {
+            return Err(LineFault::NotDump);
         };
-        Ok(())
+        if json.is_null() {
+            self.root = None;
+            return Ok(());
+        }
+        match read_reference(alloc, json) {
+            Ok(reference) => {
+                self.root = Some(reference);
+                Ok(())
+            }
+            Err(CheckFault::Doc(_)) => Err(LineFault::NotDump),
+            Err(CheckFault::Memory) => Err(LineFault::Memory),
+        }
     }
 
-    /// Reads a line of a dump, of which those on documents and the root count here.
-    fn read_line(&mut self, alloc: Global, line: &[u8]) -> Result<(), LineFault> {
-        let mut scratch = Scratch::new(alloc);
-        let json = read_json(alloc, line, &mut scratch)?.ok_or(LineFault::NotDump)?;
-        match text_at(&json, "do").ok_or(LineFault::NotDump)? {
-            "policy.add" => self.add(alloc, &json),
-            "root.set" => self.set_root(alloc, &json),
+    /// Reads the JSON of a line of a dump, of which those on documents and the root count here.
+    fn read<J: JsonTree>(&mut self, alloc: Global, line: &J) -> Result<(), LineFault>
+        ensures ok { OnOk result (after_data (stored_in self.old) (J.content line.now)
+            ≡ Some (stored_in self.new)) }
+        ensures err { IfErr result (λ e. IsNotOfDump e
+            → after_data (stored_in self.old) (J.content line.now) ≡ None) }
+    {
+        let Some(word) = text_at(line, "do") else {
+            return Err(LineFault::NotDump);
+        };
+        match word {
+            "policy.add" => self.add(alloc, line),
+            "root.set" => self.set_root(alloc, line),
             "format"
             | "person.add"
             | "action.add"
@@ -107,24 +144,47 @@ impl State {
         }
     }
 
+    /// Reads a line of a dump. An empty one counts for nothing.
+    fn read_line(&mut self, alloc: Global, line: &[u8]) -> Result<(), LineFault>
+        ensures ok { OnOk result (after_line (stored_in self.old) line.now ≡ Some (stored_in self.new)) }
+        ensures err { IfErr result (λ e. IsNotOfDump e → after_line (stored_in self.old) line.now ≡ None) }
+    {
+        if line.is_empty() {
+            return Ok(());
+        }
+        let mut scratch = Scratch::new(alloc);
+        match read_json(alloc, line, &mut scratch) {
+            Ok(Some(json)) => self.read(alloc, &json),
+            Ok(None) => Err(LineFault::NotDump),
+            Err(_) => Err(LineFault::Memory),
+        }
+    }
+
+    /// Reads the line of this number.
+    fn read_numbered(&mut self, alloc: Global, number: usize, line: &[u8]) -> Result<(), StateFault>
+        ensures ok { OnOk result (after_line (stored_in self.old) line.now ≡ Some (stored_in self.new)) }
+        ensures err { IfErr result (λ e. IsNotDump e → after_line (stored_in self.old) line.now ≡ None) }
+    {
+        match self.read_line(alloc, line) {
+            Ok(()) => Ok(()),
+            Err(fault) => Err(fault.at(number)),
+        }
+    }
+
     /// The documents and the root of the state whose dump has these lines. Empty lines count for nothing.
     ///
     /// # Errors
     ///
     /// The number of the first line that isn't one of a dump; or memory runs out.
-    pub fn of(alloc: Global, text: &[u8]) -> Result<State, StateFault> {
+    pub fn of(alloc: Global, text: &[u8]) -> Result<State, StateFault>
+        ensures ok { IfOk result (λ state. stored_of text.now ≡ Some (stored_in state)) }
+        ensures err { IfErr result (λ e. IsNotDump e → stored_of text.now ≡ None) }
+    {
         let mut state = State::new(alloc);
         let mut number = 0usize;
         for line in text.split(|byte| *byte == b'\n') {
             number = number.saturating_add(1);
-            if line.is_empty() {
-                continue;
-            }
-            match state.read_line(alloc, line) {
-                Ok(()) => {}
-                Err(LineFault::NotDump) => return Err(StateFault::NotDump(number)),
-                Err(LineFault::Memory) => return Err(StateFault::Memory),
-            }
+            state.read_numbered(alloc, number, line)?;
         }
         Ok(state)
     }

@@ -1,9 +1,13 @@
 //! What is told of documents that are stored together.
 
-ghost use Rattle.std.specs.Prelude.{◌≡◌, ◌+◌, ◌<◌, IfOk, OnOk, false, get_or, length, map, vec_len};
+ghost use Rattle.std.specs.Prelude.{◌≡◌, ◌+◌, ◌<◌, [], IfOk, OnOk, Some, false, get_or, is_some, length, map, vec_len};
 ghost use Rattle.std.specs.FinMap.{entries};
+ghost use Rattle.std.specs.List.{list_any};
 ghost use Rattle.ent_finder.specs.Slots.{held};
+ghost use Rattle.ent_policy.specs.Same.{same_key};
+ghost use Rattle.ent_together.specs.Filed.{Adds, file_keys};
 ghost use Rattle.ent_together.specs.Root.{root_faults};
+ghost use Rattle.ent_together.specs.Stored.{document_in};
 ghost use Rattle.ent_together.specs.proofs_only.Found.{AreFound};
 ghost use Rattle.ent_together.specs.Together.{far, faults_together, is_endless, is_long, unfound};
 
@@ -64,7 +68,9 @@ pub struct Told {
 }
 
 /// The file of a document, if it comes from one of these.
-fn origin_of<'f, 'a>(files: &'f [Origin<'a>], key: &DocKey) -> Option<&'f Origin<'a>> {
+fn origin_of<'f, 'a>(files: &'f [Origin<'a>], key: &DocKey) -> Option<&'f Origin<'a>>
+    ensures { is_some result ≡ list_any (λ file. same_key file.key key.now) files.now }
+{
     files.iter().find(|file| file.key == *key)
 }
 
@@ -87,7 +93,10 @@ fn pointer(alloc: Global, path: &Items<usize>) -> Result<String, AllocError> {
 
 impl<'a> Together<'a> {
     /// The documents of a state, which is called so.
-    pub fn new(alloc: Global, name: &'a str, state: State) -> Together<'a> {
+    pub fn new(alloc: Global, name: &'a str, state: State) -> Together<'a>
+        ensures state { result.state ≡ state }
+        ensures files { file_keys result ≡ [] }
+    {
         Together {
             alloc,
             state,
@@ -97,7 +106,9 @@ impl<'a> Together<'a> {
     }
 
     /// The file of a document, if it comes from one.
-    fn origin(&self, key: &DocKey) -> Option<&Origin<'a>> {
+    fn origin(&self, key: &DocKey) -> Option<&Origin<'a>>
+        ensures { is_some result ≡ list_any (λ file. same_key file.key key.now) self.now.files.items }
+    {
         origin_of(self.files.as_slice(), key)
     }
 
@@ -106,7 +117,9 @@ impl<'a> Together<'a> {
     /// # Errors
     ///
     /// `AllocError` if memory runs out.
-    pub fn add(&mut self, name: &'a str, text: &'a [u8]) -> Result<Option<String>, AllocError> {
+    pub fn add(&mut self, name: &'a str, text: &'a [u8]) -> Result<Option<String>, AllocError>
+        ensures { IfOk result (λ told. Adds (document_in text.now) (is_some told) self.old self.new) }
+    {
         let alloc = self.alloc;
         let mut scratch = Scratch::new(alloc);
         let Some(json) = read_json(alloc, text, &mut scratch)? else {
@@ -126,7 +139,9 @@ impl<'a> Together<'a> {
         name: &'a str,
         text: &'a [u8],
         document: Document,
-    ) -> Result<Option<String>, AllocError> {
+    ) -> Result<Option<String>, AllocError>
+        ensures { IfOk result (λ told. Adds (Some document) (is_some told) self.old self.new) }
+    {
         let alloc = self.alloc;
         let key = document.key(alloc)?;
         if let Some(first) = self.origin(&key) {
