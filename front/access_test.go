@@ -329,7 +329,7 @@ func told(reply string, before, behind map[string]float64, day bool) string {
 		`{"counts"`: "counts", `{"evaluations"`: "work", `{"table"`: "table", `{"mark"`: "mark", `{"format"`: "format",
 		`{"cell"`: "cell", `{"can"`: "can", `{"who"`: "who", `{"dump"`: "dump", `{"state"`: "state", `{"notices"`: "notices",
 		`{"Response"`: "ask", `{"faults"`: "faults", `{"documents"`: "documents", `{"attributes"`: "attributes",
-		`{"cells"`: "cells", `{"explain"`: "explain", `{"by_rule"`: "by_rule",
+		`{"cells"`: "cells", `{"explain"`: "explain", `{"by_rule"`: "by_rule", `{"limits"`: "limits", `{"names"`: "names",
 	} {
 		if strings.HasPrefix(reply, start) {
 			return command

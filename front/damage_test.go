@@ -13,6 +13,7 @@ import (
 	"review-front/folder"
 	"review-front/frame"
 	"review-front/keeper"
+	"review-front/limits"
 	"review-front/measure"
 	"review-front/program"
 )
@@ -26,7 +27,7 @@ func opened(t *testing.T, path, dump string) (uint64, error) {
 	}
 	defer held.Close()
 	k := keeper.New(keeper.Options{
-		Command: program.Command{Path: theProgram(t), AttributeModules: 2, PolicyModules: 2},
+		Command: program.Command{Path: theProgram(t), AttributeModules: 2, PolicyModules: 2, Limits: limits.Standard},
 		Folder:  held, Meter: measure.New(), Queue: 16, Patience: time.Second, EndingTime: patient,
 	})
 	started, err := k.Start(context.Background())

@@ -11,6 +11,7 @@ import (
 	"review-front/folder"
 	"review-front/keeper"
 	"review-front/ladder"
+	"review-front/limits"
 	"review-front/measure"
 	"review-front/program"
 	"review-front/sessions"
@@ -27,7 +28,7 @@ func kept(t *testing.T, sync func(*os.File) error) *keeper.Keeper {
 	}
 	held.SyncBy(sync)
 	k := keeper.New(keeper.Options{
-		Command: program.Command{Path: theProgram(t), AttributeModules: 2, PolicyModules: 2},
+		Command: program.Command{Path: theProgram(t), AttributeModules: 2, PolicyModules: 2, Limits: limits.Standard},
 		Folder:  held, Meter: measure.New(), Queue: 16, Patience: time.Second, EndingTime: patient,
 		Spool: spool.New(path, 1<<30), Kept: ladder.Bounds{Changes: 1 << 20}, MostSessions: 9,
 	})

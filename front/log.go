@@ -38,7 +38,9 @@ func (o options) edits(ctx context.Context, log *logs.Log) (replicated.Log, erro
 	if o.stream.Servers == "" {
 		return nil, nil
 	}
-	return jetstream.Open(ctx, o.stream, log)
+	stream := o.stream
+	stream.Limits = o.limits
+	return jetstream.Open(ctx, stream, log)
 }
 
 // fetchTime is how long another front may take to give its snapshot.

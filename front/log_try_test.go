@@ -54,6 +54,10 @@ func TestLogTriedBoth(t *testing.T) {
 		eventually(t, "edits are made", func() bool { return fates.acknowledged() > 300 })
 	})
 	fates.same(t, fronts)
+	for i, f := range fronts {
+		f.accept(fmt.Sprintf(`{"do":"person.add","name":"of-%d"}`, i), uniqueEdit(2_000+i, 1))
+		f.accept(uniqueEdit(2_000+i, 2))
+	}
 	for _, f := range fronts {
 		if len(f.spares()) != 1 {
 			t.Errorf("there were the spare programs %v", f.spares())

@@ -82,7 +82,7 @@ decisions/decisions.go decisions TestFiles s/|| isOther) {/|| false \&\& isOther
 web/server.go . TestTraced s/trace != "" && a\.status/false \&\& a.status/
 keeper/compared.go keeper TestWrongTells s/^\t\t\ts\.tell(doubted).*$//
 keeper/compared.go keeper TestStrayLater s/return fmt\.Errorf("the edits on disk can't be compared.*$/_ = err/
-keeper/compared.go . TestLogAstray s/if sum != own\.Sum {/if false {/
+keeper/compared.go . TestLogAstray s/if sum != own\.Sum {/if sum != own.Sum \&\& false {/
 jetstream/append.go . TestLogOrder s/message\.Header\.Set(nats\.ExpectedLastSeqHdr, /message.Header.Set("Nothing", /
 keeper/streamed.go . TestLogStrange s/if !isEditLine(l) {/if false {/
 keeper/appended.go . TestLogKeyed s/case err == nil && l\.passed(id, sequence):/case err == nil \&\& false:/
@@ -90,6 +90,16 @@ keeper/streamed_whole.go . TestLogWhole s/if err == nil && refused != nil {/if f
 folder/copy.go . TestLogWhole s/if f\.head\.Stream == "" {/if true {/
 keeper/streamed_try.go . TestLogTried s/if k\.TryTime == 0 || call\.tried != nil {/if true {/
 keeper/streamed_try.go . TestLogTriedBoth s/ \&\& s\.own\[last\] != s\.broken//
+folder/entry.go folder TestLimits s/head := Head{Limits: limits\.Standard}/head := Head{}/
+folder/copy.go . TestLarger s/Limits: p\.head\.Limits, Stream/Stream/
+folder/copy.go folder TestLimits s/^\tf\.head\.Limits = p\.baseHead\.Limits$//
+folder/copy.go folder TestLimits s/p\.Ends > before {/p.Ends < before {/
+keeper/run.go . TestLarger s/!k\.Command\.Limits\.Hold(held) {/!k.Command.Limits.Hold(held) \&\& false {/
+keeper/compare.go . TestDryFirst s/^const endedFirst = "1000"$/const endedFirst = "0"/
+keeper/compare.go . TestLarger s/, k\.Command\.Limits\.Words()\.\.\.)/)/
+program/program.go . TestLarger s/append(words, c\.Limits\.Words()\.\.\.)\.\.\.)/words...)/
+jetstream/open.go . TestLogLarger s/case limitsOf(config) != l\.Limits\.String():/case false:/
+options.go . TestLimitWords s/case o\.limits\.Wrong() != "":/case false:/
 ROWS
 tests=$(awk '{ print "^" $3 "$" }' "$aside/rows" | sort -u | paste -sd '|')
 ./build.sh go test -count=1 -run "$tests" ./... >"$aside/said" 2>&1 || { cat "$aside/said"; exit 1; }

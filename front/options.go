@@ -9,6 +9,7 @@ import (
 	"time"
 
 	"review-front/jetstream"
+	"review-front/limits"
 )
 
 // options is what the words of the command line say.
@@ -16,6 +17,7 @@ type options struct {
 	program          string
 	attributeModules int
 	policyModules    int
+	limits           limits.Limits
 	journal          string
 	stream           jetstream.Options
 	copied           string
@@ -116,6 +118,7 @@ func (o *options) name(set *flag.FlagSet) {
 	set.StringVar(&o.program, "program", "", "the `file` of the program review")
 	set.IntVar(&o.attributeModules, "attribute-modules", 2, "how many modules of attributes the program has")
 	set.IntVar(&o.policyModules, "policy-modules", 2, "how many modules of policies the program has")
+	o.limits.Name(set.IntVar)
 	set.StringVar(&o.journal, "journal", "", "the `folder` of journals and snapshots, which is made if it isn't there")
 	set.StringVar(&o.stream.Servers, "log", "", "in place of --journal: the `addresses` of servers of NATS, with commas "+
 		"between, that keep the edits of several fronts in one order")
@@ -207,6 +210,8 @@ func (o options) wrong(rest []string) string {
 		return "--by-header-from needs --by-header and --clients"
 	case o.attributeModules < 1 || o.attributeModules > 4 || o.policyModules < 1 || o.policyModules > 4:
 		return "there are 1 to 4 modules of each sort"
+	case o.limits.Wrong() != "":
+		return o.limits.Wrong()
 	case o.queue < 1 || o.connections < 1 || o.each < 0:
 		return "--queue and --connections are at least 1, and --connections-each at least 0"
 	case o.decisionsSize < 1:

@@ -21,6 +21,8 @@ var samples = map[string][2]string{
 	"/dump":                                 {"/dump?version=2", `{"dump":["{\"do\":\"format\",\"version\":2}"`},
 	"/format":                               {"/format?version=2", `{"format":2}`},
 	"/state":                                {"/state", `{"state":{`},
+	"/limits":                               {"/limits", `{"limits":{"actions":{"most":32,"taken":`},
+	"/names":                                {"/names?list=people&from=1&count=2", `{"names":["`},
 	"/documents":                            {"/documents?id=records", `{"documents":[{`},
 	"/attributes":                           {"/attributes?category=AccessSubject&entity=ada", `{"attributes":[{`},
 	"/cells":                                {"/cells?person=hana&decisions=Deny&decisions=Permit", `{"cells":[{`},

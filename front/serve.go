@@ -107,6 +107,7 @@ func serve(ctx context.Context, again <-chan os.Signal, o options, log *logs.Log
 	if err != nil {
 		return err
 	}
+	tellReady(log)
 	e := &ending{options: o, log: log, server: server, site: site, failed: failed}
 	return e.until(ctx, started)
 }
@@ -146,16 +147,22 @@ func (o options) returnTime() time.Duration {
 	return returning
 }
 
+// command is how each program is started.
+func (o options) command(log *logs.Log) program.Command {
+	return program.Command{
+		Path: o.program, AttributeModules: o.attributeModules, PolicyModules: o.policyModules, Limits: o.limits,
+		Faults: log.Lines(),
+	}
+}
+
 // keeping is what the keeper of a folder works with.
 func (o options) keeping(
 	held *folder.Folder, edits replicated.Log, kept *spool.Spool, log *logs.Log, meter *measure.Meter,
 ) keeper.Options {
 	return keeper.Options{
 		Others: o.otherFronts(), CheckEvery: o.checkEvery,
-		Command: program.Command{
-			Path: o.program, AttributeModules: o.attributeModules, PolicyModules: o.policyModules, Faults: log.Lines(),
-		},
-		Folder: held, Stream: edits, Spool: kept, Log: log, Meter: meter, Queue: o.queue, Patience: o.patience,
+		Command: o.command(log),
+		Folder:  held, Stream: edits, Spool: kept, Log: log, Meter: meter, Queue: o.queue, Patience: o.patience,
 		SnapshotEvery: o.snapshotEvery, ReplayTime: o.replayTime, Keep: o.keep, Reads: o.reads,
 		ReplyTime: o.replyTime, EndingTime: o.half(), Askers: o.askers, TryTime: o.tryTime,
 		Kept:         ladder.Bounds{Changes: o.keepChanges, Took: o.replayTime / 2, Recent: o.returnTime()},

@@ -3,7 +3,6 @@ package main
 import (
 	"review-front/access"
 	"review-front/logs"
-	"review-front/program"
 	"review-front/rights"
 )
 
@@ -22,9 +21,7 @@ func (o options) who(log *logs.Log) (*who, error) {
 	var err error
 	w.gate, err = access.Open(access.Options{File: o.access, Issuer: o.issuer, Keys: o.issuerKeys, Audience: o.audience})
 	if err == nil && o.rights != "" {
-		w.rights, err = rights.Open(program.Command{
-			Path: o.program, AttributeModules: o.attributeModules, PolicyModules: o.policyModules, Faults: log.Lines(),
-		}, o.rights, o.replyTime)
+		w.rights, err = rights.Open(o.command(log), o.rights, o.replyTime)
 	}
 	return w, err
 }

@@ -194,3 +194,26 @@ func TestDryTime(t *testing.T) {
 		t.Errorf("with three modules it is answered %+v", got)
 	}
 }
+
+// TestDryFirst sees that the system is told to end the program that compares before any other for want of memory.
+func TestDryFirst(t *testing.T) {
+	program := filepath.Join(t.TempDir(), "review")
+	script := fmt.Sprintf(`#!/bin/sh
+[ "$1" = compare ] || exec '%s' "$@"
+for i in $(seq 1000); do
+	[ "$(cat /proc/$$/oom_score_adj)" = 1000 ] && break
+	sleep 0.01
+done
+cat <&3 >/dev/null
+cat /proc/$$/oom_score_adj
+`, theProgram(t))
+	if err := os.WriteFile(program, []byte(script), 0o700); err != nil {
+		t.Fatal(err)
+	}
+	f := begin(t, t.TempDir(), "--program", program)
+	f.accept(clinic(t)...)
+	got := f.send(t, http.MethodPost, "/lines?dry=1", noting("x", 1))
+	if got.status != http.StatusOK || got.body != "1000" {
+		t.Errorf("it is answered %+v", got)
+	}
+}

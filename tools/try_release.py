@@ -2,73 +2,70 @@
 """Tries a package: installs it in a root of its own, serves with it, upgrades to it, removes and purges it.
 
     try_release.py PACKAGE.deb
+    try_release.py --booted PACKAGE.deb    begins systemd in that root, which starts the unit as the README says
 
-The root is this machine's, with a layer over it that is thrown away: it needs the right to mount (root). What each step
-printed that is to be seen stands in what is printed. The status is 0 where all is as it should be, 1 where it isn't,
-and 3 where no layer can be mounted."""
+The root is this machine's, with a layer over it that is thrown away, and a network of its own: it needs the right to
+mount (root). What each step printed that is to be seen stands in what is printed. The status is 0 where all is as it
+should be, 1 where it isn't, and 3 where no layer can be mounted, or systemd can't be begun."""
+import os
 import pathlib
 import subprocess
 import sys
 import tempfile
+import time
 
-DUMP = pathlib.Path(__file__).resolve().parent / 'release' / 'dump-1.0.0.jsonl'
-# What is run in that root: $1 is the package, $2 one of an older version, $3 what 1.0.0 wrote as a dump.
-STEPS = r'''
-set -eu
-say() { echo "== $*"; }
-fail() { echo "try_release.py: $*"; exit 1; }
-ask() { curl -sf --data-binary "$1" http://127.0.0.1:18080/lines; }
-front() {
-    /usr/sbin/runuser -u review -- /usr/bin/review-front --program /usr/lib/review/review --journal /var/lib/review \
-        --listen 127.0.0.1:18080 >/tmp/front.log 2>&1 &
-    served=$!
-    for _ in $(seq 200); do curl -sf http://127.0.0.1:18080/readyz >/dev/null && return; sleep 0.1; done
-    cat /tmp/front.log; fail "the front isn't ready"
-}
-ended() { kill "$(pgrep -u review -x review-front | head -n 1)"; wait "$served" || fail "the front ended with $?"; }
-
-say "installed: an older version"
-dpkg -i "$2" >/tmp/dpkg.log 2>&1 || { cat /tmp/dpkg.log; fail "dpkg -i"; }
-id review; stat -c '%U %a %n' /var/lib/review
-if command -v systemd-analyze >/dev/null; then
-    say "the unit"; systemd-analyze verify /lib/systemd/system/review.service
-fi
-say "the clinic over the installed program"
-counts=$(review serve </usr/share/doc/review/examples/clinic/clinic.jsonl | tail -n 1)
-echo "$counts"
-[ "$counts" = '{"counts":{"Deny":37,"Indeterminate":2,"NotApplicable":349,"Permit":92}}' ] || fail "other counts"
-(cd /usr/share/doc/review/examples/clinic && review test --state clinic.jsonl expected.txt)
-say "what 1.0.0 dumped of the clinic"
-(cat "$3"; echo '{"do":"dump"}') | review serve | tail -n 1 | review lines | cmp - "$3" || fail "another dump"
-say "served, and edited"
-front
-curl -sf --data-binary @/usr/share/doc/review/examples/clinic/clinic.jsonl http://127.0.0.1:18080/lines | tail -n 1
-before=$(ask '{"do":"dump"}' | sha256sum)
-ended
-say "upgraded, with the journal that stands"
-dpkg -i "$1" >/tmp/dpkg.log 2>&1 || { cat /tmp/dpkg.log; fail "dpkg -i over the older version"; }
-dpkg-query -W review
-front
-[ "$(ask '{"do":"dump"}' | sha256sum)" = "$before" ] || fail "another state behind the upgrade"
-ended
-say "manual pages, completions, sums"
-for page in review review-serve review-check review-test review-compare review-front; do
-    [ -e /usr/share/man/man1/$page.1 ] || fail "no manual page of $page"
-done
-if command -v man >/dev/null; then man -l --warnings /usr/share/man/man1/review-serve.1 | head -n 4; fi
-bash -c '. /usr/share/bash-completion/completions/review
-    COMP_WORDS=(review ch); COMP_CWORD=1; _review; echo "${COMPREPLY[*]}"'
-(cd / && sha256sum --quiet -c /usr/share/doc/review/SHA256SUMS)
-head -n 6 /usr/share/doc/review/PROVED
-python3 -m json.tool /usr/share/doc/review/review.spdx.json >/dev/null
-say "removed"
-dpkg -r review >/tmp/dpkg.log 2>&1 || { cat /tmp/dpkg.log; fail "dpkg -r"; }
-[ -d /var/lib/review ] || fail "what was edited is gone"
-[ ! -e /usr/bin/review ] || fail "the program is still there"
-say "purged"
-dpkg -P review >/tmp/dpkg.log 2>&1 || { cat /tmp/dpkg.log; fail "dpkg -P"; }
-[ ! -d /var/lib/review ] && ! id review 2>/dev/null || fail "something is left"
+HERE = pathlib.Path(__file__).resolve().parent / 'release'
+DUMP = HERE / 'dump-1.0.0.jsonl'
+# A layer over the root of $1, below which nothing is changed, with a network that has this machine alone.
+LAYER = r'''
+set -e
+cd "$1"; mount -t tmpfs none .; cd "$1"; mkdir up work root
+mount -t overlay overlay -o lowerdir=/,upperdir=up,workdir=work root; cd root
+mount -t proc proc proc
+rm -f var/lib/man-db/auto-update
+python3 -c 'import fcntl, socket, struct
+fcntl.ioctl(socket.socket(), 0x8914, struct.pack("16sH14s", b"lo", 1, b""))'
 '''
+# The steps of $2 are run there, over the other files.
+STEPS = r'''
+mount --rbind /dev dev; mount -t tmpfs none tmp; chmod 1777 tmp
+shift; cp "$@" tmp/
+for file; do set -- "$@" "/tmp/${file##*/}"; shift; done
+exec chroot . bash "$@"
+'''
+# Systemd runs them there, as the one thing behind basic.target, and ends. What they say, and their status, is left in
+# the folder $2.
+BOOTED = r'''
+mount -t sysfs -o ro sysfs sys; mount -t cgroup2 cgroup2 sys/fs/cgroup
+mount --bind proc/sys proc/sys; mount -o remount,bind,ro proc/sys
+mount -t tmpfs -o mode=755 none dev; mkdir dev/pts dev/shm dev/mqueue dev/hugepages
+mount -t devpts -o newinstance,ptmxmode=0666 devpts dev/pts; ln -s pts/ptmx dev/ptmx; ln -s /proc/self/fd dev/fd
+number=3; for name in null . zero . full random urandom; do
+    if [ $name != . ]; then mknod -m 666 dev/$name c 1 $number; fi; number=$((number + 1))
+done
+mknod -m 666 dev/tty c 5 0; mknod -m 600 dev/console c 5 1
+mount -t tmpfs -o mode=755 none run
+mkdir -p srv/out; mount --bind "$2" srv/out; shift 2; cp "$@" srv/
+rm -rf etc/systemd/system; mkdir etc/systemd/system
+printf '[Unit]\nRequires=basic.target\nWants=trial.service\nAfter=basic.target\n' >etc/systemd/system/trial.target
+cat >etc/systemd/system/trial.service <<UNIT
+[Unit]
+After=basic.target
+[Service]
+Type=oneshot
+StandardOutput=append:/srv/out/told
+StandardError=inherit
+ExecStart=/bin/sh -c 'bash /srv/${1##*/} /srv/${2##*/}; echo $? >/srv/out/status'
+ExecStopPost=/bin/systemctl --force --force poweroff
+UNIT
+pivot_root . mnt
+exec setpriv --bounding-set=-sys_module,-sys_time chroot . sh -c 'umount -l /mnt; container=other exec \
+    /lib/systemd/systemd --system --unit=trial.target --show-status=no --log-target=console' >/srv/out/systemd 2>&1
+'''
+# What is the layer's own.
+KINDS = ['--mount', '--pid', '--net']
+# How long systemd may take with all of them.
+BOOTED_SECONDS = 600
 
 
 def older(package, folder):
@@ -84,34 +81,79 @@ def older(package, folder):
     return to
 
 
-def inside(package, before, folder):
-    """The words that run the steps in a layer over this root, below which nothing is changed."""
-    script = folder / 'steps.sh'
-    script.write_text(STEPS)
-    layer = (
-        f'set -e; cd {folder}/layer; mount -t tmpfs none .; cd {folder}/layer; mkdir up work root; '
-        'mount -t overlay overlay -o lowerdir=/,upperdir=up,workdir=work root; cd root; '
-        'mount -t proc proc proc; mount --rbind /dev dev; mount -t tmpfs none tmp; chmod 1777 tmp; '
-        f'cp {package} {before} {script} {DUMP} tmp/; '
-        f'exec chroot . bash /tmp/{script.name} /tmp/{package.name} /tmp/{before.name} /tmp/{DUMP.name}'
-    )
-    return ['unshare', '--mount', '--pid', '--fork', '--kill-child', 'sh', '-c', layer]
+def unshared(kinds, script, *words):
+    """The words that run a script by itself with those words."""
+    return ['unshare', *kinds, '--fork', '--kill-child', 'sh', '-c', script, 'sh', *map(str, words)]
+
+
+def tried(package, folder):
+    """Whether all steps went well in the layer."""
+    files = [HERE / 'steps.sh', package, older(package, folder), DUMP]
+    return subprocess.run(unshared(KINDS, LAYER + STEPS, folder / 'layer', *files), check=False).returncode == 0
+
+
+class Group:
+    """A group of processes for a systemd, of which it takes this one to be the first."""
+
+    def __init__(self):
+        mounts = [line.split() for line in pathlib.Path('/proc/mounts').read_text().splitlines()]
+        self.path = pathlib.Path(next(mount[1] for mount in mounts if mount[2] == 'cgroup2')) / f'review-{os.getpid()}'
+
+    def __enter__(self):
+        self.path.mkdir()
+        return self
+
+    def joined(self):
+        (self.path / 'cgroup.procs').write_text('0')
+
+    def __exit__(self, *_):
+        # What was killed stays in it for a moment.
+        for path in sorted(self.path.glob('**/'), reverse=True):
+            for _ in range(100):
+                try:
+                    path.rmdir()
+                    break
+                except OSError:
+                    time.sleep(0.1)
+
+
+def booted(package, folder):
+    """Whether all steps went well under a systemd; None where there was none."""
+    out = folder / 'out'
+    out.mkdir()
+    kinds = [*KINDS, '--ipc', '--uts', '--cgroup']
+    words = unshared(kinds, LAYER + BOOTED, folder / 'layer', out, HERE / 'booted.sh', package)
+    with Group() as group:
+        try:
+            subprocess.run(words, check=False, preexec_fn=group.joined, timeout=BOOTED_SECONDS)
+        except subprocess.TimeoutExpired:
+            pass
+    told, status = out / 'told', out / 'status'
+    if not told.exists():
+        print((out / 'systemd').read_text() if (out / 'systemd').exists() else 'systemd was not begun')
+        return None
+    print(told.read_text(), end='')
+    return status.exists() and status.read_text().strip() == '0'
 
 
 def main():
-    if len(sys.argv) != 2:
-        print('try_release.py PACKAGE.deb', file=sys.stderr)
+    words = [word for word in sys.argv[1:] if word != '--booted']
+    if len(words) != 1:
+        print('try_release.py [--booted] PACKAGE.deb', file=sys.stderr)
         return 2
-    package = pathlib.Path(sys.argv[1]).resolve()
-    if subprocess.run(['unshare', '--mount', 'mount', '-t', 'tmpfs', 'none', '/mnt'], check=False).returncode:
+    package = pathlib.Path(words[0]).resolve()
+    if subprocess.run(unshared(KINDS, 'mount -t tmpfs none /mnt'), check=False).returncode:
         print('tools/try_release.py was not run: no layer can be mounted here')
         return 3
     with tempfile.TemporaryDirectory() as name:
         folder = pathlib.Path(name)
         (folder / 'layer').mkdir()
-        ran = subprocess.run(inside(package, older(package, folder), folder), check=False)
-    print('the package is as it should be' if ran.returncode == 0 else 'the package is not as it should be')
-    return 1 if ran.returncode else 0
+        went = (booted if '--booted' in sys.argv else tried)(package, folder)
+    if went is None:
+        print('tools/try_release.py --booted was not run: systemd does not begin here')
+        return 3
+    print('the package is as it should be' if went else 'the package is not as it should be')
+    return 0 if went else 1
 
 
 if __name__ == '__main__':

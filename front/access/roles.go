@@ -8,14 +8,14 @@ var Roles = map[string][]string{
 	"ask": {"ask"},
 	"read": {
 		"table", "cell", "counts", "can", "who", "by_rule", "cells", "documents", "attributes", "explain", "faults", "state",
-		"work", "format",
+		"limits", "names", "work", "format",
 	},
 	"audit": {"mark", "notices", "changes"},
 	"edit": {
 		"person.add", "person.drop", "action.add", "action.drop", "resource.add", "resource.drop", "policy.add",
 		"policy.replace", "policy.withdraw", "root.set", "attr.set", "day.set", "moment.set",
 	},
-	"operate": {"dump", "day.set", "moment.set", "state", "work", "format"},
+	"operate": {"dump", "day.set", "moment.set", "state", "limits", "work", "format"},
 	Metrics:   {Metrics},
 }
 

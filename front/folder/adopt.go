@@ -9,6 +9,7 @@ import (
 	"time"
 
 	"review-front/frame"
+	"review-front/limits"
 )
 
 // setAside begins the name of a folder into which what stood in one was put.
@@ -44,7 +45,7 @@ func (f *Folder) SetAside() error {
 			return fmt.Errorf("the folder of journals: %w", err)
 		}
 	}
-	f.last, f.first, f.before, f.stream = 0, 0, nil, ""
+	f.last, f.first, f.before, f.stream, f.limits = 0, 0, nil, "", limits.Limits{}
 	return f.syncFolder()
 }
 

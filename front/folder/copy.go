@@ -72,7 +72,7 @@ func Copy(from, to string, until Until, mend bool) (*Copied, error) {
 type plan struct {
 	Copied
 	journals []uint64 // those that have the edits
-	head     Head     // that of the first of them, or of the snapshot
+	head     Head     // that of the last of them with an edit, which may have larger limits, or of the snapshot
 	base     *Snapshot
 	baseHead Head
 	until    Until
@@ -147,6 +147,7 @@ func (s *survey) plan(begin uint64, until Until) *plan {
 			p.Fault = &frame.Damage{File: named(s.path, journalName, p.Ends+1), What: "it isn't there"}
 			return p
 		}
+		before := p.Ends
 		j, err := s.walk(number, math.MaxInt64, func(_ *journal, entry Entry, _ Place) error {
 			if entry.Serial > begin && until.ends(entry) {
 				return errEnough
@@ -156,7 +157,7 @@ func (s *survey) plan(begin uint64, until Until) *plan {
 			}
 			return nil
 		})
-		if len(p.journals) == 0 {
+		if len(p.journals) == 0 || p.Ends > before {
 			p.head = j.head
 		}
 		p.journals = append(p.journals, number)
@@ -212,7 +213,7 @@ func (p *plan) write(s *survey, to string) error {
 	f.last = p.Begins
 	if err := f.Begin(Head{
 		Program: p.head.Program, AttributeModules: p.head.AttributeModules, PolicyModules: p.head.PolicyModules,
-		Stream: p.head.Stream,
+		Limits: p.head.Limits, Stream: p.head.Stream,
 	}); err != nil {
 		return err
 	}
@@ -223,6 +224,7 @@ func (p *plan) write(s *survey, to string) error {
 		return nil
 	}
 	f.head.AttributeModules, f.head.PolicyModules = p.baseHead.AttributeModules, p.baseHead.PolicyModules
+	f.head.Limits = p.baseHead.Limits
 	return f.Keep(p.base)
 }
 

@@ -7,6 +7,7 @@ import (
 	"time"
 
 	"review-front/frame"
+	"review-front/limits"
 )
 
 // Format is the version of what stands in the files of a folder. Files of the first one are read too: their journals
@@ -25,6 +26,8 @@ type Head struct {
 	Program          string    `json:"program"`
 	AttributeModules int       `json:"attribute_modules"`
 	PolicyModules    int       `json:"policy_modules"`
+	// Limits are those of the program; files of before there were any have none, and are of a standard one.
+	Limits limits.Limits `json:"limits"`
 	// Stream is of which stream the edits are, whose sequences are their serials; without one each serial follows the
 	// last.
 	Stream string `json:"stream,omitempty"`
@@ -155,7 +158,7 @@ func readHead(records *frame.Reader, kind string) (Head, error) {
 	if err != nil {
 		return Head{}, err
 	}
-	var head Head
+	head := Head{Limits: limits.Standard}
 	if err := json.Unmarshal(record, &head); err != nil || head.Kind != kind {
 		return Head{}, records.Damage("it doesn't begin with the head of a " + kind)
 	}

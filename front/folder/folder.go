@@ -22,6 +22,8 @@ import (
 	"sync"
 	"syscall"
 	"time"
+
+	"review-front/limits"
 )
 
 const (
@@ -50,6 +52,7 @@ type Folder struct {
 	first   uint64 // the number of the first journal that has to stand
 	checked uint64 // from which journal on Recover has read them
 	stream  string // of which the newest journal's edits are, or nothing
+	limits  limits.Limits
 	chained bool   // whether each journal that stood has its predecessor's checksum
 	last    uint64 // the serial of the last edit that is on disk
 	broken  error  // why nothing can be written, if so
@@ -139,6 +142,9 @@ func (f *Folder) Chained() bool { return f.chained }
 
 // Stream is of which stream the edits of the newest journal are, or nothing.
 func (f *Folder) Stream() string { return f.stream }
+
+// Limits are those of the program of the newest journal, and nothing where there is none.
+func (f *Folder) Limits() limits.Limits { return f.limits }
 
 // numbered lists the numbers of the files of a kind, in their order.
 func numbered(path, kind string) ([]uint64, error) {

@@ -57,7 +57,7 @@ func (f *Folder) recover(s *survey, since uint64) (*Torn, error) {
 			return nil, err
 		}
 	}
-	f.last, f.before, f.stream = j.last, j.head.Before, j.head.Stream
+	f.last, f.before, f.stream, f.limits = j.last, j.head.Before, j.head.Stream, j.head.Limits
 	if j.last >= j.number {
 		f.before = j.part()
 	}

@@ -33,16 +33,32 @@ func (l *log) confirmed(ctx context.Context, brought []replicated.Edit, from *na
 		}(i)
 	}
 	all.Wait()
-	for i, edit := range led {
-		if failed[i] != nil {
-			return led[:i], failed[i]
-		}
-		if !isSame(edit, brought[i]) {
-			l.log.Error("a server of the stream has another edit than the one that leads: its store is to be emptied",
-				"sequence", edit.Sequence, "server", serverOf(from))
+	var err error
+	for i := range led {
+		if err = failed[i]; err != nil {
+			led = led[:i]
+			break
 		}
 	}
-	return led, nil
+	l.compare(led, brought, from)
+	return led, err
+}
+
+// compare says so where a server brought other edits than the one has that leads.
+func (l *log) compare(led, brought []replicated.Edit, from *nats.Subscription) {
+	first, count := uint64(0), 0
+	for i, edit := range led {
+		if isSame(edit, brought[i]) {
+			continue
+		}
+		if count++; count == 1 {
+			first = edit.Sequence
+		}
+	}
+	if count > 0 {
+		l.log.Error("a server of the stream has other edits than the one that leads: its store is to be emptied",
+			"sequence", first, "edits", count, "server", serverOf(from))
+	}
 }
 
 // serverOf is the name of the server at which a consumer stands.

@@ -13,6 +13,7 @@ import (
 
 	"github.com/nats-io/nats.go"
 
+	"review-front/limits"
 	"review-front/logs"
 	"review-front/replicated"
 )
@@ -26,6 +27,8 @@ const (
 	askTime = 2 * time.Second
 	// makeTime is how long they may take to make the stream.
 	makeTime = 5 * time.Second
+	// ofPrograms begins what a stream says of itself; the limits of its programs follow.
+	ofPrograms = "edits of programs with "
 	// firstPause and lastPause lie between two tries to reach the stream.
 	firstPause = 100 * time.Millisecond
 	lastPause  = 2 * time.Second
@@ -116,7 +119,7 @@ func (l *log) find(ctx context.Context) error {
 		defer cancel()
 		info, err = l.jet.AddStream(&nats.StreamConfig{
 			Name: l.Stream, Subjects: []string{l.Stream + ".edits"}, Replicas: l.Replicas, Storage: nats.FileStorage,
-			Duplicates: remembered, DenyDelete: true,
+			Duplicates: remembered, DenyDelete: true, Description: ofPrograms + l.Limits.String(),
 		}, nats.Context(making))
 	}
 	if err != nil {
@@ -125,7 +128,16 @@ func (l *log) find(ctx context.Context) error {
 	return l.take(info.Config)
 }
 
-// take sees that a stream is fit for edits.
+// limitsOf are the limits of a stream's programs, as words. One of before there were any has those of a standard one.
+func limitsOf(config nats.StreamConfig) string {
+	if strings.HasPrefix(config.Description, ofPrograms) {
+		return strings.TrimPrefix(config.Description, ofPrograms)
+	}
+	return limits.Standard.String()
+}
+
+// take sees that a stream is fit for edits. Edits that were refused for a limit stand in it too: under any other one
+// they wouldn't be.
 func (l *log) take(config nats.StreamConfig) error {
 	switch {
 	case len(config.Subjects) != 1 || strings.ContainsAny(config.Subjects[0], "*>"):
@@ -136,6 +148,9 @@ func (l *log) take(config nats.StreamConfig) error {
 		return &unfit{fmt.Sprintf("the stream %s forgets old edits for new ones", l.Stream)}
 	case config.MaxMsgSize > 0 && config.MaxMsgSize < room || l.connection.MaxPayload() < room:
 		return &unfit{fmt.Sprintf("the servers of the stream have to take messages of %d bytes (max_payload)", room)}
+	case limitsOf(config) != l.Limits.String():
+		return &unfit{fmt.Sprintf("the stream %s is of programs with %s, and this one has %v: all have the same",
+			l.Stream, limitsOf(config), l.Limits)}
 	}
 	l.subject = config.Subjects[0]
 	return nil

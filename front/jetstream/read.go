@@ -16,6 +16,8 @@ import (
 const (
 	// quiet is how long nothing comes until it is asked whether there is nothing.
 	quiet = time.Second
+	// heartbeat is how often a server says that nothing comes.
+	heartbeat = 5 * time.Second
 	// mostShort is how often the stream may say that it ends before what was read: a new leader says so for a while.
 	mostShort = 30
 	// mostTogether and bytesTogether are how many edits are asked of the leader at once, and about how long these are.
@@ -27,8 +29,10 @@ const (
 
 // Read hands out all edits behind a sequence.
 func (l *log) Read(ctx context.Context, behind uint64, take func(replicated.Edit) error) error {
-	from, err := l.jet.SubscribeSync(l.subject, nats.OrderedConsumer(), nats.BindStream(l.Stream),
-		nats.StartSequence(behind+1))
+	// The client's ordered consumer begins anew by itself, twice at once where the machine stood still. A gap is seen
+	// here.
+	from, err := l.jet.SubscribeSync(l.subject, nats.BindStream(l.Stream), nats.StartSequence(behind+1), nats.AckNone(),
+		nats.ConsumerReplicas(1), nats.ConsumerMemoryStorage(), nats.EnableFlowControl(), nats.IdleHeartbeat(heartbeat))
 	if err != nil {
 		return fmt.Errorf("reading the stream: %w", err)
 	}

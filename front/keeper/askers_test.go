@@ -12,6 +12,7 @@ import (
 	"time"
 
 	"review-front/folder"
+	"review-front/limits"
 	"review-front/line"
 	"review-front/logs"
 	"review-front/measure"
@@ -42,8 +43,10 @@ func keeping(t testing.TB, more func(*Options)) *Keeper {
 		log = logs.New(logged{t})
 	}
 	options := Options{
-		Command: program.Command{Path: path, AttributeModules: 2, PolicyModules: 2, Faults: os.Stderr},
-		Folder:  held, Log: log, Meter: measure.New(), Queue: 256, Patience: time.Minute, EndingTime: time.Minute,
+		Command: program.Command{
+			Path: path, AttributeModules: 2, PolicyModules: 2, Limits: limits.Standard, Faults: os.Stderr,
+		},
+		Folder: held, Log: log, Meter: measure.New(), Queue: 256, Patience: time.Minute, EndingTime: time.Minute,
 	}
 	more(&options)
 	k := New(options)

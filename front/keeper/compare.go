@@ -21,6 +21,9 @@ var ErrModules = errors.New("what would change is told of two modules of attribu
 // compareModules is how many modules of each sort the states have that are compared.
 const compareModules = 2
 
+// endedFirst is what the system is told of a process that it is to end first for want of memory.
+const endedFirst = "1000"
+
 // The statuses with which a comparison ends that found a difference, and one with a line that is refused.
 const (
 	statusDiffers = 1
@@ -38,11 +41,7 @@ func (k *Keeper) Compare(ctx context.Context, changes []byte) ([]byte, uint64, e
 		return nil, 0, fmt.Errorf("a pipe for a state: %w", err)
 	}
 	var told bytes.Buffer
-	compared := exec.CommandContext(ctx, k.Command.Path, "compare", "/dev/fd/3", "-")
-	compared.ExtraFiles = []*os.File{state}
-	compared.Stdin, compared.Stdout, compared.Stderr = bytes.NewReader(changes), &told, k.Command.Faults
-	// It ends with the front, or rather with the thread that starts it.
-	compared.SysProcAttr = &syscall.SysProcAttr{Setpgid: true, Pdeathsig: syscall.SIGKILL}
+	compared := k.comparing(ctx, state, changes, &told)
 	runtime.LockOSThread()
 	defer runtime.UnlockOSThread()
 	err = compared.Start()
@@ -51,6 +50,9 @@ func (k *Keeper) Compare(ctx context.Context, changes []byte) ([]byte, uint64, e
 		lines.Close()
 		return nil, 0, fmt.Errorf("what would change: %w", err)
 	}
+	// It may take gigabytes: where the machine has no more, the system is to end it before any other. What it doesn't
+	// take for that is compared all the same.
+	_ = os.WriteFile(fmt.Sprintf("/proc/%d/oom_score_adj", compared.Process.Pid), []byte(endedFirst), 0)
 	serial, err := k.writeState(lines)
 	lines.Close()
 	ended := compared.Wait()
@@ -66,6 +68,17 @@ func (k *Keeper) Compare(ctx context.Context, changes []byte) ([]byte, uint64, e
 		return nil, 0, fmt.Errorf("what would change: %w", err)
 	}
 	return told.Bytes(), serial, nil
+}
+
+// comparing is a program that compares a state with what changes make of it. It ends with the front, or rather with the
+// thread that starts it.
+func (k *Keeper) comparing(ctx context.Context, state *os.File, changes []byte, told io.Writer) *exec.Cmd {
+	words := append([]string{"compare", "/dev/fd/3", "-"}, k.Command.Limits.Words()...)
+	compared := exec.CommandContext(ctx, k.Command.Path, words...)
+	compared.ExtraFiles = []*os.File{state}
+	compared.Stdin, compared.Stdout, compared.Stderr = bytes.NewReader(changes), told, k.Command.Faults
+	compared.SysProcAttr = &syscall.SysProcAttr{Setpgid: true, Pdeathsig: syscall.SIGKILL}
+	return compared
 }
 
 // writeState writes the lines of the state of the last edit on disk, and gives its serial.

@@ -12,6 +12,7 @@ import (
 	"time"
 
 	"review-front/folder"
+	"review-front/limits"
 	"review-front/line"
 	"review-front/logs"
 	"review-front/program"
@@ -105,8 +106,10 @@ func comparing(t *testing.T, edits int) (*sums, *fakeStream, []byte) {
 	t.Cleanup(func() { held.Close() })
 	stream := &fakeStream{}
 	k := New(Options{
-		Command: program.Command{Path: path, AttributeModules: 2, PolicyModules: 2, Faults: os.Stderr},
-		Folder:  held, Log: logs.New(stream), Stream: stream, CheckEvery: 10,
+		Command: program.Command{
+			Path: path, AttributeModules: 2, PolicyModules: 2, Limits: limits.Standard, Faults: os.Stderr,
+		},
+		Folder: held, Log: logs.New(stream), Stream: stream, CheckEvery: 10,
 	})
 	w, err := k.start()
 	if err != nil {
@@ -219,10 +222,13 @@ func TestStrayLater(t *testing.T) {
 	ended := s.runs(t)
 	s.add(10, dump)
 	s.hear(replicated.Sum{Front: "another", Sequence: 10, Sum: "another"})
+	stream.until(t, "it is known who is wrong", func() bool {
+		return len(ended) > 0 || stream.logged("another front is wrong")
+	})
+	if stream.logged("another front is wrong") {
+		t.Fatal("another front is said to be wrong")
+	}
 	if err := <-ended; !errors.Is(err, errStray) || !strings.Contains(err.Error(), "sequence 7") {
 		t.Errorf("it ends with %v", err)
-	}
-	if stream.logged("another front is wrong") {
-		t.Error("another front is said to be wrong")
 	}
 }

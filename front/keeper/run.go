@@ -3,6 +3,7 @@ package keeper
 import (
 	"context"
 	"errors"
+	"fmt"
 	"sync"
 	"time"
 
@@ -28,6 +29,9 @@ func (k *Keeper) Start(ctx context.Context) (*Started, error) {
 			return nil, err
 		}
 	}
+	if held := k.Folder.Limits(); !k.Command.Limits.Hold(held) {
+		return nil, fmt.Errorf("the folder is of a program with %v, and this one has %v", held, k.Command.Limits)
+	}
 	if err := k.Keys.Recover(k.Folder.Last()); err != nil {
 		return nil, err
 	}
@@ -51,7 +55,7 @@ func (k *Keeper) Start(ctx context.Context) (*Started, error) {
 	k.want()
 	err = k.Folder.Begin(folder.Head{
 		Program: k.version, AttributeModules: k.Command.AttributeModules, PolicyModules: k.Command.PolicyModules,
-		Stream: name,
+		Limits: k.Command.Limits, Stream: name,
 	})
 	if err != nil {
 		k.Log.Error("edits are refused until a journal can be written", "error", err)

@@ -9,7 +9,7 @@ import (
 // short has the questions whose replies are shorter than the table and all that is held.
 var short = map[string]bool{
 	"cell": true, "ask": true, "counts": true, "can": true, "who": true, "work": true, "format": true, "state": true,
-	"explain": true,
+	"explain": true, "limits": true,
 }
 
 // marks has the questions that rest on marks.

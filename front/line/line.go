@@ -41,7 +41,7 @@ var kinds = map[string]Kind{
 	"root.set": Edit, "attr.set": Edit, "day.set": Edit, "moment.set": Edit,
 	"mark": Mark, "notices": Notices, "changes": Changes,
 	"table": Report, "by_rule": Report, "dump": Report,
-	"documents": Report, "attributes": Report, "cells": Report, "faults": Report,
+	"documents": Report, "attributes": Report, "cells": Report, "faults": Report, "names": Report,
 }
 
 // Read says what kind of command a line is, for a mark or notices the session that it names, and for changes the

@@ -16,14 +16,16 @@ import (
 	"syscall"
 	"time"
 
+	"review-front/limits"
 	"review-front/spool"
 )
 
 // Command is how the program is started.
 type Command struct {
-	Path             string    // the program `review`
-	AttributeModules int       // how many modules of values it has
-	PolicyModules    int       // how many modules of documents it has
+	Path             string // the program `review`
+	AttributeModules int    // how many modules of values it has
+	PolicyModules    int    // how many modules of documents it has
+	Limits           limits.Limits
 	Faults           io.Writer // takes what it says of faults
 }
 
@@ -85,8 +87,9 @@ func (c Command) Start() (*Program, error) {
 	}
 	widen(toProgram)
 	widen(fromProgram)
-	process := exec.Command(c.Path, "serve",
-		"--attribute-modules", strconv.Itoa(c.AttributeModules), "--policy-modules", strconv.Itoa(c.PolicyModules))
+	words := []string{"serve",
+		"--attribute-modules", strconv.Itoa(c.AttributeModules), "--policy-modules", strconv.Itoa(c.PolicyModules)}
+	process := exec.Command(c.Path, append(words, c.Limits.Words()...)...)
 	process.Stdin, process.Stdout, process.Stderr = input, output, c.Faults
 	// What a terminal sends to the front isn't sent to the program.
 	process.SysProcAttr = &syscall.SysProcAttr{Setpgid: true}

@@ -185,6 +185,8 @@ func (k key) parameter() object {
 		schema = object{"type": "integer"}
 	case textList:
 		schema = object{"type": "array", "items": schema}
+	case flagOrNo:
+		schema = object{"type": "boolean"}
 	}
 	return object{"name": k.name, "in": "query", "required": k.kind == aText || k.kind == aWhole, "schema": schema}
 }

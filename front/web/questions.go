@@ -23,6 +23,7 @@ const (
 	aWhole                // a whole number, which has to be there
 	wholeOrNo             // a whole number, or the key is left out
 	textList              // texts, or the key is left out
+	flagOrNo              // true or false, or the key is left out
 )
 
 // key is a key of a question: in the path, or else in the query.
@@ -50,6 +51,8 @@ var questions = []question{
 	{"/dump", "dump", []key{{"version", wholeOrNo}}},
 	{"/format", "format", []key{{"version", wholeOrNo}}},
 	{"/state", "state", nil},
+	{"/limits", "limits", nil},
+	{"/names", "names", []key{{"list", aText}, {"from", wholeOrNo}, {"count", wholeOrNo}}},
 	{"/documents", "documents", []key{{"id", textOrNot}}},
 	{"/attributes", "attributes", []key{{"category", aText}, {"entity", aText}}},
 	{"/cells", "cells", []key{
@@ -57,7 +60,9 @@ var questions = []question{
 	}},
 	{"/changes", "changes", []key{{"since", aWhole}}},
 	{"/faults", "faults", nil},
-	{"/explain/{person}/{action}/{resource}", "explain", []key{{"person", aText}, {"action", aText}, {"resource", aText}}},
+	{"/explain/{person}/{action}/{resource}", "explain", []key{
+		{"person", aText}, {"action", aText}, {"resource", aText}, {"documents", flagOrNo},
+	}},
 }
 
 // asking answers a path by the line of its question.
@@ -165,6 +170,10 @@ func (k key) write(values []string, there bool) (string, error) {
 			return "", fmt.Errorf("%s is no whole number", k.name)
 		}
 		return strconv.FormatInt(number, 10), nil
+	case k.kind == flagOrNo && values[0] != "true" && values[0] != "false":
+		return "", fmt.Errorf("%s is neither true nor false", k.name)
+	case k.kind == flagOrNo:
+		return values[0], nil
 	}
 	return quoted(values[0]), nil
 }

@@ -45,3 +45,28 @@ func TestQuestions(t *testing.T) {
 		}
 	}
 }
+
+// TestFlags compares what stands at a key that is true or false with what is asked by it.
+func TestFlags(t *testing.T) {
+	flag := key{"documents", flagOrNo}
+	for _, c := range []struct {
+		values  []string
+		written string
+		fault   string
+	}{
+		{nil, "", ""},
+		{[]string{"true"}, "true", ""},
+		{[]string{"false"}, "false", ""},
+		{[]string{"1"}, "", "documents is neither true nor false"},
+		{[]string{"true", "true"}, "", "documents stands more than once"},
+	} {
+		written, err := flag.write(c.values, c.values != nil)
+		fault := ""
+		if err != nil {
+			fault = err.Error()
+		}
+		if written != c.written || fault != c.fault {
+			t.Errorf("%q is written %q, and the fault is %q", c.values, written, fault)
+		}
+	}
+}

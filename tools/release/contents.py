@@ -13,9 +13,11 @@ import helped
 ROOT = pathlib.Path(__file__).resolve().parents[2]
 HERE = ROOT / 'tools' / 'release'
 # The tools that users run, with the folders that they need.
-TOOLS = ['declared.py', 'page.py', 'page', 'xacml.py', 'xacml_form', 'schemas']
+TOOLS = ['declared.py', 'leave.py', 'page.py', 'page', 'xacml.py', 'xacml_form', 'schemas']
 # Of a tool's folder: what only tests of the repository need.
-TESTS = shutil.ignore_patterns('try_*', 'examples', '__pycache__')
+TESTS = shutil.ignore_patterns('try_*', 'mutating.py', 'examples', '__pycache__')
+# The sums of each file: SPDX wants the older too.
+KINDS = ['sha1', 'sha256']
 
 
 class Fault(Exception):
@@ -26,8 +28,8 @@ def output(*words, **more):
     return subprocess.run(words, cwd=ROOT, check=True, capture_output=True, text=True, **more).stdout
 
 
-def digest(path):
-    return hashlib.sha256(path.read_bytes()).hexdigest()
+def digest(path, kind='sha256'):
+    return hashlib.new(kind, path.read_bytes()).hexdigest()
 
 
 def date_of(epoch):
@@ -114,11 +116,11 @@ def bill(version, epoch, passed, files):
         {
             'SPDXID': f'SPDXRef-File-{number}',
             'fileName': './' + name,
-            'checksums': [{'algorithm': 'SHA256', 'checksumValue': sha}],
+            'checksums': [{'algorithm': kind.upper(), 'checksumValue': sums[kind]} for kind in sorted(sums)],
             'licenseConcluded': 'NOASSERTION',
             'copyrightText': 'NOASSERTION',
         }
-        for number, (name, sha) in enumerate(files)
+        for number, (name, sums) in enumerate(files)
     ]
     return {
         'spdxVersion': 'SPDX-2.3',
@@ -165,7 +167,7 @@ def programs(root, version, epoch, built):
 def pages(root):
     """The pages, the examples, and the tools that users run."""
     docs = root / 'usr/share/doc/review'
-    listed = output('git', 'ls-files', 'README.md', 'CHANGELOG.md', 'docs', 'examples').split('\n')[:-1]
+    listed = output('git', 'ls-files', '*.md', 'docs', 'examples').split('\n')[:-1]
     for name in listed:
         copied(ROOT / name, docs / name)
     for name in TOOLS:
@@ -187,10 +189,10 @@ def laid_out(root, version, epoch, passed):
     copied(HERE / 'default', root / 'etc/default/review')
     written(root / 'usr/share/doc/review/PROVED', proved(passed, built['review']))
     files = sorted(path for path in root.rglob('*') if path.is_file() and not path.is_symlink())
-    sums = [(str(path.relative_to(root)), digest(path)) for path in files]
+    sums = [(str(path.relative_to(root)), {kind: digest(path, kind) for kind in KINDS}) for path in files]
     text = json.dumps(bill(version, epoch, passed, sums), indent=1) + '\n'
     written(root / 'usr/share/doc/review/review.spdx.json', text)
-    written(root / 'usr/share/doc/review/SHA256SUMS', ''.join(f'{sha}  {name}\n' for name, sha in sums))
+    written(root / 'usr/share/doc/review/SHA256SUMS', ''.join(f'{of["sha256"]}  {name}\n' for name, of in sums))
     for path in [root, *root.rglob('*')]:
         if path.is_dir():
             path.chmod(0o755)

@@ -1,5 +1,6 @@
 #!/bin/sh
-# Makes the package twice of what the gate left, compares the two byte by byte, and tries one (tools/try_release.py).
+# Makes the package twice of what the gate left, compares the two byte by byte, and tries one (tools/try_release.py),
+# and where buildah is an image of it.
 # Where no gate has passed over what is committed, or something is missing, it says so and ends with status 3.
 set -eu
 top=$(cd "$(dirname "$0")/../.." && pwd)
@@ -15,3 +16,9 @@ for file in "$out"/one/*; do
     cmp "$file" "$out/other/${file##*/}" || { echo 'two packages of one program differ'; exit 1; }
 done
 "$top/tools/try_release.py" "$out"/one/*.deb
+if command -v buildah >/dev/null; then
+    "$top/tools/release/container.sh" --try "$out"/one/*.deb review-tried
+    buildah rmi review-tried >/dev/null
+else
+    echo 'tools/release/container.sh was not run: there is no buildah'
+fi
