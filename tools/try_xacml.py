@@ -3,13 +3,13 @@
 
     try_xacml.py PROGRAM [--documents N] [--mutants N]
 
-It brings in the three policies of xacml_form/examples and asks them what was reckoned, and the forty, of which the page
-says what becomes; gives it files that are no XACML 3.0, and N that are nearly as these, the forty and random policies
-(3,000; no more than in a minute), where what isn't told has to decide as an evaluator of the XML does; compares each
-rewriting with a direct reading of the standard's function; takes documents with each function, those of the
-repository's sessions and N random ones (1,000) to XML and back; takes requests and responses over; and gives it files
-that are made to hurt. The status is 0 where all is as it should be, 1 where something isn't, and 3 where lxml
-(python3-lxml of Debian) isn't there."""
+It brings in the three policies of xacml_form/examples and asks them what was reckoned, the forty, of which the page
+says what becomes, and forty ordinary ones, which have to decide as meant, without a warning of `review check`; gives it
+files that are no XACML 3.0, and N that are nearly as these, the forty and random policies (3,000; no more than in a
+minute), where what isn't told has to decide as an evaluator of the XML does; compares each rewriting with a direct
+reading of the standard's function; takes documents with each function, those of the repository's sessions and N random
+ones (1,000) to XML and back; takes requests and responses over; and gives it files that are made to hurt. The status is
+0 where all is as it should be, 1 where something isn't, and 3 where lxml (python3-lxml of Debian) isn't there."""
 import argparse
 import json
 import os
@@ -31,6 +31,7 @@ from xacml_form import (
     try_grammar,
     try_hostile,
     try_mutants,
+    try_ordinary,
     try_rewriting,
     try_told,
 )
@@ -247,6 +248,8 @@ def main():
     over, told = try_forty.run(TOOL, options.program, EXAMPLES / 'forty', HERE.parent / 'docs' / 'MIGRATING.md')
     wrong += told
     valid = [EXAMPLES / f'{stem}.xml' for stem in ('records', 'market-mended', 'night-mended')] + over
+    meant, told = try_ordinary.run(TOOL, options.program, valid)
+    wrong += told
     seconds = MOST_SECONDS if options.mutants <= 3000 else float('inf')
     request = EXAMPLES / 'records-request.xml'
     mutants, told = try_mutants.run(options.program, SCHEMA, valid, request, options.mutants, seconds)
@@ -264,6 +267,7 @@ def main():
     print('\n'.join(wrong[:20]))
     print(
         f'tools/xacml.py: 3 policies brought in and asked {number} requests, {len(over)} of forty came over,'
+        f' {meant} requests of forty ordinary ones answered as meant and nothing told of any by `check`,'
         f' {violations} files and elements beside the schema, {warned} with faults and warnings,'
         f' {try_mutants.said(mutants)},'
         f' {compared} decisions of what is rewritten compared, to XML and back {", ".join(counts)}, {taken} requests,'
