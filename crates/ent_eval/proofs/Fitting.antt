@@ -1,9 +1,8 @@
 -- Whether a request finds the same as a case, and which case an evaluation makes.
-use Rattle.std.proofs.Common.{◌≡◌, ◌≢◌, inl, inr, ℕ, ◌+◌, ◌<◌, ◌≤◌, Bool, true, false, List, [], ◌∷◌, ◌++◌, Option, Some, None, Result, Ok, Err, length, take, slice_get, get_or, refl, sym, ap, subst, ◌∙◌, arith}
+use Rattle.std.proofs.Common.{◌≡◌, inl, inr, ℕ, ◌+◌, ◌<◌, ◌≤◌, Bool, true, false, List, [], ◌∷◌, ◌++◌, Some, None, Result, Ok, Err, length, take, slice_get, get_or, refl, sym, ap, subst, ◌∙◌}
 use Rattle.std.specs.Prelude.{◌||◌, IfOk, if◌then◌else◌}
-use Rattle.std.specs.Bool.{OnFalse, OnTrue}
 use Rattle.std.specs.List.{AllByRecursion}
-use Rattle.std.proofs.lemmas.List.{length-append, length-set, map-append, take_all, take_more}
+use Rattle.std.proofs.lemmas.List.{map-append, take_all, take_more}
 use Rattle.std.proofs.lemmas.Option.{get_or_from_slice_get, slice_get-get_or, slice_get_within}
 use Rattle.ent_values.specs.Bags.{Contents}
 use Rattle.ent_eval.specs.declared.case.Case.{Case}
@@ -22,17 +21,17 @@ use Rattle.ent_walk.specs.Law.{FindsSame}
 use Rattle.ent_request.specs.Listed.{listed}
 use Rattle.ent_request.specs.Looks.{Looks}
 use Rattle.ent_request.specs.Causes.{are_any}
-use Rattle.ent_eval.specs.Memory.{AreFindings, FindsBag, Fits, Gives, HasCase, IsCase, IsFinding, IsKnown, Remembers, bag_for, most_cases, place_of}
+use Rattle.ent_eval.specs.Memory.{AreFindings, FindsBag, Fits, Gives, HasCase, IsCase, IsFinding, IsKnown, IsShelf, Remembers, bag_for, cases_in, place_of}
 use Rattle.ent_request.specs.Questions.{AreNumbers, asked_once, at_numbers, is_asked, keys_at, same_question, with_question}
-use Rattle.ent_eval.specs.proofs_only.Remembered.{AreReady, Begins, FindsAll, IsAbout, KeepsReady, NoneFits, NotesFinding, PutsCase, TellsAll, TellsPlace, request_of}
+use Rattle.ent_eval.specs.proofs_only.Remembered.{AreReady, Begins, FindsAll, IsAbout, KeepsReady, NoneFits, NotesFinding, TellsAll, request_of}
 use Rattle.ent_walk.proofs.AnswersRest.{findings-rest}
 use Rattle.ent_request.proofs.Lists.{all_append}
-use Rattle.ent_eval.proofs.Growing.{all_first, all_later, all_set, all_take, at_end, get_set, one_place, some_same, starts_get, starts_itself, starts_then, take_shorter}
+use Rattle.ent_eval.proofs.Growing.{all_first, all_later, some_same, starts_itself, starts_then}
 use Rattle.ent_eval.proofs.ListedBags.{bags_same, none_same}
 use Rattle.ent_walk.proofs.Recorded.{recorded_by}
 use Rattle.ent_request.proofs.Numbering.{all_at}
 use Rattle.ent_request.proofs.Lists.{from_recursion}
-use Rattle.ent_eval.proofs.Remembering.{all_back, all_more, are_more, cases_more, none_more}
+use Rattle.ent_eval.proofs.Remembering.{all_back, all_more, are_more, shelves_more}
 use Rattle.ent_request.proofs.Sames.{question-Decides}
 
 -- the items before a place, and the one there
@@ -46,66 +45,6 @@ keeps_itself looks scene findings ready = record { ready = ready; begins = start
 
 pub keeps_then : {L : Type 0} (looks : Looks) (scene : Scene L) (old mid new : Findings) → KeepsReady looks scene old mid → KeepsReady looks scene mid new → KeepsReady looks scene old new
 keeps_then looks scene old mid new first second = record { ready = second.ready; begins = starts_then old.bags mid.bags new.bags first.begins second.begins }
-
--- ---- the loop over what a case found
-
--- a request finds what stands before the next one
-pub record IsFitting {L : Type 0} (looks : Looks) (scene : Scene L) (old new : Findings) (found : List Finding) (i : ℕ) : Type 0 where
-  pub keeps : KeepsReady looks scene old new
-  pub so_far : FindsAll looks scene.questions.now new.bags (request_of scene) (take i found)
-
-module _ {L : Type 0} (looks : Looks) (scene : Scene L) (old mid new : Findings) (found : List Finding) (i : ℕ) (f : Finding) (n : ℕ) (there : slice_get found i ≡ Some f) where
-  pub fitting_next : IsFitting looks scene old mid found i → FindsBag looks scene.questions.now new.bags (request_of scene) f.question n → n ≡ f.bag
-      → KeepsReady looks scene mid new → IsFitting looks scene old new found (i + 1)
-  fitting_next so_far finds same keeps = record {
-    keeps = keeps_then looks scene old mid new so_far.keeps keeps;
-    so_far =
-        let questions = scene.questions.now in
-        let request = request_of scene in
-        let P : Finding → Type 0 = λ x. FindsBag looks questions new.bags request x.question x.bag in
-        let this : P f = subst (λ k. FindsBag looks questions new.bags request f.question k) same finds in
-        let before : FindsAll looks questions new.bags request (take i found) = all_more looks questions questions mid.bags new.bags (starts_itself questions questions refl) keeps.begins request (take i found) so_far.so_far in
-        subst (AllByRecursion P) (sym (taken found i f there)) (all_append P (take i found) (f ∷ []) before (this, tt));
-  }
-
-  -- it doesn't fit where it finds another bag
-  pub fitting_fails : IsFitting looks scene old mid found i → FindsBag looks scene.questions.now new.bags (request_of scene) f.question n → n ≢ f.bag
-      → KeepsReady looks scene mid new → FindsAll looks scene.questions.now old.bags (request_of scene) found → ⊥
-  fitting_fails so_far finds differ keeps all =
-      let questions = scene.questions.now in
-      let request = request_of scene in
-      let before : FindsBag looks questions old.bags request f.question f.bag = all_at (λ x. FindsBag looks questions old.bags request x.question x.bag) found i f all there in
-      let same : before.0 ≡ finds.0 = some_same before.0 finds.0 (sym before.1.0 ∙ finds.1.0) in
-      let bag : slice_get new.bags f.bag ≡ Some (bag_for looks request finds.0) =
-      starts_get old.bags new.bags f.bag (bag_for looks request before.0) (starts_then old.bags mid.bags new.bags so_far.keeps.begins keeps.begins) before.1.1 ∙ ap (λ x. Some (bag_for looks request x)) same in
-      differ (one_place new.bags n f.bag (bag_for looks request finds.0) keeps.ready.are.distinct finds.1.1 bag)
-
-pub fitting_all : {L : Type 0} (looks : Looks) (scene : Scene L) (old new : Findings) (found : List Finding) (i : ℕ) → length found ≤ i → IsFitting looks scene old new found i
-    → FindsAll looks scene.questions.now new.bags (request_of scene) found
-fitting_all looks scene old new found i past so_far = subst (FindsAll looks scene.questions.now new.bags (request_of scene)) (take_all i found past) so_far.so_far
-
--- ---- the loop over cases
-
--- a request fits none of those before the next one
-pub record IsScanning {L : Type 0} (looks : Looks) (scene : Scene L) (old new : Findings) (cases : List Case) (i : ℕ) : Type 0 where
-  pub keeps : KeepsReady looks scene old new
-  pub none : NoneFits looks scene.questions.now old.bags (request_of scene) (take i cases)
-
-pub scanning_next : {L : Type 0} (looks : Looks) (scene : Scene L) (old mid new : Findings) (cases : List Case) (i : ℕ) (c : Case) → slice_get cases i ≡ Some c → IsScanning looks scene old mid cases i
-    → (FindsAll looks scene.questions.now mid.bags (request_of scene) c.found → ⊥) → KeepsReady looks scene mid new → IsScanning looks scene old new cases (i + 1)
-scanning_next looks scene old mid new cases i c there so_far differs keeps = record {
-  keeps = keeps_then looks scene old mid new so_far.keeps keeps;
-  none =
-      let questions = scene.questions.now in
-      let request = request_of scene in
-      let P : Case → Type 0 = λ x. Fits looks questions old.bags request x → ⊥ in
-      let this : P c = λ fits. differs (all_more looks questions questions old.bags mid.bags (starts_itself questions questions refl) so_far.keeps.begins request c.found fits) in
-      subst (AllByRecursion P) (sym (taken cases i c there)) (all_append P (take i cases) (c ∷ []) so_far.none (this, tt));
-}
-
-pub scanning_all : {L : Type 0} (looks : Looks) (scene : Scene L) (old new : Findings) (cases : List Case) (i : ℕ) → length cases ≤ i → IsScanning looks scene old new cases i
-    → NoneFits looks scene.questions.now old.bags (request_of scene) cases
-scanning_all looks scene old new cases i past so_far = subst (NoneFits looks scene.questions.now old.bags (request_of scene)) (take_all i cases past) so_far.none
 
 -- ---- the loop over questions
 
@@ -232,61 +171,16 @@ is_case looks scene bags c are within answered asks fails tells = record {
       let all : AllByRecursion P (asked_once [] (asked looks (request_of scene))) = subst (AllByRecursion P) asks (tells person action resource fits) in
       findings-rest looks looks (request_of scene) other (from_recursion P (asked looks (request_of scene)) (all_asked P [] (asked looks (request_of scene)) all).1)
 
--- ---- a case is put in
-
-pub put_all : (P : Case → Type 0) (old new : List Case) (c : Case) → PutsCase old new c → P c → AllByRecursion P old → AllByRecursion P new
-put_all P old new c puts is all = elim puts [
-  | inl p ↦ subst (AllByRecursion P) (sym p.1) (all_append P old (c ∷ []) all (is, tt))
-  | inr p ↦ subst (AllByRecursion P) (sym p.1.1.1) (all_set P (take p.0 old) p.1.0 c (λ x at before. is) (all_take P p.0 old all))
-]
-
-pub put_few : (old new : List Case) (c : Case) → PutsCase old new c → length old ≤ most_cases → length new ≤ most_cases
-put_few old new c puts few = elim puts [
-  | inl p ↦ omega (arith, p.0, ap (λ l. length l) p.1, length-append old (c ∷ []))
-  | inr p ↦ omega (arith, few, ap (λ l. length l) p.1.1.1, length-set (take p.0 old) p.1.0 c, take_shorter p.0 old)
-]
-
-pub put_there : (old new : List Case) (c : Case) → PutsCase old new c → (i : ℕ) × (slice_get new i ≡ Some c)
-put_there old new c puts = elim puts [
-  | inl p ↦ (length old, at_end old new c (length old) p.1 refl)
-  | inr p ↦ (p.1.0, ap (λ l. slice_get l p.1.0) p.1.1.1 ∙ get_set (take p.0 old) p.1.0 c p.1.1.0)
-]
-
--- ---- choices
-
-pub on_true : (b : Bool) (P : Type 0) → b ≡ true → OnTrue b P → P
-on_true true P is h = h
-on_true false P is h = absurd (cc)
-
-pub on_false : (b : Bool) (P : Type 0) → b ≡ false → OnFalse b P → P
-on_false true P is h = absurd (cc)
-on_false false P is h = h
-
 -- ---- what is remembered then
 
 pub recalls : (looks : Looks) (questions : List Question) (old : Memory) (findings : Findings) (cases : Cases) → Remembers looks questions old → AreFindings looks questions findings
-    → Begins findings.bags old.findings.bags → cases.cases.items ≡ old.cases.cases.items → Remembers looks questions (record { findings = findings; cases = cases })
-recalls looks questions old findings cases has are begins same = record {
-  findings = are;
-  cases = subst (AllByRecursion (IsCase looks questions findings.bags)) (sym same)
-      (cases_more looks questions questions old.findings.bags findings.bags (starts_itself questions questions refl) begins old.cases.cases.items has.cases);
-  few = subst (λ l. length l ≤ most_cases) (sym same) has.few;
-}
-
-pub keeps : (looks : Looks) (questions : List Question) (old : Memory) (cases : Cases) (c : Case) → Remembers looks questions old → IsCase looks questions old.findings.bags c
-    → PutsCase old.cases.cases.items cases.cases.items c → Remembers looks questions (record { findings = old.findings; cases = cases })
-keeps looks questions old cases c has is puts = record {
-  findings = has.findings;
-  cases = put_all (IsCase looks questions old.findings.bags) old.cases.cases.items cases.cases.items c puts is has.cases;
-  few = put_few old.cases.cases.items cases.cases.items c puts has.few;
-}
-
--- no case fits over fewer bags
-pub tells_then : {E : Type 0} (r : Result (Option ℕ) E) (looks : Looks) (questions : List Question) (old mid new : List Contents) (request : Request) (cases : List Case) → Begins mid old
-    → IfOk r (TellsPlace looks questions mid new request cases) → IfOk r (TellsPlace looks questions old new request cases)
-tells_then (Err e) _ _ _ _ _ _ _ _ _ = tt
-tells_then (Ok None) looks numbered old mid _ asking cases begins none = none_more looks numbered numbered old mid (starts_itself numbered numbered refl) begins asking cases none
-tells_then (Ok (Some i)) _ _ _ _ _ _ _ _ fits = fits
+    → Begins findings.bags old.findings.bags → cases.older ≡ old.cases.older → cases.latest ≡ old.cases.latest → Remembers looks questions (record { findings = findings; cases = cases })
+recalls looks questions old findings cases has are begins older latest =
+    let more = shelves_more looks questions questions old.findings.bags findings.bags (starts_itself questions questions refl) begins old.cases has.cases in
+    record {
+      findings = are;
+      cases = record { older = subst (IsShelf looks questions findings.bags) (sym older) more.older; latest = subst (IsShelf looks questions findings.bags) (sym latest) more.latest };
+    }
 
 -- what an evaluation has for one thing it has for another
 pub if_ok : {A E : Type 0} (r : Result A E) (P Q : A → Type 0) → ((x : A) → P x → Q x) → IfOk r P → IfOk r Q
@@ -295,15 +189,17 @@ if_ok (Ok x) P Q weaker h = weaker x h
 
 -- ---- what a case that fits says
 
-pub none_known : (looks : Looks) (questions : List Question) (memory : Memory) (request : Request) → NoneFits looks questions memory.findings.bags request memory.cases.cases.items
+pub none_known : (looks : Looks) (questions : List Question) (memory : Memory) (request : Request) → NoneFits looks questions memory.findings.bags request (cases_in memory.cases)
     → IsKnown looks questions memory request → ⊥
 none_known looks questions memory request none known =
-    all_at (λ c. Fits looks questions memory.findings.bags request c → ⊥) memory.cases.cases.items known.0 known.1.0 none known.1.1.0 known.1.1.1.0
+    all_at (λ c. Fits looks questions memory.findings.bags request c → ⊥) (cases_in memory.cases) known.0 known.1.0 none known.1.1.0 known.1.1.1.0
 
 module _ (looks : Looks) (questions : List Question) (memory : Memory) (person action resource : List ℕ) (e : ListedEvaluation) (has : Remembers looks questions memory)
     (found : HasCase looks questions memory (listed person action resource) (Gives e)) where
   its_case : IsCase looks questions memory.findings.bags found.1.0
-  its_case = all_at (IsCase looks questions memory.findings.bags) memory.cases.cases.items found.0 found.1.0 has.cases found.1.1.0
+  its_case =
+      all_at (IsCase looks questions memory.findings.bags) (cases_in memory.cases) found.0 found.1.0
+      (all_append (IsCase looks questions memory.findings.bags) memory.cases.older.cases.items memory.cases.latest.cases.items has.cases.older.cases has.cases.latest.cases) found.1.1.0
 
   pub case_answer : e.answer ≡ answer looks (listed person action resource)
   case_answer = sym found.1.1.1.1.0 ∙ sym (its_case.answer person action resource found.1.1.1.0)

@@ -3,4 +3,7 @@ pub mod BagsNumbered
 pub mod Fitting
 pub mod Growing
 pub mod ListedBags
+pub mod MakingWays
 pub mod Remembering
+pub mod Seeking
+pub mod Shelved

@@ -5,6 +5,7 @@ use Rattle.std.proofs.lemmas.Option.{get_or_from_slice_get, slice_get-get_or, sl
 use Rattle.ent_values.specs.Bags.{Contents}
 use Rattle.ent_eval.specs.declared.case.Case.{Case}
 use Rattle.ent_eval.specs.declared.case.Finding.{Finding}
+use Rattle.ent_eval.specs.declared.cases.Cases.{Cases}
 use Rattle.ent_eval.specs.declared.memory.Memory.{Memory}
 use Rattle.ent_eval.specs.declared.names.Names.{Names}
 use Rattle.ent_eval.specs.declared.names.Row.{Row}
@@ -14,9 +15,10 @@ use Rattle.ent_request.specs.declared.question.Question.TheVariants.{Root, Of}
 use Rattle.ent_request.specs.declared.readers.Place.{Place}
 use Rattle.ent_request.specs.declared.readers.Place.TheVariants.{Person, Action, Resource}
 use Rattle.ent_request.specs.declared.request.Request.{Request}
+use Rattle.ent_eval.specs.declared.shelf.Shelf.{Shelf}
 use Rattle.ent_request.specs.Listed.{listed}
 use Rattle.ent_request.specs.Looks.{Looks}
-use Rattle.ent_eval.specs.Memory.{FindsBag, Fits, IsCase, IsFinding, IsRow, Remembers, bag_for, place_of}
+use Rattle.ent_eval.specs.Memory.{AreShelves, FindsBag, Fits, IsCase, IsFinding, IsRow, IsShelf, Remembers, bag_for, place_of}
 use Rattle.ent_request.specs.Questions.{AreNumbers, BeginsWith, at_numbers}
 use Rattle.ent_eval.specs.proofs_only.Remembered.{AddsRows, AreRows, Begins, FindsAll, FindsForName, IsAbout, IsAt, Knows, KnowsLatest, LearnsLatest, NoneFits, bag_in}
 use Rattle.ent_request.proofs.Lists.{all_append}
@@ -82,6 +84,19 @@ module _ (looks : Looks) (questions more : List Question) (bags bigger : List Co
   pub none_more : (request : Request) (cases : List Case) → NoneFits looks more bigger request cases → NoneFits looks questions bags request cases
   none_more request cases all = all_map (λ c. Fits looks more bigger request c → ⊥) (λ c. Fits looks questions bags request c → ⊥) (λ c no fits. no (all_more request c.found fits)) cases all
 
+  about_more : (n : ℕ) (place : Place) → IsAbout questions n place → IsAbout more n place
+  about_more n place is = (is.0, (starts_get questions more n is.0 first is.1.0, is.1.1))
+
+  pub shelf_more : (shelf : Shelf) → IsShelf looks questions bags shelf → IsShelf looks more bigger shelf
+  shelf_more shelf is = record {
+    cases = cases_more shelf.cases.items is.cases;
+    few = is.few;
+    index = record { asks = λ n k asked. about_more k.question k.place (is.index.asks n k asked); led = is.index.led; leads = is.index.leads };
+  }
+
+  pub shelves_more : (cases : Cases) → AreShelves looks questions bags cases → AreShelves looks more bigger cases
+  shelves_more cases are = record { older = shelf_more cases.older are.older; latest = shelf_more cases.latest are.latest }
+
 -- what is remembered stays so as more questions get numbers
 pub remembers_more : (looks : Looks) (questions more : List Question) (memory : Memory) → BeginsWith more questions → Remembers looks questions memory → Remembers looks more memory
 remembers_more looks questions more memory begins has =
@@ -94,8 +109,7 @@ remembers_more looks questions more memory begins has =
         actions = rows_more looks questions more bags bags begins same Action memory.findings.actions has.findings.actions;
         resources = rows_more looks questions more bags bags begins same Resource memory.findings.resources has.findings.resources;
       };
-      cases = cases_more looks questions more bags bags begins same memory.cases.cases.items has.cases;
-      few = has.few;
+      cases = shelves_more looks questions more bags bags begins same memory.cases has.cases;
     }
 
 -- ---- rows

@@ -1,4 +1,6 @@
+pub mod Found
 pub mod Lending
 pub mod LooksOf
 pub mod Memory
+pub mod Ways
 pub mod proofs_only

@@ -1,52 +1,35 @@
 -- What is remembered over evaluations of listed requests: what questions find for their names, and cases.
-use Rattle.std.specs.Prelude.{◌≡◌, ◌<◌, ◌≤◌, ℕ, List, [], Option, Some, None, bytes_eq, if◌then◌else◌, length, slice_get}
+use Rattle.std.specs.Prelude.{◌≡◌, ◌<◌, ◌≤◌, ◌++◌, ℕ, List, [], Some, length, slice_get}
 use Rattle.std.specs.List.{AllByRecursion, IsDistinct}
 use Rattle.ent_values.specs.Bags.{Contents}
 use Rattle.ent_values.specs.Same.{same_bag}
-use Rattle.ent_values.specs.declared.datatype.DataType.TheVariants as types
 use Rattle.ent_eval.specs.declared.case.Case.{Case}
 use Rattle.ent_eval.specs.declared.case.Finding.{Finding}
+use Rattle.ent_eval.specs.declared.cases.Cases.{Cases}
 use Rattle.ent_eval.specs.declared.findings.Findings.{Findings}
 use Rattle.ent_eval.specs.declared.memory.Memory.{Memory}
 use Rattle.ent_eval.specs.declared.names.Row.{Row}
 use Rattle.ent_eval.specs.declared.pdp.ListedEvaluation.{ListedEvaluation}
 use Rattle.ent_request.specs.declared.question.Question.{Question}
-use Rattle.ent_request.specs.declared.question.Question.TheVariants.{Of}
 use Rattle.ent_request.specs.declared.readers.Place.{Place}
 use Rattle.ent_request.specs.declared.readers.Place.TheVariants.{Person, Action, Resource}
 use Rattle.ent_request.specs.declared.request.Request.{Request}
+use Rattle.ent_eval.specs.declared.shelf.Shelf.{Shelf}
 use Rattle.ent_walk.specs.Answer.{answer, asked, has_cause}
 use Rattle.ent_request.specs.Listed.{listed}
 use Rattle.ent_request.specs.Looks.{Looks}
 use Rattle.ent_request.specs.Questions.{AreNumbers, asked_once, at_numbers}
 use Rattle.ent_request.specs.Readers.{name_at}
-use Rattle.ent_request.specs.Sources.{values_of}
-use Rattle.ent_request.specs.Uris as uris
+use Rattle.ent_eval.specs.Ways.{IsIndex}
+pub use Rattle.ent_eval.specs.Found.{FindsBag, bag_for, place_in, place_of}
 
--- so many cases are remembered at most
+-- so many cases stand on a shelf at most
 abbrev pub most_cases : ℕ
-most_cases = 256
+most_cases = 4096
 
--- the name of listed requests that a category is of, if it is of one
-abbrev pub place_in : List ℕ → Option Place
-place_in category =
-    if bytes_eq category uris.access_subject then Some Person
-    else (if bytes_eq category uris.resource then Some Resource
-    else (if bytes_eq category uris.action then Some Action else None))
-
--- the name that a question is about, if it is about one
-abbrev pub place_of : Question → Option Place
-place_of (Of a) = place_in a.category
-place_of _ = None
-
--- the bag that a question finds for a request: the values of its attribute, if it asks for those
-abbrev pub bag_for : Looks → Request → Question → Contents
-bag_for looks request (Of a) = record { datatype = a.datatype; values = values_of looks request a }
-bag_for looks request _ = record { datatype = types.Text; values = [] }
-
--- the question of that number finds the bag of that number
-abbrev pub FindsBag : Looks → List Question → List Contents → Request → ℕ → ℕ → Type 0
-FindsBag looks questions bags request question bag = (x : Question) × ((slice_get questions question ≡ Some x) × (slice_get bags bag ≡ Some (bag_for looks request x)))
+-- the cases that are remembered, the older ones first
+abbrev pub cases_in : Cases → List Case
+cases_in cases = cases.older.cases.items ++ cases.latest.cases.items
 
 -- a request finds what a case found
 abbrev pub Fits : Looks → List Question → List Contents → Request → Case → Type 0
@@ -81,15 +64,29 @@ pub record AreFindings (looks : Looks) (questions : List Question) (findings : F
   pub actions : AllByRecursion (IsRow looks questions findings.bags Action) findings.actions.rows.items
   pub resources : AllByRecursion (IsRow looks questions findings.bags Resource) findings.resources.rows.items
 
--- what is remembered is so, over these look-ups, by the numbers of these questions; there are only so many cases
+-- each of a shelf's cases is one, there are only so many, and each is found by its way
+pub record IsShelf (looks : Looks) (questions : List Question) (bags : List Contents) (shelf : Shelf) : Type 0 where
+  pub cases : AllByRecursion (IsCase looks questions bags) shelf.cases.items
+  pub few : length shelf.cases.items ≤ most_cases
+  pub index : IsIndex questions shelf
+
+-- so are the cases that are remembered
+pub record AreShelves (looks : Looks) (questions : List Question) (bags : List Contents) (cases : Cases) : Type 0 where
+  pub older : IsShelf looks questions bags cases.older
+  pub latest : IsShelf looks questions bags cases.latest
+
+-- what is remembered is so, over these look-ups, by the numbers of these questions
 pub record Remembers (looks : Looks) (questions : List Question) (memory : Memory) : Type 0 where
   pub findings : AreFindings looks questions memory.findings
-  pub cases : AllByRecursion (IsCase looks questions memory.findings.bags) memory.cases.cases.items
-  pub few : length memory.cases.cases.items ≤ most_cases
+  pub cases : AreShelves looks questions memory.findings.bags memory.cases
+
+-- of these cases there is one that a request fits and of which this holds
+abbrev pub HasCaseIn : Looks → List Question → List Contents → Request → List Case → (Case → Type 0) → Type 0
+HasCaseIn looks questions bags request cases P = (i : ℕ) × ((c : Case) × ((slice_get cases i ≡ Some c) × (Fits looks questions bags request c × P c)))
 
 -- a case is remembered that a request fits and of which this holds
 abbrev pub HasCase : Looks → List Question → Memory → Request → (Case → Type 0) → Type 0
-HasCase looks questions memory request P = (i : ℕ) × ((c : Case) × ((slice_get memory.cases.cases.items i ≡ Some c) × (Fits looks questions memory.findings.bags request c × P c)))
+HasCase looks questions memory request P = HasCaseIn looks questions memory.findings.bags request (cases_in memory.cases) P
 
 -- a case is remembered that a request fits
 abbrev pub IsKnown : Looks → List Question → Memory → Request → Type 0

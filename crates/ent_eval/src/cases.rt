@@ -1,93 +1,134 @@
 //! The cases that are remembered.
 
-ghost use Rattle.std.specs.Prelude.{◌≡◌, ◌<◌, ◌≤◌, [], IfOk, OnErr, OnOk, Some, length, slice_get};
-ghost use Rattle.std.specs.Bool.{OnFalse, OnTrue};
-ghost use Rattle.std.specs.List.{AllByRecursion};
-ghost use Rattle.ent_eval.specs.Memory.{Gives, IsCase, IsFinding, most_cases};
-ghost use Rattle.ent_eval.specs.proofs_only.Remembered.{AreReady, FindsAll, FitsAt, KeepsReady, PutsCase, TellsPlace};
+ghost use Rattle.std.specs.Prelude.{◌≡◌, ◌<◌, ◌≤◌, IfNone, IfOk, IfSome, List, OnOk, Some};
+ghost use Rattle.std.specs.Prelude.{length};
+ghost use Rattle.std.specs.Bool.{OnFalse};
+ghost use Rattle.ent_values.specs.Bags.{Contents};
+ghost use Rattle.ent_request.specs.Looks.{Looks};
+ghost use Rattle.ent_eval.specs.Memory.{AreShelves, Gives, HasCaseIn, cases_in, most_cases};
+ghost use Rattle.ent_eval.specs.proofs_only.Remembered.{AreReady, HasPut, KeepsReady, KeepsShelves, NoneFits};
 ghost use Rattle.ent_eval.specs.proofs_only.Remembered.{in_scene, request_of};
-ghost use Rattle.ent_eval.specs.declared.case.Case.{Case};
+ghost use Rattle.ent_request.specs.declared.question.Question.{Question};
 
-use crate::case::{Case, Finding};
+use crate::case::Case;
 use crate::findings::Findings;
 use crate::pdp::ListedEvaluation;
 use crate::scene::Scene;
+use crate::shelf::Shelf;
 use ent_request::LookUps;
 use std::alloc::{AllocError, Global};
+use std::mem;
 
-/// So many cases are remembered at most.
-const MOST_CASES: usize = 256;
+/// So many cases stand on a shelf at most.
+const MOST_CASES: usize = 4096;
 
 /// So many, where for long none was taken.
-const FEW_CASES: usize = 8;
+const FEW_CASES: usize = 64;
 
 /// So many cases may be put in one after another, of which none was taken, before it is for long.
 const MOST_UNTAKEN: usize = 256;
 
-/// The cases, of which there are at most `MOST_CASES`: a new one then takes the place of the oldest. Where none is
-/// taken there are few, so that looking for one takes little time.
+/// A shelf is full where its tree has so many places.
+const MOST_PLACES: usize = 65_536;
+
+/// The cases, on two shelves: where the latest one is full, it becomes the older one, and what stood there is
+/// forgotten. Where none is taken there are few, which take little memory.
 #[derive(Drop)]
 pub(crate) struct Cases {
-    pub(crate) cases: Vec<Case>,
-    pub(crate) oldest: usize,
-    pub(crate) taken: usize,
+    pub(crate) older: Shelf,
+    pub(crate) latest: Shelf,
     pub(crate) untaken: usize,
 }
 
 impl Cases {
     // No cases, for which nothing is allocated.
     pub(crate) fn new(alloc: Global) -> Cases
-        ensures { result.cases.items ≡ [] }
+        ensures { (looks : Looks) (questions : List Question) (bags : List Contents)
+            → AreShelves looks questions bags result }
     {
         Cases {
-            cases: Vec::new(alloc),
-            oldest: 0,
-            taken: 0,
+            older: Shelf::new(alloc),
+            latest: Shelf::new(alloc),
             untaken: 0,
         }
     }
 
-    // The answer and the questions of the case at a place, which is then the one that was taken last.
-    pub(crate) fn take(&mut self, place: usize) -> Result<ListedEvaluation, AllocError>
-        requires { place < length self.old.cases.items }
-        ensures said { IfOk result (λ e. (c : Case) → slice_get self.old.cases.items place ≡ Some c → Gives e c) }
-        ensures cases { self.new.cases.items ≡ self.old.cases.items }
+    // The answer and the questions of a case that a request fits, if there is one.
+    pub(crate) fn recall<L: LookUps>(
+        &self,
+        scene: &Scene<'_, L>,
+        findings: &mut Findings,
+    ) -> Result<Option<ListedEvaluation>, AllocError>
+        requires ready { AreReady (L.looks scene.now.held.now) scene.now findings.old }
+        requires shelves { in_scene L.looks scene.now AreShelves findings.old.bags self.now }
+        ensures some { IfOk result (λ o. IfSome o (λ e. in_scene L.looks scene.now HasCaseIn findings.new.bags
+            (request_of scene.now) (cases_in self.now) (Gives e))) }
+        ensures none { IfOk result (λ o. IfNone o (in_scene L.looks scene.now NoneFits findings.old.bags
+            (request_of scene.now) (cases_in self.now))) }
+        ensures keeps { KeepsReady (L.looks scene.now.held.now) scene.now findings.old findings.new }
     {
-        self.taken = place;
+        match self.latest.recall(scene, findings)? {
+            None => self.older.recall(scene, findings),
+            Some(evaluation) => Ok(Some(evaluation)),
+        }
+    }
+
+    // A case was taken.
+    pub(crate) fn count_taken(&mut self)
+        ensures older { self.new.older ≡ self.old.older }
+        ensures latest { self.new.latest ≡ self.old.latest }
+    {
         self.untaken = 0;
-        let case = &self.cases[place];
-        Ok(ListedEvaluation {
-            answer: case.answer.copy()?,
-            asked: case.asked.copy()?,
-            failed: case.failed,
-        })
     }
 
     // Puts a case in.
-    pub(crate) fn put(&mut self, case: Case) -> Result<(), AllocError>
-        requires { length self.old.cases.items ≤ most_cases }
-        ensures ok { OnOk result (PutsCase self.old.cases.items self.new.cases.items case) }
-        ensures err { OnErr result (self.new.cases.items ≡ self.old.cases.items) }
+    pub(crate) fn put(&mut self, alloc: Global, case: Case) -> Result<(), AllocError>
+        ensures shelves { KeepsShelves case self.old self.new }
+        ensures there { OnOk result (HasPut case self.new) }
     {
         self.untaken = self.untaken.saturating_add(1);
-        let most = self.most();
-        if self.cases.len() < most {
-            self.taken = self.cases.len();
-            self.cases.push(case)?;
-            return Ok(());
+        if self.is_full() {
+            return self.begin(alloc, case);
         }
-        let place = self.oldest % most;
-        self.cases.truncate(most);
-        self.cases[place] = case;
-        self.taken = place;
-        self.oldest = place + 1;
-        Ok(())
+        match self.latest.put(alloc, case)? {
+            None => Ok(()),
+            Some(case) => self.begin(alloc, case),
+        }
     }
 
-    // How many cases there may be now.
+    // Begins a shelf with a case.
+    fn begin(&mut self, alloc: Global, case: Case) -> Result<(), AllocError>
+        ensures shelves { KeepsShelves case self.old self.new }
+        ensures there { OnOk result (HasPut case self.new) }
+    {
+        let mut shelf = Shelf::new(alloc);
+        match shelf.put(alloc, case)? {
+            None => {
+                self.exchange(shelf);
+                Ok(())
+            }
+            Some(_) => unreachable!(),
+        }
+    }
+
+    // Puts a new shelf in the place of the latest one, which becomes the older one.
+    fn exchange(&mut self, shelf: Shelf)
+        ensures older { self.new.older ≡ self.old.latest }
+        ensures latest { self.new.latest ≡ shelf }
+    {
+        self.older = mem::replace(&mut self.latest, shelf);
+    }
+
+    // Whether no case more may stand on the latest shelf.
+    fn is_full(&self) -> bool
+        ensures { OnFalse result (length self.now.latest.cases.items < most_cases) }
+    {
+        self.latest.cases.len() >= self.most() || self.latest.tree.len() >= MOST_PLACES
+    }
+
+    // How many cases may stand on a shelf now.
     fn most(&self) -> usize
-        ensures some { 0 < result }
-        ensures few { result ≤ most_cases }
+        ensures { result ≤ most_cases }
     {
         if self.untaken > MOST_UNTAKEN {
             FEW_CASES
@@ -95,102 +136,4 @@ impl Cases {
             MOST_CASES
         }
     }
-}
-
-// The place of a case that a request fits, if there is one: that which was taken last, the one behind it, or the first.
-pub(crate) fn fitting<L: LookUps>(
-    scene: &Scene<'_, L>,
-    findings: &mut Findings,
-    cases: &Cases,
-) -> Result<Option<usize>, AllocError>
-    requires ready { AreReady (L.looks scene.now.held.now) scene.now findings.old }
-    requires cases { AllByRecursion (in_scene L.looks scene.now IsCase findings.old.bags) cases.now.cases.items }
-    ensures tells { IfOk result (in_scene L.looks scene.now TellsPlace
-        findings.old.bags findings.new.bags (request_of scene.now) cases.now.cases.items) }
-    ensures keeps { KeepsReady (L.looks scene.now.held.now) scene.now findings.old findings.new }
-{
-    if fits_at(scene, findings, &cases.cases, cases.taken)? {
-        return Ok(Some(cases.taken));
-    }
-    fitting_other(scene, findings, cases)
-}
-
-// The same, but for the one that was taken last: requests mostly come in the order in which cases were put in.
-fn fitting_other<L: LookUps>(
-    scene: &Scene<'_, L>,
-    findings: &mut Findings,
-    cases: &Cases,
-) -> Result<Option<usize>, AllocError>
-    requires ready { AreReady (L.looks scene.now.held.now) scene.now findings.old }
-    requires cases { AllByRecursion (in_scene L.looks scene.now IsCase findings.old.bags) cases.now.cases.items }
-    ensures tells { IfOk result (in_scene L.looks scene.now TellsPlace
-        findings.old.bags findings.new.bags (request_of scene.now) cases.now.cases.items) }
-    ensures keeps { KeepsReady (L.looks scene.now.held.now) scene.now findings.old findings.new }
-{
-    let behind = cases.taken.saturating_add(1);
-    if fits_at(scene, findings, &cases.cases, behind)? {
-        return Ok(Some(behind));
-    }
-    first_fitting(scene, findings, &cases.cases)
-}
-
-// Whether there is a case at a place that a request fits.
-fn fits_at<L: LookUps>(
-    scene: &Scene<'_, L>,
-    findings: &mut Findings,
-    cases: &[Case],
-    place: usize,
-) -> Result<bool, AllocError>
-    requires ready { AreReady (L.looks scene.now.held.now) scene.now findings.old }
-    requires cases { AllByRecursion (in_scene L.looks scene.now IsCase findings.old.bags) cases.now }
-    ensures fits { IfOk result (λ b. OnTrue b
-        (in_scene L.looks scene.now FitsAt findings.new.bags (request_of scene.now) cases.now place)) }
-    ensures keeps { KeepsReady (L.looks scene.now.held.now) scene.now findings.old findings.new }
-{
-    match cases.get(place) {
-        Some(case) => fits(scene, findings, case.found.as_slice()),
-        None => Ok(false),
-    }
-}
-
-// The first of several cases that a request fits.
-fn first_fitting<L: LookUps>(
-    scene: &Scene<'_, L>,
-    findings: &mut Findings,
-    cases: &[Case],
-) -> Result<Option<usize>, AllocError>
-    requires ready { AreReady (L.looks scene.now.held.now) scene.now findings.old }
-    requires cases { AllByRecursion (in_scene L.looks scene.now IsCase findings.old.bags) cases.now }
-    ensures tells { IfOk result (in_scene L.looks scene.now TellsPlace
-        findings.old.bags findings.new.bags (request_of scene.now) cases.now) }
-    ensures keeps { KeepsReady (L.looks scene.now.held.now) scene.now findings.old findings.new }
-{
-    for place in 0..cases.len() {
-        if fits(scene, findings, cases[place].found.as_slice())? {
-            return Ok(Some(place));
-        }
-    }
-    Ok(None)
-}
-
-// Whether a request finds the same as a case found.
-fn fits<L: LookUps>(
-    scene: &Scene<'_, L>,
-    findings: &mut Findings,
-    found: &[Finding],
-) -> Result<bool, AllocError>
-    requires ready { AreReady (L.looks scene.now.held.now) scene.now findings.old }
-    requires found { AllByRecursion (IsFinding scene.now.questions.now findings.old.bags) found.now }
-    ensures fits { IfOk result (λ b. OnTrue b
-        (in_scene L.looks scene.now FindsAll findings.new.bags (request_of scene.now) found.now)) }
-    ensures differs { IfOk result (λ b. OnFalse b
-        (in_scene L.looks scene.now FindsAll findings.old.bags (request_of scene.now) found.now → ⊥)) }
-    ensures keeps { KeepsReady (L.looks scene.now.held.now) scene.now findings.old findings.new }
-{
-    for finding in found {
-        if findings.bag_of(scene, finding.question, finding.place)? != finding.bag {
-            return Ok(false);
-        }
-    }
-    Ok(true)
 }

@@ -10,6 +10,8 @@ mod memory;
 mod names;
 mod pdp;
 mod scene;
+mod shelf;
+mod ways;
 
 pub use ent_request::{
     ACCESS_SUBJECT, ACTION, Answer, Asked, Assignment, Attribute, Category, Cause, Environment,

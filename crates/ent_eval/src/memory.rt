@@ -3,7 +3,7 @@
 ghost use Rattle.std.specs.Prelude.{◌≡◌, List, IfNone, IfOk, IfSome, OnOk};
 ghost use Rattle.std.specs.List.{AllByRecursion};
 ghost use Rattle.ent_request.specs.Looks.{Looks};
-ghost use Rattle.ent_eval.specs.Memory.{Gives, HasCase, IsFinding, Remembers};
+ghost use Rattle.ent_eval.specs.Memory.{Gives, HasCase, IsFinding, Remembers, cases_in};
 ghost use Rattle.ent_request.specs.Questions.{AreNumbers};
 ghost use Rattle.ent_eval.specs.proofs_only.Remembered.{AreReady, FindsAll, IsEvaluated, KeepsReady, NoneFits};
 ghost use Rattle.ent_eval.specs.proofs_only.Remembered.{NotesFinding, TellsAll};
@@ -11,7 +11,7 @@ ghost use Rattle.ent_eval.specs.proofs_only.Remembered.{in_scene, request_of};
 ghost use Rattle.ent_request.specs.declared.question.Question.{Question};
 
 use crate::case::{Case, Finding};
-use crate::cases::{Cases, fitting};
+use crate::cases::Cases;
 use crate::findings::{Findings, place_of};
 use crate::pdp::ListedEvaluation;
 use crate::scene::Scene;
@@ -47,14 +47,17 @@ impl Memory {
         ensures some { IfOk result (λ o. IfSome o (λ e. in_scene L.looks scene.now HasCase self.new
             (request_of scene.now) (Gives e))) }
         ensures none { IfOk result (λ o. IfNone o (in_scene L.looks scene.now NoneFits self.old.findings.bags
-            (request_of scene.now) self.old.cases.cases.items)) }
+            (request_of scene.now) (cases_in self.old.cases))) }
         ensures remembers { in_scene L.looks scene.now Remembers self.new }
-        ensures cases { self.new.cases.cases.items ≡ self.old.cases.cases.items }
+        ensures cases { cases_in self.new.cases ≡ cases_in self.old.cases }
     {
         self.findings.turn_to(scene)?;
-        match fitting(scene, &mut self.findings, &self.cases)? {
+        match self.cases.recall(scene, &mut self.findings)? {
             None => Ok(None),
-            Some(place) => Ok(Some(self.cases.take(place)?)),
+            Some(evaluation) => {
+                self.cases.count_taken();
+                Ok(Some(evaluation))
+            }
         }
     }
 
@@ -79,8 +82,7 @@ impl Memory {
             answer: evaluation.answer.copy()?,
             failed: evaluation.failed,
         };
-        self.cases.put(case)?;
-        Ok(())
+        self.cases.put(scene.alloc, case)
     }
 }
 

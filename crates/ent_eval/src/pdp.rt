@@ -6,7 +6,7 @@ ghost use Rattle.ent_walk.specs.Answer.{answer, answer_part, asked, causes, has_
 ghost use Rattle.ent_eval.specs.Lending.{LendsAttributes, LendsPolicies};
 ghost use Rattle.ent_request.specs.Listed.{listed};
 ghost use Rattle.ent_eval.specs.LooksOf.{looks_of};
-ghost use Rattle.ent_eval.specs.Memory.{Gives, HasCase, IsKnown, Remembers};
+ghost use Rattle.ent_eval.specs.Memory.{Gives, HasCase, IsKnown, Remembers, cases_in};
 ghost use Rattle.ent_request.specs.Questions.{AreNumbers, BeginsWith, asked_once, at_numbers, keys_at};
 ghost use Rattle.ent_notes.specs.proofs_only.Noted.{noting};
 ghost use Rattle.ent_eval.specs.proofs_only.Remembered.{IsEvaluated, NoneFits};
@@ -180,7 +180,7 @@ impl<A: Attributes, P: Policies> Pdp<A, P> {
             (listed person.now action.now resource.now) (Gives e)) }
         ensures again { IsKnown (looks_of A.sources P.slots self.old) questions.old memory.old
             (listed person.now action.now resource.now)
-            → (memory.new.cases.cases.items ≡ memory.old.cases.cases.items) × (questions.new ≡ questions.old) }
+            → (cases_in memory.new.cases ≡ cases_in memory.old.cases) × (questions.new ≡ questions.old) }
         ensures counted { self.new.evaluations ≡ min (self.old.evaluations + 1) (2 ^ 128 - 1) }
         ensures rest { self.new ≡ record self.old { evaluations = self.new.evaluations } }
     {
@@ -219,9 +219,9 @@ impl<A: Attributes, P: Policies> Pdp<A, P> {
             HasCase (looks_of A.sources P.slots self.now) questions.now memory.new
             (listed person.now action.now resource.now) (Gives e))) }
         ensures none { IfOk result (λ o. IfNone o (NoneFits (looks_of A.sources P.slots self.now) questions.now
-            memory.old.findings.bags (listed person.now action.now resource.now) memory.old.cases.cases.items)) }
+            memory.old.findings.bags (listed person.now action.now resource.now) (cases_in memory.old.cases))) }
         ensures remembers { Remembers (looks_of A.sources P.slots self.now) questions.now memory.new }
-        ensures cases { memory.new.cases.cases.items ≡ memory.old.cases.cases.items }
+        ensures cases { cases_in memory.new.cases ≡ cases_in memory.old.cases }
     {
         memory.recall(&Scene {
             alloc: self.alloc,

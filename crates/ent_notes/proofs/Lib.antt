@@ -1,3 +1,4 @@
 pub mod KeysAsked
+pub mod Marking
 pub mod MetBefore
 pub mod Noting

@@ -1,13 +1,13 @@
 //! The questions that an evaluation asks, each once.
 
-ghost use Rattle.std.specs.Prelude.{◌≡◌, ◌<◌, [], eqb, length, slice_get, IfOk, IsTrue, OnErr, OnOk, Some};
+ghost use Rattle.std.specs.Prelude.{◌≡◌, ◌<◌, [], length, slice_get, IfOk, IsTrue, OnErr, OnOk, Some};
 ghost use Rattle.std.specs.List.{AllByRecursion, flat_map};
-ghost use Rattle.indexmap.specs.IndexSet.{insert_key};
 ghost use Rattle.ent_request.specs.Noted.{noted};
 ghost use Rattle.ent_request.specs.Questions.{AreNumbers, BeginsWith, at_numbers, with_question};
 ghost use Rattle.ent_request.specs.Sources.{asked_of, keys_of};
 ghost use Rattle.ent_request.specs.declared.question.Question.TheVariants.{Of, Ref, Root};
 
+use crate::marked::Marked;
 use ent_policy::{Designator, Reference};
 use ent_request::{
     Asked, CURRENT_DATE, CURRENT_DATE_TIME, CURRENT_TIME, Question, Questions, ReadKey, Reads,
@@ -30,22 +30,15 @@ const MIXING_FACTOR: usize = 31;
 /// An evaluation finds no more questions of earlier ones than these.
 const MOST_KEPT: usize = 4096;
 
-// Where a question stands: its number, and its rank among those that were asked.
-#[derive(Clone, Copy)]
-struct Place {
-    number: usize,
-    rank: usize,
-}
-
 // The questions that were asked, each once, in the order in which they were asked first. They are kept as numbers:
 // where they stand among questions that were asked of late, also by earlier evaluations. For each slot, that of the
-// question's text, there is the place of the one that was asked last: something else may have had the slot since, so
+// question's text, there is the number of the one that was asked last: something else may have had the slot since, so
 // that it is only where to look first. So is the number that one of them had among the questions of a caller.
 #[derive(Drop)]
 pub(crate) struct Asking {
     questions: IndexSet<Question>,
-    numbers: IndexSet<usize>,
-    places: Vec<Place>,
+    numbers: Marked,
+    places: Vec<usize>,
     likely: Vec<u32>,
 }
 
@@ -56,9 +49,9 @@ impl Model for Asking {
 
     ghost Value = { List Question };
 
-    ghost view = { λ a. at_numbers a.questions.keys a.numbers.keys };
+    ghost view = { λ a. at_numbers a.questions.keys a.numbers };
 
-    ghost invariant = { λ a. IsNumbering a.questions.keys a.numbers.keys };
+    ghost invariant = { λ a. IsNumbering a.questions.keys a.numbers };
 }
 
 impl Asking {
@@ -68,7 +61,7 @@ impl Asking {
     {
         Asking {
             questions: IndexSet::new(alloc),
-            numbers: IndexSet::new(alloc),
+            numbers: Marked::new(alloc),
             places: Vec::new(alloc),
             likely: Vec::new(alloc),
         }
@@ -78,7 +71,7 @@ impl Asking {
     pub(crate) fn begin(&mut self, alloc: Global)
         ensures { self.new ≡ [] }
     {
-        self.numbers.clear();
+        self.numbers.begin(alloc);
         if self.questions.len() > MOST_KEPT {
             self.questions = IndexSet::new(alloc);
         }
@@ -100,10 +93,9 @@ impl Asking {
         ensures { OnOk result (self.new ≡ with_question self.old (Ref reference.now)) }
     {
         let slot = slot_of(reference.id.as_str());
-        let place = place_in(&self.places, slot);
-        if is_reference(&self.questions, place.number, reference) {
-            let rank = note_number(&mut self.numbers, place)?;
-            set_place(&mut self.places, slot, place.number, rank);
+        let number = number_in(&self.places, slot);
+        if is_reference(&self.questions, number, reference) {
+            self.numbers.note(number)?;
             return Ok(());
         }
         self.note(alloc, slot, Question::Ref(reference.copy(alloc)?))
@@ -118,10 +110,9 @@ impl Asking {
         ensures { OnOk result (self.new ≡ with_question self.old (Of (asked_of designator.now))) }
     {
         let slot = slot_of(designator.attribute.as_str());
-        let place = place_in(&self.places, slot);
-        if is_of(&self.questions, place.number, designator) {
-            let rank = note_number(&mut self.numbers, place)?;
-            set_place(&mut self.places, slot, place.number, rank);
+        let number = number_in(&self.places, slot);
+        if is_of(&self.questions, number, designator) {
+            self.numbers.note(number)?;
             return Ok(());
         }
         self.note(alloc, slot, Question::Of(Asked::of(alloc, designator)?))
@@ -131,10 +122,10 @@ impl Asking {
     fn note(&mut self, alloc: Global, slot: usize, question: Question) -> Result<(), AllocError>
         ensures { OnOk result (self.new ≡ with_question self.old question) }
     {
-        make_places(alloc, &mut self.places)?;
+        make_places(&mut self.places)?;
         let (number, _) = self.questions.insert_full(question)?;
-        let (rank, _) = self.numbers.insert_full(number)?;
-        set_place(&mut self.places, slot, number, rank);
+        self.numbers.note(number)?;
+        set_place(&mut self.places, slot, number);
         Ok(())
     }
 
@@ -220,15 +211,8 @@ fn number_one(
 }
 
 // Makes the places, if they aren't there yet, each of them the first.
-fn make_places(alloc: Global, places: &mut Vec<Place>) -> Result<(), AllocError> {
-    if places.is_empty() {
-        let mut made = Vec::with_capacity(alloc, PLACES)?;
-        for _ in 0..PLACES {
-            made.push(Place { number: 0, rank: 0 })?;
-        }
-        *places = made;
-    }
-    Ok(())
+fn make_places(places: &mut Vec<usize>) -> Result<(), AllocError> {
+    places.resize(PLACES, 0)
 }
 
 // The slot of a text: a number made of its end.
@@ -240,18 +224,18 @@ fn slot_of(text: &str) -> usize {
     mixed % PLACES
 }
 
-// The place in a slot, or the first.
-fn place_in(places: &[Place], slot: usize) -> Place {
+// The number in a slot, or the first.
+fn number_in(places: &[usize], slot: usize) -> usize {
     match places.get(slot) {
-        None => Place { number: 0, rank: 0 },
-        Some(place) => *place,
+        None => 0,
+        Some(number) => *number,
     }
 }
 
-// Sets the place in a slot.
-fn set_place(places: &mut Vec<Place>, slot: usize, number: usize, rank: usize) {
+// Sets the number in a slot.
+fn set_place(places: &mut Vec<usize>, slot: usize, number: usize) {
     if let Some(place) = places.get_mut(slot) {
-        *place = Place { number, rank };
+        *place = number;
     }
 }
 
@@ -272,28 +256,6 @@ fn is_of(questions: &IndexSet<Question>, number: usize, designator: &Designator)
     match questions.get_index(number) {
         Some(Question::Of(asked)) => asked.is_of(designator),
         _ => false,
-    }
-}
-
-// Notes a number, if it isn't there yet, and tells where it stands.
-fn note_number(numbers: &mut IndexSet<usize>, place: Place) -> Result<usize, AllocError>
-    ensures ok { OnOk result (numbers.new.keys ≡ insert_key eqb numbers.old.keys place.number) }
-    ensures err { OnErr result (numbers.new.keys ≡ numbers.old.keys) }
-{
-    if is_at(numbers, place) {
-        return Ok(place.rank);
-    }
-    let (rank, _) = numbers.insert_full(place.number)?;
-    Ok(rank)
-}
-
-// Whether a number stands at a place.
-fn is_at(numbers: &IndexSet<usize>, place: Place) -> bool
-    ensures { IsTrue result → slice_get numbers.now.keys place.rank ≡ Some place.number }
-{
-    match numbers.get_index(place.rank) {
-        None => false,
-        Some(number) => *number == place.number,
     }
 }
 

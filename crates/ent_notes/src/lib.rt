@@ -5,6 +5,7 @@
 mod asking;
 mod causes;
 mod distinct;
+mod marked;
 mod notes;
 mod path;
 mod paths;

@@ -1,12 +1,11 @@
 -- Loops over what gives lists, one after another, as a request's categories and their attributes give values.
-use Rattle.std.proofs.Common.{◌≡◌, ℕ, ◌+◌, ◌<◌, ◌≤◌, Bool, true, false, List, [], ◌∷◌, ◌++◌, length, drop, get_or, refl, sym, ap, ◌∙◌, append_assoc, arith, length-append, subst, Option, None}
-use Rattle.std.specs.List.{flat_map, list_any}
+use Rattle.std.proofs.Common.{◌≡◌, ℕ, ◌+◌, ◌<◌, ◌≤◌, false, List, [], ◌∷◌, ◌++◌, length, drop, get_or, refl, sym, ap, ◌∙◌, append_assoc, arith, length-append, subst, Option, None}
+use Rattle.std.specs.List.{flat_map}
 use Rattle.std.specs.Prelude.{MatchOption}
 use Rattle.std.proofs.Math.ListN.{drop_of_length-le}
 use Rattle.std.proofs.lemmas.List.{append-nil}
 use Rattle.std.proofs.lemmas.List.Concat.{flat_map-append}
 use Rattle.std.proofs.lemmas.List.Elements.{All-append, All-same}
-use Rattle.std.proofs.lemmas.List.Folds.{list_any-append}
 use Rattle.ent_values.specs.Bags.{AllOfType}
 use Rattle.ent_values.specs.Types.{datatype_of}
 use Rattle.ent_values.specs.declared.datatype.DataType.{DataType}
@@ -56,15 +55,6 @@ module _ {X A : Type 0} (f : X → List A) (xs : List X) (i : ℕ) where
 
   pub adds_all : (all so_far : List A) → so_far ++ flat_map f (drop i xs) ≡ all → length xs ≤ i → so_far ≡ all
   adds_all all so_far is past = sym (append-nil so_far) ∙ ap (λ vs. so_far ++ vs) (sym (none_left past)) ∙ is
-
-  -- where a test that holds of none before an item holds of one that it gives, it holds of one in all
-  pub finds : (p : A → Bool) (all : List A) (x : X) → flat_map f xs ≡ all → list_any p (flat_map f (drop i xs)) ≡ list_any p (flat_map f xs)
-      → i < length xs → x ≡ get_or xs i x → list_any p (f x) ≡ true → true ≡ list_any p all
-  finds p all x all-is none below at one =
-      sym (ap (list_any p) (left x below at) ∙ list_any-append p (f x) (flat_map f (drop (i + 1) xs)) ∙ rw one refl) ∙ none ∙ ap (list_any p) all-is
-
-  pub finds_none : (p : A → Bool) (all : List A) → flat_map f xs ≡ all → list_any p (flat_map f (drop i xs)) ≡ list_any p (flat_map f xs) → length xs ≤ i → false ≡ list_any p all
-  finds_none p all all-is none past = sym (ap (list_any p) (none_left past)) ∙ none ∙ ap (list_any p) all-is
 
 -- one slice has all that the items before i give, and its values have that type
 pub record IsSoFar {X : Type 0} (datatype : DataType) (f : X → List Value) (xs : List X) (i : ℕ) (so_far : List Value) : Type 0 where

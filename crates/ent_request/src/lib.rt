@@ -30,7 +30,7 @@ pub use environment::Environment;
 pub use given::{Assignment, Given};
 pub use key::ReadKey;
 pub use look_ups::LookUps;
-pub use own::{Sought, attributes_in, own_values, same_issuer, same_text, values_in};
+pub use own::{Sought, own_values, same_issuer, same_text};
 pub use own_bag::{is_among, is_empty, is_own, lacks, only_own};
 pub use question::{Asked, Question, same_reference};
 pub use questions::Questions;

@@ -81,8 +81,8 @@ fn either<'a>(first: &'a [Value], second: &'a [Value]) -> Option<&'a [Value]>
     }
 }
 
-/// The attributes in a category, if it is the one of that id.
-pub fn attributes_in<'a>(id: &str, category: &'a Category) -> &'a [Attribute]
+// The attributes in a category, if it is the one of that id.
+pub(crate) fn attributes_in<'a>(id: &str, category: &'a Category) -> &'a [Attribute]
     ensures { result.now ≡ attributes_in id.now category.now }
 {
     if same_text(category.id.as_str(), id) {
@@ -92,8 +92,8 @@ pub fn attributes_in<'a>(id: &str, category: &'a Category) -> &'a [Attribute]
     }
 }
 
-/// The values of an attribute, if it is one that is looked for.
-pub fn values_in<'a>(attribute: &'a Attribute, sought: &Sought<'_>) -> &'a [Value]
+// The values of an attribute, if it is one that is looked for.
+pub(crate) fn values_in<'a>(attribute: &'a Attribute, sought: &Sought<'_>) -> &'a [Value]
     ensures value { result.now ≡ values_in (designator_of sought.now) attribute.now }
     ensures types { AllOfType sought.now.datatype result.now }
 {

@@ -1,6 +1,6 @@
 //! The request's own values for a designator as a bag, and what is told of them without one.
 
-ghost use Rattle.std.specs.Prelude.{◌≡◌, ◌++◌, IfOk, None, OnOk, Some, if◌then◌else◌, option_copied};
+ghost use Rattle.std.specs.Prelude.{◌≡◌, ◌++◌, IfOk, IfSome, OnOk, false, option_copied};
 ghost use Rattle.ent_values.specs.Bags.{AllOfType};
 ghost use Rattle.ent_functions.specs.Sets.{is_among};
 ghost use Rattle.ent_request.specs.Own.{is_empty, own_values, sole_value};
@@ -23,24 +23,10 @@ pub(crate) fn own_bag(
       values = own_values designator.now request.now;
     }) }
 {
-    let sought = Sought::of(designator);
-    match own_values(request, &sought) {
-        Some(values) => bag_of(alloc, designator.datatype, values),
-        None => gathered(alloc, request, &sought),
-    }
+    gathered(alloc, request, &Sought::of(designator))
 }
 
-// Copies of values as a bag.
-fn bag_of(alloc: Global, datatype: DataType, values: &[Value]) -> Result<Bag, AllocError>
-    requires { AllOfType datatype values.now }
-    ensures { IfOk result (λ b. b ≡ record { datatype = datatype; values = values.now }) }
-{
-    let mut bag = Bag::new(alloc, datatype);
-    add_copies(alloc, values, &mut bag)?;
-    Ok(bag)
-}
-
-// Copies of values that lie in several attributes.
+// Copies of those in each category.
 fn gathered(alloc: Global, request: &Request, sought: &Sought<'_>) -> Result<Bag, AllocError>
     ensures { IfOk result (λ b. b ≡ record {
       datatype = sought.now.datatype;
@@ -84,16 +70,14 @@ fn add_copies(alloc: Global, values: &[Value], bag: &mut Bag) -> Result<(), Allo
     Ok(())
 }
 
-/// Whether a value is one of the request's own, if it has any.
+/// Whether a value is one of the request's own, where one slice has them all and there are any.
 pub fn is_own(request: &Request, designator: &Designator, value: &Value) -> Option<bool>
-    ensures { result ≡ (if is_empty (own_values designator.now request.now) then None
-        else Some (is_among value.now (own_values designator.now request.now))) }
+    ensures { IfSome result (λ b. (is_empty (own_values designator.now request.now) ≡ false)
+        × (b ≡ is_among value.now (own_values designator.now request.now))) }
 {
-    let sought = Sought::of(designator);
-    match own_values(request, &sought) {
-        Some([]) => None,
-        Some(values) => Some(is_among(value, values)),
-        None => Some(is_in_request(value, request, &sought)),
+    match own_values(request, &Sought::of(designator))? {
+        [] => None,
+        values => Some(is_among(value, values)),
     }
 }
 
@@ -106,30 +90,6 @@ pub fn lacks(request: &Request, sought: &Sought<'_>) -> bool
         Some(_) => false,
         None => false,
     }
-}
-
-// Whether a value is one of those that lie in several attributes.
-fn is_in_request(value: &Value, request: &Request, sought: &Sought<'_>) -> bool
-    ensures { result ≡ is_among value.now (own_values (designator_of sought.now) request.now) }
-{
-    for category in request.categories.as_slice() {
-        if is_in_category(value, category, sought) {
-            return true;
-        }
-    }
-    false
-}
-
-// Whether it is one of those in a category.
-fn is_in_category(value: &Value, category: &Category, sought: &Sought<'_>) -> bool
-    ensures { result ≡ is_among value.now (values_of (designator_of sought.now) category.now) }
-{
-    for attribute in attributes_in(sought.category, category) {
-        if is_among(value, values_in(attribute, sought)) {
-            return true;
-        }
-    }
-    false
 }
 
 /// Whether a value is one of several.

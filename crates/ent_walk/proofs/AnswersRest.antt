@@ -1,7 +1,7 @@
 -- What policy sets and answers rest on.
 use Rattle.std.proofs.Common.{◌≡◌, ℕ, zero, suc, Bool, true, false, List, [], ◌∷◌, ◌++◌, map, get_or, refl, sym, ap, ◌∙◌, subst, Option, Some, None}
 use Rattle.std.specs.Prelude.{if◌then◌else◌}
-use Rattle.std.specs.List.{AllByRecursion, flat_map}
+use Rattle.std.specs.List.{All, AllByRecursion, flat_map}
 use Rattle.std.proofs.lemmas.List.{map-append}
 use Rattle.ent_combine.specs.Choose.{choose, is_bad}
 use Rattle.ent_combine.specs.Seen.{rest_to_passing}
@@ -26,9 +26,9 @@ use Rattle.ent_walk.specs.declared.target.Targeted.{Targeted}
 use Rattle.ent_walk.specs.Answer.{answer_part, asked, looked_up, most_hops, recorded, root_part}
 use Rattle.ent_walk.specs.Given.{finished}
 use Rattle.ent_request.specs.Plain.{nothing}
-use Rattle.ent_walk.specs.Law.{EqualFindingsGiveEqualAnswers, EqualLookUpsGiveEqualAnswers, FindsSame}
+use Rattle.ent_walk.specs.Law.{EqualFindingsGiveEqualAnswers, EqualFindingsGiveEqualConditions, EqualFindingsGiveEqualPolicies, EqualFindingsGiveEqualRules, EqualFindingsGiveEqualTargets, EqualLookUpsGiveEqualAnswers, FindsSame}
 use Rattle.ent_request.specs.SameLook.{IsSameLook}
-use Rattle.ent_walk.specs.Node.{Node, child_step, children_part, combined, followed, found_node, node_with, policy_key, refer, set_key, set_step}
+use Rattle.ent_walk.specs.Node.{Node, child_step, children_part, combined, followed, found_node, node_with, policy_key, policy_part, refer, set_key, set_step}
 use Rattle.ent_walk.specs.proofs_only.Node.{set_node_with}
 use Rattle.ent_request.specs.Causes.{told_once}
 use Rattle.ent_request.specs.Note.{Note, asks, causes_in, fails, questions_in}
@@ -39,10 +39,13 @@ use Rattle.ent_request.specs.Part.{Part, after_look, without_look, notes_of, val
 use Rattle.ent_walk.specs.Target.{target_part}
 use Rattle.ent_walk.proofs.Finds.{all-find}
 use Rattle.ent_request.proofs.Keys.{all_noted, by_recursion}
-use Rattle.ent_walk.proofs.Rests.{AllRest, Rests, Same, World, and_then-rests, combined-rests, element-rests, finished-rests, policy-rests, rests-by, target-rests, within-rests}
+use Rattle.ent_walk.proofs.Rests.{AllRest, Rests, Same, World, and_then-rests, combined-rests, condition-rests, element-rests, finished-rests, policy-rests, rests-by, rule-rests, target-rests, within-rests}
 use Rattle.ent_request.proofs.Lists.{first_looks, later_looks}
 use Rattle.ent_walk.proofs.Sets.{map-map}
 use Rattle.ent_walk.proofs.Choices.{values-append}
+use Rattle.ent_request.specs.declared.request.Request.{Request}
+use Rattle.ent_request.specs.Looks.{Looks}
+use Rattle.ent_walk.specs.Rule.{condition_part, rule_part}
 
 -- ---- the only child that applies
 
@@ -219,6 +222,29 @@ findings-rest s t q r h =
     let there : World = record { looks = t; request = r } in
     let same : answer_part t r ≡ answer_part s q = answer-rests here there (all_same here there (answer_part s q).notes (by_recursion (FindsSame s q t r) (asked s q) h)) in
     (ap (λ p. p.value) same, (ap (λ p. questions_in p.notes) same, ap (λ p. told_once [] (causes_in p.notes)) same))
+
+-- so it is with parts of an answer
+part-rests : {A : Type 0} (s t : Looks) (q r : Request) (part : World → Part A) → Rests (record { looks = s; request = q }) (record { looks = t; request = r }) part
+    → All (FindsSame s q t r) (questions_in (part (record { looks = s; request = q })).notes) → part (record { looks = t; request = r }) ≡ part (record { looks = s; request = q })
+part-rests s t q r part rests h =
+    let here : World = record { looks = s; request = q } in
+    let there : World = record { looks = t; request = r } in
+    rests (all_same here there (part here).notes (by_recursion (FindsSame s q t r) (questions_in (part here).notes) h))
+
+pub targets-rest : EqualFindingsGiveEqualTargets
+targets-rest s t q r target = part-rests s t q r (λ u. target_part u.looks u.request target) (target-rests (record { looks = s; request = q }) (record { looks = t; request = r }) target)
+
+pub conditions-rest : EqualFindingsGiveEqualConditions
+conditions-rest s t q r definitions condition =
+    part-rests s t q r (λ u. condition_part u.looks u.request definitions condition) (condition-rests (record { looks = s; request = q }) (record { looks = t; request = r }) definitions condition)
+
+pub rules-rest : EqualFindingsGiveEqualRules
+rules-rest s t q r definitions path rule =
+    part-rests s t q r (λ u. rule_part u.looks u.request definitions path rule) (rule-rests (record { looks = s; request = q }) (record { looks = t; request = r }) definitions path rule)
+
+pub policies-rest : EqualFindingsGiveEqualPolicies
+policies-rest s t q r path policy =
+    part-rests s t q r (λ u. policy_part u.looks u.request path policy) (policy-rests (record { looks = s; request = q }) (record { looks = t; request = r }) path policy)
 
 -- and where each recorded look-up gives the same, for one request, so does what is asked
 pub answers-rest : EqualLookUpsGiveEqualAnswers

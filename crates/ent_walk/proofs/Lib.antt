@@ -1,6 +1,7 @@
 pub mod Again
 pub mod AnyBag
 pub mod Alone
+pub mod AnswersAlike
 pub mod AnswersRest
 pub mod Arguments
 pub mod Booleans

@@ -235,7 +235,7 @@ variable-rests s t definitions zero id = λ h. refl
 variable-rests s t definitions (suc n) id =
     defined-rests s t (λ u e. meaning u.looks u.request definitions n e) (meaning_with-rests s t (λ u. variable_part u.looks u.request definitions n) (variable-rests s t definitions n)) (definition_of definitions id)
 
-condition-rests : (s t : World) (definitions : List VariableDefinition) (condition : Option Expression) → Rests s t (λ u. condition_part u.looks u.request definitions condition)
+pub condition-rests : (s t : World) (definitions : List VariableDefinition) (condition : Option Expression) → Rests s t (λ u. condition_part u.looks u.request definitions condition)
 condition-rests s t definitions None = λ h. refl
 condition-rests s t definitions (Some e) =
     mapped-rests s t truth_of (λ u. and_fails (meaning u.looks u.request definitions (length definitions) e) unfit_condition)

@@ -1,6 +1,12 @@
 -- An answer rests on what is asked for it, so on the look-ups that are recorded for it: those that are made, each once.
-use Rattle.std.specs.Prelude.{◌≡◌, ◌≢◌, ◌↔◌, List, ◌∷◌, ◌++◌}
+use Rattle.std.specs.Prelude.{◌≡◌, ◌≢◌, ◌↔◌, List, ◌∷◌, ◌++◌, Option}
 use Rattle.std.specs.List.{All, Contains}
+use Rattle.ent_policy.specs.declared.document.Policy.{Policy}
+use Rattle.ent_policy.specs.declared.document.Rule.{Rule}
+use Rattle.ent_policy.specs.declared.document.Target.{Target}
+use Rattle.ent_policy.specs.declared.expression.Expression.{Expression}
+use Rattle.ent_policy.specs.declared.expression.VariableDefinition.{VariableDefinition}
+use Rattle.ent_policy.specs.declared.key.DocKey.{DocKey}
 use Rattle.ent_request.specs.declared.key.ReadKey.{ReadKey}
 use Rattle.ent_request.specs.declared.key.ReadKey.TheVariants.{Root, Ref}
 use Rattle.ent_request.specs.declared.request.Request.{Request}
@@ -10,6 +16,10 @@ use Rattle.ent_walk.specs.Answer.{answer, asked, causes, looked_up, recorded}
 use Rattle.ent_request.specs.Looks.{Looks}
 use Rattle.ent_request.specs.Sources.{values_of}
 use Rattle.ent_request.specs.SameLook.{IsSameLook}
+use Rattle.ent_request.specs.Note.{questions_in}
+use Rattle.ent_walk.specs.Node.{policy_part}
+use Rattle.ent_walk.specs.Rule.{condition_part, rule_part}
+use Rattle.ent_walk.specs.Target.{target_part}
 
 -- a question finds the same for one request, over what is held, as for another over what is held then
 abbrev pub FindsSame : Looks → Request → Looks → Request → Question → Type 0
@@ -21,6 +31,26 @@ FindsSame s q t r (question.Of a) = values_of s q a ≡ values_of t r a
 abbrev pub EqualFindingsGiveEqualAnswers : Type 0
 EqualFindingsGiveEqualAnswers = (s t : Looks) (q r : Request) → All (FindsSame s q t r) (asked s q)
     → (answer t r ≡ answer s q) × ((asked t r ≡ asked s q) × (causes t r ≡ causes s q))
+
+-- where each question that is asked for a target finds the same, it comes to the same, and the same is noted of it
+abbrev pub EqualFindingsGiveEqualTargets : Type 0
+EqualFindingsGiveEqualTargets = (s t : Looks) (q r : Request) (target : Target) → All (FindsSame s q t r) (questions_in (target_part s q target).notes)
+    → target_part t r target ≡ target_part s q target
+
+-- so with a condition among the definitions of its policy
+abbrev pub EqualFindingsGiveEqualConditions : Type 0
+EqualFindingsGiveEqualConditions = (s t : Looks) (q r : Request) (definitions : List VariableDefinition) (condition : Option Expression)
+    → All (FindsSame s q t r) (questions_in (condition_part s q definitions condition).notes) → condition_part t r definitions condition ≡ condition_part s q definitions condition
+
+-- with a rule of the policy at the end of a path
+abbrev pub EqualFindingsGiveEqualRules : Type 0
+EqualFindingsGiveEqualRules = (s t : Looks) (q r : Request) (definitions : List VariableDefinition) (path : List DocKey) (rule : Rule)
+    → All (FindsSame s q t r) (questions_in (rule_part s q definitions path rule).notes) → rule_part t r definitions path rule ≡ rule_part s q definitions path rule
+
+-- and with a policy, where a path leads from the root to what it stands in
+abbrev pub EqualFindingsGiveEqualPolicies : Type 0
+EqualFindingsGiveEqualPolicies = (s t : Looks) (q r : Request) (path : List DocKey) (policy : Policy) → All (FindsSame s q t r) (questions_in (policy_part s q path policy).notes)
+    → policy_part t r path policy ≡ policy_part s q path policy
 
 -- where each recorded look-up gives the same in both, the answers are equal, and so are the recorded keys
 abbrev pub EqualLookUpsGiveEqualAnswers : Type 0

@@ -1,4 +1,5 @@
 pub mod Answer
+pub mod Came
 pub mod Expression
 pub mod Given
 pub mod Judged

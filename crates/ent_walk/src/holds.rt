@@ -2,15 +2,12 @@
 
 ghost use Rattle.std.specs.Prelude.{◌≡◌, IfOk};
 ghost use Rattle.std.specs.List.{list_any};
-ghost use Rattle.ent_request.specs.Own.{own_values};
-ghost use Rattle.ent_request.specs.proofs_only.Sought.{designator_of, values_of};
 ghost use Rattle.ent_walk.specs.Target.{is_true};
 ghost use Rattle.ent_walk.specs.proofs_only.Typed.{Tests, TestsEach};
 ghost use Rattle.ent_values.specs.Types.{datatype_of};
 
 use ent_functions::{Arg, Fault, Function, apply};
 use ent_policy::Match;
-use ent_request::{Category, Request, Sought, attributes_in, values_in};
 use ent_values::Value;
 use std::alloc::{AllocError, Global};
 
@@ -34,40 +31,6 @@ pub(crate) fn holds_of_one(
 {
     for value in values {
         if is_true(alloc, function, literal, value)? {
-            return Ok(true);
-        }
-    }
-    Ok(false)
-}
-
-// The same of the request's own values, which lie in several attributes.
-pub(crate) fn holds_of(alloc: Global, test: &Match, request: &Request) -> Result<bool, AllocError>
-    requires { Tests test.now.function test.now.literal test.now.designator.datatype }
-    ensures { IfOk result (λ b. b
-        ≡ list_any (is_true test.now.function test.now.literal) (own_values test.now.designator request.now)) }
-{
-    let sought = Sought::of(&test.designator);
-    for category in request.categories.as_slice() {
-        if holds_of_category(alloc, test, category, &sought)? {
-            return Ok(true);
-        }
-    }
-    Ok(false)
-}
-
-// The same of those in one category.
-fn holds_of_category(
-    alloc: Global,
-    test: &Match,
-    category: &Category,
-    sought: &Sought<'_>,
-) -> Result<bool, AllocError>
-    requires { Tests test.now.function test.now.literal sought.now.datatype }
-    ensures { IfOk result (λ b. b
-        ≡ list_any (is_true test.now.function test.now.literal) (values_of (designator_of sought.now) category.now)) }
-{
-    for attribute in attributes_in(sought.category, category) {
-        if holds_in(alloc, test, values_in(attribute, sought))? {
             return Ok(true);
         }
     }

@@ -1,5 +1,8 @@
 //! Laws of what answers rest on.
 
+ghost use Rattle.ent_walk.specs.Came.{EqualTestsGiveEqualAnswers};
+ghost use Rattle.ent_walk.specs.Law.{EqualFindingsGiveEqualConditions, EqualFindingsGiveEqualPolicies};
+ghost use Rattle.ent_walk.specs.Law.{EqualFindingsGiveEqualRules, EqualFindingsGiveEqualTargets};
 ghost use Rattle.ent_walk.specs.Law.{EachKeyIsRecordedOnce, EqualFindingsGiveEqualAnswers};
 ghost use Rattle.ent_walk.specs.Law.{EqualLookUpsGiveEqualAnswers, WhatIsLookedUpIsRecorded};
 ghost use Rattle.ent_walk.specs.Named.{IndeterminateHasItsCause};
@@ -8,6 +11,34 @@ ghost use Rattle.ent_walk.specs.Named.{IndeterminateHasItsCause};
 /// answer is the same, and so are what is asked and the causes.
 pub fn equal_findings_give_equal_answers()
     ensures { EqualFindingsGiveEqualAnswers }
+{}
+
+/// Law: where each question that is asked for a target finds the same, the target comes to the same, and what is noted of
+/// it is the same.
+pub fn equal_findings_give_equal_targets()
+    ensures { EqualFindingsGiveEqualTargets }
+{}
+
+/// Law: so it is with a condition among the definitions of its policy.
+pub fn equal_findings_give_equal_conditions()
+    ensures { EqualFindingsGiveEqualConditions }
+{}
+
+/// Law: so it is with a rule, wherever its policy stands.
+pub fn equal_findings_give_equal_rules()
+    ensures { EqualFindingsGiveEqualRules }
+{}
+
+/// Law: so it is with a policy, wherever it stands.
+pub fn equal_findings_give_equal_policies()
+    ensures { EqualFindingsGiveEqualPolicies }
+{}
+
+/// Law: where the root and the documents are the same, and each target, each rule and what each element gives itself
+/// come to the same for another request, the answer is the same, and the same is noted of it. Those below a target that
+/// doesn't match don't count.
+pub fn equal_tests_give_equal_answers()
+    ensures { EqualTestsGiveEqualAnswers }
 {}
 
 /// Law: where each look-up that is recorded for an answer gives the same, the answer is the same, and so are the

@@ -1,6 +1,6 @@
 //! Whether targets match.
 
-ghost use Rattle.std.specs.Prelude.{◌≡◌, IfOk, OnOk, if◌then◌else◌, map, true};
+ghost use Rattle.std.specs.Prelude.{◌≡◌, IfOk, IfSome, OnOk, Some, if◌then◌else◌, map, true};
 ghost use Rattle.std.specs.List.{list_all};
 ghost use Rattle.ent_policy.specs.Typing.{all_of_is_typed, any_of_is_typed, match_is_typed, target_is_typed};
 ghost use Rattle.ent_walk.specs.proofs_only.Comes.{Adds, Comes, in_walk};
@@ -12,7 +12,7 @@ ghost use Rattle.ent_walk.specs.Target.{all_match, all_of_part, any_of_part, is_
 ghost use Rattle.ent_walk.specs.Target.{matched, one_matches, target_part};
 ghost use Rattle.ent_walk.specs.proofs_only.Target.{own_match, unless_indeterminate};
 
-use crate::holds::{holds_in, holds_of};
+use crate::holds::holds_in;
 use crate::lender::Lender;
 use crate::walk::Walk;
 use ent_policy::{AllOf, AnyOf, Match, Target};
@@ -121,20 +121,20 @@ impl<'a, L: LookUps> Walk<'a, L> {
     }
 }
 
-// A match of the request's own values, if it has any.
+// A match of the request's own values, where one slice has them all and there are any.
 fn own_match<'a, L: LookUps>(
     alloc: Global,
     lender: &mut Lender<'a, L>,
     test: &'a Match,
 ) -> Result<Option<Targeted>, AllocError>
     requires { Tests test.now.function test.now.literal test.now.designator.datatype }
-    ensures value { IfOk result (λ t. t ≡ own_match test.now (own_values test.now.designator lender.old.request)) }
+    ensures value { IfOk result (λ o. IfSome o (λ t.
+        own_match test.now (own_values test.now.designator lender.old.request) ≡ Some t)) }
     ensures lender { lender.new ≡ lender.old }
 {
     match lender.own(&test.designator) {
-        Some([]) => Ok(None),
+        None | Some([]) => Ok(None),
         Some(values) => Ok(Some(told(holds_in(alloc, test, values)?))),
-        None => Ok(Some(told(holds_of(alloc, test, lender.request())?))),
     }
 }
 

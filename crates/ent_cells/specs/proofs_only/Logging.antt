@@ -42,6 +42,6 @@ pub record Puts (olds : List (OldAnswer Who Answer)) (old new : Log Who Answer) 
 abbrev pub answer_in : Cell → OldAnswer Who Answer
 answer_in cell = record { key = cell.who; answer = Some cell.said.answer }
 
--- the same, if another answer is ready
+-- its answer so, if another one is ready
 abbrev pub replaced_in : Cell → Option (OldAnswer Who Answer)
 replaced_in cell = if replaces cell then Some (answer_in cell) else None

@@ -1,5 +1,5 @@
 -- What is found for names, by number: words of the code's own contracts.
-use Rattle.std.specs.Prelude.{◌≡◌, ◌<◌, ◌++◌, ◌⊎◌, ℕ, List, [], ◌∷◌, Option, Some, None, if◌then◌else◌, length, slice_get, slice_set, take}
+use Rattle.std.specs.Prelude.{◌≡◌, ◌++◌, ◌⊎◌, ℕ, List, [], ◌∷◌, Some, None, if◌then◌else◌, slice_get, slice_set}
 use Rattle.std.specs.Hash as fed
 use Rattle.std.specs.List.{AllByRecursion, flat_map}
 use Rattle.ent_values.specs.Bags.{Contents}
@@ -8,6 +8,7 @@ use Rattle.ent_values.specs.declared.value.Value.{Value}
 use Rattle.ent_values.specs.declared.value.Value.TheVariants as value
 use Rattle.ent_eval.specs.declared.case.Case.{Case}
 use Rattle.ent_eval.specs.declared.case.Finding.{Finding}
+use Rattle.ent_eval.specs.declared.cases.Cases.{Cases}
 use Rattle.ent_eval.specs.declared.findings.Findings.{Findings}
 use Rattle.ent_eval.specs.declared.names.Names.{Names}
 use Rattle.ent_eval.specs.declared.names.Row.{Row}
@@ -21,7 +22,8 @@ use Rattle.ent_walk.specs.Answer.{answer, asked, has_cause}
 use Rattle.ent_walk.specs.Law.{FindsSame}
 use Rattle.ent_request.specs.Listed.{listed}
 use Rattle.ent_request.specs.Looks.{Looks}
-use Rattle.ent_eval.specs.Memory.{AreFindings, FindsBag, Fits, IsRow, most_cases, place_of}
+pub use Rattle.ent_eval.specs.Found.{IsAbout}
+use Rattle.ent_eval.specs.Memory.{AreFindings, AreShelves, FindsBag, Fits, IsCase, IsRow, cases_in, place_of}
 use Rattle.ent_request.specs.Questions.{AreNumbers, asked_once, at_numbers}
 use Rattle.ent_request.specs.Readers.{is_own, name_at}
 use Rattle.ent_request.specs.Sources.{designator_for, key_for}
@@ -125,10 +127,6 @@ bag_in looks a name = record {
   values = if is_own (key_for (designator_for a) name) then value.Text name ∷ [] else looks.values (key_for (designator_for a) name);
 }
 
--- the question of a number is about a place's name
-abbrev pub IsAbout : List Question → ℕ → Place → Type 0
-IsAbout questions question place = (x : Question) × ((slice_get questions question ≡ Some x) × (place_of x ≡ Some place))
-
 -- whoever else is named, a question finds a bag for a name
 abbrev pub FindsForName : Looks → List Question → List Contents → Place → List ℕ → ℕ → ℕ → Type 0
 FindsForName looks questions bags place name question bag = (person action resource : List ℕ) → name_at place person action resource ≡ name
@@ -156,19 +154,14 @@ pub record IsEvaluated (looks : Looks) (questions : List Question) (request : Re
   pub within : AreNumbers questions e.asked
   pub failed : e.failed ≡ has_cause looks request
 
--- the case at a place fits a request
-abbrev pub FitsAt : Looks → List Question → List Contents → Request → List Case → ℕ → Type 0
-FitsAt looks questions bags request cases i = (c : Case) × ((slice_get cases i ≡ Some c) × Fits looks questions bags request c)
-
 -- none of these cases fits a request
 abbrev pub NoneFits : Looks → List Question → List Contents → Request → List Case → Type 0
 NoneFits looks questions bags request cases = AllByRecursion (λ c. Fits looks questions bags request c → ⊥) cases
 
--- the case at this place fits a request; where there is no place, none fits over the bags that were there before
-abbrev pub TellsPlace : Looks → List Question → List Contents → List Contents → Request → List Case → Option ℕ → Type 0
-TellsPlace looks questions old new request cases (Some place) = FitsAt looks questions new request cases place
-TellsPlace looks questions old new request cases None = NoneFits looks questions old request cases
+-- shelves of which each case is one still are that, where this case is one
+abbrev pub KeepsShelves : Case → Cases → Cases → Type 0
+KeepsShelves c old new = (looks : Looks) (questions : List Question) (bags : List Contents) → IsCase looks questions bags c → AreShelves looks questions bags old → AreShelves looks questions bags new
 
--- a case was put behind the others, or in the place of one of the first of them, of which none is left behind these
-abbrev pub PutsCase : List Case → List Case → Case → Type 0
-PutsCase old new c = (length old < most_cases) × (new ≡ old ++ c ∷ []) ⊎ ((n : ℕ) × ((i : ℕ) × ((i < length (take n old)) × (new ≡ slice_set (take n old) i c))))
+-- a case is among those that are remembered
+abbrev pub HasPut : Case → Cases → Type 0
+HasPut c cases = (i : ℕ) × (slice_get (cases_in cases) i ≡ Some c)

@@ -3,7 +3,7 @@ use Rattle.std.specs.Prelude.{IfNone, IfSome}
 use Rattle.ent_walk.specs.Answer.{answer, asked, has_cause, recorded}
 use Rattle.ent_request.specs.Listed.{listed}
 use Rattle.ent_eval.specs.LooksOf.{looks_of}
-use Rattle.ent_eval.specs.Memory.{Gives, HasCase}
+use Rattle.ent_eval.specs.Memory.{Gives, HasCase, cases_in}
 use Rattle.ent_request.specs.Questions.{AreNumbers, asked_once, at_numbers, keys_at}
 use Rattle.ent_eval.specs.declared.pdp.ListedEvaluation.{ListedEvaluation}
 use Rattle.ent_eval.specs.proofs_only.Remembered.{IsEvaluated, NoneFits}
@@ -66,5 +66,5 @@ pub returns-in-Ok-None-clause-again : goal.returns-in-Ok-None-clause-again
 returns-in-Ok-None-clause-again g c =
     let looks = looks_of (g.A.Attributes.sources) (g.P.Policies.slots) c.args.self.now in
     let request = listed c.args.person.now c.args.action.now c.args.resource.now in
-    let none = subst (λ o. IfNone o (NoneFits looks c.args.questions.now c.args.memory.now.findings.bags request c.args.memory.now.cases.cases.items)) c.in-Ok-None.field-0-is c.in-Ok-None.ensures.none in
+    let none = subst (λ o. IfNone o (NoneFits looks c.args.questions.now c.args.memory.now.findings.bags request (cases_in c.args.memory.now.cases))) c.in-Ok-None.field-0-is c.in-Ok-None.ensures.none in
     λ known. absurd (none_known looks c.args.questions.now c.args.memory.now request none known)

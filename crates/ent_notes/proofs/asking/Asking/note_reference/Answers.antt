@@ -6,11 +6,11 @@ use Rattle.ent_notes.proofs.asking.Asking.note_reference.Goals as goal
 
 pub invariant_of-self-then-is_reference : goal.invariant_of-self-then-is_reference
 invariant_of-self-then-is_reference c =
-    let at : slice_get c.self.inside.questions.keys c.place_in-place.result.number ≡ Some (Ref c.args.reference.now) = search rules in
-    (noted_there c.self.inside.questions.keys c.self.inside.numbers.keys c.note_number.new.numbers.keys c.place_in-place.result.number (Ref c.args.reference.now) c.self.invariant at c.in_ok-rank.ensures.ok).0
+    let at : slice_get c.self.inside.questions.keys c.number_in-number.result ≡ Some (Ref c.args.reference.now) = search rules in
+    (noted_there c.self.inside.questions.keys c.self.inside.numbers c.note.new.self c.number_in-number.result (Ref c.args.reference.now) c.self.invariant at c.in_ok-note.ensures.ok).0
 
 pub returns-then-is_reference : goal.returns-then-is_reference
 returns-then-is_reference c =
-    let at : slice_get c.self.inside.questions.keys c.place_in-place.result.number ≡ Some (Ref c.args.reference.now) = search rules in
-    (noted_there c.self.inside.questions.keys c.self.inside.numbers.keys c.note_number.new.numbers.keys c.place_in-place.result.number (Ref c.args.reference.now) c.self.invariant at c.in_ok-rank.ensures.ok).1
+    let at : slice_get c.self.inside.questions.keys c.number_in-number.result ≡ Some (Ref c.args.reference.now) = search rules in
+    (noted_there c.self.inside.questions.keys c.self.inside.numbers c.note.new.self c.number_in-number.result (Ref c.args.reference.now) c.self.invariant at c.in_ok-note.ensures.ok).1
     ∙ ap (λ qs. with_question qs (Ref c.args.reference.now)) c.self.view_is

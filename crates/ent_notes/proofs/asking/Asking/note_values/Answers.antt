@@ -7,11 +7,11 @@ use Rattle.ent_notes.proofs.asking.Asking.note_values.Goals as goal
 
 pub invariant_of-self-then-is_of : goal.invariant_of-self-then-is_of
 invariant_of-self-then-is_of c =
-    let at : slice_get c.self.inside.questions.keys c.place_in-place.result.number ≡ Some (Of (asked_of c.args.designator.now)) = search rules in
-    (noted_there c.self.inside.questions.keys c.self.inside.numbers.keys c.note_number.new.numbers.keys c.place_in-place.result.number (Of (asked_of c.args.designator.now)) c.self.invariant at c.in_ok-rank.ensures.ok).0
+    let at : slice_get c.self.inside.questions.keys c.number_in-number.result ≡ Some (Of (asked_of c.args.designator.now)) = search rules in
+    (noted_there c.self.inside.questions.keys c.self.inside.numbers c.note.new.self c.number_in-number.result (Of (asked_of c.args.designator.now)) c.self.invariant at c.in_ok-note.ensures.ok).0
 
 pub returns-then-is_of : goal.returns-then-is_of
 returns-then-is_of c =
-    let at : slice_get c.self.inside.questions.keys c.place_in-place.result.number ≡ Some (Of (asked_of c.args.designator.now)) = search rules in
-    (noted_there c.self.inside.questions.keys c.self.inside.numbers.keys c.note_number.new.numbers.keys c.place_in-place.result.number (Of (asked_of c.args.designator.now)) c.self.invariant at c.in_ok-rank.ensures.ok).1
+    let at : slice_get c.self.inside.questions.keys c.number_in-number.result ≡ Some (Of (asked_of c.args.designator.now)) = search rules in
+    (noted_there c.self.inside.questions.keys c.self.inside.numbers c.note.new.self c.number_in-number.result (Of (asked_of c.args.designator.now)) c.self.invariant at c.in_ok-note.ensures.ok).1
     ∙ ap (λ qs. with_question qs (Of (asked_of c.args.designator.now))) c.self.view_is

@@ -1,0 +1,37 @@
+-- What questions find for the names of listed requests, by number.
+use Rattle.std.specs.Prelude.{◌≡◌, ℕ, List, [], Option, Some, None, bytes_eq, if◌then◌else◌, slice_get}
+use Rattle.ent_values.specs.Bags.{Contents}
+use Rattle.ent_values.specs.declared.datatype.DataType.TheVariants as types
+use Rattle.ent_request.specs.declared.question.Question.{Question}
+use Rattle.ent_request.specs.declared.question.Question.TheVariants.{Of}
+use Rattle.ent_request.specs.declared.readers.Place.{Place}
+use Rattle.ent_request.specs.declared.readers.Place.TheVariants.{Person, Action, Resource}
+use Rattle.ent_request.specs.declared.request.Request.{Request}
+use Rattle.ent_request.specs.Looks.{Looks}
+use Rattle.ent_request.specs.Sources.{values_of}
+use Rattle.ent_request.specs.Uris as uris
+
+-- the name of listed requests that a category is of, if it is of one
+abbrev pub place_in : List ℕ → Option Place
+place_in category =
+    if bytes_eq category uris.access_subject then Some Person
+    else (if bytes_eq category uris.resource then Some Resource
+    else (if bytes_eq category uris.action then Some Action else None))
+
+-- the name that a question is about, if it is about one
+abbrev pub place_of : Question → Option Place
+place_of (Of a) = place_in a.category
+place_of _ = None
+
+-- the bag that a question finds for a request: the values of its attribute, if it asks for those
+abbrev pub bag_for : Looks → Request → Question → Contents
+bag_for looks request (Of a) = record { datatype = a.datatype; values = values_of looks request a }
+bag_for looks request _ = record { datatype = types.Text; values = [] }
+
+-- the question of that number finds the bag of that number
+abbrev pub FindsBag : Looks → List Question → List Contents → Request → ℕ → ℕ → Type 0
+FindsBag looks questions bags request question bag = (x : Question) × ((slice_get questions question ≡ Some x) × (slice_get bags bag ≡ Some (bag_for looks request x)))
+
+-- the question of a number is about a place's name
+abbrev pub IsAbout : List Question → ℕ → Place → Type 0
+IsAbout questions question place = (x : Question) × ((slice_get questions question ≡ Some x) × (place_of x ≡ Some place))
