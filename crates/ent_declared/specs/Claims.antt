@@ -62,6 +62,6 @@ abbrev pub standing_behind : (Claim → Option ℕ) → ℕ → Option (Claim ×
 standing_behind before n None c = before c
 standing_behind before n (Some said) c = if same_claim said.0 c then (if said.1 then Some n else None) else before c
 
--- the same behind the text of a line
+-- the numbers behind the text of a line
 abbrev pub behind : (Claim → Option ℕ) → ℕ → List ℕ → Claim → Option ℕ
 behind before n line = standing_behind before n (option_and_then said_by (data_of line))

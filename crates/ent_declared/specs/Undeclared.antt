@@ -68,12 +68,12 @@ abbrev pub Finds : List Attribute → Spot → Option Undeclared → Type 0
 Finds attributes s None = IsAllDeclared attributes s
 Finds attributes s (Some found) = StandsIn attributes found s
 
--- the same at the place itself
+-- what is found at the place itself
 abbrev pub FindsHere : List Attribute → Spot → Option Undeclared → Type 0
 FindsHere attributes s None = is_wrong attributes s ≡ false
 FindsHere attributes s (Some found) = StandsIn attributes found s
 
--- the same at some places
+-- what is found at some places
 abbrev pub FindsIn : List Attribute → List Spot → Option Undeclared → Type 0
 FindsIn attributes spots None = All (IsAllDeclared attributes) spots
 FindsIn attributes spots (Some found) = (s : Spot) × Contains spots s × StandsIn attributes found s

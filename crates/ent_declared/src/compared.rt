@@ -167,7 +167,7 @@ fn put_given<'a, J: JsonTree>(
     }
 }
 
-/// Does so for each of some arguments.
+/// Puts what stands at a key of each of some arguments last, and of those that are handed on there.
 fn put_given_each<'a, J: JsonTree>(
     alloc: Global,
     key: &str,

@@ -1,7 +1,7 @@
 //! What is said of a line with which something is wrong.
 
 ghost use Rattle.std.specs.Prelude.{◌≡◌, IfOk, string_bytes, true};
-ghost use Rattle.ent_explain.specs.Told.{is_one_line};
+ghost use Rattle.ent_faults.specs.Told.{is_one_line};
 
 use crate::always::{ACTION, RESOURCE};
 use crate::attribute::Attribute;
@@ -13,7 +13,7 @@ use crate::said::{name, said};
 use crate::setting::values_at;
 use crate::stray::value_in;
 use crate::told::{undeclared_sentence, value_sentence};
-use ent_explain::{is_merge_marker, one_line};
+use ent_faults::{is_merge_marker, one_line};
 use ent_json::{JsonTree, read_json};
 use ent_values::Text;
 use json::Scratch;

@@ -2,7 +2,7 @@
 
 use crate::always::{ACCESS_SUBJECT, ACTION, ENVIRONMENT, RESOURCE};
 use crate::attribute::Attribute;
-use ent_explain::shortened;
+use ent_faults::shortened;
 use std::alloc::{AllocError, Global};
 
 /// A category as people write it: the last word of the four that requests have, and others as they stand.

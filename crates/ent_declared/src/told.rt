@@ -3,14 +3,14 @@
 ghost use Rattle.std.specs.Prelude.{◌≡◌, IfOk, string_bytes, true};
 ghost use Rattle.ent_declared.specs.Attributes.{pointer_of};
 ghost use Rattle.ent_declared.specs.Saying.{IsToldAt};
-ghost use Rattle.ent_explain.specs.Told.{is_one_line};
+ghost use Rattle.ent_faults.specs.Told.{is_one_line};
 
 use crate::attribute::Attribute;
 use crate::designator::Undeclared;
 use crate::fault::{AttributeFault, AttributesFault};
 use crate::nearest::{nearest, nearest_value};
 use crate::said::{hint, name, said};
-use ent_explain::{one_line, placed};
+use ent_faults::{one_line, placed};
 use std::alloc::{AllocError, Global};
 
 /// A sentence on a place, and its line and column if they are known.
@@ -66,11 +66,6 @@ pub(crate) fn value_sentence(
 }
 
 impl Undeclared {
-    /// Whether it is a literal.
-    pub fn is_literal(&self) -> bool {
-        self.value.is_some()
-    }
-
     /// What is said of it.
     fn sentence(&self, alloc: Global, attributes: &[Attribute]) -> Result<String, AllocError> {
         match (&self.asked, &self.value) {
@@ -166,8 +161,8 @@ impl AttributesFault {
         told_at(alloc, pointer.as_str(), position, sentence)
     }
 
-    /// The same where a key is wrong that may not stand there: its place is that of the key, behind which stands which
-    /// keys may.
+    /// One line without its end where a key is wrong that may not stand there: the place of the key, and which keys
+    /// may.
     ///
     /// # Errors
     ///

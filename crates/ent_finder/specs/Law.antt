@@ -21,7 +21,7 @@ SwapLeavesSlot = (slots : Slots) (key : DocKey) (document : Option Tree) → get
 abbrev pub SecondSwapRestoresDocuments : Type 0
 SecondSwapRestoresDocuments = (slots : Slots) (key : DocKey) (document : Option Tree) → held (insert (insert slots key document) key (document_at slots key)) ≡ held slots
 
--- and so are the slots, if the slot was there
+-- and if the slot was there, the slots are as before both
 abbrev pub SecondSwapRestoresSlots : Type 0
 SecondSwapRestoresSlots = (slots : Slots) (key : DocKey) (before document : Option Tree) → get slots key ≡ Some before → insert (insert slots key document) key before ≡ slots
 

@@ -48,7 +48,7 @@ wanted_key_order a b =
 abbrev pub RowKeysOrderByField : Type 0
 RowKeysOrderByField = (a b : RowKey) → row_cmp a b ≡ row_order a b
 
--- so does that of two keys by which values are looked up
+-- `cmp` of two keys by which values are looked up answers by theirs
 abbrev pub AttrKeysOrderByField : Type 0
 AttrKeysOrderByField = (a b : AttrKey) → wanted_cmp a b ≡ wanted_key_order a b
 
@@ -66,6 +66,6 @@ same_attr_key = (wanted_keys.ghosts).eq
 abbrev pub SameRowKeysAreEqual : Type 0
 SameRowKeysAreEqual = (a b : RowKey) → Decides (same_row_key a b) (a ≡ b)
 
--- the same of keys by which values are looked up
+-- that of two keys by which values are looked up does
 abbrev pub SameAttrKeysAreEqual : Type 0
 SameAttrKeysAreEqual = (a b : AttrKey) → Decides (same_attr_key a b) (a ≡ b)

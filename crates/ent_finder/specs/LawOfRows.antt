@@ -21,7 +21,7 @@ SwapLeavesRow = (rows : Rows) (key : RowKey) (values : List Value) → get (inse
 abbrev pub SecondSwapRestoresRows : Type 0
 SecondSwapRestoresRows = (rows : Rows) (key : RowKey) (values : List Value) → filled (insert (insert rows key values) key (values_at rows key)) ≡ filled rows
 
--- and so are all rows, the empty ones too, if the row was there
+-- and if the row was there, all rows are as before both, the empty ones too
 abbrev pub SecondSwapRestoresAllRows : Type 0
 SecondSwapRestoresAllRows = (rows : Rows) (key : RowKey) (before values : List Value) → get rows key ≡ Some before → insert (insert rows key values) key before ≡ rows
 

@@ -284,7 +284,7 @@ pub fn values_of(
     all_values_of(alloc, blocks, key)
 }
 
-/// The same by a search.
+/// The values of a key, found by a search.
 fn all_values_of(alloc: Global, blocks: &[Block], key: &AttrKey) -> Result<Bag, AllocError>
     requires { RowsAreSorted (rows_in blocks.now) }
     ensures value { IfOk result (λ b. b ≡ bag_found key.now (held_in blocks.now)) }

@@ -19,7 +19,7 @@ element_word elements.AnyUri = codes "anyURI"
 element_word elements.Time = codes "time"
 element_word elements.DateTime = codes "dateTime"
 
--- the same for a type with an order
+-- the word for a type with an order
 abbrev pub ordered_word : Ordered → List ℕ
 ordered_word ordered.Integer = codes "integer"
 ordered_word ordered.Text = codes "string"

@@ -20,10 +20,10 @@ same_argument = (arguments.ghosts).eq
 abbrev pub SameFunctionsAreEqual : Type 0
 SameFunctionsAreEqual = (a b : Function) → Decides (same_function a b) (a ≡ b)
 
--- the same of types of arguments
+-- that of two types of arguments does
 abbrev pub SameTypesAreEqual : Type 0
 SameTypesAreEqual = (a b : ArgType) → Decides (same_type a b) (a ≡ b)
 
--- the same of arguments
+-- that of two arguments does
 abbrev pub SameArgumentsAreEqual : Type 0
 SameArgumentsAreEqual = (a b : Arg) → Decides (same_argument a b) (a ≡ b)

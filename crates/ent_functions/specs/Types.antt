@@ -44,7 +44,7 @@ exactly wanted outcome given = if pointwise same_type given wanted then Some out
 abbrev pub each : ArgType → ArgType → List ArgType → Option ArgType
 each wanted outcome given = if list_all (λ type. same_type type wanted) given then Some outcome else None
 
--- the same for two arguments or more
+-- that result type, if each of two arguments or more has that type
 abbrev pub two_or_more : ArgType → ArgType → List ArgType → Option ArgType
 two_or_more wanted outcome given = if nat_le 2 (length given) then each wanted outcome given else None
 

@@ -1,11 +1,8 @@
 //! Arguments and results.
 
-ghost use Rattle.std.specs.Prelude.{◌≡◌};
-ghost use Rattle.ent_functions.specs.Arguments.{type_of_arg};
 ghost use Rattle.ent_functions.specs.Same.{SameArgumentsAreEqual, SameFunctionsAreEqual, SameTypesAreEqual};
 
 use crate::function::Function;
-use crate::types::ArgType;
 use ent_values::{Bag, Value};
 use std::alloc::AllocError;
 use thiserror::Error;
@@ -19,19 +16,6 @@ pub enum Arg {
     Many(Bag),
     /// A function, as the first argument of `any-of` and `all-of` alone.
     Fun(Function),
-}
-
-impl Arg {
-    /// The type of the argument.
-    pub fn arg_type(&self) -> ArgType
-        ensures { result ≡ type_of_arg self.now }
-    {
-        match self {
-            Arg::One(value) => ArgType::One(value.datatype()),
-            Arg::Many(bag) => ArgType::Many(bag.datatype()),
-            Arg::Fun(function) => ArgType::Fun(*function),
-        }
-    }
 }
 
 /// Why a function has no result (appendix A.3). All but `Memory` are processing errors of the function.

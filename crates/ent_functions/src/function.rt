@@ -19,6 +19,19 @@ pub enum Element {
     DateTime,
 }
 
+impl Element {
+    /// Each type.
+    pub const ALL: &'static [Element] = &[
+        Element::Text,
+        Element::Boolean,
+        Element::Integer,
+        Element::Date,
+        Element::AnyUri,
+        Element::Time,
+        Element::DateTime,
+    ];
+}
+
 /// A type whose values can be compared by order.
 #[derive(Clone, Copy, Debug, PartialEq, Eq)]
 pub enum Ordered {
@@ -34,6 +47,17 @@ pub enum Ordered {
     DateTime,
 }
 
+impl Ordered {
+    /// Each type with an order.
+    pub const ALL: &'static [Ordered] = &[
+        Ordered::Integer,
+        Ordered::Text,
+        Ordered::Date,
+        Ordered::Time,
+        Ordered::DateTime,
+    ];
+}
+
 /// How two values are compared: the first against the second.
 #[derive(Clone, Copy, Debug, PartialEq, Eq)]
 pub enum Comparison {
@@ -45,6 +69,16 @@ pub enum Comparison {
     LessThan,
     /// `less-than-or-equal`
     LessThanOrEqual,
+}
+
+impl Comparison {
+    /// Each comparison.
+    pub const ALL: &'static [Comparison] = &[
+        Comparison::GreaterThan,
+        Comparison::GreaterThanOrEqual,
+        Comparison::LessThan,
+        Comparison::LessThanOrEqual,
+    ];
 }
 
 /// A function (appendix A.3).
@@ -106,4 +140,27 @@ pub enum Function {
     AnyOf,
     /// `all-of`
     AllOf,
+}
+
+impl Function {
+    /// Those of which there is one alone.
+    pub const SINGLE: &'static [Function] = &[
+        Function::Add,
+        Function::Subtract,
+        Function::Multiply,
+        Function::Divide,
+        Function::Mod,
+        Function::Abs,
+        Function::Or,
+        Function::And,
+        Function::Not,
+        Function::Concatenate,
+        Function::StartsWith,
+        Function::EndsWith,
+        Function::Contains,
+        Function::DateAdd,
+        Function::DateSubtract,
+        Function::AnyOf,
+        Function::AllOf,
+    ];
 }

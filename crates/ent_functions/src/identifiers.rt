@@ -25,6 +25,24 @@ impl Element {
             Element::DateTime => "dateTime",
         }
     }
+
+    /// The functions on equality, bags and sets at the type.
+    pub fn functions(self) -> [Function; 10]
+        ensures { result ≡ functions_at self }
+    {
+        [
+            Function::Equal(self),
+            Function::OneAndOnly(self),
+            Function::BagSize(self),
+            Function::IsIn(self),
+            Function::Bag(self),
+            Function::Intersection(self),
+            Function::Union(self),
+            Function::AtLeastOneMemberOf(self),
+            Function::Subset(self),
+            Function::SetEquals(self),
+        ]
+    }
 }
 
 impl Ordered {
@@ -183,7 +201,7 @@ fn of_element(id: &str) -> Option<Function>
         .or(function_at(Element::DateTime, id))
 }
 
-/// The same of one type.
+/// The function on equality, a bag or a set at one type that has the URI `id`.
 fn function_at(element: Element, id: &str) -> Option<Function>
     ensures { result ≡ find (λ f. bytes_eq id.now (id_of f)) (functions_at element) }
 {
@@ -192,25 +210,15 @@ fn function_at(element: Element, id: &str) -> Option<Function>
     function_by_operation(element, operation)
 }
 
-/// The same by what follows the type in its name.
+/// That function by what follows the type in its name.
 fn function_by_operation(element: Element, operation: &str) -> Option<Function>
     ensures { result ≡ find (λ f. bytes_eq operation.now (operation_of f)) (functions_at element) }
 {
-    [
-        Function::Equal(element),
-        Function::OneAndOnly(element),
-        Function::BagSize(element),
-        Function::IsIn(element),
-        Function::Bag(element),
-        Function::Intersection(element),
-        Function::Union(element),
-        Function::AtLeastOneMemberOf(element),
-        Function::Subset(element),
-        Function::SetEquals(element),
-    ]
-    .iter()
-    .copied()
-    .find(|function| operation == function.operation())
+    element
+        .functions()
+        .iter()
+        .copied()
+        .find(|function| operation == function.operation())
 }
 
 /// The comparison that has the URI `id`.
@@ -224,7 +232,7 @@ fn comparison(id: &str) -> Option<Function>
         .or(comparison_at(Ordered::DateTime, id))
 }
 
-/// The same at one type.
+/// The comparison at one type that has the URI `id`.
 fn comparison_at(order: Ordered, id: &str) -> Option<Function>
     ensures { result ≡ find (λ f. bytes_eq id.now (id_of f)) (comparisons_at order) }
 {
@@ -233,7 +241,7 @@ fn comparison_at(order: Ordered, id: &str) -> Option<Function>
     comparison_by_operation(order, operation)
 }
 
-/// The same by what follows the type in its name.
+/// That comparison by what follows the type in its name.
 fn comparison_by_operation(order: Ordered, operation: &str) -> Option<Function>
     ensures { result ≡ find (λ f. bytes_eq operation.now (operation_of f)) (comparisons_at order) }
 {
@@ -252,28 +260,10 @@ fn comparison_by_operation(order: Ordered, operation: &str) -> Option<Function>
 fn single(id: &str) -> Option<Function>
     ensures { result ≡ find (λ f. bytes_eq id.now (id_of f)) single_functions }
 {
-    [
-        Function::Add,
-        Function::Subtract,
-        Function::Multiply,
-        Function::Divide,
-        Function::Mod,
-        Function::Abs,
-        Function::Or,
-        Function::And,
-        Function::Not,
-        Function::Concatenate,
-        Function::StartsWith,
-        Function::EndsWith,
-        Function::Contains,
-        Function::DateAdd,
-        Function::DateSubtract,
-        Function::AnyOf,
-        Function::AllOf,
-    ]
-    .iter()
-    .copied()
-    .find(|function| function.is_named(id))
+    Function::SINGLE
+        .iter()
+        .copied()
+        .find(|function| function.is_named(id))
 }
 
 /// A law, with nothing to run: `from_id` gives a function exactly where the text is that function's own URI.

@@ -126,7 +126,7 @@ impl Given<'_> {
         }
     }
 
-    // The same for two arguments or more.
+    // That result type, if each of two arguments or more has that type.
     fn two_or_more(self, wanted: ArgType, outcome: ArgType) -> Option<ArgType>
         ensures { result ≡ two_or_more wanted outcome (map (seen_type self.entry.one_of_bag) self.entry.types.now) }
     {

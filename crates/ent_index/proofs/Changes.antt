@@ -1,6 +1,5 @@
 -- One change after another.
-use Rattle.std.proofs.Common.{◌≡◌, ℕ, ◌+◌, ◌<◌, Bool, true, false, not, ◌&&◌, ◌||◌, List, [], ◌∷◌, ◌++◌, Option, Some, None, if◌then◌else◌, length, map, nat_eq, take, slice_index_or as get_or, inl, inr, refl, sym, ap, ◌∙◌}
-use Rattle.std.specs.Cmp.{nat_eq_equiv, unsigned_tied}
+use Rattle.std.proofs.Common.{◌≡◌, ℕ, ◌+◌, ◌<◌, Bool, true, false, not, ◌&&◌, ◌||◌, List, [], ◌∷◌, ◌++◌, Option, Some, None, if◌then◌else◌, length, take, slice_index_or as get_or, inl, inr, refl, sym, ap, ◌∙◌}
 use Rattle.std.specs.FinMap.{get}
 use Rattle.std.specs.List.{list_any}
 use Rattle.std.specs.Option.{option_map, option_map_or}
@@ -12,7 +11,7 @@ use Rattle.ent_request.specs.declared.key.ReadKey.{ReadKey}
 use Rattle.std.proofs.lemmas.Bool.{and_parts, cases_eq, true≢false}
 use Rattle.ent_index.proofs.Views.{cell_itself, key_itself, not_cell, not_key, same_cell, same_index, same_key, some_none}
 use Rattle.ent_index.specs.Cells.{has_cell}
-use Rattle.ent_index.specs.Index.{Adds, Forgets, IsSound, KeepsNumbers, ReadIndex, Readers, has, is_left_pair, is_number, is_numbered, is_numbered_pair, is_pair_of, number_of}
+use Rattle.ent_index.specs.Index.{Adds, Forgets, IsSound, ReadIndex, Readers, has, is_number, is_pair_of, number_of}
 use Rattle.ent_index.specs.proofs_only.Steps.{is_at, is_pair, is_pair_at}
 
 abbrev pub Pairs : Type 0
@@ -75,16 +74,6 @@ pub pair_more : (keys : List ReadKey) (cell i : ℕ) (key : ReadKey) → i < len
 pair_more keys cell i key lt is k x =
     ap (λ b. b && is_eq (nat_cmp x cell)) (list_any_more (λ j. is_eq (read_cmp k j)) keys i key lt ∙ ap (λ j. has_key (take i keys) k || is_eq (read_cmp k j)) (sym is))
     ∙ spread (has_key (take i keys) k) (is_eq (read_cmp k key)) (is_eq (nat_cmp x cell))
-
--- ---- numbers
-
-pub kept_numbers : (f g : ReadKey → Option ℕ) → ((k : ReadKey) (n : ℕ) → f k ≡ Some n → g k ≡ Some n) → (keys : List ReadKey) (numbers : List ℕ) → map f keys ≡ map Some numbers → map g keys ≡ map Some numbers
-kept_numbers f g keeps [] numbers e = e
-kept_numbers f g keeps (k ∷ keys) [] e = cc
-kept_numbers f g keeps (k ∷ keys) (n ∷ numbers) e =
-    let first : f k ≡ Some n = cc in
-    let rest : map f keys ≡ map Some numbers = cc in
-    (λ i. keeps k n first i ∷ kept_numbers f g keeps keys numbers rest i)
 
 -- ---- after a refusal
 
@@ -180,7 +169,7 @@ new_absent true q true is h = cc
 new_absent true q false is h = refl
 new_absent false q o is h = cc
 
--- ---- places and numbers one by one
+-- ---- places one by one
 
 pub place_more : (keys : List ReadKey) (places : List ℕ) (cell i place : ℕ) → i < length places → place ≡ get_or places i 0
     → (k : ReadKey) (x : ℕ) → is_pair_at keys (take (i + 1) places) cell k x ≡ (is_pair_at keys (take i places) cell k x || (is_at keys place k && is_eq (nat_cmp x cell)))
@@ -188,94 +177,11 @@ place_more keys places cell i place lt is k x =
     ap (λ b. b && is_eq (nat_cmp x cell)) (list_any_more (λ p. is_at keys p k) places i 0 lt ∙ ap (λ p. list_any (λ p. is_at keys p k) (take i places) || is_at keys p k) (sym is))
     ∙ spread (list_any (λ p. is_at keys p k) (take i places)) (is_at keys place k) (is_eq (nat_cmp x cell))
 
-last_none : (n m q o : Bool) → (not (n && q) && o) ≡ false → (not ((n || m) && q) && o) ≡ false
-last_none true m q o h = h
-last_none false true true o h = refl
-last_none false true false o h = h
-last_none false false q o h = h
-
-and_none : (b o : Bool) → o ≡ false → (b && o) ≡ false
-and_none true o h = h
-and_none false o h = refl
-
-last_some : (n m q o : Bool) → (not (m && q) && (not (n && q) && o)) ≡ (not ((n || m) && q) && o)
-last_some true true true o = refl
-last_some true true false o = refl
-last_some true false true o = refl
-last_some true false false o = refl
-last_some false m q o = refl
-
--- one number more
-pub number_after : (a b c : ReadIndex) (p : ReadKey → Bool) (cell n : ℕ) → Forgets (λ k x. p k && is_eq (nat_cmp x cell)) a b → Forgets (λ k x. is_number b n k && is_eq (nat_cmp x cell)) b c
-    → Forgets (λ k x. (p k || is_number a n k) && is_eq (nat_cmp x cell)) a c
-number_after a b c p cell n first after = record {
-  has = λ k x. after.has k x ∙ by k x (number_of b k) refl;
-  numbers = λ k m e. first.numbers k m (after.numbers k m e);
-}
-  where
-    by : (k : ReadKey) (x : ℕ) (o : Option ℕ) → number_of b k ≡ o
-        → (not (is_number b n k && is_eq (nat_cmp x cell)) && has b k x) ≡ (not ((p k || is_number a n k) && is_eq (nat_cmp x cell)) && has a k x)
-    by k x None e =
-        let none = unnumbered b k x e in
-        and_none (not (is_number b n k && is_eq (nat_cmp x cell))) (has b k x) none
-        ∙ sym (last_none (p k) (is_number a n k) (is_eq (nat_cmp x cell)) (has a k x) (sym (first.has k x) ∙ none))
-    by k x (Some m) e =
-        let same : number_of b k ≡ number_of a k = e ∙ sym (first.numbers k m e) in
-        (λ j. not (option_map_or (λ z. is_eq (nat_cmp z n)) (same j) false && is_eq (nat_cmp x cell)) && first.has k x j)
-        ∙ last_some (p k) (is_number a n k) (is_eq (nat_cmp x cell)) (has a k x)
-
 pub forgets_same : (p q : Pairs) (a b : ReadIndex) → Forgets p a b → ((k : ReadKey) (x : ℕ) → q k x ≡ p k x) → Forgets q a b
 forgets_same p q a b forgets is = record {
   has = λ k x. forgets.has k x ∙ ap (λ t. not t && has a k x) (sym (is k x));
   numbers = forgets.numbers;
 }
-
-module _ (a b c : ReadIndex) (numbers : List ℕ) (cell i n : ℕ) (lt : i < length numbers) (is : n ≡ get_or numbers i 0) where
-  -- the numbers up to that one
-  up_to : (k : ReadKey) → is_numbered a (take (i + 1) numbers) k ≡ (is_numbered a (take i numbers) k || is_number a n k)
-  up_to k = list_any_more (λ m. is_number a m k) numbers i 0 lt ∙ ap (λ m. is_numbered a (take i numbers) k || is_number a m k) (sym is)
-
-  pub number_more : Forgets (is_numbered_pair a (take i numbers) cell) a b → Forgets (λ k x. is_number b n k && is_eq (nat_cmp x cell)) b c → Forgets (is_numbered_pair a (take (i + 1) numbers) cell) a c
-  number_more first after =
-      forgets_same (λ k x. (is_numbered a (take i numbers) k || is_number a n k) && is_eq (nat_cmp x cell)) (is_numbered_pair a (take (i + 1) numbers) cell) a c
-      (number_after a b c (λ k. is_numbered a (take i numbers) k) cell n first after) (λ k x. ap (λ t. t && is_eq (nat_cmp x cell)) (up_to k))
-
-  module _ (kept : List ℕ) where
-    in_kept : (k : ReadKey) → number_of a k ≡ Some n → (ns : List ℕ) → is_numbered a ns k ≡ list_any (λ y. nat_eq y n) ns
-    in_kept k at [] = refl
-    in_kept k at (y ∷ ns) = (λ j. option_map_or (λ m. is_eq (nat_cmp m y)) (at j) false || in_kept k at ns j) ∙ ap (λ t. t || list_any (λ z. nat_eq z n) ns) (unsigned_tied n y ∙ nat_eq_equiv.symm n y)
-
-    at_number : (k : ReadKey) (o : Option ℕ) → number_of a k ≡ o → option_map_or (λ m. is_eq (nat_cmp m n)) o false ≡ true → number_of a k ≡ Some n
-    at_number k None e h = cc
-    at_number k (Some m) e h = e ∙ ap Some (same_cell m n h)
-
-    -- whether the key of that number is kept
-    kept_is : (t : Bool) → list_any (λ y. nat_eq y n) kept ≡ t → (k : ReadKey) → is_number a n k ≡ true → is_numbered a kept k ≡ t
-    kept_is t e k h = in_kept k (at_number k (number_of a k) refl h) kept ∙ e
-
-    stays_out : (x m y : Bool) → (m ≡ true → y ≡ true) → ((x || m) && not y) ≡ (x && not y)
-    stays_out true m y h = refl
-    stays_out false true y h = ap not (h refl)
-    stays_out false false y h = refl
-
-    comes_in : (x m y : Bool) → (m ≡ true → y ≡ false) → ((x || m) && not y) ≡ ((x && not y) || m)
-    comes_in true true y h = ap not (h refl) ∙ (λ j. not (sym (h refl) j) || true)
-    comes_in true false true h = refl
-    comes_in true false false h = refl
-    comes_in false true y h = ap not (h refl)
-    comes_in false false y h = refl
-
-    pub left_kept : list_any (λ y. nat_eq y n) kept ≡ true → Forgets (is_left_pair a (take i numbers) kept cell) a b → Forgets (is_left_pair a (take (i + 1) numbers) kept cell) a b
-    left_kept there first =
-        forgets_same (is_left_pair a (take i numbers) kept cell) (is_left_pair a (take (i + 1) numbers) kept cell) a b first
-        (λ k x. ap (λ t. t && is_eq (nat_cmp x cell)) (ap (λ t. t && not (is_numbered a kept k)) (up_to k) ∙ stays_out (is_numbered a (take i numbers) k) (is_number a n k) (is_numbered a kept k) (kept_is true there k)))
-
-    pub left_more : list_any (λ y. nat_eq y n) kept ≡ false → Forgets (is_left_pair a (take i numbers) kept cell) a b → Forgets (λ k x. is_number b n k && is_eq (nat_cmp x cell)) b c
-        → Forgets (is_left_pair a (take (i + 1) numbers) kept cell) a c
-    left_more absent first after =
-        forgets_same (λ k x. ((is_numbered a (take i numbers) k && not (is_numbered a kept k)) || is_number a n k) && is_eq (nat_cmp x cell)) (is_left_pair a (take (i + 1) numbers) kept cell) a c
-        (number_after a b c (λ k. is_numbered a (take i numbers) k && not (is_numbered a kept k)) cell n first after)
-        (λ k x. ap (λ t. t && is_eq (nat_cmp x cell)) (ap (λ t. t && not (is_numbered a kept k)) (up_to k) ∙ comes_in (is_numbered a (take i numbers) k) (is_number a n k) (is_numbered a kept k) (kept_is false absent k)))
 
 -- ---- the pairs of one key
 
@@ -296,23 +202,3 @@ forgets_key a b key cell n sound at forgets = forgets_same (λ k x. is_number a 
 pub forgets_none : (a : ReadIndex) (key : ReadKey) (cell : ℕ) → number_of a key ≡ None → Forgets (is_pair key cell) a a
 forgets_none a key cell none =
     forgets_nothing (is_pair key cell) a (λ k x h. unnumbered a k x (ap (number_of a) (same_key k key (and_parts (is_eq (read_cmp k key)) (is_eq (nat_cmp x cell)) h).0) ∙ none))
-
--- ---- lists of keys and their numbers
-
--- the numbers of some keys are of these keys
-pub keys_of_numbers : (a : ReadIndex) → IsSound a → (keys : List ReadKey) (numbers : List ℕ) → map (number_of a) keys ≡ map Some numbers → (k : ReadKey) → is_numbered a numbers k ≡ has_key keys k
-keys_of_numbers a sound [] [] e k = refl
-keys_of_numbers a sound [] (n ∷ numbers) e k = cc
-keys_of_numbers a sound (x ∷ keys) [] e k = cc
-keys_of_numbers a sound (x ∷ keys) (n ∷ numbers) e k =
-    let first : number_of a x ≡ Some n = cc in
-    let rest : map (number_of a) keys ≡ map Some numbers = cc in
-    (λ i. sym (key_of_number a x n sound first k) i || keys_of_numbers a sound keys numbers rest k i)
-
--- a key that a cell still reads has the number that it had
-pub still_numbered : (old new : ReadIndex) → KeepsNumbers new old → (k : ReadKey) (c n : ℕ) → has new k c ≡ true → number_of old k ≡ Some n → number_of new k ≡ Some n
-still_numbered old new keeps k c n read e = by (number_of new k) refl
-  where
-    by : (o : Option ℕ) → number_of new k ≡ o → number_of new k ≡ Some n
-    by None f = absurd (true≢false (sym read ∙ unnumbered new k c f))
-    by (Some m) f = f ∙ sym (keeps k m f) ∙ e

@@ -3,12 +3,10 @@ use Rattle.std.proofs.Common.{◌≡◌, ℕ, List, [], ◌∷◌, Bool, true, f
 use Rattle.std.specs.BTreeMap as tree
 use Rattle.std.specs.BTreeMap.{BTreeMap}
 use Rattle.std.specs.Cmp.{IsTotalOrder, eq_by_cmp_equiv, nat_cmp_total}
-use Rattle.std.specs.Prelude.{find as find_of}
-use Rattle.std.specs.List.{list_any}
-use Rattle.std.specs.FinMap.{contains_key-keys, find, get, get-empty, get-from_entries, get-insert, get-remove, keys, nat_cmp-IsAntisymmetric, same_map}
+use Rattle.std.specs.FinMap.{find, get, get-empty, get-from_entries, get-insert, get-remove, keys, nat_cmp-IsAntisymmetric, same_map}
 use Rattle.std.specs.Map.{lookup}
 use Rattle.std.specs.Option.{option_map, option_map_or}
-use Rattle.std.specs.Ordering.{eq_by_cmp, is_eq, nat_cmp}
+use Rattle.std.specs.Ordering.{is_eq, nat_cmp}
 use Rattle.std.specs.declared.cmp.Ordering.{Ordering}
 use Rattle.std.specs.declared.cmp.Ordering.TheVariants.{Less, Equal, Greater}
 use Rattle.std.proofs.lemmas.Bool.{cases_eq, true≢false}
@@ -22,7 +20,7 @@ use Rattle.ent_request.specs.contracts.key.ReadKeyOrd.TheImpl.Laws.{total-law}
 use Rattle.ent_request.specs.declared.key.ReadKey.{ReadKey}
 use Rattle.ent_index.specs.Cells.{CellSet, has_cell, in_order, no_cells}
 use Rattle.ent_index.specs.proofs_only.Steps.{is_pair, with_cell, with_cells, without_cell}
-use Rattle.ent_index.specs.Index.{Adds, IsSound, ReadIndex, Readers, cells_at, cells_of, has, is_number, key_of, number_of}
+use Rattle.ent_index.specs.Index.{Adds, IsSound, ReadIndex, Readers, cells_of, has, number_of}
 use Rattle.ent_index.specs.Layout.{IsIndex, entry_cells, index_of, entry_key, number_at, readers_at}
 use Rattle.ent_index.specs.declared.entry.Entry.{Entry}
 
@@ -244,9 +242,6 @@ module _ (numbers : BTreeMap ReadKey ℕ) (old new : Slab Entry) (n : ℕ) (key 
     numbers = λ k m e. number_of-index_of numbers new k ∙ sym (number_of-index_of numbers old k) ∙ e;
   }
 
-  pub put_number : number_of (index_of numbers new) key ≡ Some n
-  put_number = number_of-index_of numbers new key ∙ at
-
   pub put_was : has_cell (entry_cells old n) cell ≡ has (index_of numbers old) key cell
   put_was = sym (has-index_of numbers old key cell ∙ ap (under old cell) at)
 
@@ -310,9 +305,6 @@ module _ (numbers changed : BTreeMap ReadKey ℕ) (old new : Slab Entry) (n : �
     numbers = λ k m e. number_of-index_of changed new k ∙ make_at k ∙ make_numbers k m (is_eq (read_cmp k key)) refl (sym (number_of-index_of numbers old k) ∙ e);
   }
 
-  pub make_number : number_of (index_of changed new) key ≡ Some n
-  make_number = number_of-index_of changed new key ∙ make_at key ∙ ap (λ b. cond b (Some n) (number_at numbers key)) (key_itself key key refl)
-
   pub make_was : has (index_of numbers old) key cell ≡ false
   make_was = has-index_of numbers old key cell ∙ ap (under old cell) none
 
@@ -322,54 +314,3 @@ cells_of-index_of numbers entries k = ap (λ o. option_map_or (λ r. in_order r.
     by : (o : Option ℕ) → option_map_or (λ r. in_order r.cells) (option_map (readers_at entries) o) [] ≡ option_map_or (λ n. in_order (entry_cells entries n)) o []
     by None = refl
     by (Some n) = refl
-
--- ---- by number
-
-find_none : (p : ReadKey → Bool) (ks : List ReadKey) → ((k : ReadKey) → p k ≡ false) → find_of p ks ≡ None
-find_none p [] none = refl
-find_none p (k ∷ ks) none = ap (λ b. cond b (Some k) (find_of p ks)) (none k) ∙ find_none p ks none
-
-find_only : (p : ReadKey → Bool) (key : ReadKey) → p key ≡ true → ((k : ReadKey) → p k ≡ true → k ≡ key) → (ks : List ReadKey) → list_any (eq_by_cmp read_cmp key) ks ≡ true → find_of p ks ≡ Some key
-find_only p key is only [] h = cc
-find_only p key is only (k ∷ ks) h = by (p k) (is_eq (read_cmp key k)) refl refl (find_only p key is only ks)
-  where
-    by : (b t : Bool) → p k ≡ b → is_eq (read_cmp key k) ≡ t → (list_any (eq_by_cmp read_cmp key) ks ≡ true → find_of p ks ≡ Some key) → cond (p k) (Some k) (find_of p ks) ≡ Some key
-    by true t e f rest = ap (λ b. cond b (Some k) (find_of p ks)) e ∙ ap Some (only k e)
-    by false true e f rest = absurd (true≢false (sym is ∙ ap p (same_key key k f) ∙ e))
-    by false false e f rest = ap (λ b. cond b (Some k) (find_of p ks)) e ∙ rest (ap (λ b. b || list_any (eq_by_cmp read_cmp key) ks) (sym f) ∙ h)
-
-module _ (numbers : BTreeMap ReadKey ℕ) (entries : Slab Entry) (is : IsIndex numbers entries) (n : ℕ) where
-  numbered : (k : ReadKey) → is_number (index_of numbers entries) n k ≡ option_map_or (λ m. is_eq (nat_cmp m n)) (number_at numbers k) false
-  numbered k = ap (λ o. option_map_or (λ m. is_eq (nat_cmp m n)) o false) (number_of-index_of numbers entries k)
-
-  pub key_of-index_of : key_of (index_of numbers entries) n ≡ entry_key entries n
-  key_of-index_of = by (entry_key entries n) refl
-    where
-      numbered_at : (k : ReadKey) (o : Option ℕ) → number_at numbers k ≡ o → option_map_or (λ m. is_eq (nat_cmp m n)) o false ≡ true → entry_key entries n ≡ Some k
-      numbered_at k None e h = cc
-      numbered_at k (Some m) e h = ap (entry_key entries) (sym (same_cell m n h)) ∙ is.there k m e
-
-      nowhere : (k : ReadKey) → entry_key entries n ≡ None → (b : Bool) → is_number (index_of numbers entries) n k ≡ b → is_number (index_of numbers entries) n k ≡ false
-      nowhere k e true h = absurd (some_none k (sym (numbered_at k (number_at numbers k) refl (sym (numbered k) ∙ h)) ∙ e))
-      nowhere k e false h = h
-
-      by : (o : Option ReadKey) → entry_key entries n ≡ o → key_of (index_of numbers entries) n ≡ entry_key entries n
-      by None e = find_none (is_number (index_of numbers entries) n) (keys (index_of numbers entries)) (λ k. nowhere k e (is_number (index_of numbers entries) n k) refl) ∙ sym e
-      by (Some key) e =
-          let at : number_at numbers key ≡ Some n = is.back key n e in
-          find_only (is_number (index_of numbers entries) n) key (numbered key ∙ ap (λ o. option_map_or (λ m. is_eq (nat_cmp m n)) o false) at ∙ cell_itself n n refl)
-          (λ k h. same_Some k key (sym (numbered_at k (number_at numbers k) refl (sym (numbered k) ∙ h)) ∙ e)) (keys (index_of numbers entries))
-          (sym (contains_key-keys (index_of numbers entries) key) ∙ ap is_some (get-index_of numbers entries key ∙ ap (option_map (readers_at entries)) at)) ∙ sym e
-
-  pub cells_at-index_of : cells_at (index_of numbers entries) n ≡ option_map_or (λ (e : Entry). in_order e.cells) (slab.get entries n) []
-  cells_at-index_of = ap (λ o. option_map_or (cells_of (index_of numbers entries)) o []) key_of-index_of ∙ by (slab.get entries n) refl
-    where
-      by : (o : Option Entry) → slab.get entries n ≡ o
-          → option_map_or (cells_of (index_of numbers entries)) (option_map (λ (e : Entry). e.key) (slab.get entries n)) [] ≡ option_map_or (λ (e : Entry). in_order e.cells) (slab.get entries n) []
-      by None e = ap (λ o. option_map_or (cells_of (index_of numbers entries)) (option_map (λ (e : Entry). e.key) o) []) e ∙ ap (λ o. option_map_or (λ (e : Entry). in_order e.cells) o []) (sym e)
-      by (Some entry) e =
-          ap (λ o. option_map_or (cells_of (index_of numbers entries)) (option_map (λ (e : Entry). e.key) o) []) e
-          ∙ cells_of-index_of numbers entries entry.key
-          ∙ ap (λ o. option_map_or (λ m. in_order (entry_cells entries m)) o []) (is.back entry.key n (ap (option_map (λ (e : Entry). e.key)) e))
-          ∙ ap (λ o. in_order (option_map_or (λ (e : Entry). e.cells) o no_cells)) e
-          ∙ ap (λ o. option_map_or (λ (e : Entry). in_order e.cells) o []) (sym e)

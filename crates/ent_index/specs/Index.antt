@@ -1,7 +1,6 @@
 -- What an index says: which cells read a key, and the number of a key that cells read.
-use Rattle.std.specs.Prelude.{◌≡◌, ℕ, List, [], Bool, true, false, not, ◌&&◌, ◌||◌, Option, Some, None, find}
+use Rattle.std.specs.Prelude.{◌≡◌, ℕ, List, [], Bool, true, false, not, ◌&&◌, ◌||◌, Option, Some, None}
 use Rattle.std.specs.FinMap.{FinMap, get, keys}
-use Rattle.std.specs.List.{list_any}
 use Rattle.std.specs.Option.{option_map, option_map_or}
 use Rattle.std.specs.Ordering.{is_eq, nat_cmp}
 use Rattle.ent_request.specs.Noted.{has_key, read_cmp}
@@ -37,31 +36,11 @@ number_of index key = option_map (λ r. r.number) (get index key)
 abbrev pub is_number : ReadIndex → ℕ → ReadKey → Bool
 is_number index number key = option_map_or (λ n. is_eq (nat_cmp n number)) (number_of index key) false
 
--- the key of a number, if it is one's
-abbrev pub key_of : ReadIndex → ℕ → Option ReadKey
-key_of index number = find (is_number index number) (keys index)
-
--- the cells that read the key of a number, none if it is no key's
-abbrev pub cells_at : ReadIndex → ℕ → List ℕ
-cells_at index number = option_map_or (cells_of index) (key_of index number) []
-
--- one of these is the key's number
-abbrev pub is_numbered : ReadIndex → List ℕ → ReadKey → Bool
-is_numbered index numbers key = list_any (λ n. is_number index n key) numbers
-
 -- ---- pairs of a key and a cell
 
 -- this is one of the keys, and the cell
 abbrev pub is_pair_of : List ReadKey → ℕ → ReadKey → ℕ → Bool
 is_pair_of keys cell k c = has_key keys k && is_eq (nat_cmp c cell)
-
--- this is the key of one of the numbers, and the cell
-abbrev pub is_numbered_pair : ReadIndex → List ℕ → ℕ → ReadKey → ℕ → Bool
-is_numbered_pair index numbers cell k c = is_numbered index numbers k && is_eq (nat_cmp c cell)
-
--- this is the key of one of the numbers, but of none of those that are kept, and the cell
-abbrev pub is_left_pair : ReadIndex → List ℕ → List ℕ → ℕ → ReadKey → ℕ → Bool
-is_left_pair index numbers kept cell k c = (is_numbered index numbers k && not (is_numbered index kept k)) && is_eq (nat_cmp c cell)
 
 -- ---- changes
 

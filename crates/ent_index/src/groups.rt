@@ -225,7 +225,7 @@ impl Groups {
         }
     }
 
-    // The same, where they are those of a name at a place.
+    // Puts cells into such a roll, where they are those of a name at a place.
     fn add_named(&self, place: Place, one: &Wanted<'_>, cells: &mut Roll) -> Result<(), AllocError>
         requires { one.now.readers ≡ Named place }
         ensures covers { OnOk result (CoversOne self.now one.now cells.new) }

@@ -1,18 +1,13 @@
 //! Which cells read which keys.
 
-ghost use Rattle.std.specs.Prelude.{◌≡◌, ◌&&◌, ◌++◌, [], ◌∷◌, IfOk, OnErr, OnOk, Some};
-ghost use Rattle.std.specs.Prelude.{if◌then◌else◌, map, not};
+ghost use Rattle.std.specs.Prelude.{◌≡◌, ◌&&◌, ◌++◌, [], ◌∷◌, IfOk, OnErr, OnOk, if◌then◌else◌, not};
 ghost use Rattle.std.specs.FinMap.{empty, keys};
 ghost use Rattle.std.specs.List.{All, filter};
-ghost use Rattle.std.specs.Option.{option_copied};
 ghost use Rattle.std.specs.Ordering.{is_eq, nat_cmp};
-ghost use Rattle.std.specs.declared.cmp.Ordering.TheVariants.{Equal};
 ghost use Rattle.ent_index.specs.Asked.{asks_policy, asks_row};
 ghost use Rattle.ent_index.specs.Index.{Adds, Forgets, HasCell, IsSound};
 ghost use Rattle.ent_index.specs.proofs_only.Steps.{AreNew, is_at, is_pair, is_pair_at, is_read};
-ghost use Rattle.ent_index.specs.Index.{cells_at, cells_of, has, key_of, number_of};
-ghost use Rattle.ent_index.specs.Index.{is_left_pair, is_number, is_numbered_pair};
-ghost use Rattle.ent_index.specs.Index.{is_pair_of};
+ghost use Rattle.ent_index.specs.Index.{cells_of, has, is_number, is_pair_of, number_of};
 
 use crate::asked::{first_key, key_of_row, references};
 use crate::entry::{Entry, make_entry, put_cell, take_cell};
@@ -22,11 +17,11 @@ use ent_request::ReadKey;
 use ent_values::Items;
 use slab::Slab;
 use std::alloc::{AllocError, Global};
-use std::cmp::Ordering;
 use std::collections::BTreeMap;
 use std::marker::Model;
 
-/// Which cells read which keys. A key that a cell reads has a number, which it keeps as long as a cell reads it.
+/// Which cells read which keys. A key that a cell reads has a number, under which its
+/// cells stand.
 #[derive(Drop)]
 pub struct Index {
     alloc: Global,
@@ -51,13 +46,6 @@ impl Model for Index {
     ghost invariant = { λ i. IsIndex i.numbers i.entries };
 }
 
-/// What is known of a pair that was put in: the number of its key, and whether it is new.
-#[derive(Clone, Copy)]
-struct Put {
-    number: u32,
-    is_new: bool,
-}
-
 impl Index {
     /// No pair, for which nothing is allocated.
     pub fn new(alloc: Global) -> Index
@@ -70,8 +58,8 @@ impl Index {
         }
     }
 
-    /// The number of a key, if a cell reads it.
-    pub fn number_of(&self, key: &ReadKey) -> Option<u32>
+    // The number of a key, if a cell reads it.
+    fn number_of(&self, key: &ReadKey) -> Option<u32>
         ensures number { result ≡ number_of self.now key.now }
         ensures sound { IsSound self.now }
     {
@@ -91,67 +79,18 @@ impl Index {
         }
     }
 
-    /// The key of a number, if it is one's.
-    pub fn key_of(&self, number: u32) -> Option<&ReadKey>
-        ensures { option_copied result ≡ key_of self.now number }
-    {
-        let entry = self.entries.get(number as usize)?;
-        Some(&entry.key)
-    }
-
-    /// The cells that read the key of a number, each once, in rising order. There is none if it is no key's.
-    pub fn cells_at(&self, number: u32) -> &[usize]
-        ensures { result.now ≡ cells_at self.now number }
-    {
-        match self.entries.get(number as usize) {
-            Some(entry) => entry.cells.as_slice(),
-            None => &[],
-        }
-    }
-
-    // How the key of a number stands to a key. A number of no key stands before all.
-    fn order(&self, number: u32, key: &ReadKey) -> Ordering
-        ensures { result ≡ Equal → number_of self.now key.now ≡ Some number }
-    {
-        match self.entries.get(number as usize) {
-            Some(entry) => entry.key.cmp(key),
-            None => Ordering::Less,
-        }
-    }
-
-    // The number of a key, and what is left of some numbers whose keys rise. The key is searched for only where it
-    // isn't the next of theirs.
-    fn number_near<'n>(&self, key: &ReadKey, near: &'n [u32]) -> (Option<u32>, &'n [u32])
-        ensures { result.0 ≡ number_of self.now key.now }
-    {
-        let mut near = near;
-        while let Some((number, rest)) = near.split_first() {
-            match self.order(*number, key) {
-                Ordering::Less => near = rest,
-                Ordering::Equal => return (Some(*number), rest),
-                Ordering::Greater => break,
-            }
-        }
-        (self.number_of(key), near)
-    }
-
-    // Puts a pair in, of a key that has this number, or none. After a refusal all is as before.
-    fn put(&mut self, key: &ReadKey, number: Option<u32>, cell: usize) -> Result<Put, AllocError>
-        requires { number ≡ number_of self.old key.now }
-        ensures number { IfOk result (λ p. number_of self.new key.now ≡ Some p.number) }
-        ensures is_new { IfOk result (λ p. p.is_new ≡ not (has self.old key.now cell)) }
+    // Puts a pair in, and says whether it is new. After a refusal all is as before.
+    fn put(&mut self, key: &ReadKey, cell: usize) -> Result<bool, AllocError>
+        ensures is_new { IfOk result (λ is_new. is_new ≡ not (has self.old key.now cell)) }
         ensures ok { OnOk result (Adds (is_pair key.now cell) self.old self.new) }
         ensures err { OnErr result (self.new ≡ self.old) }
     {
-        if let Some(number) = number {
+        if let Some(number) = self.number_of(key) {
             let is_new = put_cell(&mut self.entries, number as usize, cell)?;
-            return Ok(Put { number, is_new });
+            return Ok(is_new);
         }
-        let number = make_entry(self.alloc, &mut self.numbers, &mut self.entries, key, cell)?;
-        Ok(Put {
-            number,
-            is_new: true,
-        })
+        make_entry(self.alloc, &mut self.numbers, &mut self.entries, key, cell)?;
+        Ok(true)
     }
 
     // Takes the pair of the key of a number and a cell out, if it is there. It takes no memory.
@@ -167,60 +106,44 @@ impl Index {
         self.numbers.remove(&entry.key);
     }
 
-    // Puts the next pair in, and notes its number, and its place if it is new. After a refusal the pairs and places are
-    // as before.
+    // Puts the next pair in, and notes its place if it is new. After a refusal the pairs and places are as before.
     fn put_next(
         &mut self,
         cell: usize,
         key: &ReadKey,
-        number: Option<u32>,
         place: usize,
-        numbers: &mut Vec<u32>,
         added: &mut Vec<usize>,
     ) -> Result<(), AllocError>
-        requires { number ≡ number_of self.old key.now }
         ensures ok { OnOk result (Adds (is_pair key.now cell) self.old self.new) }
-        ensures numbers { OnOk result (
-            map Some numbers.new.items ≡ map Some numbers.old.items ++ number_of self.new key.now ∷ []
-            ) }
         ensures added { OnOk result (
             added.new.items ≡ (if has self.old key.now cell then added.old.items else added.old.items ++ place ∷ [])
             ) }
         ensures err { OnErr result (self.new ≡ self.old) }
         ensures stay { OnErr result (added.new.items ≡ added.old.items) }
     {
-        numbers.reserve(1)?;
         added.reserve(1)?;
-        let put = self.put(key, number, cell)?;
-        numbers.push(put.number)?;
-        if put.is_new {
+        let is_new = self.put(key, cell)?;
+        if is_new {
             added.push(place)?;
         }
         Ok(())
     }
 
-    // Puts a cell in under some keys, and notes their numbers, and the places of those under which it wasn't. After a
-    // refusal it may stand under some of them.
+    // Puts a cell in under some keys, and notes the places of those under which it wasn't. After a refusal it may stand
+    // under some of them.
     fn put_all(
         &mut self,
         cell: usize,
         keys: &[ReadKey],
-        near: &[u32],
-        numbers: &mut Vec<u32>,
         added: &mut Vec<usize>,
     ) -> Result<(), AllocError>
-        requires numbers { numbers.old.items ≡ [] }
-        requires added { added.old.items ≡ [] }
+        requires { added.old.items ≡ [] }
         ensures ok { OnOk result (Adds (is_pair_of keys.now cell) self.old self.new) }
-        ensures numbers { OnOk result (map (number_of self.new) keys.now ≡ map Some numbers.new.items) }
         ensures err { OnErr result (Adds (is_pair_at keys.now added.new.items cell) self.old self.new) }
         ensures fresh { OnErr result (AreNew self.old (is_pair_at keys.now added.new.items cell)) }
     {
-        let mut near = near;
         for (place, key) in keys.iter().enumerate() {
-            let (number, rest) = self.number_near(key, near);
-            near = rest;
-            self.put_next(cell, key, number, place, numbers, added)?;
+            self.put_next(cell, key, place, added)?;
         }
         Ok(())
     }
@@ -260,29 +183,12 @@ impl Index {
         ensures ok { OnOk result (Adds (is_pair_of keys.now cell) self.old self.new) }
         ensures err { OnErr result (self.new ≡ self.old) }
     {
-        self.add_numbered(cell, keys, &[])?;
-        Ok(())
-    }
-
-    /// Puts a cell in under some keys, and gives their numbers. After a refusal all is as before. Where the keys rise,
-    /// and so do those of the numbers `near`, a key of both lists isn't searched for.
-    pub fn add_numbered(
-        &mut self,
-        cell: usize,
-        keys: &[ReadKey],
-        near: &[u32],
-    ) -> Result<Items<u32>, AllocError>
-        ensures numbers { IfOk result (λ numbers. map (number_of self.new) keys.now ≡ map Some numbers) }
-        ensures ok { OnOk result (Adds (is_pair_of keys.now cell) self.old self.new) }
-        ensures err { OnErr result (self.new ≡ self.old) }
-    {
-        let mut numbers = Vec::with_capacity(self.alloc, keys.len())?;
         let mut added = Vec::with_capacity(self.alloc, keys.len())?;
-        if let Err(error) = self.put_all(cell, keys, near, &mut numbers, &mut added) {
+        if let Err(error) = self.put_all(cell, keys, &mut added) {
             self.forget_at(cell, keys, &added);
             return Err(error);
         }
-        Ok(Items::from_vec(numbers))
+        Ok(())
     }
 
     /// Takes a cell out under some keys, wherever it is there. It takes no memory.
@@ -291,27 +197,6 @@ impl Index {
     {
         for key in keys {
             self.forget_key(cell, key);
-        }
-    }
-
-    /// Takes a cell out under the keys of some numbers, wherever it is there. It takes no memory.
-    pub fn forget_numbered(&mut self, cell: usize, numbers: &[u32])
-        ensures { Forgets (is_numbered_pair self.old numbers.now cell) self.old self.new }
-    {
-        for number in numbers {
-            self.take(*number, cell);
-        }
-    }
-
-    /// Takes a cell out under the keys of some numbers, but for those that it keeps. It takes no memory.
-    pub fn forget_left(&mut self, cell: usize, numbers: &[u32], kept: &[u32])
-        ensures { Forgets (is_left_pair self.old numbers.now kept.now cell) self.old self.new }
-    {
-        for number in numbers {
-            if kept.contains(number) {
-                continue;
-            }
-            self.take(*number, cell);
         }
     }
 

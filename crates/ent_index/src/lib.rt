@@ -16,8 +16,5 @@ mod words;
 
 pub use groups::Groups;
 pub use index::Index;
-pub use law::{
-    a_key_that_is_read_keeps_its_number, numbers_are_of_their_keys, the_cells_of_a_key_read_it,
-    the_cells_of_a_key_rise,
-};
+pub use law::{the_cells_of_a_key_read_it, the_cells_of_a_key_rise};
 pub use wanted::Wanted;

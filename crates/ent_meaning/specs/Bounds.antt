@@ -103,7 +103,7 @@ is_empty a v b w = is_empty_between a v b w || is_empty_between b w a v
 
 -- two arguments ask the same term for what no value meets
 abbrev pub are_apart : Option Bound → Option Bound → Bool
-are_apart (Some a) (Some b) = same_expression a.term b.term && is_empty a.limit a.value b.limit b.value
+are_apart (Some a) (Some b) = is_empty a.limit a.value b.limit b.value && same_expression a.term b.term
 are_apart _ _ = false
 
 abbrev pub excludes : Expression → Expression → Bool
@@ -153,7 +153,7 @@ apart_from all n [] pointer = []
 apart_from all n (e ∷ others) pointer =
     told_of meaning.Apart (first_excluding 0 (take n all) e) (member pointer (codes "Apply/Arguments") n) ++ apart_from all (suc n) others pointer
 
--- the same of the arguments of a function: of any but `and` nothing
+-- what is told of the arguments of a function: of any but `and` nothing
 abbrev pub told_of_arguments : Function → List Expression → Told
 told_of_arguments function.And arguments pointer = apart_from arguments 0 arguments pointer
 told_of_arguments _ arguments pointer = []

@@ -212,7 +212,7 @@ fn excludes(one: &Expression, other: &Expression) -> bool
 {
     match (bound_of(one), bound_of(other)) {
         (Some(one), Some(other)) => {
-            one.term == other.term && is_empty(one.limit, one.value, other.limit, other.value)
+            is_empty(one.limit, one.value, other.limit, other.value) && one.term == other.term
         }
         _ => false,
     }

@@ -82,7 +82,7 @@ fn unless(algorithm: RuleAlg) -> Effects
     }
 }
 
-/// The same for policies and sets.
+/// What an algorithm of policies and sets gives where nothing decides.
 pub(crate) fn set_unless(algorithm: PolicyAlg) -> Effects
     ensures { result ≡ set_unless algorithm }
 {

@@ -262,7 +262,7 @@ fn tell_child(
     }
 }
 
-/// The same of the set at a place.
+/// Puts what is told of the set at a place last, and gives the effects that it may give.
 #[cycle(child)]
 #[tactic(auto, using(crate::proofs::Levels::set_level))]
 fn tell_set(
@@ -281,7 +281,7 @@ fn tell_set(
     Ok(effects)
 }
 
-/// The same of the children of the set at a place: with these effects those that they may give.
+/// Puts what is told of the children of the set at a place last, and gives these effects with those that they may give.
 #[cycle(child)]
 fn tell_children(
     alloc: Global,

@@ -91,7 +91,7 @@ is_fault f (Some g) = sub_code f == sub_code g
 abbrev pub is_faulty : DocFault → Part → Scope → Data → Bool
 is_faulty f p s d = is_fault f (told p s d) && not (is_fault f (scope_told s))
 
--- so does a spot
+-- what stands at a spot has the fault
 abbrev pub has_fault : DocFault → Spot → Bool
 has_fault f s = is_faulty f s.part s.scope s.json
 

@@ -78,7 +78,7 @@ fn is_clear<J: JsonTree>(
     is_free(alloc, fault, &light)
 }
 
-/// The same scope, of which it is marked whether it is seen to be clear.
+/// A copy of a scope, of which it is marked whether it is seen to be clear.
 pub(crate) fn marked<'a, J: JsonTree>(
     alloc: Global,
     fault: DocFault,

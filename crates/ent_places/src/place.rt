@@ -253,7 +253,7 @@ impl<'a, J: JsonTree> Place<'a, J> {
         }
     }
 
-    /// The same place, in a scope that isn't marked.
+    /// A copy of the place, in a scope that isn't marked.
     pub(crate) fn unmarked(&self, alloc: Global) -> Result<Place<'a, J>, AllocError>
         ensures same { IfOk result (λ p. spot_of J.content p ≡ spot_of J.content self.now) }
         ensures unmarked { IfOk result (λ p. p.scope.clear ≡ false) }
@@ -266,22 +266,6 @@ impl<'a, J: JsonTree> Place<'a, J> {
             scope,
             json: self.json,
         })
-    }
-
-    /// The first part one level inside of this one that has the fault.
-    ///
-    /// # Errors
-    ///
-    /// `AllocError` if memory runs out.
-    pub fn inside_with(
-        &self,
-        alloc: Global,
-        fault: DocFault,
-    ) -> Result<Option<Place<'a, J>>, AllocError>
-        ensures { IfOk result (λ o. option_map (spot_of J.content) o
-            ≡ find (has_fault fault) (inside (spot_of J.content self.now))) }
-    {
-        self.unmarked(alloc)?.inside(alloc, fault)
     }
 }
 

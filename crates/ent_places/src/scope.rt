@@ -34,7 +34,7 @@ pub struct Scope<'a, J> {
     pub(crate) clear: bool,
 }
 
-/// The same flags.
+/// A copy of some flags.
 fn copied(alloc: Global, flags: &[bool]) -> Result<Vec<bool>, AllocError>
     ensures { IfOk result (λ v. v.items ≡ flags.now) }
 {
@@ -45,7 +45,7 @@ fn copied(alloc: Global, flags: &[bool]) -> Result<Vec<bool>, AllocError>
     Ok(all)
 }
 
-/// The same flags but for that of a number, if there is one.
+/// A copy of some flags, with another of that number, if there is one.
 fn with_flag(
     alloc: Global,
     flags: &[bool],
@@ -116,7 +116,7 @@ impl<'a, J: JsonTree> Scope<'a, J> {
         })
     }
 
-    /// The same scope.
+    /// A copy of the scope.
     ///
     /// # Errors
     ///
@@ -133,7 +133,7 @@ impl<'a, J: JsonTree> Scope<'a, J> {
         })
     }
 
-    /// The same definitions, of which none is looked into, but each has its name.
+    /// A scope with these definitions, of which none is looked into, but each has its name.
     pub(crate) fn bare(&self, alloc: Global) -> Result<Scope<'a, J>, AllocError>
         ensures { IfOk result (λ s. scope_of J.content s ≡ bare (scope_of J.content self.now)) }
     {

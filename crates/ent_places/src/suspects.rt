@@ -163,7 +163,7 @@ fn with_undefined<J: JsonTree>(alloc: Global, definitions: &[J]) -> Result<Vec<b
     }
 }
 
-/// The same; none is told where a definition can't be read.
+/// Which definitions use a variable that isn't defined; none is told where one can't be read.
 fn undefined<J: JsonTree>(alloc: Global, definitions: &[J]) -> Result<Vec<bool>, AllocError>
     ensures { IfOk result (λ v. MayBeUsing (map J.content definitions.now) v.items) }
 {

@@ -1,6 +1,5 @@
 -- References that are read, written and read again.
-use Rattle.std.proofs.Common.{◌≡◌, ℕ, List, [], ◌∷◌, Bool, true, false, IsTrue, Option, Some, None, option_map, Result, Ok, Err, IfOk, codes, cond, refl, ap, ◌∙◌}
-use Rattle.serde_json.specs.Data.{Data}
+use Rattle.std.proofs.Common.{◌≡◌, ℕ, List, [], ◌∷◌, Bool, true, false, IsTrue, Option, Some, None, option_map, Ok, codes, cond, refl, ap}
 use Rattle.ent_policy.specs.Check.{reference_checked}
 use Rattle.ent_policy.specs.Names.{is_bad_name, name_of}
 use Rattle.ent_policy.specs.Patterns.{pattern_of, pattern_text}
@@ -15,7 +14,7 @@ use Rattle.ent_policy.specs.declared.raw.RawReference.{RawReference}
 use Rattle.ent_policy.proofs.Patterns.{is_pattern_of}
 use Rattle.ent_policy.proofs.Written.{patterns_read_back}
 use Rattle.ent_policy.proofs.Wholes.{ReadOf}
-use Rattle.ent_polform.specs.ReadBack.{IsReference, ReferencesReadBack, is_maybe_pattern}
+use Rattle.ent_polform.specs.ReadBack.{ReferencesReadBack, is_maybe_pattern}
 use Rattle.ent_polform.specs.Reference.{kind_of, reference_by, reference_key, reference_of}
 use Rattle.ent_polform.specs.Written.{reference_body, reference_written}
 use Rattle.ent_polform.proofs.Back.{Back}
@@ -88,9 +87,3 @@ unfolding reference_of reference_written reference_checked reference_read constr
 references_back r is =
     let c = r.constraints in
     rw (kind_back r.kind, reference_form r.kind r.id c.version c.earliest c.latest, is.name, constraint_back c.version is.version, constraint_back c.earliest is.earliest, constraint_back c.latest is.latest) refl
-
--- what was written of a reference
-pub written_back : {A E : Type 0} (view : A → Data) (r : Result A E) (reference : Reference) → IsReference reference → IfOk r (λ v. view v ≡ reference_written reference)
-    → IfOk r (λ v. reference_of (view v) ≡ Ok reference)
-written_back view (Ok v) reference by_type is = ap reference_of is ∙ references_back reference by_type
-written_back view (Err e) reference by_type is = tt

@@ -1,6 +1,5 @@
 -- A document that the checker passes is read again of what is written of it.
-use Rattle.std.proofs.Common.{◌≡◌, ◌≤◌, None, Result, Ok, Err, IfOk, refl, sym, ap, subst, ◌∙◌}
-use Rattle.serde_json.specs.Data.{Data, depth}
+use Rattle.std.proofs.Common.{◌≡◌, None, Ok, refl, sym, ap, subst, ◌∙◌}
 use Rattle.ent_policy.specs.Check.{IsChecked, checked, fault_of, tree_fault, whole_fault}
 use Rattle.ent_policy.specs.Children.{as_child}
 use Rattle.ent_policy.specs.Limits.{limit_fault}
@@ -11,11 +10,10 @@ use Rattle.ent_policy.proofs.Wholes.{neither, passed, passes}
 use Rattle.ent_policy.proofs.Within.{passed_within}
 use Rattle.ent_polform.specs.Form.{document_of, raw_of}
 use Rattle.ent_polform.specs.Objects.{◌>>=◌}
-use Rattle.ent_polform.specs.ReadBack.{DocumentsReadBack, ReadsBack}
+use Rattle.ent_polform.specs.ReadBack.{DocumentsReadBack}
 use Rattle.ent_polform.specs.Written.{written}
 use Rattle.ent_polform.proofs.Back.{AreFew, Back}
 use Rattle.ent_polform.proofs.BackDocuments.{TreeReturns, document_back}
-use Rattle.ent_polform.proofs.FittingDocuments.{documents_are_shallow}
 
 no_limit : (t : Tree) → tree_fault t ≡ None → limit_fault (as_child t) ≡ None
 unfolding tree_fault
@@ -41,13 +39,3 @@ document_few t read by_check h =
     let back = written_returns t by_check in
     let passing : checked back.0 ≡ Ok read = sym (ap (λ r. r >>= checked) back.1.0) ∙ h in
     back.1.1.few (neither (document_read back.0).fault (tree_fault (document_read back.0).value) (passes back.0 read passing).0).0
-
--- what was written of a document that the checker passes
-pub written_back : {A E : Type 0} (view : A → Data) (r : Result A E) (t document : Tree) → t ≡ document → IsChecked t → IfOk r (λ v. view v ≡ written t) → IfOk r (λ v. ReadsBack document (view v))
-written_back view (Ok v) t document same by_check is = subst (λ d. ReadsBack d (view v)) same (subst (ReadsBack t) (sym is) (documents_back t by_check))
-written_back view (Err e) t document same by_check is = tt
-
--- and how deep it nests
-pub written_shallow : {A E : Type 0} (view : A → Data) (r : Result A E) (t : Tree) → IsChecked t → IfOk r (λ v. view v ≡ written t) → IfOk r (λ v. depth (view v) ≤ 100)
-written_shallow view (Ok v) t by_check is = subst (λ d. depth d ≤ 100) (sym is) (documents_are_shallow t by_check)
-written_shallow view (Err e) t by_check is = tt

@@ -1,7 +1,6 @@
 pub mod FormLemmas
 pub mod NestedLemmas
 pub mod ScalarLemmas
-pub mod MemberLemmas
 pub mod WrittenLemmas
 pub mod BackValues
 pub mod Back
@@ -19,4 +18,6 @@ pub mod FittingParts
 pub mod FittingDocuments
 pub mod IdLemmas
 pub mod TextLemmas
+pub mod Texts
+pub mod ReadTexts
 pub mod TypedValues

@@ -1,13 +1,15 @@
 -- What is written straight into a text, part for part in the order in which it is written.
 use Rattle.std.proofs.Common.{◌≡◌, List, [], ◌∷◌, ◌++◌, ◌∙◌, ◌==◌, ℕ, ℤ, pos, negsuc, ap, append_assoc, codes, false, length, map, option_map, refl, Option, Some, None, Result, Ok, Err, OnOk}
 use Rattle.std.specs.Fmt.{signed_decimal}
+use Rattle.json.specs.Print.{print}
 use Rattle.json.specs.Token as token
 use Rattle.json.specs.Token.{Token}
 use Rattle.json.specs.Tree.{members_tokens}
 use Rattle.serde_json.specs.Data as json
 use Rattle.serde_json.specs.Data.{Data, Members, put}
 use Rattle.serde_json.specs.Find.{of_integer}
-use Rattle.serde_json.specs.Written.{members_outline}
+use Rattle.serde_json.specs.Written.{compact_text, members_outline}
+use Rattle.ent_json.proofs.TextLemmas.{printed}
 use Rattle.ent_json.specs.Members.{filled_list, only_member, optional, put_optional}
 use Rattle.ent_json.specs.Text.{tokens_of}
 use Rattle.ent_json.specs.proofs_only.Keyed.{optional_tokens}
@@ -24,6 +26,10 @@ joined old x y a b first second = second ∙ ap (λ s. s ++ b) first ∙ append_
 pub ends : {A E : Type 0} (r : Result (Unit {0}) E) (old x y a b : List A) → x ≡ old ++ a → OnOk r (y ≡ x ++ b) → OnOk r (y ≡ old ++ (a ++ b))
 ends (Ok u) old x y a b first second = joined old x y a b first second
 ends (Err e) old x y a b first second = second
+
+-- the text of a value that was written into an empty text
+pub whole_text : (d : Data) (empty out : List Token) → empty ≡ [] → out ≡ empty ++ tokens_of d → print out ≡ compact_text d
+whole_text d empty out start end = ap print (end ∙ ap (λ ts. ts ++ tokens_of d) start) ∙ printed d
 
 -- ---- values
 

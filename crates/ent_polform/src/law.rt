@@ -17,8 +17,8 @@ pub fn documents_read_back()
     ensures { DocumentsReadBack }
 {}
 
-/// A law, with nothing to run: what [`crate::write_reference`] writes of a reference, [`crate::read_reference`] reads
-/// as that reference.
+/// A law, with nothing to run: what [`crate::write_reference_text`] writes of a reference,
+/// [`crate::read_reference`] reads as that reference.
 pub fn references_read_back()
     ensures { ReferencesReadBack }
 {}

@@ -15,10 +15,6 @@ mod text_targets;
 mod text_values;
 mod value;
 mod written_documents;
-mod written_expressions;
-mod written_given;
-mod written_references;
-mod written_targets;
 mod written_values;
 
 pub use expression::{
@@ -42,5 +38,4 @@ pub use text_documents::{write_document_text, write_reference_text};
 pub use text_values::write_value_text;
 pub use value::read_value;
 pub use written_documents::write_document;
-pub use written_references::write_reference;
 pub use written_values::write_value;

@@ -11,9 +11,8 @@ ghost use Rattle.ent_polform.specs.proofs_only.Written.{set_written};
 
 use crate::reference::reference_key;
 use crate::text_expressions::{write_condition, write_expression};
-use crate::text_given::{write_advice, write_obligations};
+use crate::text_given::{effect_word, write_advice, write_obligations};
 use crate::text_targets::write_target;
-use crate::written_given::effect_word;
 use ent_json::{JsonText, write_text};
 use ent_policy::{
     Child, Document, Policy, PolicySet, Reference, Rule, Tree, VariableDefinition, VersionMatch,
@@ -55,7 +54,9 @@ fn write_reference_body(
     out.end_object()
 }
 
-/// Writes a reference into a text as [`crate::write_reference`] has it.
+/// Writes a reference into a text, in the form that [`crate::read_reference`] reads: an object
+/// `{"PolicyIdReference": {..}}` or `{"PolicySetIdReference": {..}}` with the key Id, and with each constraint that is
+/// there as its written text.
 ///
 /// # Errors
 ///

@@ -5,14 +5,23 @@ ghost use Rattle.ent_json.specs.Members.{filled_list};
 ghost use Rattle.ent_json.specs.Text.{tokens_of};
 ghost use Rattle.ent_json.specs.proofs_only.Keyed.{optional_tokens};
 ghost use Rattle.ent_json.specs.proofs_only.Text.{items_tokens_of};
-ghost use Rattle.ent_polform.specs.Written.{advice_written, assignment_written, given_written};
+ghost use Rattle.ent_polform.specs.Written.{advice_written, assignment_written, effect_word, given_written};
 ghost use Rattle.ent_polform.specs.Written.{obligations_written};
 
 use crate::text_expressions::write_expression;
-use crate::written_given::effect_word;
 use ent_json::{JsonText, write_optional, write_text};
-use ent_policy::{AssignmentExpression, GivenExpression, GivenExpressions};
+use ent_policy::{AssignmentExpression, Effect, GivenExpression, GivenExpressions};
 use std::alloc::{AllocError, Global};
+
+/// The word of an effect.
+pub(crate) fn effect_word(effect: Effect) -> &'static str
+    ensures { result.now ≡ effect_word effect }
+{
+    match effect {
+        Effect::Permit => "Permit",
+        Effect::Deny => "Deny",
+    }
+}
 
 /// Writes an AttributeAssignmentExpression.
 fn write_assignment(

@@ -53,30 +53,30 @@ same_document = (documents.ghosts).eq
 abbrev pub SameKindsAreEqual : Type 0
 SameKindsAreEqual = (a b : Kind) → Decides (same_kind a b) (a ≡ b)
 
--- the same of names
+-- that of two names does
 abbrev pub SameNamesAreEqual : Type 0
 SameNamesAreEqual = (a b : List ℕ) → Decides (same_name a b) (a ≡ b)
 
--- the same of versions
+-- that of two versions does
 abbrev pub SameVersionsAreEqual : Type 0
 SameVersionsAreEqual = (a b : List ℕ) → Decides (same_version a b) (a ≡ b)
 
--- the same of version patterns
+-- that of two version patterns does
 abbrev pub SamePatternsAreEqual : Type 0
 SamePatternsAreEqual = (a b : List PatternPart) → Decides (same_pattern a b) (a ≡ b)
 
--- the same of constraints
+-- that of two constraints does
 abbrev pub SameConstraintsAreEqual : Type 0
 SameConstraintsAreEqual = (a b : VersionConstraints) → Decides (same_constraints a b) (a ≡ b)
 
--- the same of keys
+-- that of two keys does
 abbrev pub SameKeysAreEqual : Type 0
 SameKeysAreEqual = (a b : DocKey) → Decides (same_key a b) (a ≡ b)
 
--- the same of references
+-- that of two references does
 abbrev pub SameReferencesAreEqual : Type 0
 SameReferencesAreEqual = (a b : Reference) → Decides (same_reference a b) (a ≡ b)
 
--- the same of documents
+-- that of two documents does
 abbrev pub SameDocumentsAreEqual : Type 0
 SameDocumentsAreEqual = (a b : Tree) → Decides (same_document a b) (a ≡ b)

@@ -42,7 +42,7 @@ fn parsed(alloc: Global, text: &str, datatype: DataType) -> Result<Option<Value>
     }
 }
 
-/// The same, where a string or a URI takes the text over.
+/// The value of a type that a text stands for, which a string or a URI takes over.
 #[tactic(auto, unfolding(ent_values::specs::Reading::value_of))]
 fn text_as(alloc: Global, text: Text, datatype: DataType) -> Result<Option<Value>, AllocError>
     ensures { IfOk result (λ v. v ≡ value_of datatype text) }

@@ -45,7 +45,7 @@ abbrev pub one_or_many : Data → List Data
 one_or_many (json.array ds) = members ds
 one_or_many d = d ∷ []
 
--- the same, none where it is absent
+-- those members, none where the value is absent
 abbrev pub none_or_many : Option Data → List Data
 none_or_many None = []
 none_or_many (Some d) = one_or_many d

@@ -35,7 +35,7 @@ has_chain docs (suc hops) document = list_any (has_chain docs hops) (leads_to do
 abbrev pub IsEndless : Docs → Tree → Type 0
 IsEndless docs document = (hops : ℕ) → has_chain docs hops document ≡ true
 
--- the same by a test: a chain begins in it that has as many references as there are documents
+-- a test of that: a chain begins in it that has as many references as there are documents
 abbrev pub is_endless : Docs → Tree → Bool
 is_endless docs = has_chain docs (len docs)
 

@@ -38,7 +38,7 @@ pub fn unfound(
     unfound_among(alloc, docs, &Found::new(alloc), document)
 }
 
-/// The same, where some references were looked for before.
+/// Those that `unfound` gives, where some references were looked for before.
 pub(crate) fn unfound_among(
     alloc: Global,
     docs: &MapDocs,

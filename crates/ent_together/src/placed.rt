@@ -26,7 +26,7 @@ impl PlacedReference {
     }
 }
 
-/// The same numbers.
+/// A copy of some numbers.
 fn copied(alloc: Global, path: &[usize]) -> Result<Items<usize>, AllocError>
     ensures { IfOk result (λ p. p ≡ path.now) }
 {

@@ -18,7 +18,7 @@ use crate::missing::unfound_among;
 use crate::root::unreached;
 use crate::sentences::{endless_sentence, named, unfound_sentence, unreached_sentence};
 use crate::state::{State, put};
-use ent_explain::{line_and_column, one_line, placed};
+use ent_faults::{line_and_column, one_line, placed};
 use ent_finder::PolicyFinderModule;
 use ent_json::read_json;
 use ent_polform::read_document;

@@ -46,14 +46,14 @@ same_bag = (bags.ghosts).eq
 abbrev pub SameIsEqual : Type 0
 SameIsEqual = (a b : Value) → Decides (same_value a b) (a ≡ b)
 
--- the same of types
+-- that of two types does
 abbrev pub SameTypesAreEqual : Type 0
 SameTypesAreEqual = (a b : DataType) → Decides (same_type a b) (a ≡ b)
 
--- the same of lists
+-- that of two lists does
 abbrev pub SameListsAreEqual : Type 0
 SameListsAreEqual = (a b : List Value) → Decides (same_values a b) (a ≡ b)
 
--- the same of bags
+-- that of two bags does
 abbrev pub SameBagsAreEqual : Type 0
 SameBagsAreEqual = (a b : Contents) → Decides (same_bag a b) (a ≡ b)

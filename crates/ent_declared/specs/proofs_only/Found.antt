@@ -12,7 +12,7 @@ abbrev pub FindsDesignator : List Attribute → Spot → Option Undeclared → T
 FindsDesignator attributes s None = is_undeclared attributes s ≡ false
 FindsDesignator attributes s (Some found) = (found.value ≡ None) × IsDesignatorAt attributes found s
 
--- the same of a literal and a designator
+-- what is found of a literal and a designator
 abbrev pub StraysOf : List Attribute → Place → Place → Option Undeclared → Type 0
 StraysOf attributes literal designator None = is_stray attributes designator literal ≡ false
 StraysOf attributes literal designator (Some found) = (is_some found.value ≡ true) × IsLiteralAt attributes found literal designator

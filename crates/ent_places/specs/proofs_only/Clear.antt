@@ -32,7 +32,7 @@ pub record IsFree (f : DocFault) (s : Scope) : Type 0 where
   pub are_read : variables_in s ≡ Ok variables
   pub are_free : AreFree f variables
 
--- the same definitions, of which none is looked into, but each has its name
+-- a scope with these definitions, of which none is looked into, but each has its name
 abbrev pub bare : Scope → Scope
 bare s = record { definitions = s.definitions; aside = None; standing = replicate (length s.definitions) false }
 

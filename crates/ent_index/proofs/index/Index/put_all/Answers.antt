@@ -1,8 +1,7 @@
-use Rattle.std.proofs.Common.{◌+◌, [], ◌∷◌, ◌++◌, ap, map, sym, take, ◌∙◌}
-use Rattle.std.proofs.lemmas.List.{map-append, take_more}
+use Rattle.std.proofs.Common.{◌+◌, ap, take, ◌∙◌}
 use Rattle.std.proofs.lemmas.Result.{err_from_is_err_and}
-use Rattle.ent_index.proofs.Changes.{added_more, adds_more, adds_new, kept_numbers, new_absent, pair_more}
-use Rattle.ent_index.specs.Index.{has, is_pair_of, number_of}
+use Rattle.ent_index.proofs.Changes.{added_more, adds_more, adds_new, new_absent, pair_more}
+use Rattle.ent_index.specs.Index.{has, is_pair_of}
 use Rattle.ent_index.specs.proofs_only.Steps.{is_pair, is_pair_at}
 use Rattle.ent_index.proofs.index.Index.put_all.Goals as goal
 
@@ -27,11 +26,6 @@ loop-place-preserved c =
     let key = c.index-keys-place.result in
     let new = c.put_next.new.self in
     record {
-      numbers =
-          ap (map (number_of new)) (take_more keys i key c.loop-place-test.true ∙ ap (λ k. take i keys ++ k ∷ []) (sym c.index-keys-place.is))
-          ∙ map-append (number_of new) (take i keys) (key ∷ [])
-          ∙ ap (λ ns. ns ++ number_of new key ∷ []) (kept_numbers (number_of c.loop-place.self) (number_of new) c.in_ok-put_next.ensures.ok.numbers (take i keys) c.loop-place.numbers.items c.loop-place.invariant.numbers)
-          ∙ sym c.in_ok-put_next.ensures.numbers;
       adds = adds_more (is_pair_of (take i keys) c.args.cell) (is_pair key c.args.cell) (is_pair_of (take (i + 1) keys) c.args.cell) c.args.self.now c.loop-place.self new
           c.loop-place.invariant.adds c.in_ok-put_next.ensures.ok (pair_more keys c.args.cell i key c.loop-place-test.true c.index-keys-place.is);
       added = λ k x.
