@@ -8,14 +8,15 @@ use Rattle.std.proofs.lemmas.Bool.{false≢true}
 use Rattle.std.specs.Cmp.Lexicographic.{bytes_decides}
 use Rattle.std.proofs.lemmas.List.Elements.{Contains-append_cases, Contains-append_left, Contains-append_right}
 use Rattle.std.proofs.lemmas.List.Kept.{IsStrictlySortedBy-filter}
+use Rattle.serde_json.specs.Written.{compact_text}
 use Rattle.serde_json.specs.Data as json
-use Rattle.serde_json.specs.Data.{Data, Members}
+use Rattle.serde_json.specs.Data.{Data}
 use Rattle.ent_json.specs.Line.{data_of}
 use Rattle.ent_request.specs.declared.answer.Answer.{Answer}
 use Rattle.ent_table.specs.Names.{Triple, is_listed, triples}
 use Rattle.ent_table.specs.State.{State, answer_at, answer_to, table_of}
 use Rattle.ent_table.proofs.Members.{none_contained, first_contained, passed, passes}
-use Rattle.ent_line.specs.Cells.{cell_data, table_text}
+use Rattle.ent_line.specs.Cells.{cell_data, table_reply}
 use Rattle.ent_compare.specs.Changes.{appeared, both, decision_of, difference, difference_of, is_nothing}
 use Rattle.ent_compare.specs.Changes.{reasoned, same_decision, told}
 use Rattle.ent_compare.specs.Tables.{table_in}
@@ -82,8 +83,8 @@ module _ (s t : State) (good : IsGoodState s) (others : IsGoodState t) where
       ∙ ap (told (map (changed s t) (decided_here ++ appeared_here))) reasons
 
   -- what is told of the replies
-  pub reply_told : difference_of (table_text (table_of s)) (table_text (table_of t)) ≡ Some told_here
-  reply_told = ap (λ o. both o (option_and_then table_in (data_of (table_text (table_of t))))) (table_read s good)
+  pub reply_told : difference_of (compact_text (table_reply (table_of s))) (compact_text (table_reply (table_of t))) ≡ Some told_here
+  reply_told = ap (λ o. both o (option_and_then table_in (data_of (compact_text (table_reply (table_of t)))))) (table_read s good)
       ∙ ap (both (Some (rows s))) (table_read t others) ∙ ap Some is_told
 
   -- ---- which requests

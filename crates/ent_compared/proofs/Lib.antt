@@ -12,6 +12,7 @@ pub mod GoodTold
 pub mod Laws
 pub mod Names
 pub mod Rows
+pub mod Services
 pub mod Tables
 pub mod Tests
 pub mod Told

@@ -10,7 +10,7 @@ use Rattle.std.proofs.lemmas.Bool.{false≢true}
 use Rattle.std.proofs.lemmas.Str.{is_utf8-from_IsUtf8}
 use Rattle.std.proofs.lemmas.Map.Views.{Contains-from_any, list_any-from_Contains}
 use Rattle.serde_json.specs.Data as json
-use Rattle.serde_json.specs.Data.{Data, Items, Members}
+use Rattle.serde_json.specs.Data.{Data, Members}
 use Rattle.serde_json.specs.Find.{get_member}
 use Rattle.serde_json.specs.View.{items_of}
 use Rattle.serde_json.specs.Written.{compact_text}
@@ -22,7 +22,7 @@ use Rattle.ent_request.specs.declared.answer.Answer.{Answer}
 use Rattle.ent_table.specs.Names.{Triple, has_name, is_listed, triples}
 use Rattle.ent_table.specs.State.{State, answer_to, table_of}
 use Rattle.ent_table.proofs.Listed.{any_listed, same_request, same_triple}
-use Rattle.ent_line.specs.Cells.{cell_data, reply_data, table_text}
+use Rattle.ent_line.specs.Cells.{cell_data, reply_data, table_reply}
 use Rattle.ent_restart.proofs.Texts.{texts_read_back}
 use Rattle.ent_restart.proofs.Utf8Data.{IsUtf8Data}
 use Rattle.ent_restart.proofs.Utf8Written.{compact_utf8, list_written, only_utf8}
@@ -200,13 +200,13 @@ listed_items (d ∷ ds) = ap (λ l. d ∷ l) (listed_items ds)
 abbrev table_data : State → Data
 table_data s = reply_data (codes "table") (json.array (items_of (map (cell s) (triples s.names))))
 
-written : (s : State) → table_text (table_of s) ≡ compact_text (table_data s)
-unfolding table_text
+written : (s : State) → compact_text (table_reply (table_of s)) ≡ compact_text (table_data s)
+unfolding table_reply
 written s = ap (λ ds. compact_text (reply_data (codes "table") (json.array (items_of ds))))
     (zipped (answer_to s) (triples s.names))
 
 -- the reply to `table` is read as what was written
-read_back : (s : State) → IsGoodState s → data_of (table_text (table_of s)) ≡ Some (table_data s)
+read_back : (s : State) → IsGoodState s → data_of (compact_text (table_reply (table_of s))) ≡ Some (table_data s)
 read_back s h =
     let fits = one_fits 6 (codes "table") _
     (list_fits 5 (map (cell s) (triples s.names)) (cells_fit s h (triples s.names) (all_listed s))) in
@@ -219,7 +219,7 @@ read_back s h =
 
 -- and its table is the state's
 pub table_read : (s : State) → IsGoodState s
-    → option_and_then table_in (data_of (table_text (table_of s))) ≡ Some (rows s)
+    → option_and_then table_in (data_of (compact_text (table_reply (table_of s)))) ≡ Some (rows s)
 table_read s h =
     ap (option_and_then table_in) (read_back s h)
     ∙ ap (by_request json.no_members) (listed_items (map (cell s) (triples s.names)))

@@ -3,4 +3,6 @@
 
 mod law;
 
-pub use law::{differences_are_told, nothing_is_told_of_the_same};
+pub use law::{
+    comparisons_tell_tables, differences_are_told, nothing_is_told_of_the_same, tables_are_replies,
+};

@@ -5,7 +5,6 @@ ghost use Rattle.ent_finder.specs.Rows.{filled_source, source_at};
 ghost use Rattle.ent_finder.specs.Slots.{held, module_at};
 ghost use Rattle.ent_eval.specs.LooksOf.{held_by};
 ghost use Rattle.ent_json.specs.Text.{tokens_of};
-ghost use Rattle.ent_table.specs.Review.{state_of};
 ghost use Rattle.ent_rebuild.specs.Rebuilding.{all_documents, all_rows, environment_edits, module_edits};
 ghost use Rattle.ent_rebuild.specs.Rebuilding.{name_edits, rebuilding, root_edits, source_edits};
 ghost use Rattle.ent_dump.specs.Dumped.{dump_data, dump_text};
@@ -155,7 +154,7 @@ fn write_edits<A: Attributes, P: Policies>(
     out: &mut JsonText,
     review: &Review<A, P>,
 ) -> Result<(), AllocError>
-    ensures { OnOk result (out.new ≡ out.old ++ line_tokens (rebuilding (state_of A.sources P.slots review.now))) }
+    ensures { OnOk result (out.new ≡ out.old ++ line_tokens (rebuilding review.now.state)) }
 {
     write_held(alloc, out, review.pdp())?;
     write_names(alloc, out, List::People, review.names(List::People))?;
@@ -170,7 +169,7 @@ fn write_dump<A: Attributes, P: Policies>(
     review: &Review<A, P>,
     version: u64,
 ) -> Result<(), AllocError>
-    ensures { OnOk result (out.new ≡ out.old ++ tokens_of (dump_data version (state_of A.sources P.slots review.now))) }
+    ensures { OnOk result (out.new ≡ out.old ++ tokens_of (dump_data version review.now.state)) }
 {
     out.begin_object()?;
     out.key("dump")?;
@@ -195,7 +194,7 @@ pub fn dump_text<A: Attributes, P: Policies>(
     review: &Review<A, P>,
     version: u64,
 ) -> Result<String, AllocError>
-    ensures { IfOk result (λ s. string_bytes s ≡ dump_text version (state_of A.sources P.slots review.now)) }
+    ensures { IfOk result (λ s. string_bytes s ≡ dump_text version review.now.state) }
 {
     let mut out = JsonText::with_room(alloc)?;
     write_dump(alloc, &mut out, review, version)?;

@@ -25,8 +25,8 @@ use Rattle.ent_reach.specs.declared.place.Place.{Place}
 use Rattle.ent_held.specs.Attributes.{is_of_entity, module_rows, row_data}
 use Rattle.ent_request.specs.Held.{Held}
 use Rattle.ent_reach.specs.Reached.{has_place, is_reached}
-use Rattle.ent_held.specs.Documents.{document_data, documents, module_documents}
-use Rattle.ent_held.specs.proofs_only.Walk.{documents_data, each_tokens, filled_data, is_asked, slot_data}
+use Rattle.ent_held.specs.Documents.{document_data, documents, documents_data, module_documents}
+use Rattle.ent_held.specs.proofs_only.Walk.{each_tokens, filled_data, is_asked, slot_data}
 use Rattle.ent_held.proofs.Walks.{listed}
 
 -- ---- documents

@@ -36,7 +36,11 @@ row_data row = json.object (
     (json.member (codes "values") (json.array (items_of (map value_written row.2)))
     json.no_members)))))
 
--- the text of the reply to `attributes`
+-- the reply to `attributes`
+abbrev pub attributes_data : List Source → List ℕ → List ℕ → Data
+attributes_data sources category entity =
+    only_member (codes "attributes") (json.array (items_of (map row_data (rows_of category entity sources))))
+
+-- its text
 unfoldable pub attributes_text : List Source → List ℕ → List ℕ → List ℕ
-attributes_text sources category entity =
-    compact_text (only_member (codes "attributes") (json.array (items_of (map row_data (rows_of category entity sources)))))
+attributes_text sources category entity = compact_text (attributes_data sources category entity)

@@ -37,7 +37,11 @@ document_data reached whole d = json.object (
     (json.member (codes "version") (json.string (version_text d.1.version))
     json.no_members))))))
 
--- the text of the reply to `documents`: all without the documents themselves, or those of an id with them
+-- the reply to `documents`: all without the documents themselves, or those of an id with them
+abbrev pub documents_data : Held → Option (List ℕ) → Data
+documents_data held id = only_member (codes "documents") (json.array (items_of
+    (map (document_data (is_reached held.modules held.root) (is_some id)) (documents id held.modules))))
+
+-- its text
 unfoldable pub documents_text : Held → Option (List ℕ) → List ℕ
-documents_text held id =
-    compact_text (only_member (codes "documents") (json.array (items_of (map (document_data (is_reached held.modules held.root) (is_some id)) (documents id held.modules)))))
+documents_text held id = compact_text (documents_data held id)

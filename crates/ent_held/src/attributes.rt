@@ -1,6 +1,6 @@
 //! What is told of the values that are held of an entity.
 
-ghost use Rattle.std.specs.Prelude.{◌≡◌, ◌<◌, [], ◌∷◌, ◌++◌, IfOk, OnOk, codes, length, map, string_bytes};
+ghost use Rattle.std.specs.Prelude.{◌≡◌, ◌<◌, ◌∷◌, ◌++◌, IfOk, OnOk, codes, length, map, string_bytes};
 ghost use Rattle.std.specs.Option.{option_map_or};
 ghost use Rattle.serde_json.specs.Data as json;
 ghost use Rattle.json.specs.Token as token;
@@ -9,8 +9,8 @@ ghost use Rattle.ent_finder.specs.Rows.{filled_source, source_at};
 ghost use Rattle.ent_json.specs.Text.{tokens_of};
 ghost use Rattle.ent_json.specs.proofs_only.Text.{items_tokens_of};
 ghost use Rattle.ent_polform.specs.Written.{value_written};
-ghost use Rattle.ent_held.specs.Attributes.{attributes_text, is_of_entity, module_rows, row_data, rows_of};
-ghost use Rattle.ent_held.specs.proofs_only.Walk.{attributes_data, each_tokens, filled_data};
+ghost use Rattle.ent_held.specs.Attributes.{attributes_data, attributes_text, is_of_entity, module_rows, row_data, rows_of};
+ghost use Rattle.ent_held.specs.proofs_only.Walk.{each_tokens, filled_data};
 
 use crate::members::{begin_list, end_list, write_module};
 use ent_finder::{Attributes, Row, RowKey};

@@ -9,8 +9,8 @@ ghost use Rattle.ent_json.specs.Text.{tokens_of};
 ghost use Rattle.ent_polform.specs.Written.{written};
 ghost use Rattle.ent_json.specs.proofs_only.Keyed.{optional_tokens};
 ghost use Rattle.ent_reach.specs.Reached.{has_place};
-ghost use Rattle.ent_held.specs.Documents.{document_data, documents, documents_text, module_documents};
-ghost use Rattle.ent_held.specs.proofs_only.Walk.{documents_data, each_tokens, is_asked, slot_data};
+ghost use Rattle.ent_held.specs.Documents.{document_data, documents, documents_data, documents_text, module_documents};
+ghost use Rattle.ent_held.specs.proofs_only.Walk.{each_tokens, is_asked, slot_data};
 
 use crate::members::{begin_list, end_list, write_module};
 use ent_eval::Pdp;
@@ -32,7 +32,7 @@ fn is_asked(id: Option<&str>, key: &DocKey) -> bool
 }
 
 /// Writes a document at its key, if it is asked for.
-fn write_whole(
+pub(crate) fn write_whole(
     alloc: Global,
     out: &mut JsonText,
     document: &Document,

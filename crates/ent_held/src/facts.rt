@@ -17,6 +17,7 @@ ghost use Rattle.ent_values.specs.Types.{uri_of};
 ghost use Rattle.ent_held.specs.Facts.{fact_data, facts_data, found_data, or_null, values_data};
 
 use crate::attributes::{write_each_value, write_issuer};
+use crate::documents::write_whole;
 use crate::members::write_module;
 use ent_eval::{Pdp, ReadKey, Reads};
 use ent_finder::{AttrKey, Attributes, Policies};
@@ -51,18 +52,20 @@ fn write_reference(
     }
 }
 
-/// Writes which document of the module of that number was found.
+/// Writes which document of the module of that number was found, with what it says if that is told.
 fn write_document(
     alloc: Global,
     out: &mut JsonText,
+    whole: bool,
     number: usize,
     document: &Document,
 ) -> Result<(), AllocError>
-    ensures { OnOk result (out.new ≡ out.old ++ tokens_of (found_data (number, document.now))) }
+    ensures { OnOk result (out.new ≡ out.old ++ tokens_of (found_data whole (number, document.now))) }
 {
     let key = document.key(alloc)?;
     let version = key.version.text(alloc)?;
     out.begin_object()?;
+    write_whole(alloc, out, document, whole)?;
     write_text(out, "id", key.id.as_str())?;
     write_text(out, "kind", key.kind.word())?;
     write_module(out, number)?;
@@ -74,14 +77,15 @@ fn write_document(
 fn write_found(
     alloc: Global,
     out: &mut JsonText,
+    whole: bool,
     found: Option<(usize, &Document)>,
 ) -> Result<(), AllocError>
     ensures { OnOk result (out.new ≡ out.old
-        ++ tokens_of (or_null found_data (option_map (λ r. (r.0, r.1.now)) found.entry))) }
+        ++ tokens_of (or_null (found_data whole) (option_map (λ r. (r.0, r.1.now)) found.entry))) }
 {
     match found {
         None => out.null(),
-        Some((number, document)) => write_document(alloc, out, number, document),
+        Some((number, document)) => write_document(alloc, out, whole, number, document),
     }
 }
 
@@ -90,16 +94,18 @@ fn write_resolved<P: Policies>(
     alloc: Global,
     out: &mut JsonText,
     policies: &P,
+    whole: bool,
     reference: &Reference,
 ) -> Result<(), AllocError>
     ensures { OnOk result (out.new ≡ out.old ++ tokens_of (json.object (
-        json.member (codes "found") (or_null found_data (resolved reference.now (map held (P.slots policies.now))))
+        json.member (codes "found") (or_null (found_data whole)
+        (resolved reference.now (map held (P.slots policies.now))))
         (json.member (codes "reference") (reference_written reference.now)
         json.no_members)))) }
 {
     out.begin_object()?;
     out.key("found")?;
-    write_found(alloc, out, policies.resolve(reference))?;
+    write_found(alloc, out, whole, policies.resolve(reference))?;
     out.key("reference")?;
     write_reference_text(alloc, out, reference)?;
     out.end_object()
@@ -171,15 +177,16 @@ fn write_fact<A: Attributes, P: Policies>(
     alloc: Global,
     out: &mut JsonText,
     pdp: &Pdp<A, P>,
+    whole: bool,
     key: &ReadKey,
 ) -> Result<(), AllocError>
     ensures { OnOk result (out.new ≡ out.old
-        ++ tokens_of (fact_data (held_by A.sources P.slots pdp.now) key.now)) }
+        ++ tokens_of (fact_data whole (held_by A.sources P.slots pdp.now) key.now)) }
 {
     let environment = pdp.environment();
     match key {
         ReadKey::Root => write_root(alloc, out, pdp.root()),
-        ReadKey::Ref(reference) => write_resolved(alloc, out, pdp.policies(), reference),
+        ReadKey::Ref(reference) => write_resolved(alloc, out, pdp.policies(), whole, reference),
         ReadKey::Attr(key) => write_looked(alloc, out, pdp.attributes(), key),
         ReadKey::CurrentDate => {
             write_known(alloc, out, "date", environment.date().map(Value::Date))
@@ -199,19 +206,21 @@ fn write_each_fact<A: Attributes, P: Policies>(
     alloc: Global,
     out: &mut JsonText,
     pdp: &Pdp<A, P>,
+    whole: bool,
     keys: &[ReadKey],
 ) -> Result<(), AllocError>
     ensures { OnOk result (out.new ≡ out.old
-        ++ items_tokens_of (map (fact_data (held_by A.sources P.slots pdp.now)) keys.now)) }
+        ++ items_tokens_of (map (fact_data whole (held_by A.sources P.slots pdp.now)) keys.now)) }
 {
     for key in keys {
-        write_fact(alloc, out, pdp, key)?;
+        write_fact(alloc, out, pdp, whole, key)?;
     }
     out.end_array()
 }
 
 /// Writes the list of look-ups into a text, in the order of their keys: of each an object that says what was looked up
-/// and what it gives. What finds nothing is told too, with null or without values.
+/// and what it gives. What finds nothing is told too, with null or without values. Of a document that is found its key
+/// is told, or all that it says.
 ///
 /// # Errors
 ///
@@ -220,11 +229,13 @@ pub fn write_facts<A: Attributes, P: Policies>(
     alloc: Global,
     out: &mut JsonText,
     pdp: &Pdp<A, P>,
+    whole: bool,
     reads: Reads,
 ) -> Result<(), AllocError>
-    ensures { OnOk result (out.new ≡ out.old ++ tokens_of (facts_data (held_by A.sources P.slots pdp.now) reads)) }
+    ensures { OnOk result (out.new ≡ out.old
+        ++ tokens_of (facts_data whole (held_by A.sources P.slots pdp.now) reads)) }
 {
     let keys = reads.into_items(alloc)?;
     out.begin_array()?;
-    write_each_fact(alloc, out, pdp, keys.as_slice())
+    write_each_fact(alloc, out, pdp, whole, keys.as_slice())
 }

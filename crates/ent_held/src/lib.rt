@@ -5,6 +5,7 @@ mod attributes;
 mod causes;
 mod documents;
 mod facts;
+mod law;
 mod members;
 mod paths;
 
@@ -12,4 +13,5 @@ pub use attributes::attributes_text;
 pub use causes::{untold, write_causes};
 pub use documents::documents_text;
 pub use facts::write_facts;
+pub use law::equal_facts_give_equal_answers;
 pub use paths::{status_text, write_path, write_rule};

@@ -1,6 +1,7 @@
 -- What holds of each change that can be read in a line holds of the change that it asks for.
-use Rattle.std.proofs.Common.{◌≡◌, ℕ, List, Bool, true, false, Option, Some, None, Result, Ok, Err, subst}
-use Rattle.std.specs.Prelude.{codes, nat_lt, option_map, IfSome}
+use Rattle.std.proofs.Common.{◌≡◌, ℕ, List, [], ◌∷◌, ◌++◌, Bool, true, false, Option, Some, None, Result, Ok, Err, cond, map, subst}
+use Rattle.std.specs.Prelude.{bytes_eq, codes, find, nat_lt, option_map, IfSome}
+use Rattle.std.specs.List.{AllByRecursion}
 use Rattle.serde_json.specs.Data.{Data}
 use Rattle.serde_json.specs.Find.{get}
 use Rattle.ent_json.specs.Objects.{text_at}
@@ -8,10 +9,9 @@ use Rattle.ent_polform.specs.Objects.{need, must}
 use Rattle.ent_table.specs.declared.edit.List.{List as Which}
 use Rattle.ent_table.specs.declared.edit.List.TheVariants.{People, Actions, Resources}
 use Rattle.ent_line.specs.Asked as asked
-use Rattle.ent_line.specs.Asked.{Change, Command, Question, begun, command_in, command_of, form_of, in_session, name_of, naming, setting, storing, withdrawing}
+use Rattle.ent_line.specs.Asked.{Change, Command, Form, Question, as_command, begun, changes, command_in, command_of, form, form_of, forms}
+use Rattle.ent_line.specs.Asked.{in_session, naming, questions, setting, storing, withdrawing}
 use Rattle.ent_line.specs.Keys.{null_or_text_at, number_at}
-use Rattle.ent_line.specs.declared.name.Name.{Name}
-use Rattle.ent_line.specs.declared.name.Name.TheVariants as names
 use Rattle.ent_line.specs.declared.refusal.Refusal.{Refusal}
 use Rattle.ent_line.specs.declared.refusal.Refusal.TheVariants.{Shape, UnknownSession}
 
@@ -47,40 +47,62 @@ of_change : (P : Change → Type 0) (o : Option Change) → IfSome o P → Asks 
 of_change P None h = record { is = tt }
 of_change P (Some c) h = record { is = h }
 
-form_asks : (P : Change → Type 0) (d : Data) (name : Name) → HoldsOfReads P d → Asks P ((form_of name).asked d)
-unfolding form_of
-form_asks P d names.PersonAdd h = of_change P (naming (asked.add_name People) d) (h.adding People)
-form_asks P d names.ActionAdd h = of_change P (naming (asked.add_name Actions) d) (h.adding Actions)
-form_asks P d names.ResourceAdd h = of_change P (naming (asked.add_name Resources) d) (h.adding Resources)
-form_asks P d names.PersonDrop h = of_change P (naming (asked.drop_name People) d) (h.dropping People)
-form_asks P d names.ActionDrop h = of_change P (naming (asked.drop_name Actions) d) (h.dropping Actions)
-form_asks P d names.ResourceDrop h = of_change P (naming (asked.drop_name Resources) d) (h.dropping Resources)
-form_asks P d names.PolicyAdd h = of_change P (storing asked.add_policy d) h.added
-form_asks P d names.PolicyReplace h = of_change P (storing asked.replace_policy d) h.replaced
-form_asks P d names.PolicyWithdraw h = of_change P (withdrawing d) h.withdrawn
-form_asks P d names.AttributeSet h = of_change P (setting d) h.row
-form_asks P d names.RootSet h = of_change P (option_map asked.set_root (get (codes "reference") d)) h.root
-form_asks P d names.DaySet h = of_change P (option_map asked.set_day (null_or_text_at (codes "day") d)) h.day
-form_asks P d names.MomentSet h = of_change P (option_map asked.set_moment (null_or_text_at (codes "moment") d)) h.moment
-form_asks P d names.Mark h = record { is = tt }
-form_asks P d names.Table h = of_question P (Some asked.table)
-form_asks P d names.Cell h = of_question P _
-form_asks P d names.Ask h = of_question P _
-form_asks P d names.Counts h = of_question P (Some asked.counts)
-form_asks P d names.Can h = of_question P _
-form_asks P d names.Who h = of_question P _
-form_asks P d names.ByRule h = of_question P _
-form_asks P d names.Notices h = of_question P (Some asked.notices)
-form_asks P d names.Changes h = of_question P _
-form_asks P d names.Work h = of_question P (Some asked.work)
-form_asks P d names.Format h = of_question P _
-form_asks P d names.Dump h = of_question P _
-form_asks P d names.State h = of_question P (Some asked.state)
-form_asks P d names.Cells h = of_question P _
-form_asks P d names.Attributes h = of_question P _
-form_asks P d names.Documents h = of_question P _
-form_asks P d names.Explain h = of_question P _
-form_asks P d names.Faults h = of_question P (Some asked.faults)
+-- the form of a change asks for one of which it holds
+abbrev Changes : (Change → Type 0) → Data → Form Change → Type 0
+Changes P d f = IfSome (f.asked d) P
+
+changes_ask : (P : Change → Type 0) (d : Data) (fs : List (Form Change)) (more : List (Form Command)) → AllByRecursion (Changes P d) fs
+    → AllByRecursion (λ f. Asks P (f.asked d)) more → AllByRecursion (λ f. Asks P (f.asked d)) (map (as_command asked.change) fs ++ more)
+changes_ask P d [] more holds rest = rest
+changes_ask P d (f ∷ fs) more holds rest = (of_change P (f.asked d) holds.0, changes_ask P d fs more holds.1 rest)
+
+questions_ask : (P : Change → Type 0) (d : Data) (fs : List (Form Question)) (more : List (Form Command))
+    → AllByRecursion (λ f. Asks P (f.asked d)) more → AllByRecursion (λ f. Asks P (f.asked d)) (map (as_command asked.question) fs ++ more)
+questions_ask P d [] more rest = rest
+questions_ask P d (f ∷ fs) more rest = (of_question P (f.asked d), questions_ask P d fs more rest)
+
+-- the form of a mark
+abbrev marking : List (Form Command)
+marking = form (codes "mark") [] (λ d. Some asked.mark) ∷ []
+
+mark_asks : (P : Change → Type 0) (d : Data) → AllByRecursion (λ f. Asks P (f.asked d)) marking
+mark_asks P d = (record { is = tt }, tt)
+
+read_changes : (P : Change → Type 0) (d : Data) → HoldsOfReads P d → AllByRecursion (Changes P d) changes
+read_changes P d h = (
+  h.adding People,
+  (
+    h.adding Actions,
+    (
+      h.adding Resources,
+      (
+        h.dropping People,
+        (
+          h.dropping Actions,
+          (
+            h.dropping Resources,
+            (h.added, (h.replaced, (h.withdrawn, (h.row, (h.root, (h.day, (h.moment, tt))))))),
+          ),
+        ),
+      ),
+    ),
+  ),
+)
+
+-- each form of the table
+forms_ask : (P : Change → Type 0) (d : Data) → HoldsOfReads P d → AllByRecursion (λ f. Asks P (f.asked d)) forms
+forms_ask P d h =
+    changes_ask P d changes (map (as_command asked.question) questions ++ marking) (read_changes P d h)
+    (questions_ask P d questions marking (mark_asks P d))
+
+-- what holds of each form of a list holds of one that is found in it
+found_one : (Q : Form Command → Type 0) (p : Form Command → Bool) (fs : List (Form Command)) → AllByRecursion Q fs → IfSome (find p fs) Q
+found_one Q p [] all = tt
+found_one Q p (f ∷ fs) all = by (p f) (found_one Q p fs all.1)
+  where
+    by : (b : Bool) → IfSome (find p fs) Q → IfSome (cond b (Some f) (find p fs)) Q
+    by true rest = all.0
+    by false rest = rest
 
 -- ---- a line
 
@@ -103,9 +125,13 @@ form_yields P true (Some c) h = record { is = h.is }
 form_yields P true None h = record { is = tt }
 form_yields P false o h = record { is = tt }
 
-command_yields : (P : Change → Type 0) (d : Data) (name : Option Name) → HoldsOfReads P d → Yields P (command_of name d)
+command_yields : (P : Change → Type 0) (d : Data) (o : Option (Form Command)) → IfSome o (λ f. Asks P (f.asked d)) → Yields P (command_of o d)
 command_yields P d None h = record { is = tt }
-command_yields P d (Some name) h = form_yields P _ ((form_of name).asked d) (form_asks P d name h)
+command_yields P d (Some f) h = form_yields P _ (f.asked d) h
+
+word_yields : (P : Change → Type 0) (d : Data) (word : List ℕ) → HoldsOfReads P d → Yields P (command_of (form_of word) d)
+unfolding form_of
+word_yields P d word h = command_yields P d (form_of word) (found_one _ (λ f. bytes_eq word f.word) forms (forms_ask P d h))
 
 known_requests : (P : Change → Type 0) (known : Bool) (session : ℕ) (c : Command) → Holds P c → Requests P (must UnknownSession known (Ok (session, c)))
 known_requests P true session c h = record { is = h }
@@ -119,7 +145,7 @@ session_requests P (Some session) (Ok c) h = known_requests P (nat_lt session 16
 begun_requests : (P : Change → Type 0) (d : Data) (word : Option (List ℕ)) (session : Option (Option ℕ)) → HoldsOfReads P d → Requests P (begun word session d)
 begun_requests P d None session h = record { is = tt }
 begun_requests P d (Some word) None h = record { is = tt }
-begun_requests P d (Some word) (Some session) h = session_requests P session (command_of (name_of word) d) (command_yields P d (name_of word) h)
+begun_requests P d (Some word) (Some session) h = session_requests P session (command_of (form_of word) d) (word_yields P d word h)
 
 -- what holds of each change that can be read holds of the one that is asked for
 pub change_asked : (P : Change → Type 0) (d : Data) (session : ℕ) (c : Change) → HoldsOfReads P d → command_in d ≡ Ok (session, asked.change c) → P c

@@ -11,18 +11,17 @@ use Rattle.ent_table.specs.declared.edit.Edit.{Edit}
 use Rattle.ent_table.specs.declared.edit.EditFault.{EditFault}
 use Rattle.ent_report.specs.World.{World}
 use Rattle.ent_line.specs.Asked as asked
-use Rattle.ent_line.specs.Asked.{Command, IsOfCommands, begun, command_in, command_of, form_of, in_session, name_of}
+use Rattle.ent_line.specs.Asked.{Command, Form, IsOfCommands, begun, command_in, command_of, form_of, in_session}
 use Rattle.ent_line.specs.Beside.{Beside}
 use Rattle.ent_line.specs.Commands.{heard, made, requested, respond, run, settled, table_marked}
 use Rattle.ent_line.specs.Edits.{edit_of}
 use Rattle.ent_line.specs.Keys.{number_at}
 use Rattle.ent_line.specs.Lines.{line_limit}
 use Rattle.ent_line.specs.Replies as replies
-use Rattle.ent_line.specs.Replies.{Answer, accepted, refused, text}
+use Rattle.ent_line.specs.Replies.{Answer, accepted, answered, refused, text}
 use Rattle.ent_line.specs.Step.{Answers, data_of}
 use Rattle.ent_line.specs.declared.making.NoEdit.{NoEdit}
 use Rattle.ent_line.specs.declared.making.NoEdit.TheVariants as no_edit
-use Rattle.ent_line.specs.declared.name.Name.{Name}
 use Rattle.ent_line.specs.declared.refusal.Refusal.{Refusal}
 use Rattle.ent_line.specs.declared.refusal.Refusal.TheVariants.{Shape, TooLong, UnknownSession}
 
@@ -44,9 +43,9 @@ must_named : {A : Type 0} (b : Bool) (r : Result A Refusal) → IsNamed r → Is
 must_named true r p = p
 must_named false r p = record { is = inl refl }
 
-command_named : (name : Option Name) (d : Data) → IsNamed (command_of name d)
+command_named : (o : Option (Form Command)) (d : Data) → IsNamed (command_of o d)
 command_named None d = record { is = inr (inl refl) }
-command_named (Some name) d = must_named _ _ (need_named ((form_of name).asked d))
+command_named (Some form) d = must_named _ _ (need_named (form.asked d))
 
 known_named : (known : Bool) (x : ℕ × Command) → IsNamed (must UnknownSession known (Ok x))
 known_named true x = record { is = tt }
@@ -60,7 +59,7 @@ session_named (Some session) (Ok command) p = known_named (nat_lt session 16) (s
 begun_named : (word : Option (List ℕ)) (session : Option (Option ℕ)) (d : Data) → IsNamed (begun word session d)
 begun_named None session d = record { is = inl refl }
 begun_named (Some word) None d = record { is = inl refl }
-begun_named (Some word) (Some session) d = session_named session (command_of (name_of word) d) (command_named (name_of word) d)
+begun_named (Some word) (Some session) d = session_named session (command_of (form_of word) d) (command_named (form_of word) d)
 
 -- what asks for no command of a session has one of three refusals
 pub refusal_is : (d : Data) (why : Refusal) → command_in d ≡ Err why → IsOfCommands why
@@ -75,6 +74,11 @@ IsQuiet (accepted n m) = ⊥
 IsQuiet (replies.marked n) = ⊥
 IsQuiet (refused why) = Unit {0}
 IsQuiet (text s) = Unit {0}
+
+-- what a question tells is
+pub answered_quiet : (r : Result Data Refusal) → IsQuiet (answered r)
+answered_quiet (Ok d) = tt
+answered_quiet (Err why) = tt
 
 -- a refusal leaves the world
 abbrev Keeps : World → Answer × World → Type 0

@@ -1,10 +1,11 @@
 -- The text of an explanation, part for part, and what it tells of a cell and of a request.
-use Rattle.std.proofs.Common.{◌≡◌, ◌∙◌, ℕ, List, [], ◌∷◌, ◌++◌, true, Some, None, ap, append_assoc, codes, decimal, sym}
+use Rattle.std.proofs.Common.{◌≡◌, ◌∙◌, ℕ, Bool, List, [], ◌∷◌, ◌++◌, true, Some, None, Ok, ap, append_assoc, codes, decimal, sym}
 use Rattle.std.specs.Prelude.{if◌then◌else◌}
 use Rattle.json.specs.Print.{print}
 use Rattle.json.specs.Token as token
 use Rattle.json.specs.Token.{Token}
 use Rattle.serde_json.specs.Data.{Data}
+use Rattle.serde_json.specs.Written.{compact_text}
 use Rattle.ent_walk.specs.Answer.{recorded}
 use Rattle.ent_request.specs.Held.{Held, looks_in}
 use Rattle.ent_request.specs.Listed.{listed}
@@ -19,9 +20,10 @@ use Rattle.ent_table.specs.Ask.{answer_in}
 use Rattle.ent_table.specs.Names.{Triple, is_listed}
 use Rattle.ent_table.specs.State.{State, answer_at, answer_to}
 use Rattle.ent_line.specs.Cells.{cell_data}
-use Rattle.ent_line.specs.Commands.{cell_explained, explanation_or_refusal}
-use Rattle.ent_line.specs.Explained.{causes_in, causes_of, explained_data, explained_text, facts_of}
-use Rattle.ent_line.specs.Replies.{text}
+use Rattle.ent_line.specs.Commands.{cell_explained, told_or}
+use Rattle.ent_line.specs.Explained.{causes_in, causes_of, explained_reply, facts_of}
+use Rattle.ent_line.specs.Replies.{answered, text}
+use Rattle.ent_line.specs.declared.refusal.Refusal.TheVariants.{NotThere}
 use Rattle.ent_line.proofs.TextLemmas.{joined, written}
 
 -- the tokens up to the answer, and those behind it
@@ -37,7 +39,8 @@ end_tokens causes told =
     ++ token.key (codes "facts") ∷ (tokens_of told ++ (more_tokens causes ++ token.end_object ∷ token.end_object ∷ [])))
 
 explained_tokens : (answer : Data) (causes : List Cause) (told : Data)
-    → tokens_of (explained_data answer causes told) ≡ front_tokens ++ (tokens_of answer ++ end_tokens causes told)
+    → tokens_of (explained_reply answer causes told) ≡ front_tokens ++ (tokens_of answer ++ end_tokens causes told)
+unfolding explained_reply
 explained_tokens answer causes told =
     let counted = more_tokens causes ++ token.end_object ∷ [] in
     let behind = token.key (codes "facts") ∷ (tokens_of told ++ counted) in
@@ -49,10 +52,9 @@ explained_tokens answer causes told =
 -- what was written so is the text
 pub explained_written : (answer : Data) (causes : List Cause) (told : Data) (empty begun answered out : List Token) → empty ≡ []
     → begun ≡ empty ++ front_tokens → answered ≡ begun ++ tokens_of answer → out ≡ answered ++ end_tokens causes told
-    → print out ≡ explained_text answer causes told
-unfolding explained_text
+    → print out ≡ compact_text (explained_reply answer causes told)
 explained_written answer causes told empty begun answered out start begins answers ends =
-    written (explained_data answer causes told) empty out start
+    written (explained_reply answer causes told) empty out start
     (joined empty begun out front_tokens (tokens_of answer ++ end_tokens causes told) begins
     (joined begun answered out (tokens_of answer) (end_tokens causes told) answers ends)
     ∙ ap (λ ts. empty ++ ts) (sym (explained_tokens answer causes told)))
@@ -62,18 +64,22 @@ listed_answer : (s : State) (x : Triple) → is_listed s.names x ≡ true → an
 listed_answer s x there = λ i. if there i then Some (answer_to s x) else None
 
 -- what is told of it
-listed_explained : (s : State) (x : Triple) → is_listed s.names x ≡ true
-    → cell_explained s x ≡ text (explained_text (cell_data (x, answer_to s x)) (causes_of s.held x) (facts_of s.held x))
+listed_explained : (whole : Bool) (s : State) (x : Triple) → is_listed s.names x ≡ true
+    → cell_explained whole s x ≡ Ok (explained_reply (cell_data (x, answer_to s x)) (causes_of s.held x) (facts_of whole s.held x))
 unfolding cell_explained
-listed_explained s x there = ap (explanation_or_refusal s x) (listed_answer s x there)
+listed_explained whole s x there =
+    let explained : Answer → Data = λ answer. explained_reply (cell_data (x, answer)) (causes_of s.held x) (facts_of whole s.held x) in
+    ap (told_or NotThere explained) (listed_answer s x there)
 
-module _ (s : State) (request : Request) (answer : Answer) (causes : List Cause) (reads : List ReadKey) (held : Held) (said : List ℕ) where
+module _ (whole : Bool) (s : State) (request : Request) (answer : Answer) (causes : List Cause) (reads : List ReadKey) (held : Held) (said : List ℕ) where
   -- what is told of the cell of a request by its evaluation
   pub cell_said : (x : Triple) → is_listed s.names x ≡ true → request ≡ listed x.person x.action x.resource → answer ≡ answer_in s request
       → causes ≡ causes_in s.held request → reads ≡ recorded (looks_in s.held) request → held ≡ s.held
-      → said ≡ explained_text (cell_data (x, answer)) causes (facts_data held reads) → text said ≡ cell_explained s x
+      → said ≡ compact_text (explained_reply (cell_data (x, answer)) causes (facts_data whole held reads))
+      → text said ≡ answered (cell_explained whole s x)
   cell_said x there is gives fails rests same tells =
       let told : answer ≡ answer_to s x = gives ∙ ap (answer_in s) is in
       let failed : causes ≡ causes_of s.held x = fails ∙ ap (causes_in s.held) is in
       let looked : reads ≡ recorded (looks_in s.held) (listed x.person x.action x.resource) = rests ∙ ap (recorded (looks_in s.held)) is in
-      ap text (tells ∙ (λ i. explained_text (cell_data (x, told i)) (failed i) (facts_data (same i) (looked i)))) ∙ sym (listed_explained s x there)
+      ap text (tells ∙ (λ i. compact_text (explained_reply (cell_data (x, told i)) (failed i) (facts_data whole (same i) (looked i)))))
+      ∙ ap answered (sym (listed_explained whole s x there))

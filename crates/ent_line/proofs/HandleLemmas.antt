@@ -3,8 +3,7 @@ use Rattle.std.proofs.Common.{◌≡◌, ℕ, ◌<◌, ◌≤◌, List, length, 
 use Rattle.std.specs.Prelude.{if◌then◌else◌}
 use Rattle.std.proofs.lemmas.Bool.{le-ltb, lt-ltb}
 use Rattle.ent_cells.specs.Count.{most}
-use Rattle.ent_finder.specs.Rows.{Source}
-use Rattle.ent_finder.specs.Slots.{Slots}
+use Rattle.ent_report.specs.Desk.{Desked}
 use Rattle.ent_table.specs.State.{State}
 use Rattle.ent_line.specs.Commands.{heard, respond}
 use Rattle.ent_line.specs.History.{asked_by}
@@ -13,9 +12,8 @@ use Rattle.ent_line.specs.Lines.{line_limit}
 use Rattle.ent_line.specs.Replies.{Answer, refused}
 use Rattle.ent_line.specs.Step.{Counts, data_of}
 use Rattle.ent_line.specs.Work.{IsWorked, asked_work, line_work}
-use Rattle.ent_line.specs.World.{IsReady, beside_of, count_of, counted_of, world_of}
+use Rattle.ent_line.specs.World.{beside_of, counted_of}
 use Rattle.ent_line.specs.declared.refusal.Refusal.TheVariants.{Memory, TooLong}
-use Rattle.ent_line.specs.declared.service.Service.{Service}
 use Rattle.ent_line.specs.proofs_only.Replying.{IsWorkedAtMost, Keeps}
 use Rattle.ent_line.proofs.CommandLemmas.{short_heard}
 use Rattle.ent_line.proofs.KnownLemmas.{known_said}
@@ -36,44 +34,43 @@ wanting_work : (work : Option ℕ) (before after : ℕ) → before ≤ most → 
 wanting_work None before after within is = is
 wanting_work (Some n) before after within is = is within
 
-module _ {A P : Type 0} (sources : A → List Source) (slots : P → List Slots) where
-  -- a line that is too long
-  pub long_counts : (service : Service A P) (line : List ℕ) → line_limit < length line
-      → Counts (counted_of sources slots service) line (refused TooLong) (counted_of sources slots service)
-  unfolding respond
-  long_counts service line long =
-      let w = world_of sources slots service in
-      let b = beside_of sources slots service in (
-        inl (sym (ap (λ (b : Bool). if b then (refused TooLong, w) else heard (beside_of sources slots service) w (data_of line))
-            (lt-ltb line_limit (length line) long))),
-        subst (λ (work : Option ℕ). IsWorked work b.count b.count (refused TooLong)) (sym (long_work w.state line long)) refl,
-        λ n. refl,
-      )
+-- a line that is too long
+pub long_counts : (service : Desked) (line : List ℕ) → line_limit < length line
+    → Counts (counted_of service) line (refused TooLong) (counted_of service)
+unfolding respond
+long_counts service line long =
+    let w = service.world in
+    let b = beside_of service in (
+      inl (sym (ap (λ (b : Bool). if b then (refused TooLong, w) else heard (beside_of service) w (data_of line))
+          (lt-ltb line_limit (length line) long))),
+      subst (λ (work : Option ℕ). IsWorked work b.count b.count (refused TooLong)) (sym (long_work w.state line long)) refl,
+      λ n. refl,
+    )
 
-  -- a line that was answered
-  pub heard_counts : (old new : Service A P) (line : List ℕ) (a : Answer) → IsReady sources slots new → length line ≤ line_limit
-      → (a, world_of sources slots new) ≡ heard (beside_of sources slots old) (world_of sources slots old) (data_of line)
-      → IsWorked (asked_work (world_of sources slots old).state (asked_by line)) (count_of old) (count_of new) a
-      → Remembers sources slots old new a
-      → Counts (counted_of sources slots old) line a (counted_of sources slots new)
-  heard_counts old new line a ready short is worked remembers =
-      let w = world_of sources slots old in
-      let answered = is ∙ sym (short_heard (beside_of sources slots old) w line short) in (
-        inl answered,
-        subst (λ (work : Option ℕ). IsWorked work (count_of old) (count_of new) a) (sym (short_work w.state line short)) worked,
-        known_said sources slots old new line a ready (inl answered) remembers,
-      )
+-- a line that was answered
+pub heard_counts : (old new : Desked) (line : List ℕ) (a : Answer) → length line ≤ line_limit
+    → (a, new.world) ≡ heard (beside_of old) old.world (data_of line)
+    → IsWorked (asked_work old.world.state (asked_by line)) old.evaluations new.evaluations a
+    → Remembers old new a
+    → Counts (counted_of old) line a (counted_of new)
+heard_counts old new line a short is worked remembers =
+    let w = old.world in
+    let answered = is ∙ sym (short_heard (beside_of old) w line short) in (
+      inl answered,
+      subst (λ (work : Option ℕ). IsWorked work old.evaluations new.evaluations a) (sym (short_work w.state line short)) worked,
+      known_said old new line a (inl answered) remembers,
+    )
 
-  -- one for which memory was wanting
-  pub wanting_counts : (old new : Service A P) (line : List ℕ) → IsReady sources slots new → length line ≤ line_limit
-      → world_of sources slots new ≡ world_of sources slots old → count_of old ≤ most
-      → IsWorkedAtMost (asked_work (world_of sources slots old).state (asked_by line)) (count_of old) (count_of new)
-      → Keeps sources slots old new
-      → Counts (counted_of sources slots old) line (refused Memory) (counted_of sources slots new)
-  wanting_counts old new line ready short same within worked keeps =
-      let w = world_of sources slots old in (
-        inr (refl, same, short),
-        subst (λ (work : Option ℕ). IsWorked work (count_of old) (count_of new) (refused Memory)) (sym (short_work w.state line short))
-            (wanting_work (asked_work w.state (asked_by line)) (count_of old) (count_of new) within worked),
-        known_said sources slots old new line (refused Memory) ready (inr (refl, same, short)) keeps,
-      )
+-- one for which memory was wanting
+pub wanting_counts : (old new : Desked) (line : List ℕ) → length line ≤ line_limit
+    → new.world ≡ old.world → old.evaluations ≤ most
+    → IsWorkedAtMost (asked_work old.world.state (asked_by line)) old.evaluations new.evaluations
+    → Keeps old new
+    → Counts (counted_of old) line (refused Memory) (counted_of new)
+wanting_counts old new line short same within worked keeps =
+    let w = old.world in (
+      inr (refl, same, short),
+      subst (λ (work : Option ℕ). IsWorked work old.evaluations new.evaluations (refused Memory)) (sym (short_work w.state line short))
+          (wanting_work (asked_work w.state (asked_by line)) old.evaluations new.evaluations within worked),
+      known_said old new line (refused Memory) (inr (refl, same, short)) keeps,
+    )

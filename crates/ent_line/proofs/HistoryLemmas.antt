@@ -1,34 +1,23 @@
 -- Where lines lead: the state by their accepted edits, and the mark of a session by its history.
 use Rattle.std.proofs.Common.{◌≡◌, ◌≢◌, ◌<◌, ◌⊎◌, ℕ, List, [], ◌∷◌, length, nat_eq, Bool, true, false, get_or, Option, Some, None, Result, Ok, Err}
 use Rattle.std.proofs.Common.{refl, sym, ap, subst, ◌∙◌, inl, inr}
-use Rattle.std.specs.Prelude.{filter, if◌then◌else◌, nat_lt, slice_set, option_and_then, option_map}
+use Rattle.std.specs.Prelude.{if◌then◌else◌, nat_lt, slice_set, option_and_then, option_map}
 use Rattle.std.specs.List.{cons_option, fold}
 use Rattle.std.specs.Result.{result_ok, result_unwrap_or}
 use Rattle.std.proofs.lemmas.List.{get_or-set_same, get_or-set_other, length-set}
 use Rattle.std.proofs.lemmas.Bool.Decides.{eqb_tells}
 use Rattle.serde_json.specs.Data.{Data}
-use Rattle.ent_request.specs.declared.answer.Answer.{Answer as Evaluated}
-use Rattle.ent_request.specs.declared.request.Request.{Request}
-use Rattle.ent_profile.specs.Asks.{asks}
-use Rattle.ent_table.specs.AnswerMap.{AnswerMap}
 use Rattle.ent_table.specs.Doubles.{HasNoDoubles}
-use Rattle.ent_table.specs.Names.{Triple}
-use Rattle.ent_table.specs.State.{State, answer_at, table_of}
+use Rattle.ent_table.specs.State.{State}
 use Rattle.ent_table.specs.Step as table
 use Rattle.ent_table.specs.declared.edit.Edit.{Edit}
 use Rattle.ent_table.specs.declared.edit.EditFault.{EditFault}
 use Rattle.ent_table.proofs.Doubles.{no_name_is_twice}
-use Rattle.ent_dump.specs.Dumped.{dump_text}
-use Rattle.ent_report.specs.Reports as report
-use Rattle.ent_report.specs.World.{Mark, World, mark_in, mark_of, marked_table}
-use Rattle.ent_report.specs.declared.fault.ReportFault.{ReportFault}
+use Rattle.ent_report.specs.World.{Mark, World, mark_in, mark_of}
 use Rattle.ent_line.specs.Asked as asked
-use Rattle.ent_line.specs.Asked.{Change, Command, Question, command_in}
+use Rattle.ent_line.specs.Asked.{Change, Command, command_in}
 use Rattle.ent_line.specs.Beside.{Beside}
-use Rattle.ent_line.specs.Commands.{attributes_told, by_rule_told, can_told, cell_or_refusal, cell_told, cells_told, changes_told, counts_told, documents_told, dump_told, faults_told, format_told, heard}
-use Rattle.ent_line.specs.Commands.{cell_explained, changes_or_refusal, explanation_or_refusal, made, notices_or_refusal, report_or_refusal, request_answered, request_explained, request_or_refusal, requested, respond, response_or_refusal, run}
-use Rattle.ent_line.specs.Commands.{settled, since_told, state_told, table_marked, table_told, told, who_told, work_told}
-use Rattle.ent_line.specs.Dumping.{can_tell, format_text, is_version}
+use Rattle.ent_line.specs.Commands.{heard, made, requested, respond, run, settled, table_marked, told}
 use Rattle.ent_line.specs.Edits.{edit_of, unread}
 use Rattle.ent_line.specs.Headline.{IsLed}
 use Rattle.ent_line.specs.History as session
@@ -36,17 +25,14 @@ use Rattle.ent_line.specs.History.{Lead, Matter, Seen, accepted_edit, accepted_e
 use Rattle.ent_line.specs.Lines.{line_limit}
 use Rattle.ent_line.specs.Refusals.{refusal_of}
 use Rattle.ent_line.specs.Replies as replies
-use Rattle.ent_line.specs.Replies.{Answer, accepted, refused, text}
-use Rattle.ent_line.specs.Reports.{can_text, who_text}
-use Rattle.ent_line.specs.Cells.{cells_text}
+use Rattle.ent_line.specs.Replies.{Answer, accepted, answered, refused, text}
 use Rattle.ent_line.specs.Runs.{Run}
 use Rattle.ent_line.specs.Step.{Answers, data_of}
-use Rattle.ent_line.specs.Wanted.{are_listed, is_asked}
 use Rattle.ent_line.specs.declared.making.NoEdit.{NoEdit}
 use Rattle.ent_line.specs.declared.making.NoEdit.TheVariants as no_edit
 use Rattle.ent_line.specs.declared.refusal.Refusal.{Refusal}
-use Rattle.ent_line.specs.declared.refusal.Refusal.TheVariants.{BadValue, Document, Memory, NotJson, NotThere, TooLong}
-use Rattle.ent_line.proofs.CommandLemmas.{IsQuiet}
+use Rattle.ent_line.specs.declared.refusal.Refusal.TheVariants.{Document, Memory, NotJson, TooLong}
+use Rattle.ent_line.proofs.CommandLemmas.{IsQuiet, answered_quiet}
 
 -- ---- what a line leads to
 
@@ -90,76 +76,6 @@ quiet_follows i w asked a q = record {
   places = refl;
 }
 
-cell_quiet : (x : Triple) (o : Option Evaluated) → IsQuiet (cell_or_refusal x o)
-cell_quiet x None = tt
-cell_quiet x (Some answer) = tt
-
-response_quiet : (s : State) (o : Option Request) → IsQuiet (response_or_refusal s o)
-response_quiet s None = tt
-response_quiet s (Some request) = tt
-
-explanation_quiet : (s : State) (x : Triple) (o : Option Evaluated) → IsQuiet (explanation_or_refusal s x o)
-explanation_quiet s x None = tt
-explanation_quiet s x (Some answer) = tt
-
-explained_quiet : (s : State) (o : Option Request) → IsQuiet (request_or_refusal s o)
-explained_quiet s None = tt
-explained_quiet s (Some request) = tt
-
-report_quiet : {A : Type 0} (written : A → List ℕ) (r : Result A ReportFault) → IsQuiet (report_or_refusal written r)
-report_quiet written (Ok x) = tt
-report_quiet written (Err fault) = tt
-
-notices_quiet : (s : State) (o : Option AnswerMap) → IsQuiet (notices_or_refusal s o)
-notices_quiet s None = tt
-notices_quiet s (Some kept) = tt
-
-changes_quiet : (s : State) (o : Option AnswerMap) → IsQuiet (changes_or_refusal s o)
-changes_quiet s None = tt
-changes_quiet s (Some table) = tt
-
-version_quiet : (b : Bool) (written : List ℕ) → IsQuiet (if b then text written else refused BadValue)
-version_quiet true written = tt
-version_quiet false written = tt
-
-cells_quiet : (b : Bool) (written : List ℕ) → IsQuiet (if b then text written else refused NotThere)
-cells_quiet true written = tt
-cells_quiet false written = tt
-
-format_quiet : (version : Option ℕ) → IsQuiet (format_told version)
-unfolding format_told
-format_quiet None = tt
-format_quiet (Some version) = version_quiet (is_version version) (format_text version)
-
-dump_quiet : (version : Option ℕ) (s : State) → IsQuiet (dump_told version s)
-unfolding dump_told
-dump_quiet None s = tt
-dump_quiet (Some version) s = version_quiet (can_tell version s.held.environment) (dump_text version s)
-
--- what is told changes nothing
-pub told_quiet : (n : Beside) (w : World) (x : ℕ) (q : Question) → IsQuiet (told n w x q)
-unfolding told table_told cell_told counts_told can_told who_told by_rule_told changes_told since_told request_answered work_told state_told cells_told attributes_told documents_told cell_explained request_explained faults_told
-told_quiet n w x asked.table = tt
-told_quiet n w x (asked.cell y) = cell_quiet y (answer_at w.state y)
-told_quiet n w x (asked.ask d) = response_quiet w.state (asks d)
-told_quiet n w x asked.counts = tt
-told_quiet n w x (asked.can person) = report_quiet can_text (report.can w.state person)
-told_quiet n w x (asked.who action resource) = report_quiet who_text (report.who w.state action resource)
-told_quiet n w x (asked.by_rule policy rule) = tt
-told_quiet n w x asked.notices = notices_quiet w.state (marked_table w x)
-told_quiet n w x (asked.changes_since since) = changes_quiet w.state (option_and_then n.known since)
-told_quiet n w x asked.work = tt
-told_quiet n w x (asked.format version) = format_quiet version
-told_quiet n w x (asked.dump version) = dump_quiet version w.state
-told_quiet n w x asked.state = tt
-told_quiet n w x (asked.cells wanted) = cells_quiet (are_listed w.state.names wanted) (cells_text (filter (is_asked wanted) (table_of w.state)))
-told_quiet n w x (asked.attributes None entity) = tt
-told_quiet n w x (asked.attributes (Some category) entity) = tt
-told_quiet n w x (asked.documents id) = tt
-told_quiet n w x (asked.explain_cell y) = explanation_quiet w.state y (answer_at w.state y)
-told_quiet n w x (asked.explain d) = explained_quiet w.state (asks d)
-told_quiet n w x asked.faults = tt
-
 -- ---- edits
 
 settled_follows : (i : ℕ) (w : World) (x : ℕ) (c : Change) (edit : Edit) (r : Result State EditFault)
@@ -201,7 +117,7 @@ mark_follows i w x = record { lead = refl; mark = by (eqb_tells x i); places = l
 run_follows : (i : ℕ) (n : Beside) (w : World) (x : ℕ) (c : Command) → Follows i w (Some (x, c)) (run n w x c)
 unfolding run
 run_follows i n w x (asked.change c) = made_follows i w x c (edit_of c) refl
-run_follows i n w x (asked.question q) = quiet_follows i w (Some (x, asked.question q)) (told n w x q) (told_quiet n w x q)
+run_follows i n w x (asked.question q) = quiet_follows i w (Some (x, asked.question q)) (answered (told n w x q)) (answered_quiet (told n w x q))
 run_follows i n w x asked.mark = mark_follows i w x
 
 requested_follows : (i : ℕ) (n : Beside) (w : World) (r : Result (ℕ × Command) Refusal) → Follows i w (result_ok r) (requested n w r)

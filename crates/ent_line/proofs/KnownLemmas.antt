@@ -4,19 +4,17 @@ use Rattle.std.specs.Prelude.{if◌then◌else◌, nat_lt}
 use Rattle.std.proofs.lemmas.Bool.{le-ltb, lt-ltb, ltb-false, ltb-true}
 use Rattle.std.proofs.lemmas.Bool.Decides.{eqb_tells}
 use Rattle.serde_json.specs.Data.{Data}
-use Rattle.ent_finder.specs.Rows.{Source}
-use Rattle.ent_finder.specs.Slots.{Slots}
 use Rattle.ent_table.specs.AnswerMap.{AnswerMap, answers_of}
-use Rattle.ent_table.specs.Review.{state_of}
 use Rattle.ent_table.specs.State.{State}
 use Rattle.ent_table.specs.Step as table
-use Rattle.ent_table.specs.Tables.{KeepsTables, table_at_serial}
+use Rattle.ent_table.specs.Tables.{IsFreshAtSerial, KeepsTables, table_at_serial}
 use Rattle.ent_table.specs.declared.edit.Edit.{Edit}
 use Rattle.ent_table.specs.declared.edit.EditFault.{EditFault}
-use Rattle.ent_table.proofs.SerialTables.{table_now}
-use Rattle.ent_report.specs.World.{Mark, World}
-use Rattle.ent_report.specs.Serials.{mark_at, oldest}
-use Rattle.ent_report.proofs.Marks.{oldest_reached, read_back}
+use Rattle.ent_report.specs.Desk.{Desked, review_of}
+use Rattle.ent_report.specs.Known.{known_of}
+use Rattle.ent_report.specs.Serials.{mark_serials}
+use Rattle.ent_report.specs.World.{World}
+use Rattle.ent_report.proofs.Marks.{oldest_reached}
 use Rattle.ent_report.proofs.Serials.{serial_counts}
 use Rattle.ent_line.specs.Asked as asked
 use Rattle.ent_line.specs.Asked.{Command, command_in}
@@ -28,16 +26,14 @@ use Rattle.ent_line.specs.Fresh.{IsLeft, KnownTablesWereFresh}
 use Rattle.ent_line.specs.Known.{known_after, oldest_of}
 use Rattle.ent_line.specs.Lines.{line_limit}
 use Rattle.ent_line.specs.Replies as replies
-use Rattle.ent_line.specs.Replies.{Answer, refused}
+use Rattle.ent_line.specs.Replies.{Answer, answered, refused}
 use Rattle.ent_line.specs.Step.{AnswersAfter, Counted, at_start, data_of}
-use Rattle.ent_line.specs.World.{IsReady, beside_of, count_of, counted_of, known_of, world_of}
+use Rattle.ent_line.specs.World.{beside_of, counted_of}
 use Rattle.ent_line.specs.declared.making.NoEdit.{NoEdit}
 use Rattle.ent_line.specs.declared.making.NoEdit.TheVariants as no_edit
 use Rattle.ent_line.specs.declared.refusal.Refusal.{Refusal}
 use Rattle.ent_line.specs.declared.refusal.Refusal.TheVariants.{TooLong}
-use Rattle.ent_line.specs.declared.service.Service.{Service}
-use Rattle.ent_line.proofs.CommandLemmas.{IsQuiet}
-use Rattle.ent_line.proofs.HistoryLemmas.{told_quiet}
+use Rattle.ent_line.proofs.CommandLemmas.{IsQuiet, answered_quiet}
 
 -- ---- a history that is known from one serial to another
 
@@ -142,7 +138,7 @@ made_serial w (Err no_edit.Memory) = refl
 run_serial : (b : Beside) (w : World) (x : ℕ) (c : Command) → Serials w (run b w x c)
 unfolding run table_marked
 run_serial b w x (asked.change c) = made_serial w (edit_of c)
-run_serial b w x (asked.question q) = quiet_serial w (told b w x q) (told_quiet b w x q)
+run_serial b w x (asked.question q) = quiet_serial w (answered (told b w x q)) (answered_quiet (told b w x q))
 run_serial b w x asked.mark = refl
 
 requested_serial : (b : Beside) (w : World) (r : Result (ℕ × Command) Refusal) → Serials w (requested b w r)
@@ -165,48 +161,35 @@ answered_serial b w v line a (inr (refusal, same, short)) =
 
 -- ---- a line
 
-module _ {A P : Type 0} (sources : A → List Source) (slots : P → List Slots) where
-  -- the oldest mark by the serials that are kept
-  oldest_is : (service : Service A P)
-      → oldest_of (world_of sources slots service) ≡ oldest service.desk.marks (state_of sources slots service.desk.review).serial
-  oldest_is service =
-      ap (λ marks. oldest marks (state_of sources slots service.desk.review).serial)
-      (read_back (mark_at sources slots service.desk.review) (λ (m : Mark). m.serial) (λ n. refl) service.desk.marks)
+-- what is known after a line
+pub known_said : (old new : Desked) (line : List ℕ) (a : Answer)
+    → AnswersAfter (beside_of old) old.world line a new.world
+    → Remembers old new a → (n : ℕ)
+    → known_of new n ≡ known_after new.world a (known_of old) n
+known_said old new line a is remembers n =
+    by a (answered_serial (beside_of old) old.world new.world line a is) remembers
+  where
+    stays : new.world.state.serial ≡ old.world.state.serial
+        → KeepsTables (review_of old) (review_of new) → known_of new n ≡ known_of old n
+    stays same keeps =
+        kept old.past.from new.past.from old.world.state.serial new.world.state.serial n (table_at_serial (review_of old))
+        (table_at_serial (review_of new)) keeps.from same keeps.each
 
-  -- what is known after a line
-  pub known_said : (old new : Service A P) (line : List ℕ) (a : Answer) → IsReady sources slots new
-      → AnswersAfter (beside_of sources slots old) (world_of sources slots old) line a (world_of sources slots new)
-      → Remembers sources slots old new a → (n : ℕ)
-      → known_of sources slots new n ≡ known_after (world_of sources slots new) a (known_of sources slots old) n
-  known_said old new line a ready is remembers n =
-      by a (answered_serial (beside_of sources slots old) (world_of sources slots old) (world_of sources slots new) line a is) remembers
-    where
-      stays : (state_of sources slots new.desk.review).serial ≡ (state_of sources slots old.desk.review).serial
-          → KeepsTables sources slots old.desk.review new.desk.review → known_of sources slots new n ≡ known_of sources slots old n
-      stays same keeps =
-          kept old.desk.review.log.from new.desk.review.log.from (state_of sources slots old.desk.review).serial
-          (state_of sources slots new.desk.review).serial n (table_at_serial sources slots old.desk.review)
-          (table_at_serial sources slots new.desk.review) keeps.from same keeps.each
-
-      by : (a : Answer) → Serials (world_of sources slots old) (a, world_of sources slots new) → Remembers sources slots old new a
-          → known_of sources slots new n ≡ known_after (world_of sources slots new) a (known_of sources slots old) n
-      by (replies.accepted changes told) more forgets =
-          let t = state_of sources slots new.desk.review in
-          let f = table_at_serial sources slots old.desk.review in
-          let g = table_at_serial sources slots new.desk.review in
-          let reached = oldest_reached new.desk.marks t.serial in
-          grown old.desk.review.log.from new.desk.review.log.from (state_of sources slots old.desk.review).serial t.serial n f g (answers_of t)
-          forgets.later (omega (arith, forgets.from, reached)) more (table_now sources slots new.desk.review ready.fresh) forgets.left
-          ∙ ap (λ (m : ℕ). if nat_eq n t.serial then Some (answers_of t) else (if nat_lt n m then None else known_of sources slots old n))
-          (forgets.from ∙ sym (oldest_is new))
-      by (replies.marked told) same forgets =
-          let f = table_at_serial sources slots old.desk.review in
-          let g = table_at_serial sources slots new.desk.review in
-          left old.desk.review.log.from new.desk.review.log.from (state_of sources slots old.desk.review).serial
-          (state_of sources slots new.desk.review).serial n f g forgets.later same forgets.left
-          ∙ ap (λ (m : ℕ). if nat_lt n m then None else known_of sources slots old n) (forgets.from ∙ sym (oldest_is new))
-      by (replies.refused why) same keeps = stays same keeps
-      by (replies.text s) same keeps = stays same keeps
+    by : (a : Answer) → Serials old.world (a, new.world) → Remembers old new a
+        → known_of new n ≡ known_after new.world a (known_of old) n
+    by (replies.accepted changes told) more forgets =
+        let t = new.world.state in
+        grown old.past.from new.past.from old.world.state.serial t.serial n (table_at_serial (review_of old))
+        (table_at_serial (review_of new)) (answers_of t) forgets.later
+        (omega (arith, forgets.from, oldest_reached (mark_serials new.world) t.serial)) more forgets.now forgets.left
+        ∙ ap (λ (m : ℕ). if nat_eq n t.serial then Some (answers_of t) else (if nat_lt n m then None else known_of old n))
+        forgets.from
+    by (replies.marked told) same forgets =
+        left old.past.from new.past.from old.world.state.serial new.world.state.serial n (table_at_serial (review_of old))
+        (table_at_serial (review_of new)) forgets.later same forgets.left
+        ∙ ap (λ (m : ℕ). if nat_lt n m then None else known_of old n) forgets.from
+    by (replies.refused why) same keeps = stays same keeps
+    by (replies.text s) same keeps = stays same keeps
 
 -- ---- the start
 
@@ -228,17 +211,15 @@ module _ {X : Type 0} where
           apart_by false h = behind from serial n f (omega (arith, ltb-false n from h, is, apart))
 
 -- what a service begins with
-pub begun : {A P : Type 0} (sources : A → List Source) (slots : P → List Slots) (service : Service A P) (w : World) → IsReady sources slots service
-    → world_of sources slots service ≡ w → count_of service ≡ 0 → service.desk.review.log.from ≡ w.state.serial
-    → counted_of sources slots service ≡ at_start w
-begun sources slots service w ready is none from =
+pub begun : (d : Desked) (w : World) → IsFreshAtSerial (review_of d) → d.world ≡ w → d.evaluations ≡ 0
+    → d.past.from ≡ w.state.serial → counted_of d ≡ at_start w
+begun d w now is none from =
     (λ i. record {
-      world = world_of sources slots service;
+      world = d.world;
       beside = record {
         count = none i;
-        known = λ n. begun_at service.desk.review.log.from (state_of sources slots service.desk.review).serial n
-            (table_at_serial sources slots service.desk.review) (answers_of (state_of sources slots service.desk.review))
-            (from ∙ sym (ap (λ (v : World). v.state.serial) is)) (table_now sources slots service.desk.review ready.fresh) i;
+        known = λ n. begun_at d.past.from d.world.state.serial n (table_at_serial (review_of d)) (answers_of d.world.state)
+            (from ∙ sym (ap (λ (v : World). v.state.serial) is)) now i;
       };
     }) ∙ ap at_start is
 

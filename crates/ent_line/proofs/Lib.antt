@@ -1,3 +1,4 @@
+mod AskingLemmas
 pub mod ChangeLemmas
 mod CommandLemmas
 mod CommandWords
@@ -9,6 +10,7 @@ mod HistoryLemmas
 pub mod KeptLemmas
 pub mod KnownLemmas
 pub mod LineLemmas
+mod ListedLemmas
 pub mod PieceLemmas
 mod PrintedLemmas
 pub mod ReadLemmas

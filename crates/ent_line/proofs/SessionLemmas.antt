@@ -9,7 +9,7 @@ use Rattle.ent_line.specs.Asked.{Command, command_in}
 use Rattle.ent_line.specs.Beside.{Beside}
 use Rattle.ent_line.specs.Commands.{changes_told, heard, notices_or_refusal, requested, run, told}
 use Rattle.ent_line.specs.History.{asked_by, history, next, seen_by}
-use Rattle.ent_line.specs.Replies.{Answer, refused}
+use Rattle.ent_line.specs.Replies.{Answer, answered, refused}
 use Rattle.ent_line.specs.Sessions.{AsksNotices, SessionsAreSeparate}
 use Rattle.ent_line.specs.Step.{Answers, data_of}
 use Rattle.ent_line.specs.declared.refusal.Refusal.{Refusal}
@@ -38,7 +38,7 @@ heard_run : (n : Beside) (w : World) (o : Option Data) → IsAsked (option_and_t
 heard_run n w None is = absurd is
 heard_run n w (Some d) is = requested_run n w (command_in d) is
 
-notices_asked : (i : ℕ) (w v : World) (line : List ℕ) (a : Answer) → AsksNotices i line → Answers w line a v → (a ≡ changes_told w i) ⊎ (a ≡ refused Memory)
+notices_asked : (i : ℕ) (w v : World) (line : List ℕ) (a : Answer) → AsksNotices i line → Answers w line a v → (a ≡ answered (changes_told w i)) ⊎ (a ≡ refused Memory)
 unfolding run told
 notices_asked i w v line a asks (n, inl is) =
     let there : IsAsked (asked_by line) = subst IsAsked (sym asks.command) tt in
@@ -61,5 +61,5 @@ separate i w other v end lines others answers other_answers alike run other_run 
     record {
       notices = told;
       replies = λ line line_too a b x y asks asks_too is is_too.
-          same_replies a b (changes_told v i) (changes_told end i) told (notices_asked i v x line a asks is) (notices_asked i end y line_too b asks_too is_too);
+          same_replies a b (answered (changes_told v i)) (answered (changes_told end i)) (ap answered told) (notices_asked i v x line a asks is) (notices_asked i end y line_too b asks_too is_too);
     }

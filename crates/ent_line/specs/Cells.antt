@@ -3,15 +3,13 @@ use Rattle.std.specs.Prelude.{ℕ, List, map, codes}
 use Rattle.serde_json.specs.Data as json
 use Rattle.serde_json.specs.Data.{Data}
 use Rattle.serde_json.specs.View.{items_of}
-use Rattle.serde_json.specs.Written.{compact_text}
 use Rattle.ent_combine.specs.declared.outcome.IndKind.TheVariants as kind
 use Rattle.ent_combine.specs.declared.outcome.Outcome.{Outcome}
 use Rattle.ent_combine.specs.declared.outcome.Outcome.TheVariants as outcome
 use Rattle.ent_request.specs.declared.answer.Answer.{Answer}
 use Rattle.ent_request.specs.declared.answer.WhyEntry.{WhyEntry}
-use Rattle.ent_request.specs.declared.request.Request.{Request}
 use Rattle.ent_held.specs.Paths.{path_data, rule_data, status_text}
-use Rattle.ent_profile.specs.Response.{given_written, response}
+use Rattle.ent_profile.specs.Response.{given_written}
 use Rattle.ent_table.specs.Names.{Triple}
 
 -- ---- words
@@ -53,20 +51,16 @@ cell_data c = json.object (
 abbrev pub reply_data : List ℕ → Data → Data
 reply_data name d = json.object (json.member name d json.no_members)
 
--- ---- texts
+-- ---- replies
 
--- the text of the reply to `cell`
-unfoldable pub one_cell_text : Triple × Answer → List ℕ
-one_cell_text c = compact_text (reply_data (codes "cell") (cell_data c))
+-- the reply to `cell`
+unfoldable pub cell_reply : Triple × Answer → Data
+cell_reply c = reply_data (codes "cell") (cell_data c)
 
--- the text of the reply to `table`
-unfoldable pub table_text : List (Triple × Answer) → List ℕ
-table_text cells = compact_text (reply_data (codes "table") (list_data cell_data cells))
+-- the reply to `table`
+unfoldable pub table_reply : List (Triple × Answer) → Data
+table_reply cells = reply_data (codes "table") (list_data cell_data cells)
 
--- the text of the reply to `cells`
-unfoldable pub cells_text : List (Triple × Answer) → List ℕ
-cells_text cells = compact_text (reply_data (codes "cells") (list_data cell_data cells))
-
--- the text of the response to a request
-unfoldable pub response_text : Answer → Request → List ℕ
-response_text answer request = compact_text (response answer request)
+-- the reply to `cells`
+unfoldable pub cells_reply : List (Triple × Answer) → Data
+cells_reply cells = reply_data (codes "cells") (list_data cell_data cells)

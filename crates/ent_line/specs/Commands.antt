@@ -1,46 +1,49 @@
 -- What each line is answered: each change, question and mark. From below: `respond` is what a line is answered, `run` a
 -- command, `told` a question. A refused line leaves the world, and so does every question.
-use Rattle.std.specs.Prelude.{ℕ, List, filter, length, nat_lt, if◌then◌else◌, Option, Some, None, option_and_then, Result, Ok, Err}
+use Rattle.std.specs.Prelude.{ℕ, Bool, List, drop, filter, length, nat_lt, take, if◌then◌else◌, Option, Some, None, option_and_then}
+use Rattle.std.specs.Prelude.{Result, Ok, Err}
 use Rattle.std.specs.Result.{result_ok}
 use Rattle.serde_json.specs.Data.{Data}
 use Rattle.ent_json.specs.Line.{data_of}
-use Rattle.ent_request.specs.declared.answer.Answer.{Answer as Evaluated}
-use Rattle.ent_request.specs.declared.request.Request.{Request}
 use Rattle.ent_profile.specs.Asks.{asks}
+use Rattle.ent_profile.specs.Response.{response}
 use Rattle.ent_table.specs.AnswerMap.{AnswerMap}
 use Rattle.ent_table.specs.Ask.{answer_in}
 use Rattle.ent_table.specs.Difference.{changes}
-use Rattle.ent_table.specs.Names.{Triple}
+use Rattle.ent_table.specs.Names.{Triple, list_of}
 use Rattle.ent_table.specs.State.{State, answer_at, table_of}
 use Rattle.ent_table.specs.Step as table
 use Rattle.ent_table.specs.declared.edit.Edit.{Edit}
 use Rattle.ent_table.specs.declared.edit.EditFault.{EditFault}
-use Rattle.ent_dump.specs.Dumped.{dump_text}
-use Rattle.ent_held.specs.Attributes.{attributes_text}
-use Rattle.ent_held.specs.Documents.{documents_text}
+use Rattle.ent_table.specs.declared.edit.List.{List as Which}
+use Rattle.ent_dump.specs.Dumped.{dump_data}
+use Rattle.ent_held.specs.Attributes.{attributes_data}
+use Rattle.ent_held.specs.Documents.{documents_data}
 use Rattle.ent_held.specs.Facts.{facts}
 use Rattle.ent_report.specs.Notices.{notices}
 use Rattle.ent_report.specs.Reports as report
 use Rattle.ent_report.specs.World.{World, marked, marked_table}
-use Rattle.ent_report.specs.declared.fault.ReportFault.{ReportFault}
 use Rattle.ent_line.specs.Asked as asked
 use Rattle.ent_line.specs.Asked.{Command, Question, command_in}
 use Rattle.ent_line.specs.Beside.{Beside}
-use Rattle.ent_line.specs.Cells.{cell_data, cells_text, one_cell_text, response_text, table_text}
-use Rattle.ent_line.specs.Dumping.{can_tell, format_text, is_version}
+use Rattle.ent_line.specs.Cells.{cell_data, cells_reply, cell_reply, table_reply}
+use Rattle.ent_line.specs.Dumping.{can_tell, format_reply, is_version}
 use Rattle.ent_line.specs.Edits.{edit_of, unread}
-use Rattle.ent_line.specs.Explained.{answer_data, causes_in, causes_of, explained_text, facts_of}
+use Rattle.ent_line.specs.Explained.{answer_data, causes_in, causes_of, explained_reply, facts_of}
 use Rattle.ent_line.specs.Lines.{line_limit}
+use Rattle.ent_line.specs.Listed.{limits_reply, names_reply}
 use Rattle.ent_line.specs.Refusals.{refusal_of}
 use Rattle.ent_line.specs.Replies as replies
-use Rattle.ent_line.specs.Replies.{Answer, accepted, refused, text, text_or}
-use Rattle.ent_line.specs.Reports.{by_rule_text, can_text, changes_text, counts_text, faults_text, notices_text, who_text, work_text}
-use Rattle.ent_line.specs.Standing.{state_text}
+use Rattle.ent_line.specs.Replies.{Answer, accepted, answered, refused}
+use Rattle.ent_line.specs.Reports.{by_rule_reply, can_reply, changes_reply, counts_reply, faults_reply}
+use Rattle.ent_line.specs.Reports.{notices_reply, who_reply, work_reply}
+use Rattle.ent_line.specs.Standing.{state_reply}
 use Rattle.ent_line.specs.Wanted.{Wanted, are_listed, is_asked}
 use Rattle.ent_line.specs.declared.making.NoEdit.{NoEdit}
 use Rattle.ent_line.specs.declared.making.NoEdit.TheVariants as no_edit
 use Rattle.ent_line.specs.declared.refusal.Refusal.{Refusal}
-use Rattle.ent_line.specs.declared.refusal.Refusal.TheVariants.{BadValue, Document, Memory, NoMark, NotJson, NotThere, Request as NoRequest, Reserved, TooLong}
+use Rattle.ent_line.specs.declared.refusal.Refusal.TheVariants.{BadValue, Document, Memory, NoMark, NotJson}
+use Rattle.ent_line.specs.declared.refusal.Refusal.TheVariants.{NotThere, Request as NoRequest, Reserved, TooLong}
 
 -- ---- changes
 
@@ -65,122 +68,121 @@ made w (Err no_edit.Memory) = (refused Memory, w)
 
 -- ---- questions
 
--- the table: each listed request with its fresh answer, in list order
-unfoldable pub table_told : State → Answer
-table_told s = text (table_text (table_of s))
+-- what a question tells: JSON, or a refusal
+abbrev pub Told : Type 0
+Told = Result Data Refusal
 
--- the cell of a request, if it is listed
-abbrev pub cell_or_refusal : Triple → Option Evaluated → Answer
-cell_or_refusal x o = text_or NotThere (λ answer. one_cell_text (x, answer)) o
+-- what is told of what is there, or a refusal where nothing is
+abbrev pub told_or : {A : Type 0} → Refusal → (A → Data) → Option A → Told
+told_or refusal written (Some x) = Ok (written x)
+told_or refusal written None = Err refusal
+
+-- the table: each listed request with its fresh answer, in list order
+unfoldable pub table_told : State → Told
+table_told s = Ok (table_reply (table_of s))
 
 -- a cell: the fresh answer to a request, if it is listed
-unfoldable pub cell_told : State → Triple → Answer
-cell_told s x = cell_or_refusal x (answer_at s x)
-
--- the response to a request that was read, or the refusal of what asks for none
-abbrev pub response_or_refusal : State → Option Request → Answer
-response_or_refusal s o = text_or NoRequest (λ request. response_text (answer_in s request) request) o
+unfoldable pub cell_told : State → Triple → Told
+cell_told s x = told_or NotThere (λ answer. cell_reply (x, answer)) (answer_at s x)
 
 -- the response to a request of the JSON Profile, listed or not, with its fresh answer
-unfoldable pub request_answered : State → Data → Answer
-request_answered s d = response_or_refusal s (asks d)
+unfoldable pub request_answered : State → Data → Told
+request_answered s d = told_or NoRequest (λ request. response (answer_in s request) request) (asks d)
 
 -- how many cells of the fresh table have each decision
-unfoldable pub counts_told : State → Answer
-counts_told s = text (counts_text (report.counts s))
+unfoldable pub counts_told : State → Told
+counts_told s = Ok (counts_reply (report.counts s))
 
--- a report, or the refusal of a name that isn't listed. A definition of a report is never in want of memory
-abbrev pub report_or_refusal : {A : Type 0} → (A → List ℕ) → Result A ReportFault → Answer
-report_or_refusal written r = text_or NotThere written (result_ok r)
+-- what a person can do, or the refusal of a name that isn't listed. A definition of a report is never in want of memory
+unfoldable pub can_told : State → List ℕ → Told
+can_told s person = told_or NotThere can_reply (result_ok (report.can s person))
 
--- what a person can do
-unfoldable pub can_told : State → List ℕ → Answer
-can_told s person = report_or_refusal can_text (report.can s person)
-
--- who can do an action to a resource
-unfoldable pub who_told : State → List ℕ → List ℕ → Answer
-who_told s action resource = report_or_refusal who_text (report.who s action resource)
+-- who can do an action to a resource, if both are listed
+unfoldable pub who_told : State → List ℕ → List ℕ → Told
+who_told s action resource = told_or NotThere who_reply (result_ok (report.who s action resource))
 
 -- which cells a rule decides, or a default
-unfoldable pub by_rule_told : State → List ℕ → Option (List ℕ) → Answer
-by_rule_told s policy rule = text (by_rule_text (report.by_rule s policy rule))
+unfoldable pub by_rule_told : State → List ℕ → Option (List ℕ) → Told
+by_rule_told s policy rule = Ok (by_rule_reply (report.by_rule s policy rule))
 
 -- what changed since a mark, or the refusal where there is none
-abbrev pub notices_or_refusal : State → Option AnswerMap → Answer
-notices_or_refusal s o = text_or NoMark (λ kept. notices_text (notices kept s)) o
+abbrev pub notices_or_refusal : State → Option AnswerMap → Told
+notices_or_refusal s o = told_or NoMark (λ kept. notices_reply (notices kept s)) o
 
 -- notices: the requests whose answers differ between the table that the session marked and the fresh one; the mark
 -- stays
-unfoldable pub changes_told : World → ℕ → Answer
+unfoldable pub changes_told : World → ℕ → Told
 changes_told w session = notices_or_refusal w.state (marked_table w session)
 
 -- what changed since a table, or the refusal where none is known
-abbrev pub changes_or_refusal : State → Option AnswerMap → Answer
-changes_or_refusal s o = text_or NoMark (λ table. changes_text (notices table s) s.serial) o
+abbrev pub changes_or_refusal : State → Option AnswerMap → Told
+changes_or_refusal s o = told_or NoMark (λ table. changes_reply (notices table s) s.serial) o
 
 -- changes: the requests whose answers differ between the table at a serial and the fresh one, where that is known, with
 -- the present serial; no mark moves
-unfoldable pub since_told : (ℕ → Option AnswerMap) → State → Option ℕ → Answer
+unfoldable pub since_told : (ℕ → Option AnswerMap) → State → Option ℕ → Told
 since_told known s since = changes_or_refusal s (option_and_then known since)
 
 -- how many times a request was evaluated
-unfoldable pub work_told : ℕ → Answer
-work_told n = text (work_text n)
+unfoldable pub work_told : ℕ → Told
+work_told n = Ok (work_reply n)
 
 -- a version that lines have, 1 or 2, or the refusal of one that they haven't. No negative number is one
-unfoldable pub format_told : Option ℕ → Answer
-format_told None = refused BadValue
-format_told (Some version) = if is_version version then text (format_text version) else refused BadValue
+unfoldable pub format_told : Option ℕ → Told
+format_told None = Err BadValue
+format_told (Some version) = if is_version version then Ok (format_reply version) else Err BadValue
 
 -- the lines of a version that make the state anew, or the refusal where they can't tell it: those of version 1 can't
 -- tell a moment
-unfoldable pub dump_told : Option ℕ → State → Answer
-dump_told None s = refused BadValue
-dump_told (Some version) s = if can_tell version s.held.environment then text (dump_text version s) else refused BadValue
+unfoldable pub dump_told : Option ℕ → State → Told
+dump_told None s = Err BadValue
+dump_told (Some version) s = if can_tell version s.held.environment then Ok (dump_data version s) else Err BadValue
 
 -- what stands, in numbers
-unfoldable pub state_told : World → Answer
-state_told w = text (state_text w)
+unfoldable pub state_told : World → Told
+state_told w = Ok (state_reply w)
 
 -- the cells of the fresh table that have all that is asked for, in list order, or the refusal where a name isn't listed
-unfoldable pub cells_told : State → Wanted → Answer
-cells_told s wanted = if are_listed s.names wanted then text (cells_text (filter (is_asked wanted) (table_of s))) else refused NotThere
+unfoldable pub cells_told : State → Wanted → Told
+cells_told s wanted =
+    if are_listed s.names wanted then Ok (cells_reply (filter (is_asked wanted) (table_of s))) else Err NotThere
 
 -- the values that are held of an entity of a category, or the refusal of a category that is none of the three
-unfoldable pub attributes_told : State → Option (List ℕ) → List ℕ → Answer
-attributes_told s None entity = refused Reserved
-attributes_told s (Some category) entity = text (attributes_text s.held.sources category entity)
+unfoldable pub attributes_told : State → Option (List ℕ) → List ℕ → Told
+attributes_told s None entity = Err Reserved
+attributes_told s (Some category) entity = Ok (attributes_data s.held.sources category entity)
 
 -- the documents that are held, or those of an id
-unfoldable pub documents_told : State → Option (List ℕ) → Answer
-documents_told s id = text (documents_text s.held id)
+unfoldable pub documents_told : State → Option (List ℕ) → Told
+documents_told s id = Ok (documents_data s.held id)
 
--- an explanation of a cell that there is, or the refusal of a request that isn't listed
-abbrev pub explanation_or_refusal : State → Triple → Option Evaluated → Answer
-explanation_or_refusal s x o =
-    text_or NotThere (λ answer. explained_text (cell_data (x, answer)) (causes_of s.held x) (facts_of s.held x)) o
-
--- an explanation of a cell: its fresh answer beside the causes of a fresh evaluation, and the look-ups that are
--- recorded for it, each with what it gives
-unfoldable pub cell_explained : State → Triple → Answer
-cell_explained s x = explanation_or_refusal s x (answer_at s x)
-
--- the same of the answer to a request that was read, or the refusal of what asks for none
-abbrev pub request_or_refusal : State → Option Request → Answer
-request_or_refusal s o =
-    text_or NoRequest (λ request. explained_text (answer_data (answer_in s request)) (causes_in s.held request) (facts s.held request)) o
+-- an explanation of a cell, if it is listed: its fresh answer beside the causes of a fresh evaluation, and the look-ups
+-- that are recorded for it, each with what it gives: documents whole, or by their keys
+unfoldable pub cell_explained : Bool → State → Triple → Told
+cell_explained whole s x = told_or NotThere (λ answer.
+    explained_reply (cell_data (x, answer)) (causes_of s.held x) (facts_of whole s.held x)) (answer_at s x)
 
 -- an explanation of the fresh answer to a request, its causes, and what it rests on
-unfoldable pub request_explained : State → Data → Answer
-request_explained s d = request_or_refusal s (asks d)
+unfoldable pub request_explained : Bool → State → Data → Told
+request_explained whole s d = told_or NoRequest (λ request.
+    explained_reply (answer_data (answer_in s request)) (causes_in s.held request) (facts whole s.held request)) (asks d)
 
 -- the cells of the fresh table of which a part failed, whatever their decision, in list order
-unfoldable pub faults_told : State → Answer
-faults_told s = text (faults_text (report.faults s))
+unfoldable pub faults_told : State → Told
+faults_told s = Ok (faults_reply (report.faults s))
+
+-- how large everything may grow
+unfoldable pub limits_told : State → Told
+limits_told s = Ok (limits_reply s)
+
+-- some names of a list in order, or the refusal of a negative number
+unfoldable pub names_told : State → Which → Option ℕ → Option ℕ → Told
+names_told s list (Some from) (Some count) = Ok (names_reply (take count (drop from (list_of list s.names))))
+names_told s list from count = Err BadValue
 
 -- what a question of a session is answered. Only `work` tells how many evaluations there were, and only `changes`
 -- looks at the tables that are known
-unfoldable pub told : Beside → World → ℕ → Question → Answer
+unfoldable pub told : Beside → World → ℕ → Question → Told
 told b w session asked.table = table_told w.state
 told b w session (asked.cell x) = cell_told w.state x
 told b w session (asked.ask d) = request_answered w.state d
@@ -197,9 +199,11 @@ told b w session asked.state = state_told w
 told b w session (asked.cells wanted) = cells_told w.state wanted
 told b w session (asked.attributes category entity) = attributes_told w.state category entity
 told b w session (asked.documents id) = documents_told w.state id
-told b w session (asked.explain_cell x) = cell_explained w.state x
-told b w session (asked.explain d) = request_explained w.state d
+told b w session (asked.explain_cell whole x) = cell_explained whole w.state x
+told b w session (asked.explain whole d) = request_explained whole w.state d
 told b w session asked.faults = faults_told w.state
+told b w session asked.limits = limits_told w.state
+told b w session (asked.names list from count) = names_told w.state list from count
 
 -- ---- commands
 
@@ -210,7 +214,7 @@ table_marked w session = (replies.marked w.state.serial, marked w session)
 -- what a command of a session is answered, and the world after it: a question leaves it
 unfoldable pub run : Beside → World → ℕ → Command → Answer × World
 run b w session (asked.change c) = made w (edit_of c)
-run b w session (asked.question q) = (told b w session q, w)
+run b w session (asked.question q) = (answered (told b w session q), w)
 run b w session asked.mark = table_marked w session
 
 -- ---- lines

@@ -1,7 +1,10 @@
 -- Which versions lines have, and what can be told in them.
-use Rattle.std.specs.Prelude.{ℕ, ◌==◌, ◌&&◌, ◌||◌, not, List, ◌++◌, Bool, true, false, codes, decimal}
+use Rattle.std.specs.Prelude.{ℕ, ◌==◌, ◌&&◌, ◌||◌, not, Bool, true, false, codes}
+use Rattle.serde_json.specs.Data.{Data}
 use Rattle.ent_request.specs.declared.environment.Environment.{Environment}
 use Rattle.ent_request.specs.declared.environment.Environment.TheVariants.{Moment}
+use Rattle.ent_line.specs.Cells.{reply_data}
+use Rattle.ent_line.specs.Reports.{count_data}
 
 -- lines have the version 1 or 2
 abbrev pub is_version : ℕ → Bool
@@ -16,6 +19,6 @@ is_moment other = false
 abbrev pub can_tell : ℕ → Environment → Bool
 can_tell version environment = (version == 2) || ((version == 1) && not (is_moment environment))
 
--- the text of the reply to `format`: the version
-unfoldable pub format_text : ℕ → List ℕ
-format_text version = codes "{\"format\":" ++ (decimal version ++ codes "}")
+-- the reply to `format`: the version
+unfoldable pub format_reply : ℕ → Data
+format_reply version = reply_data (codes "format") (count_data version)

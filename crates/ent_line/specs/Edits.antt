@@ -1,5 +1,6 @@
 -- Which edit a change makes, or why it makes none.
-use Rattle.std.specs.Prelude.{List, [], ◌∷◌, Option, Some, None, Result, Ok, Err, nat_lt, if◌then◌else◌, option_and_then, option_map}
+use Rattle.std.specs.Prelude.{ℕ, ◌-◌, ◌^◌, List, [], ◌∷◌, Option, Some, None, Result, Ok, Err, nat_lt}
+use Rattle.std.specs.Prelude.{if◌then◌else◌, option_and_then, option_map, unwrap_or}
 use Rattle.serde_json.specs.Data.{Data, Items}
 use Rattle.serde_json.specs.Data as json
 use Rattle.serde_json.specs.Events.{items_len}
@@ -63,15 +64,21 @@ if_read edit fault None = Err (Unreadable fault)
 abbrev pub row_fault : AskedRow → EditFault
 row_fault row = if nat_lt 256 (items_len row.values) then Limit else (if table.is_reserved row.category row.attribute then Reserved else BadValue)
 
+-- the number of a module. A negative one has the greatest of 64 bits, which is no module's
+abbrev pub module_number : Option ℕ → ℕ
+module_number number = unwrap_or number (2 ^ 64 - 1)
+
 -- the edit that a change makes, with what is read of it
 abbrev pub edit_of : Change → Result Edit NoEdit
 edit_of (asked.add_name list name) = Ok (AddName list name)
 edit_of (asked.drop_name list name) = Ok (DropName list name)
-edit_of (asked.add_policy number d) = with_read (AddPolicy number) (document_of d)
-edit_of (asked.replace_policy number d) = with_read (ReplacePolicy number) (document_of d)
+edit_of (asked.add_policy number d) = with_read (AddPolicy (module_number number)) (document_of d)
+edit_of (asked.replace_policy number d) = with_read (ReplacePolicy (module_number number)) (document_of d)
 edit_of (asked.withdraw_policy number kind id written) =
-    if_read (λ version. WithdrawPolicy number (record { kind = kind; id = id; version = version })) BadValue (version_of written)
-edit_of (asked.set_attribute number row) = if_read (λ x. SetAttribute number x.0 x.1) (row_fault row) (row_read row)
+    if_read (λ version. WithdrawPolicy (module_number number) (record { kind = kind; id = id; version = version }))
+    BadValue (version_of written)
+edit_of (asked.set_attribute number row) =
+    if_read (λ x. SetAttribute (module_number number) x.0 x.1) (row_fault row) (row_read row)
 edit_of (asked.set_root d) = with_read SetRoot (root_of d)
 edit_of (asked.set_day None) = Ok (SetDay None)
 edit_of (asked.set_day (Some written)) = if_read (λ day. SetDay (Some day)) BadValue (date_of written)

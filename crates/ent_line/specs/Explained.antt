@@ -1,10 +1,11 @@
 -- The JSON of an explanation: an answer, why parts of it are Indeterminate, and what it rests on.
-use Rattle.std.specs.Prelude.{ℕ, List, codes}
+use Rattle.std.specs.Prelude.{Bool, List, ◌++◌, codes, filter, not}
 use Rattle.serde_json.specs.Data as json
 use Rattle.serde_json.specs.Data.{Data}
-use Rattle.serde_json.specs.Written.{compact_text}
-use Rattle.ent_walk.specs.Answer.{causes}
+use Rattle.ent_walk.specs.Answer.{answer, causes}
+use Rattle.ent_request.specs.contracts.answer.StatusPartialEq.TheImpl as statuses
 use Rattle.ent_request.specs.declared.answer.Answer.{Answer}
+use Rattle.ent_request.specs.declared.answer.Status.{Status}
 use Rattle.ent_request.specs.declared.cause.Cause.{Cause}
 use Rattle.ent_request.specs.declared.request.Request.{Request}
 use Rattle.ent_request.specs.Held.{Held, looks_in}
@@ -26,26 +27,33 @@ answer_data answer = json.object (
     (json.member (codes "status") (json.string (status_text answer.status))
     (json.member (codes "why") (list_data entry_data answer.why) json.no_members)))))
 
--- why parts of the answer to a request are Indeterminate, in the order of a fresh evaluation
-abbrev pub causes_in : Held → Request → List Cause
-causes_in held request = causes (looks_in held) request
+-- whether a cause has a status
+abbrev pub has_status : Status → Cause → Bool
+has_status status cause = (statuses.ghosts).eq cause.status status
 
--- the same of a request of the table
+-- causes, those of a status before the others, both in their order
+abbrev pub those_first : Status → List Cause → List Cause
+those_first status causes =
+    filter (has_status status) causes ++ filter (λ cause. not (has_status status cause)) causes
+
+-- why parts of the answer to a request are Indeterminate, in the order of a fresh evaluation: those of its status first,
+-- of which one gave it
+abbrev pub causes_in : Held → Request → List Cause
+causes_in held request = those_first (answer (looks_in held) request).status (causes (looks_in held) request)
+
+-- why parts of the answer to a request of the table are
 abbrev pub causes_of : Held → Triple → List Cause
 causes_of held x = causes_in held (listed x.person x.action x.resource)
 
--- what it rests on
-abbrev pub facts_of : Held → Triple → Data
-facts_of held x = facts held (listed x.person x.action x.resource)
+-- what it rests on, with what the documents say that are found, or without
+abbrev pub facts_of : Bool → Held → Triple → Data
+facts_of whole held x = facts whole held (listed x.person x.action x.resource)
 
--- an answer beside the first of its causes, what it rests on, and how many causes there are besides
-abbrev pub explained_data : Data → List Cause → Data → Data
-explained_data answer causes told = reply_data (codes "explain") (json.object (
+-- the reply to `explain`: an answer beside the first of its causes, what it rests on, and how many causes there are
+-- besides
+unfoldable pub explained_reply : Data → List Cause → Data → Data
+explained_reply answer causes told = reply_data (codes "explain") (json.object (
     json.member (codes "answer") answer
     (json.member (codes "causes") (causes_data causes)
     (json.member (codes "facts") told
     (json.member (codes "more") (count_data (untold causes)) json.no_members)))))
-
--- the text of the reply to `explain`
-unfoldable pub explained_text : Data → List Cause → Data → List ℕ
-explained_text answer causes told = compact_text (explained_data answer causes told)

@@ -26,7 +26,7 @@ abbrev pub edit_told : Answer → ℕ × Command → Option Edit
 edit_told (accepted changes serial) x = edit_in x.1
 edit_told other x = None
 
--- the same of a line with its answer
+-- the edit of a line whose answer says so
 abbrev pub accepted_edit : List ℕ × Answer → Option Edit
 accepted_edit x = option_and_then (edit_told x.1) (asked_by x.0)
 
@@ -54,7 +54,7 @@ matter_of session (accepted changes serial) x = option_map edit (edit_in x.1)
 matter_of session (marked serial) x = if nat_eq x.0 session then Some own_mark else None
 matter_of session other x = None
 
--- the same of a line with its answer
+-- what a line with its answer is to it
 abbrev pub matter : ℕ → List ℕ × Answer → Option Matter
 matter session x = option_and_then (matter_of session x.1) (asked_by x.0)
 

@@ -1,5 +1,5 @@
 -- What stands at the keys of a line, where it has the right shape.
-use Rattle.std.specs.Prelude.{ℕ, ◌-◌, ◌^◌, ◌||◌, List, if◌then◌else◌, Option, Some, None, option_and_then, option_map, unwrap_or, bytes_eq, codes}
+use Rattle.std.specs.Prelude.{ℕ, ◌||◌, List, if◌then◌else◌, Option, Some, None, option_and_then, option_map, bytes_eq, codes}
 use Rattle.std.specs.Option.{option_map_or}
 use Rattle.serde_json.specs.Data as json
 use Rattle.serde_json.specs.Data.{Data, Items}
@@ -9,6 +9,8 @@ use Rattle.ent_policy.specs.declared.key.Kind.{Kind}
 use Rattle.ent_policy.specs.declared.key.Kind.TheVariants.{Policy, PolicySet}
 use Rattle.ent_json.specs.Objects.{text_at, text_or_absent}
 use Rattle.ent_request.specs.Uris as uris
+use Rattle.ent_table.specs.declared.edit.List.{List as Which}
+use Rattle.ent_table.specs.declared.edit.List.TheVariants.{People, Actions, Resources}
 
 -- what is read next, where what comes before is there
 infixl 10 ◌>>=◌
@@ -23,23 +25,24 @@ whole (json.unsigned n) = Some (Some n)
 whole (json.negative z) = Some None
 whole (json.float x) = None
 
--- the same of a JSON value
+-- the number that a JSON value is, if it is a whole one
 abbrev pub number_in : Data → Option (Option ℕ)
 number_in d = option_and_then whole (as_number d)
 
--- the same of what stands at a key; the absent key says this number
+-- the number at a key; the absent key says this one
 abbrev pub number_at : List ℕ → ℕ → Data → Option (Option ℕ)
 number_at key absent d = option_map_or number_in (get key d) (Some (Some absent))
-
--- the number of a module, 0 where it is absent. None has the greatest number of 64 bits, by which a negative one is told
-abbrev pub module_in : Data → Option ℕ
-module_in d = option_map (λ number. unwrap_or number (2 ^ 64 - 1)) (number_at (codes "module") 0 d)
 
 -- ---- words and texts
 
 -- the kind of document that a word names
 abbrev pub kind_named : List ℕ → Option Kind
 kind_named word = if bytes_eq word (kind_word Policy) then Some Policy else (if bytes_eq word (kind_word PolicySet) then Some PolicySet else None)
+
+-- the list that a word names
+abbrev pub list_named : List ℕ → Option Which
+list_named word = if bytes_eq word (codes "people") then Some People
+    else (if bytes_eq word (codes "actions") then Some Actions else (if bytes_eq word (codes "resources") then Some Resources else None))
 
 -- the URI of the category that a word or the URI itself names: of access-subject, resource or action
 abbrev pub category_named : List ℕ → Option (List ℕ)
@@ -53,7 +56,7 @@ abbrev pub text_or_null : Data → Option (Option (List ℕ))
 text_or_null json.null = Some None
 text_or_null d = option_map Some (as_str d)
 
--- the same of what stands at a key
+-- what a text or null says at a key
 abbrev pub null_or_text_at : List ℕ → Data → Option (Option (List ℕ))
 null_or_text_at key d = option_and_then text_or_null (get key d)
 

@@ -1,5 +1,6 @@
 pub mod Answering
 pub mod Asked
+pub mod Asking
 pub mod Beside
 pub mod Cells
 pub mod Commands
@@ -13,6 +14,7 @@ pub mod Kept
 pub mod Keys
 pub mod Known
 pub mod Lines
+pub mod Listed
 pub mod Pieces
 pub mod Refusals
 pub mod Replies

@@ -1,5 +1,7 @@
 -- Replies, and the lines that they are written as.
-use Rattle.std.specs.Prelude.{ℕ, List, ◌++◌, Option, Some, None, codes, decimal}
+use Rattle.std.specs.Prelude.{ℕ, List, ◌++◌, Option, Some, None, Result, Ok, Err, codes, decimal}
+use Rattle.serde_json.specs.Data.{Data}
+use Rattle.serde_json.specs.Written.{compact_text}
 use Rattle.ent_line.specs.Refusals.{code_of, sub_of}
 use Rattle.ent_line.specs.declared.refusal.Refusal.{Refusal}
 
@@ -14,10 +16,10 @@ pub data Answer : Type 0 where
   -- a JSON text
   text : List ℕ → Answer
 
--- the text of what is there, or a refusal where nothing is
-abbrev pub text_or : {A : Type 0} → Refusal → (A → List ℕ) → Option A → Answer
-text_or refusal written (Some x) = text (written x)
-text_or refusal written None = refused refusal
+-- what tells JSON, or a refusal
+abbrev pub answered : Result Data Refusal → Answer
+answered (Ok d) = text (compact_text d)
+answered (Err refusal) = refused refusal
 
 -- the line of a refusal, by its number and its sub-code
 abbrev pub refusal_line : ℕ → Option ℕ → List ℕ

@@ -1,8 +1,7 @@
 -- The JSON of reports and notices.
-use Rattle.std.specs.Prelude.{ℕ, List, ◌++◌, Option, Some, None, codes, decimal}
+use Rattle.std.specs.Prelude.{ℕ, List, Option, Some, None, codes}
 use Rattle.serde_json.specs.Data as json
 use Rattle.serde_json.specs.Data.{Data}
-use Rattle.serde_json.specs.Written.{compact_text}
 use Rattle.ent_combine.specs.declared.outcome.Outcome.{Outcome}
 use Rattle.ent_request.specs.declared.answer.Answer.{Answer}
 use Rattle.ent_table.specs.Names.{Triple}
@@ -51,12 +50,6 @@ notice_data n = json.object (
     (json.member (codes "person") (json.string n.person)
     (json.member (codes "resource") (json.string n.resource) json.no_members)))))
 
--- notices beside the serial of the present table
-abbrev pub changes_data : List Notice → ℕ → Data
-changes_data ns serial = json.object (
-    json.member (codes "changes") (list_data notice_data ns)
-    (json.member (codes "serial") (count_data serial) json.no_members))
-
 -- a cell by its names and its decision
 abbrev pub fault_data : Triple × Answer → Data
 fault_data c = json.object (
@@ -65,36 +58,38 @@ fault_data c = json.object (
     (json.member (codes "person") (json.string c.0.person)
     (json.member (codes "resource") (json.string c.0.resource) json.no_members))))
 
--- ---- texts
+-- ---- replies
 
--- the text of the reply to `counts`
-unfoldable pub counts_text : Counts → List ℕ
-counts_text c = compact_text (reply_data (codes "counts") (counts_data c))
+-- the reply to `counts`
+unfoldable pub counts_reply : Counts → Data
+counts_reply c = reply_data (codes "counts") (counts_data c)
 
--- the text of the reply to `can`
-unfoldable pub can_text : List (List ℕ × List ℕ) → List ℕ
-can_text found = compact_text (reply_data (codes "can") (list_data pair_data found))
+-- the reply to `can`
+unfoldable pub can_reply : List (List ℕ × List ℕ) → Data
+can_reply found = reply_data (codes "can") (list_data pair_data found)
 
--- the text of the reply to `who`
-unfoldable pub who_text : List (List ℕ) → List ℕ
-who_text people = compact_text (reply_data (codes "who") (list_data json.string people))
+-- the reply to `who`
+unfoldable pub who_reply : List (List ℕ) → Data
+who_reply people = reply_data (codes "who") (list_data json.string people)
 
--- the text of the reply to `by_rule`
-unfoldable pub by_rule_text : List (List ℕ × List ℕ × List ℕ) → List ℕ
-by_rule_text found = compact_text (reply_data (codes "by_rule") (list_data triple_data found))
+-- the reply to `by_rule`
+unfoldable pub by_rule_reply : List (List ℕ × List ℕ × List ℕ) → Data
+by_rule_reply found = reply_data (codes "by_rule") (list_data triple_data found)
 
--- the text of the reply to `notices`
-unfoldable pub notices_text : List Notice → List ℕ
-notices_text notices = compact_text (reply_data (codes "notices") (list_data notice_data notices))
+-- the reply to `notices`
+unfoldable pub notices_reply : List Notice → Data
+notices_reply notices = reply_data (codes "notices") (list_data notice_data notices)
 
--- the text of the reply to `changes`
-unfoldable pub changes_text : List Notice → ℕ → List ℕ
-changes_text ns serial = compact_text (changes_data ns serial)
+-- the reply to `changes`: notices beside the serial of the present table
+unfoldable pub changes_reply : List Notice → ℕ → Data
+changes_reply notices serial = json.object (
+    json.member (codes "changes") (list_data notice_data notices)
+    (json.member (codes "serial") (count_data serial) json.no_members))
 
--- the text of the reply to `faults`
-unfoldable pub faults_text : List (Triple × Answer) → List ℕ
-faults_text cells = compact_text (reply_data (codes "faults") (list_data fault_data cells))
+-- the reply to `faults`
+unfoldable pub faults_reply : List (Triple × Answer) → Data
+faults_reply cells = reply_data (codes "faults") (list_data fault_data cells)
 
--- the text of the reply to `work`: how many times a request was evaluated
-unfoldable pub work_text : ℕ → List ℕ
-work_text n = codes "{\"evaluations\":" ++ (decimal n ++ codes "}")
+-- the reply to `work`: how many times a request was evaluated
+unfoldable pub work_reply : ℕ → Data
+work_reply n = reply_data (codes "evaluations") (count_data n)

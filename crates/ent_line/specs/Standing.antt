@@ -4,7 +4,6 @@ use Rattle.std.specs.FinMap.{len}
 use Rattle.std.specs.List.{enumerate_from, sum_by}
 use Rattle.serde_json.specs.Data as json
 use Rattle.serde_json.specs.Data.{Data}
-use Rattle.serde_json.specs.Written.{compact_text}
 use Rattle.ent_values.specs.Writing.{date_text, date_time_text}
 use Rattle.ent_finder.specs.Slots.{document_count}
 use Rattle.ent_json.specs.Members.{only_member}
@@ -47,6 +46,6 @@ state_data w = json.object (
     (json.member (codes "rows") (count_data (sum_by (λ source. len source.rows) w.state.held.sources))
     (json.member (codes "serial") (count_data w.state.serial) json.no_members))))))))))
 
--- the text of the reply to `state`
-unfoldable pub state_text : World → List ℕ
-state_text w = compact_text (reply_data (codes "state") (state_data w))
+-- the reply to `state`
+unfoldable pub state_reply : World → Data
+state_reply w = reply_data (codes "state") (state_data w)

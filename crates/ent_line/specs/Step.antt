@@ -14,7 +14,7 @@ use Rattle.ent_line.specs.declared.refusal.Refusal.TheVariants.{Memory}
 abbrev pub AnswersAfter : Beside → World → List ℕ → Answer → World → Type 0
 AnswersAfter b w line a v = ((a, v) ≡ respond b w line) ⊎ ((a ≡ refused Memory) × (v ≡ w) × (length line ≤ line_limit))
 
--- the same beside some number of evaluations and some known tables. `Counts` says which
+-- the answer to a line beside some number of evaluations and some known tables. `Counts` says which
 abbrev pub Answers : World → List ℕ → Answer → World → Type 0
 Answers w line a v = (b : Beside) × AnswersAfter b w line a v
 

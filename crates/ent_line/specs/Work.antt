@@ -33,8 +33,8 @@ edit_work s (Err why) = None
 abbrev pub command_work : State → Command → Option ℕ
 command_work s (asked.change c) = edit_work s (edit_of c)
 command_work s (asked.question (asked.ask d)) = option_map (λ request. 1) (asks d)
-command_work s (asked.question (asked.explain d)) = option_map (λ request. 1) (asks d)
-command_work s (asked.question (asked.explain_cell x)) = option_map (λ answer. 1) (answer_at s x)
+command_work s (asked.question (asked.explain whole d)) = option_map (λ request. 1) (asks d)
+command_work s (asked.question (asked.explain_cell whole x)) = option_map (λ answer. 1) (answer_at s x)
 command_work s other = None
 
 -- by the command that is there

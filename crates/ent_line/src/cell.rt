@@ -2,14 +2,15 @@
 
 ghost use Rattle.std.specs.Prelude.{◌≡◌, [], ◌∷◌, ◌++◌, IfOk, OnOk, codes, map, string_bytes};
 ghost use Rattle.json.specs.Token as token;
+ghost use Rattle.serde_json.specs.Written.{compact_text};
 ghost use Rattle.ent_json.specs.Text.{tokens_of};
 ghost use Rattle.ent_json.specs.proofs_only.Text.{items_tokens_of};
-ghost use Rattle.ent_profile.specs.Response.{given_written};
+ghost use Rattle.ent_profile.specs.Response.{given_written, response};
 ghost use Rattle.ent_table.specs.Left.{cells_left};
 ghost use Rattle.ent_table.specs.Names.{triple_of};
 ghost use Rattle.ent_held.specs.Paths.{status_text};
 ghost use Rattle.ent_line.specs.Cells.{cell_data, entry_data, list_data, reply_data};
-ghost use Rattle.ent_line.specs.Cells.{decision_text, one_cell_text, response_text, table_text};
+ghost use Rattle.ent_line.specs.Cells.{cell_reply, decision_text, table_reply};
 
 use ent_combine::{IndKind, Outcome};
 use ent_eval::{Answer, Given, Request, Status, WhyEntry};
@@ -211,7 +212,7 @@ fn write_one_cell(
 
 /// The text of the reply to `table`.
 pub(crate) fn table_text(alloc: Global, cells: Cells<'_>) -> Result<String, AllocError>
-    ensures { IfOk result (λ s. string_bytes s ≡ table_text (cells_left cells.entry)) }
+    ensures { IfOk result (λ s. string_bytes s ≡ compact_text (table_reply (cells_left cells.entry))) }
 {
     let mut out = JsonText::with_room(alloc)?;
     write_table(alloc, &mut out, cells)?;
@@ -227,7 +228,7 @@ pub(crate) fn one_cell_text(
     answer: &Answer,
 ) -> Result<String, AllocError>
     ensures { IfOk result (λ s. string_bytes s
-        ≡ one_cell_text (triple_of person.now action.now resource.now, answer.now)) }
+        ≡ compact_text (cell_reply (triple_of person.now action.now resource.now, answer.now))) }
 {
     let mut out = JsonText::with_room(alloc)?;
     write_one_cell(alloc, &mut out, person, action, resource, answer)?;
@@ -235,13 +236,12 @@ pub(crate) fn one_cell_text(
 }
 
 /// The text of the response to a request.
-#[tactic(auto, unfolding(crate::specs::Cells::response_text))]
 pub(crate) fn response_text(
     alloc: Global,
     answer: &Answer,
     request: &Request,
 ) -> Result<String, AllocError>
-    ensures { IfOk result (λ s. string_bytes s ≡ response_text answer.now request.now) }
+    ensures { IfOk result (λ s. string_bytes s ≡ compact_text (response answer.now request.now)) }
 {
     write_response_text(alloc, answer, request)
 }

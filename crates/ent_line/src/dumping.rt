@@ -1,11 +1,12 @@
 //! What the service answers of the lines that make its state anew.
 
 ghost use Rattle.std.specs.Prelude.{◌≡◌, IfOk, string_bytes};
+ghost use Rattle.serde_json.specs.Written.{compact_text};
 ghost use Rattle.ent_line.specs.Answering.{reply_view};
 ghost use Rattle.ent_line.specs.Commands.{dump_told, format_told};
-ghost use Rattle.ent_line.specs.Dumping.{can_tell, format_text, is_moment, is_version};
+ghost use Rattle.ent_line.specs.Dumping.{can_tell, format_reply, is_moment, is_version};
 ghost use Rattle.ent_line.specs.proofs_only.Replying.{Tells};
-ghost use Rattle.ent_line.specs.World.{IsReady};
+ghost use Rattle.ent_line.specs.Replies.{answered};
 
 use crate::refusal::Refusal;
 use crate::reply::Reply;
@@ -38,9 +39,9 @@ fn can_tell(version: u64, environment: Environment) -> bool
 }
 
 /// The text of the reply to `format`: the version.
-#[tactic(auto, unfolding(crate::specs::Dumping::format_text))]
+#[tactic(auto, unfolding(crate::specs::Dumping::format_reply))]
 fn format_text(alloc: Global, version: u64) -> Result<String, AllocError>
-    ensures { IfOk result (λ s. string_bytes s ≡ format_text version) }
+    ensures { IfOk result (λ s. string_bytes s ≡ compact_text (format_reply version)) }
 {
     let mut number = Buffer::new();
     let mut text = String::from_str(alloc, "{\"format\":")?;
@@ -53,7 +54,7 @@ impl<A: Attributes, P: Policies> Service<A, P> {
     /// `format`.
     #[tactic(auto, unfolding(crate::specs::Commands::format_told))]
     pub(crate) fn format(&self, version: Option<u64>) -> Result<Reply, AllocError>
-        ensures { IfOk result (λ reply. reply_view reply ≡ format_told version) }
+        ensures { IfOk result (λ reply. reply_view reply ≡ answered (format_told version)) }
     {
         let Some(version) = version else {
             return Ok(Reply::Refused(Refusal::BadValue));
@@ -66,10 +67,9 @@ impl<A: Attributes, P: Policies> Service<A, P> {
     }
 
     /// `dump`.
-    #[tactic(auto, unfolding(crate::specs::Commands::dump_told))]
+    #[tactic(auto, unfolding(crate::specs::Commands::dump_told, ent_dump::specs::Dumped::dump_text))]
     pub(crate) fn dump(&self, version: Option<u64>) -> Result<Reply, AllocError>
-        requires { IsReady A.sources P.slots self.now }
-        ensures { Tells A.sources P.slots (λ w. dump_told version w.state) self.now result }
+        ensures { Tells (λ w. dump_told version w.state) self.now result }
     {
         let Some(version) = version else {
             return Ok(Reply::Refused(Refusal::BadValue));

@@ -2,6 +2,7 @@
 
 ghost use Rattle.std.specs.Prelude.{◌≡◌, [], ◌∷◌, ◌++◌, IfOk, OnOk, codes, decimal, string_bytes};
 ghost use Rattle.json.specs.Token as token;
+ghost use Rattle.serde_json.specs.Written.{compact_text};
 ghost use Rattle.ent_eval.specs.LooksOf.{held_by};
 ghost use Rattle.ent_held.specs.Causes.{causes_data, untold};
 ghost use Rattle.ent_held.specs.Facts.{facts_data};
@@ -10,20 +11,21 @@ ghost use Rattle.ent_table.specs.Names.{triple_of};
 ghost use Rattle.ent_line.specs.Asked as asked;
 ghost use Rattle.ent_line.specs.Cells.{cell_data};
 ghost use Rattle.ent_line.specs.Commands.{cell_explained, request_explained};
-ghost use Rattle.ent_line.specs.Explained.{answer_data, explained_text};
+ghost use Rattle.ent_line.specs.Explained.{answer_data, explained_reply, those_first};
+ghost use Rattle.ent_line.specs.Replies.{answered};
 ghost use Rattle.ent_line.specs.Work.{command_work};
-ghost use Rattle.ent_line.specs.World.{IsReady};
 ghost use Rattle.ent_line.specs.proofs_only.Replying.{Keeps, Replies, Works};
 
 use crate::cell::{write_cell, write_decided, write_reason};
 use crate::refusal::Refusal;
 use crate::reply::Reply;
 use crate::service::Service;
-use ent_eval::{Answer, Cause, Explained, Pdp, Reads, Request};
+use ent_eval::{Answer, Cause, Explained, Pdp, Reads, Request, Status};
 use ent_finder::{Attributes, Policies};
 use ent_held::{untold, write_causes, write_facts};
 use ent_json::{JsonText, JsonTree, write_count};
 use ent_profile::{RequestFault, read_request, write_given_text};
+use ent_values::Items;
 use std::alloc::{AllocError, Global};
 
 /// Writes the answer to a request as a cell has it, without names.
@@ -53,33 +55,58 @@ fn end_reply<A: Attributes, P: Policies>(
     alloc: Global,
     out: &mut JsonText,
     pdp: &Pdp<A, P>,
+    whole: bool,
     causes: &[Cause],
     reads: Reads,
 ) -> Result<(), AllocError>
     ensures { OnOk result (out.new ≡ out.old ++ token.key (codes "causes") ∷ (tokens_of (causes_data causes.now)
-        ++ token.key (codes "facts") ∷ (tokens_of (facts_data (held_by A.sources P.slots pdp.now) reads)
+        ++ token.key (codes "facts") ∷ (tokens_of (facts_data whole (held_by A.sources P.slots pdp.now) reads)
         ++ token.key (codes "more") ∷ token.number (decimal (untold causes.now))
         ∷ token.end_object ∷ token.end_object ∷ []))) }
 {
     out.key("causes")?;
     write_causes(alloc, out, causes)?;
     out.key("facts")?;
-    write_facts(alloc, out, pdp, reads)?;
+    write_facts(alloc, out, pdp, whole, reads)?;
     write_count(out, "more", untold(causes))?;
     out.end_object()?;
     out.end_object()
+}
+
+/// Causes, those of a status before the others, both in their order.
+fn those_first(
+    alloc: Global,
+    status: Status,
+    causes: Items<Cause>,
+) -> Result<Items<Cause>, AllocError>
+    ensures { IfOk result (λ told. told ≡ those_first status causes) }
+{
+    let mut first = Items::new(alloc);
+    let mut others = Items::new(alloc);
+    for cause in causes.into_vec() {
+        if cause.status == status {
+            first.push(cause)?;
+        } else {
+            others.push(cause)?;
+        }
+    }
+    first.append(others)?;
+    Ok(first)
 }
 
 /// The text of the reply to `explain` of a cell.
 fn cell_explained_text<A: Attributes, P: Policies>(
     alloc: Global,
     pdp: &Pdp<A, P>,
+    whole: bool,
     who: (&str, &str, &str),
     explained: Explained,
 ) -> Result<String, AllocError>
     ensures { IfOk result (λ s. string_bytes s
-        ≡ explained_text (cell_data (triple_of who.entry.0.now who.entry.1.now who.entry.2.now, explained.answer))
-        explained.causes (facts_data (held_by A.sources P.slots pdp.now) explained.reads)) }
+        ≡ compact_text (explained_reply
+        (cell_data (triple_of who.entry.0.now who.entry.1.now who.entry.2.now, explained.answer))
+        (those_first explained.answer.status explained.causes)
+        (facts_data whole (held_by A.sources P.slots pdp.now) explained.reads))) }
 {
     let (person, action, resource) = who;
     let Explained {
@@ -87,10 +114,11 @@ fn cell_explained_text<A: Attributes, P: Policies>(
         reads,
         causes,
     } = explained;
+    let causes = those_first(alloc, answer.status, causes)?;
     let mut out = JsonText::with_room(alloc)?;
     begin_reply(&mut out)?;
     write_cell(alloc, &mut out, person, action, resource, &answer)?;
-    end_reply(alloc, &mut out, pdp, causes.as_slice(), reads)?;
+    end_reply(alloc, &mut out, pdp, whole, causes.as_slice(), reads)?;
     Ok(out.into_string())
 }
 
@@ -98,20 +126,24 @@ fn cell_explained_text<A: Attributes, P: Policies>(
 fn answer_explained_text<A: Attributes, P: Policies>(
     alloc: Global,
     pdp: &Pdp<A, P>,
+    whole: bool,
     explained: Explained,
 ) -> Result<String, AllocError>
-    ensures { IfOk result (λ s. string_bytes s ≡ explained_text (answer_data explained.answer) explained.causes
-        (facts_data (held_by A.sources P.slots pdp.now) explained.reads)) }
+    ensures { IfOk result (λ s. string_bytes s
+        ≡ compact_text (explained_reply (answer_data explained.answer)
+        (those_first explained.answer.status explained.causes)
+        (facts_data whole (held_by A.sources P.slots pdp.now) explained.reads))) }
 {
     let Explained {
         answer,
         reads,
         causes,
     } = explained;
+    let causes = those_first(alloc, answer.status, causes)?;
     let mut out = JsonText::with_room(alloc)?;
     begin_reply(&mut out)?;
     write_answer(alloc, &mut out, &answer)?;
-    end_reply(alloc, &mut out, pdp, causes.as_slice(), reads)?;
+    end_reply(alloc, &mut out, pdp, whole, causes.as_slice(), reads)?;
     Ok(out.into_string())
 }
 
@@ -120,19 +152,18 @@ impl<A: Attributes, P: Policies> Service<A, P> {
     #[tactic(auto, using(crate::proofs::KeptLemmas::ask_keeps), unfolding(crate::specs::Commands::cell_explained))]
     pub(crate) fn explain_cell(
         &mut self,
+        whole: bool,
         person: &str,
         action: &str,
         resource: &str,
     ) -> Result<Reply, AllocError>
-        requires { IsReady A.sources P.slots self.old }
-        ensures ready { IsReady A.sources P.slots self.new }
-        ensures reply { Replies A.sources P.slots
-            (λ w. (cell_explained w.state (triple_of person.now action.now resource.now), w))
+        ensures reply { Replies
+            (λ w. (answered (cell_explained whole w.state (triple_of person.now action.now resource.now)), w))
             self.old self.new result }
-        ensures work { Works A.sources P.slots (λ s. command_work s
-            (asked.question (asked.explain_cell (triple_of person.now action.now resource.now))))
+        ensures work { Works (λ s. command_work s
+            (asked.question (asked.explain_cell whole (triple_of person.now action.now resource.now))))
             self.old self.new result }
-        ensures kept { Keeps A.sources P.slots self.old self.new }
+        ensures kept { Keeps self.old self.new }
     {
         if !self.are_listed(Some(person), Some(action), Some(resource)) {
             return Ok(Reply::Refused(Refusal::NotThere));
@@ -141,26 +172,28 @@ impl<A: Attributes, P: Policies> Service<A, P> {
         let explained = self.desk.explain(&request)?;
         let pdp = self.desk.review().pdp();
         let who = (person, action, resource);
-        let text = cell_explained_text(self.alloc, pdp, who, explained)?;
+        let text = cell_explained_text(self.alloc, pdp, whole, who, explained)?;
         Ok(Reply::Text(text))
     }
 
     /// `explain` of a request.
     #[tactic(auto, using(crate::proofs::KeptLemmas::ask_keeps), unfolding(crate::specs::Commands::request_explained))]
-    pub(crate) fn explain<J: JsonTree>(&mut self, json: &J) -> Result<Reply, AllocError>
-        requires { IsReady A.sources P.slots self.old }
-        ensures ready { IsReady A.sources P.slots self.new }
-        ensures reply { Replies A.sources P.slots (λ w. (request_explained w.state (J.content json.now), w))
+    pub(crate) fn explain<J: JsonTree>(
+        &mut self,
+        whole: bool,
+        json: &J,
+    ) -> Result<Reply, AllocError>
+        ensures reply { Replies (λ w. (answered (request_explained whole w.state (J.content json.now)), w))
             self.old self.new result }
-        ensures work { Works A.sources P.slots
-            (λ s. command_work s (asked.question (asked.explain (J.content json.now)))) self.old self.new result }
-        ensures kept { Keeps A.sources P.slots self.old self.new }
+        ensures work { Works
+            (λ s. command_work s (asked.question (asked.explain whole (J.content json.now)))) self.old self.new result }
+        ensures kept { Keeps self.old self.new }
     {
         match read_request(self.alloc, json) {
             Ok(request) => {
                 let explained = self.desk.explain(&request)?;
                 let pdp = self.desk.review().pdp();
-                let text = answer_explained_text(self.alloc, pdp, explained)?;
+                let text = answer_explained_text(self.alloc, pdp, whole, explained)?;
                 Ok(Reply::Text(text))
             }
             Err(RequestFault::Bad) => Ok(Reply::Refused(Refusal::Request)),

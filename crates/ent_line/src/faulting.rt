@@ -1,14 +1,14 @@
 //! The cells of which a part failed: the reply to `faults`.
 
 ghost use Rattle.std.specs.Prelude.{◌≡◌, ◌++◌, IfOk, OnOk, codes, map, string_bytes};
+ghost use Rattle.serde_json.specs.Written.{compact_text};
 ghost use Rattle.ent_json.specs.Text.{tokens_of};
 ghost use Rattle.ent_json.specs.proofs_only.Text.{items_tokens_of};
 ghost use Rattle.ent_table.specs.Left.{judged_left};
 ghost use Rattle.ent_table.specs.Names.{triple_of};
 ghost use Rattle.ent_line.specs.Cells.{list_data, reply_data};
 ghost use Rattle.ent_line.specs.Commands.{faults_told};
-ghost use Rattle.ent_line.specs.Reports.{fault_data, faults_text};
-ghost use Rattle.ent_line.specs.World.{IsReady};
+ghost use Rattle.ent_line.specs.Reports.{fault_data, faults_reply};
 ghost use Rattle.ent_line.specs.proofs_only.Failing.{failed_in};
 ghost use Rattle.ent_line.specs.proofs_only.Replying.{Tells};
 
@@ -65,7 +65,7 @@ fn write_reply(out: &mut JsonText, cells: Judged<'_>) -> Result<(), AllocError>
 
 /// The text of the reply to `faults`.
 fn faults_text(alloc: Global, cells: Judged<'_>) -> Result<String, AllocError>
-    ensures { IfOk result (λ s. string_bytes s ≡ faults_text (failed_in (judged_left cells.entry))) }
+    ensures { IfOk result (λ s. string_bytes s ≡ compact_text (faults_reply (failed_in (judged_left cells.entry)))) }
 {
     let mut out = JsonText::with_room(alloc)?;
     write_reply(&mut out, cells)?;
@@ -76,8 +76,7 @@ impl<A: Attributes, P: Policies> Service<A, P> {
     /// `faults`.
     #[tactic(auto, unfolding(crate::specs::Commands::faults_told))]
     pub(crate) fn faults(&self) -> Result<Reply, AllocError>
-        requires { IsReady A.sources P.slots self.now }
-        ensures { Tells A.sources P.slots (λ w. faults_told w.state) self.now result }
+        ensures { Tells (λ w. faults_told w.state) self.now result }
     {
         let text = faults_text(self.alloc, self.desk.review().judged())?;
         Ok(Reply::Text(text))

@@ -2,7 +2,6 @@
 
 ghost use Rattle.std.specs.Option.{option_copied};
 ghost use Rattle.ent_line.specs.Commands.{attributes_told, documents_told};
-ghost use Rattle.ent_line.specs.World.{IsReady};
 ghost use Rattle.ent_line.specs.proofs_only.Replying.{Tells};
 
 use crate::refusal::Refusal;
@@ -14,13 +13,13 @@ use std::alloc::AllocError;
 
 impl<A: Attributes, P: Policies> Service<A, P> {
     /// `attributes`.
-    #[tactic(auto, unfolding(crate::specs::Commands::attributes_told))]
+    #[tactic(auto, unfolding(crate::specs::Commands::attributes_told, ent_held::specs::Attributes::attributes_text))]
     pub(crate) fn attributes(
         &self,
         category: Option<&str>,
         entity: &str,
     ) -> Result<Reply, AllocError>
-        ensures { Tells A.sources P.slots
+        ensures { Tells
             (λ w. attributes_told w.state (option_copied category.entry) entity.now) self.now result }
     {
         let Some(category) = category else {
@@ -32,9 +31,9 @@ impl<A: Attributes, P: Policies> Service<A, P> {
     }
 
     /// `documents`.
-    #[tactic(auto, unfolding(crate::specs::Commands::documents_told))]
+    #[tactic(auto, unfolding(crate::specs::Commands::documents_told, ent_held::specs::Documents::documents_text))]
     pub(crate) fn documents(&self, id: Option<&str>) -> Result<Reply, AllocError>
-        ensures { Tells A.sources P.slots (λ w. documents_told w.state (option_copied id.entry)) self.now result }
+        ensures { Tells (λ w. documents_told w.state (option_copied id.entry)) self.now result }
     {
         let text = documents_text(self.alloc, self.desk.review().pdp(), id)?;
         Ok(Reply::Text(text))

@@ -4,13 +4,14 @@ ghost use Rattle.std.specs.Prelude.{◌≡◌, codes, option_and_then, option_ma
 ghost use Rattle.std.specs.Option.{option_copied};
 ghost use Rattle.serde_json.specs.Find.{as_array, get};
 ghost use Rattle.serde_json.specs.View.{items_of};
-ghost use Rattle.ent_line.specs.Keys.{category_named, kind_named, module_in, null_or_text_at, number_at};
-ghost use Rattle.ent_line.specs.Keys.{number_in, row_in, text_or_null};
+ghost use Rattle.ent_line.specs.Keys.{category_named, kind_named, list_named, null_or_text_at};
+ghost use Rattle.ent_line.specs.Keys.{number_at, number_in, row_in, text_or_null};
 ghost use Rattle.ent_line.specs.proofs_only.CommandView.{row_view};
 
 use ent_eval::{ACCESS_SUBJECT, ACTION, RESOURCE};
 use ent_json::{JsonTree, text_at, text_or_absent};
 use ent_policy::Kind;
+use ent_table::List;
 
 /// The number that a whole number is, which is none where it is negative. `None` where it isn't one.
 pub(crate) fn number_in<J: JsonTree>(value: &J) -> Option<Option<u64>>
@@ -26,7 +27,7 @@ pub(crate) fn number_in<J: JsonTree>(value: &J) -> Option<Option<u64>>
     }
 }
 
-/// The same of what stands at a key. The absent key says that number.
+/// The number at a key, as `number_in` reads it. The absent key says that one.
 pub(crate) fn number_at<J: JsonTree>(object: &J, key: &str, absent: u64) -> Option<Option<u64>>
     ensures { result ≡ number_at key.now absent (J.content object.now) }
 {
@@ -34,15 +35,6 @@ pub(crate) fn number_at<J: JsonTree>(object: &J, key: &str, absent: u64) -> Opti
         None => Some(Some(absent)),
         Some(value) => number_in(value),
     }
-}
-
-/// The number of the module, 0 if the key is absent. `None` if it is no whole number. A negative number is no module's,
-/// and neither is the greatest number, by which it is told.
-pub(crate) fn module_in<J: JsonTree>(object: &J) -> Option<usize>
-    ensures { result ≡ module_in (J.content object.now) }
-{
-    let number = number_at(object, "module", 0)?;
-    Some(number.unwrap_or(u64::MAX) as usize)
 }
 
 /// The kind of document that a word names.
@@ -56,6 +48,18 @@ pub(crate) fn kind_named(word: &str) -> Option<Kind>
         return Some(Kind::PolicySet);
     }
     None
+}
+
+/// The list that a word names.
+pub(crate) fn list_named(word: &str) -> Option<List>
+    ensures { result ≡ list_named word.now }
+{
+    match word {
+        "people" => Some(List::People),
+        "actions" => Some(List::Actions),
+        "resources" => Some(List::Resources),
+        _ => None,
+    }
 }
 
 /// The URI of the category that a word or the URI itself names.

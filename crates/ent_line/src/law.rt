@@ -1,5 +1,6 @@
 //! Laws of the replies.
 
+ghost use Rattle.ent_line.specs.Asking.{QuestionsLeaveAll};
 ghost use Rattle.ent_line.specs.Headline.{IsHeadline};
 ghost use Rattle.ent_line.specs.Sessions.{SessionsAreSeparate};
 
@@ -19,4 +20,10 @@ pub fn replies_are_fresh()
 /// unless memory is wanting, whatever other sessions mark or ask.
 pub fn sessions_are_separate()
     ensures { SessionsAreSeparate }
+{}
+
+/// Law: lines that only ask ([`only_asks`](crate::only_asks)) leave the world and the tables that are known, and behind
+/// any other number of evaluations that is counted they may be answered in the same way.
+pub fn questions_leave_all()
+    ensures { QuestionsLeaveAll }
 {}

@@ -2,6 +2,7 @@
 #![tactic(auto)]
 
 mod answering;
+mod asking;
 mod cell;
 mod changes;
 mod command;
@@ -13,8 +14,8 @@ mod holding;
 mod input;
 mod keys;
 mod law;
+mod listed;
 mod making;
-mod name;
 mod output;
 mod questions;
 mod reading;
@@ -27,17 +28,16 @@ mod service;
 mod serving;
 mod standing;
 mod wanted;
-mod words;
 
 pub use answering::Answering;
+pub use asking::{command_words, only_asks};
 pub use ent_dump::{LinesFault, dump_lines};
 pub use fault::ServeFault;
 pub use input::{LINE_LIMIT, one_split};
-pub use law::{replies_are_fresh, sessions_are_separate};
+pub use law::{questions_leave_all, replies_are_fresh, sessions_are_separate};
 pub use making::NoEdit;
 pub use output::send_all;
 pub use refusal::Refusal;
 pub use reply::Reply;
 pub use service::Service;
 pub use serving::{serve, serve_review, serve_within};
-pub use words::command_words;

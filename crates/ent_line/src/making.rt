@@ -2,7 +2,7 @@
 
 ghost use Rattle.std.specs.Prelude.{◌≡◌, option_copied};
 ghost use Rattle.ent_line.specs.Asked as asked;
-ghost use Rattle.ent_line.specs.Edits.{edit_of, row_fault};
+ghost use Rattle.ent_line.specs.Edits.{edit_of, module_number, row_fault};
 ghost use Rattle.ent_line.specs.proofs_only.CommandView.{change_view, row_view};
 ghost use Rattle.ent_line.specs.proofs_only.Making.{Makes};
 
@@ -66,24 +66,41 @@ fn name_dropped(alloc: Global, list: List, name: &str) -> Result<Edit, NoEdit>
     Ok(Edit::DropName(list, Text::from_str(alloc, name)?))
 }
 
+/// The number of a module. None, of a negative number, has the greatest, which is no module's.
+fn module_number(number: Option<u64>) -> usize
+    ensures { result ≡ module_number number }
+{
+    number.unwrap_or(u64::MAX) as usize
+}
+
 /// A document stored.
-fn policy_added<J: JsonTree>(alloc: Global, number: usize, document: &J) -> Result<Edit, NoEdit>
+fn policy_added<J: JsonTree>(
+    alloc: Global,
+    number: Option<u64>,
+    document: &J,
+) -> Result<Edit, NoEdit>
     ensures { Makes result (edit_of (asked.add_policy number (J.content document.now))) }
 {
-    Ok(Edit::AddPolicy(number, read_document(alloc, document)?))
+    let document = read_document(alloc, document)?;
+    Ok(Edit::AddPolicy(module_number(number), document))
 }
 
 /// A document stored in the place of another.
-fn policy_replaced<J: JsonTree>(alloc: Global, number: usize, document: &J) -> Result<Edit, NoEdit>
+fn policy_replaced<J: JsonTree>(
+    alloc: Global,
+    number: Option<u64>,
+    document: &J,
+) -> Result<Edit, NoEdit>
     ensures { Makes result (edit_of (asked.replace_policy number (J.content document.now))) }
 {
-    Ok(Edit::ReplacePolicy(number, read_document(alloc, document)?))
+    let document = read_document(alloc, document)?;
+    Ok(Edit::ReplacePolicy(module_number(number), document))
 }
 
 /// A document withdrawn.
 fn policy_withdrawn(
     alloc: Global,
-    number: usize,
+    number: Option<u64>,
     kind: Kind,
     id: &str,
     version: &str,
@@ -94,7 +111,8 @@ fn policy_withdrawn(
         return Err(NoEdit::Unreadable(EditFault::BadValue));
     };
     let id = Text::from_str(alloc, id)?;
-    Ok(Edit::WithdrawPolicy(number, DocKey { kind, id, version }))
+    let key = DocKey { kind, id, version };
+    Ok(Edit::WithdrawPolicy(module_number(number), key))
 }
 
 /// The refusal of a row whose type or a value can't be read.
@@ -114,13 +132,13 @@ fn row_fault<J: JsonTree>(row: &AskedRow<'_, J>) -> EditFault
 /// The values of a row set.
 fn attribute_set<J: JsonTree>(
     alloc: Global,
-    number: usize,
+    number: Option<u64>,
     row: &AskedRow<'_, J>,
 ) -> Result<Edit, NoEdit>
     ensures { Makes result (edit_of (asked.set_attribute number (row_view J.content row.now))) }
 {
     match read_row(alloc, row)? {
-        Some((key, values)) => Ok(Edit::SetAttribute(number, key, values)),
+        Some((key, values)) => Ok(Edit::SetAttribute(module_number(number), key, values)),
         None => Err(NoEdit::Unreadable(row_fault(row))),
     }
 }

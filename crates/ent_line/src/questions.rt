@@ -5,15 +5,16 @@ ghost use Rattle.serde_json.specs.Find.{get};
 ghost use Rattle.ent_json.specs.Objects.{text_at};
 ghost use Rattle.ent_table.specs.Names.{triple_of};
 ghost use Rattle.ent_line.specs.Asked as asked;
-ghost use Rattle.ent_line.specs.Asked.{attributes_asked, by_rule_asked, explain_asked, triple_in, who_asked};
+ghost use Rattle.ent_line.specs.Asked.{attributes_asked, by_rule_asked, explain_asked, explanation_asked};
+ghost use Rattle.ent_line.specs.Asked.{names_asked, triple_in, who_asked};
 ghost use Rattle.ent_line.specs.Keys.{number_at, number_in};
 ghost use Rattle.ent_line.specs.Wanted.{optional_text, wanted_in};
-ghost use Rattle.ent_line.specs.proofs_only.CommandView.{command_view};
+ghost use Rattle.ent_line.specs.proofs_only.CommandView.{question_view};
 
-use crate::command::{Command, Question};
-use crate::keys::{category_named, null_or_text_at, number_at, number_in};
+use crate::command::Question;
+use crate::keys::{category_named, list_named, null_or_text_at, number_at, number_in};
 use crate::wanted::{optional_text, wanted_in};
-use ent_json::{JsonTree, text_at};
+use ent_json::{JsonTree, flag_at, text_at};
 
 /// The person, the action and the resource that an object names.
 #[tactic(auto, unfolding(crate::specs::Asked::triple_in))]
@@ -27,123 +28,140 @@ fn triple_in<J: JsonTree>(object: &J) -> Option<(&str, &str, &str)>
 }
 
 /// `cell`.
-pub(crate) fn cell<J: JsonTree>(object: &J) -> Option<Command<'_, J>>
-    ensures { option_map (command_view J.content) result
-        ≡ option_map asked.question (option_map asked.cell (triple_in (J.content object.now))) }
+pub(crate) fn cell<J: JsonTree>(object: &J) -> Option<Question<'_, J>>
+    ensures { option_map (question_view J.content) result
+        ≡ option_map asked.cell (triple_in (J.content object.now)) }
 {
     let (person, action, resource) = triple_in(object)?;
-    Some(Command::Question(Question::Cell(person, action, resource)))
+    Some(Question::Cell(person, action, resource))
 }
 
-/// `explain`. Beside a request no other key stands.
-#[tactic(auto, unfolding(crate::specs::Asked::explain_asked))]
-pub(crate) fn explain<J: JsonTree>(object: &J) -> Option<Command<'_, J>>
-    ensures { option_map (command_view J.content) result
-        ≡ option_map asked.question (explain_asked (J.content object.now)) }
+/// `explain`, with documents or without. Beside a request no names stand.
+fn explanation<J: JsonTree>(object: &J, whole: bool) -> Option<Question<'_, J>>
+    ensures { option_map (question_view J.content) result ≡ explanation_asked whole (J.content object.now) }
 {
     let Some(request) = object.get("request") else {
         let (person, action, resource) = triple_in(object)?;
-        let question = Question::ExplainCell(person, action, resource);
-        return Some(Command::Question(question));
+        return Some(Question::ExplainCell(whole, person, action, resource));
     };
-    if !object.has_only(&["do", "session", "request"]) {
+    if !object.has_only(&["do", "session", "documents", "request"]) {
         return None;
     }
-    Some(Command::Question(Question::Explain(request)))
+    Some(Question::Explain(whole, request))
+}
+
+/// `explain`.
+#[tactic(auto, unfolding(crate::specs::Asked::explain_asked))]
+pub(crate) fn explain<J: JsonTree>(object: &J) -> Option<Question<'_, J>>
+    ensures { option_map (question_view J.content) result ≡ explain_asked (J.content object.now) }
+{
+    let whole = flag_at(object, "documents")?;
+    explanation(object, whole)
 }
 
 /// `ask`.
-pub(crate) fn ask<J: JsonTree>(object: &J) -> Option<Command<'_, J>>
-    ensures { option_map (command_view J.content) result
-        ≡ option_map asked.question (option_map asked.ask (get (codes "request") (J.content object.now))) }
+pub(crate) fn ask<J: JsonTree>(object: &J) -> Option<Question<'_, J>>
+    ensures { option_map (question_view J.content) result
+        ≡ option_map asked.ask (get (codes "request") (J.content object.now)) }
 {
     let request = object.get("request")?;
-    Some(Command::Question(Question::Ask(request)))
+    Some(Question::Ask(request))
 }
 
 /// `can`.
-pub(crate) fn can<J: JsonTree>(object: &J) -> Option<Command<'_, J>>
-    ensures { option_map (command_view J.content) result
-        ≡ option_map asked.question (option_map asked.can (text_at (codes "person") (J.content object.now))) }
+pub(crate) fn can<J: JsonTree>(object: &J) -> Option<Question<'_, J>>
+    ensures { option_map (question_view J.content) result
+        ≡ option_map asked.can (text_at (codes "person") (J.content object.now)) }
 {
     let person = text_at(object, "person")?;
-    Some(Command::Question(Question::Can(person)))
+    Some(Question::Can(person))
 }
 
 /// `who`.
 #[tactic(auto, unfolding(crate::specs::Asked::who_asked))]
-pub(crate) fn who<J: JsonTree>(object: &J) -> Option<Command<'_, J>>
-    ensures { option_map (command_view J.content) result
-        ≡ option_map asked.question (who_asked (J.content object.now)) }
+pub(crate) fn who<J: JsonTree>(object: &J) -> Option<Question<'_, J>>
+    ensures { option_map (question_view J.content) result
+        ≡ who_asked (J.content object.now) }
 {
     let action = text_at(object, "action")?;
     let resource = text_at(object, "resource")?;
-    Some(Command::Question(Question::Who(action, resource)))
+    Some(Question::Who(action, resource))
 }
 
 /// `by_rule`.
 #[tactic(auto, unfolding(crate::specs::Asked::by_rule_asked))]
-pub(crate) fn by_rule<J: JsonTree>(object: &J) -> Option<Command<'_, J>>
-    ensures { option_map (command_view J.content) result
-        ≡ option_map asked.question (by_rule_asked (J.content object.now)) }
+pub(crate) fn by_rule<J: JsonTree>(object: &J) -> Option<Question<'_, J>>
+    ensures { option_map (question_view J.content) result
+        ≡ by_rule_asked (J.content object.now) }
 {
     let policy = text_at(object, "policy")?;
     let rule = null_or_text_at(object, "rule")?;
-    Some(Command::Question(Question::ByRule(policy, rule)))
+    Some(Question::ByRule(policy, rule))
 }
 
 /// `changes`.
-pub(crate) fn changes<J: JsonTree>(object: &J) -> Option<Command<'_, J>>
-    ensures { option_map (command_view J.content) result ≡ option_map asked.question
-        (option_map asked.changes_since (option_and_then number_in (get (codes "since") (J.content object.now)))) }
+pub(crate) fn changes<J: JsonTree>(object: &J) -> Option<Question<'_, J>>
+    ensures { option_map (question_view J.content) result
+        ≡ option_map asked.changes_since (option_and_then number_in (get (codes "since") (J.content object.now))) }
 {
     let since = number_in(object.get("since")?)?;
-    Some(Command::Question(Question::Changes(since)))
+    Some(Question::Changes(since))
 }
 
 /// `format`.
-pub(crate) fn format<J: JsonTree>(object: &J) -> Option<Command<'_, J>>
-    ensures { option_map (command_view J.content) result ≡ option_map asked.question
-        (option_map asked.format (option_and_then number_in (get (codes "version") (J.content object.now)))) }
+pub(crate) fn format<J: JsonTree>(object: &J) -> Option<Question<'_, J>>
+    ensures { option_map (question_view J.content) result
+        ≡ option_map asked.format (option_and_then number_in (get (codes "version") (J.content object.now))) }
 {
     let version = number_in(object.get("version")?)?;
-    Some(Command::Question(Question::Format(version)))
+    Some(Question::Format(version))
 }
 
 /// `dump`. The absent version is the newest.
-pub(crate) fn dump<J: JsonTree>(object: &J) -> Option<Command<'_, J>>
-    ensures { option_map (command_view J.content) result ≡ option_map asked.question
-        (option_map asked.dump (number_at (codes "version") 2 (J.content object.now))) }
+pub(crate) fn dump<J: JsonTree>(object: &J) -> Option<Question<'_, J>>
+    ensures { option_map (question_view J.content) result
+        ≡ option_map asked.dump (number_at (codes "version") 2 (J.content object.now)) }
 {
     let version = number_at(object, "version", 2)?;
-    Some(Command::Question(Question::Dump(version)))
+    Some(Question::Dump(version))
 }
 
 /// `cells`.
-pub(crate) fn cells<J: JsonTree>(object: &J) -> Option<Command<'_, J>>
-    ensures { option_map (command_view J.content) result
-        ≡ option_map asked.question (option_map asked.cells (wanted_in (J.content object.now))) }
+pub(crate) fn cells<J: JsonTree>(object: &J) -> Option<Question<'_, J>>
+    ensures { option_map (question_view J.content) result
+        ≡ option_map asked.cells (wanted_in (J.content object.now)) }
 {
     let wanted = wanted_in(object)?;
-    Some(Command::Question(Question::Cells(wanted)))
+    Some(Question::Cells(wanted))
 }
 
 /// `attributes`.
 #[tactic(auto, unfolding(crate::specs::Asked::attributes_asked))]
-pub(crate) fn attributes<J: JsonTree>(object: &J) -> Option<Command<'_, J>>
-    ensures { option_map (command_view J.content) result
-        ≡ option_map asked.question (attributes_asked (J.content object.now)) }
+pub(crate) fn attributes<J: JsonTree>(object: &J) -> Option<Question<'_, J>>
+    ensures { option_map (question_view J.content) result
+        ≡ attributes_asked (J.content object.now) }
 {
     let category = category_named(text_at(object, "category")?);
     let entity = text_at(object, "entity")?;
-    Some(Command::Question(Question::Attributes(category, entity)))
+    Some(Question::Attributes(category, entity))
 }
 
 /// `documents`.
-pub(crate) fn documents<J: JsonTree>(object: &J) -> Option<Command<'_, J>>
-    ensures { option_map (command_view J.content) result
-        ≡ option_map asked.question (option_map asked.documents (optional_text (codes "id") (J.content object.now))) }
+pub(crate) fn documents<J: JsonTree>(object: &J) -> Option<Question<'_, J>>
+    ensures { option_map (question_view J.content) result
+        ≡ option_map asked.documents (optional_text (codes "id") (J.content object.now)) }
 {
     let id = optional_text(object, "id")?;
-    Some(Command::Question(Question::Documents(id)))
+    Some(Question::Documents(id))
+}
+
+/// `names`. All from the first on, where it isn't said.
+#[tactic(auto, unfolding(crate::specs::Asked::names_asked))]
+pub(crate) fn names<J: JsonTree>(object: &J) -> Option<Question<'_, J>>
+    ensures { option_map (question_view J.content) result ≡ names_asked (J.content object.now) }
+{
+    let list = list_named(text_at(object, "list")?)?;
+    let from = number_at(object, "from", 0)?;
+    let count = number_at(object, "count", 65_536)?;
+    Some(Question::Names(list, from, count))
 }

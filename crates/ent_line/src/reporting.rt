@@ -6,7 +6,8 @@ ghost use Rattle.ent_line.specs.Answering.{reply_view};
 ghost use Rattle.ent_line.specs.proofs_only.Replying.{Keeps, RemembersBy, Replies, Tells};
 ghost use Rattle.ent_line.specs.Commands.{by_rule_told, can_told, changes_told, counts_told};
 ghost use Rattle.ent_line.specs.Commands.{since_told, table_marked, who_told, work_told};
-ghost use Rattle.ent_line.specs.World.{IsReady, count_of, known_of};
+ghost use Rattle.ent_line.specs.Replies.{answered};
+ghost use Rattle.ent_report.specs.Known.{known_of};
 
 use crate::refusal::Refusal;
 use crate::reply::Reply;
@@ -22,11 +23,9 @@ impl<A: Attributes, P: Policies> Service<A, P> {
     /// `counts`. They are kept until the next edit.
     #[tactic(auto, unfolding(crate::specs::Commands::counts_told))]
     pub(crate) fn counts(&mut self) -> Result<Reply, AllocError>
-        requires { IsReady A.sources P.slots self.old }
-        ensures ready { IsReady A.sources P.slots self.new }
-        ensures reply { Replies A.sources P.slots (λ w. (counts_told w.state, w)) self.old self.new result }
-        ensures work { count_of self.new ≡ count_of self.old }
-        ensures kept { Keeps A.sources P.slots self.old self.new }
+        ensures reply { Replies (λ w. (answered (counts_told w.state), w)) self.old self.new result }
+        ensures work { self.new.evaluations ≡ self.old.evaluations }
+        ensures kept { Keeps self.old self.new }
     {
         self.desk.keep_counts();
         let text = counts_text(self.alloc, self.desk.counts())?;
@@ -36,8 +35,7 @@ impl<A: Attributes, P: Policies> Service<A, P> {
     /// `can`.
     #[tactic(auto, unfolding(crate::specs::Commands::can_told))]
     pub(crate) fn can(&self, person: &str) -> Result<Reply, AllocError>
-        requires { IsReady A.sources P.slots self.now }
-        ensures { Tells A.sources P.slots (λ w. can_told w.state person.now) self.now result }
+        ensures { Tells (λ w. can_told w.state person.now) self.now result }
     {
         match self.desk.can(person) {
             Ok(found) => {
@@ -52,8 +50,7 @@ impl<A: Attributes, P: Policies> Service<A, P> {
     /// `who`.
     #[tactic(auto, unfolding(crate::specs::Commands::who_told))]
     pub(crate) fn who(&self, action: &str, resource: &str) -> Result<Reply, AllocError>
-        requires { IsReady A.sources P.slots self.now }
-        ensures { Tells A.sources P.slots (λ w. who_told w.state action.now resource.now) self.now result }
+        ensures { Tells (λ w. who_told w.state action.now resource.now) self.now result }
     {
         match self.desk.who(action, resource) {
             Ok(people) => {
@@ -68,8 +65,7 @@ impl<A: Attributes, P: Policies> Service<A, P> {
     /// `by_rule`.
     #[tactic(auto, unfolding(crate::specs::Commands::by_rule_told))]
     pub(crate) fn by_rule(&self, policy: &str, rule: Option<&str>) -> Result<Reply, AllocError>
-        requires { IsReady A.sources P.slots self.now }
-        ensures { Tells A.sources P.slots (λ w. by_rule_told w.state policy.now (option_copied rule.entry))
+        ensures { Tells (λ w. by_rule_told w.state policy.now (option_copied rule.entry))
             self.now result }
     {
         match self.desk.by_rule(policy, rule) {
@@ -85,12 +81,10 @@ impl<A: Attributes, P: Policies> Service<A, P> {
     /// `mark`.
     #[tactic(auto, unfolding(crate::specs::Commands::table_marked))]
     pub(crate) fn mark(&mut self, session: u8) -> Result<Reply, AllocError>
-        requires ready { IsReady A.sources P.slots self.old }
-        requires session { session < 16 }
-        ensures ready { IsReady A.sources P.slots self.new }
-        ensures reply { Replies A.sources P.slots (λ w. table_marked w session) self.old self.new result }
-        ensures work { count_of self.new ≡ count_of self.old }
-        ensures remembered { RemembersBy A.sources P.slots self.old self.new result }
+        requires { session < 16 }
+        ensures reply { Replies (λ w. table_marked w session) self.old self.new result }
+        ensures work { self.new.evaluations ≡ self.old.evaluations }
+        ensures remembered { RemembersBy self.old self.new result }
     {
         let serial = self.desk.mark(session)?;
         Ok(Reply::Marked(serial))
@@ -99,9 +93,8 @@ impl<A: Attributes, P: Policies> Service<A, P> {
     /// `notices`.
     #[tactic(auto, using(crate::proofs::ReportLemmas::noticed, crate::proofs::ReportLemmas::unmarked), unfolding(crate::specs::Commands::changes_told))]
     pub(crate) fn notices(&self, session: u8) -> Result<Reply, AllocError>
-        requires ready { IsReady A.sources P.slots self.now }
-        requires session { session < 16 }
-        ensures { Tells A.sources P.slots (λ w. changes_told w session) self.now result }
+        requires { session < 16 }
+        ensures { Tells (λ w. changes_told w session) self.now result }
     {
         match self.desk.notices(session) {
             Ok(notices) => {
@@ -116,8 +109,7 @@ impl<A: Attributes, P: Policies> Service<A, P> {
     /// `changes`.
     #[tactic(auto, using(crate::proofs::ReportLemmas::changed, crate::proofs::ReportLemmas::unknown), unfolding(crate::specs::Commands::since_told))]
     pub(crate) fn changes(&self, since: Option<u64>) -> Result<Reply, AllocError>
-        requires { IsReady A.sources P.slots self.now }
-        ensures { Tells A.sources P.slots (λ w. since_told (known_of A.sources P.slots self.now) w.state since)
+        ensures { Tells (λ w. since_told (known_of self.now) w.state since)
             self.now result }
     {
         let Some(since) = since else {
@@ -137,7 +129,7 @@ impl<A: Attributes, P: Policies> Service<A, P> {
     /// `work`.
     #[tactic(auto, unfolding(crate::specs::Commands::work_told))]
     pub(crate) fn work(&self) -> Result<Reply, AllocError>
-        ensures { IfOk result (λ reply. reply_view reply ≡ work_told (count_of self.now)) }
+        ensures { IfOk result (λ reply. reply_view reply ≡ answered (work_told self.now.evaluations)) }
     {
         let text = work_text(self.alloc, self.desk.review().evaluations())?;
         Ok(Reply::Text(text))

@@ -3,12 +3,13 @@
 ghost use Rattle.std.specs.Prelude.{◌≡◌, [], ◌∷◌, ◌++◌, IfOk, OnOk, codes, map, string_bytes};
 ghost use Rattle.json.specs.Token as token;
 ghost use Rattle.serde_json.specs.Data as json;
+ghost use Rattle.serde_json.specs.Written.{compact_text};
 ghost use Rattle.ent_json.specs.Text.{tokens_of};
 ghost use Rattle.ent_json.specs.proofs_only.Text.{items_tokens_of};
 ghost use Rattle.ent_line.specs.Cells.{list_data, reply_data};
-ghost use Rattle.ent_line.specs.Reports.{changes_data, counts_data, decision_data, notice_data, pair_data, triple_data};
-ghost use Rattle.ent_line.specs.Reports.{by_rule_text, can_text, changes_text, counts_text, notices_text};
-ghost use Rattle.ent_line.specs.Reports.{who_text, work_text};
+ghost use Rattle.ent_line.specs.Reports.{counts_data, decision_data, notice_data, pair_data, triple_data};
+ghost use Rattle.ent_line.specs.Reports.{by_rule_reply, can_reply, changes_reply, counts_reply, notices_reply};
+ghost use Rattle.ent_line.specs.Reports.{who_reply, work_reply};
 
 use crate::cell::decision_text;
 use ent_combine::Outcome;
@@ -103,8 +104,8 @@ fn write_pairs(out: &mut JsonText, found: &[(Text, Text)]) -> Result<(), AllocEr
     out.end_array()
 }
 
-/// Writes people, to the end of their list.
-fn write_people(out: &mut JsonText, people: &[Text]) -> Result<(), AllocError>
+/// Writes names, to the end of their list.
+pub(crate) fn write_people(out: &mut JsonText, people: &[Text]) -> Result<(), AllocError>
     ensures { OnOk result (out.new ≡ out.old ++ items_tokens_of (map json.string people.now)) }
 {
     for person in people {
@@ -198,7 +199,7 @@ fn write_changes_reply(
     notices: &[Notice],
     serial: u64,
 ) -> Result<(), AllocError>
-    ensures { OnOk result (out.new ≡ out.old ++ tokens_of (changes_data notices.now serial)) }
+    ensures { OnOk result (out.new ≡ out.old ++ tokens_of (changes_reply notices.now serial)) }
 {
     begin_list(out, "changes")?;
     write_notices(out, notices)?;
@@ -208,7 +209,7 @@ fn write_changes_reply(
 
 /// The text of the reply to `counts`.
 pub(crate) fn counts_text(alloc: Global, counts: Counts) -> Result<String, AllocError>
-    ensures { IfOk result (λ s. string_bytes s ≡ counts_text counts) }
+    ensures { IfOk result (λ s. string_bytes s ≡ compact_text (counts_reply counts)) }
 {
     let mut out = JsonText::with_room(alloc)?;
     write_counts_reply(&mut out, counts)?;
@@ -217,7 +218,7 @@ pub(crate) fn counts_text(alloc: Global, counts: Counts) -> Result<String, Alloc
 
 /// The text of the reply to `can`.
 pub(crate) fn can_text(alloc: Global, found: &[(Text, Text)]) -> Result<String, AllocError>
-    ensures { IfOk result (λ s. string_bytes s ≡ can_text found.now) }
+    ensures { IfOk result (λ s. string_bytes s ≡ compact_text (can_reply found.now)) }
 {
     let mut out = JsonText::with_room(alloc)?;
     write_can_reply(&mut out, found)?;
@@ -226,7 +227,7 @@ pub(crate) fn can_text(alloc: Global, found: &[(Text, Text)]) -> Result<String, 
 
 /// The text of the reply to `who`.
 pub(crate) fn who_text(alloc: Global, people: &[Text]) -> Result<String, AllocError>
-    ensures { IfOk result (λ s. string_bytes s ≡ who_text people.now) }
+    ensures { IfOk result (λ s. string_bytes s ≡ compact_text (who_reply people.now)) }
 {
     let mut out = JsonText::with_room(alloc)?;
     write_who_reply(&mut out, people)?;
@@ -238,7 +239,7 @@ pub(crate) fn by_rule_text(
     alloc: Global,
     found: &[(Text, Text, Text)],
 ) -> Result<String, AllocError>
-    ensures { IfOk result (λ s. string_bytes s ≡ by_rule_text found.now) }
+    ensures { IfOk result (λ s. string_bytes s ≡ compact_text (by_rule_reply found.now)) }
 {
     let mut out = JsonText::with_room(alloc)?;
     write_by_rule_reply(&mut out, found)?;
@@ -247,7 +248,7 @@ pub(crate) fn by_rule_text(
 
 /// The text of the reply to `notices`.
 pub(crate) fn notices_text(alloc: Global, notices: &[Notice]) -> Result<String, AllocError>
-    ensures { IfOk result (λ s. string_bytes s ≡ notices_text notices.now) }
+    ensures { IfOk result (λ s. string_bytes s ≡ compact_text (notices_reply notices.now)) }
 {
     let mut out = JsonText::with_room(alloc)?;
     write_notices_reply(&mut out, notices)?;
@@ -260,7 +261,7 @@ pub(crate) fn changes_text(
     notices: &[Notice],
     serial: u64,
 ) -> Result<String, AllocError>
-    ensures { IfOk result (λ s. string_bytes s ≡ changes_text notices.now serial) }
+    ensures { IfOk result (λ s. string_bytes s ≡ compact_text (changes_reply notices.now serial)) }
 {
     let mut out = JsonText::with_room(alloc)?;
     write_changes_reply(&mut out, notices, serial)?;
@@ -268,9 +269,9 @@ pub(crate) fn changes_text(
 }
 
 /// The text of the reply to `work`: how many times a request was evaluated.
-#[tactic(auto, unfolding(crate::specs::Reports::work_text))]
+#[tactic(auto, unfolding(crate::specs::Reports::work_reply))]
 pub(crate) fn work_text(alloc: Global, evaluations: u128) -> Result<String, AllocError>
-    ensures { IfOk result (λ s. string_bytes s ≡ work_text evaluations) }
+    ensures { IfOk result (λ s. string_bytes s ≡ compact_text (work_reply evaluations)) }
 {
     let mut number = Buffer::new();
     let mut text = String::from_str(alloc, "{\"evaluations\":")?;

@@ -5,6 +5,7 @@ ghost use Rattle.std.specs.Prelude.{option_copied, option_map, string_bytes};
 ghost use Rattle.std.specs.List.{list_any};
 ghost use Rattle.std.specs.Option.{option_map_or};
 ghost use Rattle.serde_json.specs.View.{items_of};
+ghost use Rattle.serde_json.specs.Written.{compact_text};
 ghost use Rattle.ent_combine.specs.declared.outcome.Outcome.{Outcome};
 ghost use Rattle.ent_request.specs.declared.answer.Answer.{Answer};
 ghost use Rattle.ent_json.specs.Members.{only_member};
@@ -12,10 +13,9 @@ ghost use Rattle.ent_json.specs.Text.{tokens_of};
 ghost use Rattle.ent_json.specs.proofs_only.Text.{items_tokens_of};
 ghost use Rattle.ent_table.specs.Left.{cells_left};
 ghost use Rattle.ent_table.specs.Names.{Triple, has_name, list_of, triple_of};
-ghost use Rattle.ent_line.specs.Cells.{cell_data, cells_text, list_data};
+ghost use Rattle.ent_line.specs.Cells.{cell_data, cells_reply, list_data};
 ghost use Rattle.ent_line.specs.Commands.{cells_told};
 ghost use Rattle.ent_line.specs.Wanted.{has_decision, is_asked, is_word_of};
-ghost use Rattle.ent_line.specs.World.{IsReady, world_of};
 ghost use Rattle.ent_line.specs.proofs_only.CommandView.{wanted_view};
 ghost use Rattle.ent_line.specs.proofs_only.Replying.{Tells};
 ghost use Rattle.ent_line.specs.proofs_only.Selecting.{holds, names_listed, selects};
@@ -178,7 +178,7 @@ fn cells_text(
     cells: Cells<'_>,
 ) -> Result<String, AllocError>
     ensures { IfOk result (λ s. string_bytes s
-        ≡ cells_text (filter (selects selection.entry) (cells_left cells.entry))) }
+        ≡ compact_text (cells_reply (filter (selects selection.entry) (cells_left cells.entry)))) }
 {
     let mut out = JsonText::with_room(alloc)?;
     write_reply(alloc, &mut out, selection, cells)?;
@@ -189,7 +189,7 @@ impl<A: Attributes, P: Policies> Service<A, P> {
     /// Whether a name is listed, if one is given.
     fn is_listed(&self, list: List, name: Option<&str>) -> bool
         ensures { result ≡ option_map_or
-            (λ n. has_name n (list_of list (world_of A.sources P.slots self.now).state.names))
+            (λ n. has_name n (list_of list self.now.world.state.names))
             (option_copied name.entry) true }
     {
         match name {
@@ -205,7 +205,7 @@ impl<A: Attributes, P: Policies> Service<A, P> {
         action: Option<&str>,
         resource: Option<&str>,
     ) -> bool
-        ensures { result ≡ names_listed (world_of A.sources P.slots self.now).state.names
+        ensures { result ≡ names_listed self.now.world.state.names
             (option_copied person.entry) (option_copied action.entry) (option_copied resource.entry) }
     {
         self.is_listed(List::People, person)
@@ -216,8 +216,7 @@ impl<A: Attributes, P: Policies> Service<A, P> {
     /// `cells`.
     #[tactic(auto, unfolding(crate::specs::Commands::cells_told))]
     pub(crate) fn cells<J: JsonTree>(&self, wanted: Wanted<'_, J>) -> Result<Reply, AllocError>
-        requires { IsReady A.sources P.slots self.now }
-        ensures { Tells A.sources P.slots (λ w. cells_told w.state (wanted_view J.content wanted.entry))
+        ensures { Tells (λ w. cells_told w.state (wanted_view J.content wanted.entry))
             self.now result }
     {
         if !self.are_listed(wanted.person, wanted.action, wanted.resource) {

@@ -3,7 +3,6 @@
 ghost use Rattle.std.specs.Prelude.{◌≡◌, ◌<◌, OnOk, Ok, vec_len};
 ghost use Rattle.std.specs.Result.{result_ok};
 ghost use Rattle.ent_table.specs.Names.{triple_of};
-ghost use Rattle.ent_report.specs.Desk as held;
 ghost use Rattle.ent_line.specs.Asked as asked;
 ghost use Rattle.ent_line.specs.Asked.{command_in};
 ghost use Rattle.ent_line.specs.proofs_only.CommandView.{change_view, command_view, question_view};
@@ -12,13 +11,15 @@ ghost use Rattle.ent_line.specs.History.{asked_by};
 ghost use Rattle.ent_line.specs.Commands.{cell_told, edited, heard, made, request_answered, requested, run};
 ghost use Rattle.ent_line.specs.Commands.{table_told, told};
 ghost use Rattle.ent_line.specs.Edits.{edit_of, unread};
+ghost use Rattle.ent_line.specs.Replies.{answered};
 ghost use Rattle.ent_line.specs.Step.{data_of};
 ghost use Rattle.ent_line.specs.Work.{asked_work, command_work, edit_work};
-ghost use Rattle.ent_line.specs.World.{IsReady, beside_of, count_of, world_of};
+ghost use Rattle.ent_line.specs.World.{beside_of, counted_of};
 
 use crate::answering::Answering;
+use crate::asking::command_in;
 use crate::cell::{one_cell_text, response_text, table_text};
-use crate::command::{Change, Command, Question, command_in};
+use crate::command::{Change, Command, Question};
 use crate::input::LINE_LIMIT;
 use crate::making::{NoEdit, read_edit};
 use crate::refusal::{Refusal, refused_edit};
@@ -30,6 +31,7 @@ use ent_report::Desk;
 use ent_table::{Edit, EditFault, LAST_SERIAL};
 use json::Scratch;
 use std::alloc::{AllocError, Global};
+use std::marker::Model;
 use std::mem;
 
 /// A desk whose edits, reports and marks are asked for by lines of JSON.
@@ -39,10 +41,21 @@ use std::mem;
 /// question changes nothing but the count of evaluations, and a mark keeps the present table for its session. A refused
 /// line changes nothing, but where memory is wanting its evaluations may be counted.
 #[derive(Drop)]
-pub struct Service<A = AttributeFinder, P = PolicyFinder> {
+pub struct Service<A: Attributes = AttributeFinder, P: Policies = PolicyFinder> {
     pub(crate) alloc: Global,
     pub(crate) desk: Desk<A, P>,
     scratch: Vec<Scratch>,
+}
+
+impl<A: Attributes, P: Policies> Model for Service<A, P> {
+    ghost use Rattle.ent_report.specs.Desk.{Desked};
+    ghost use Rattle.ent_report.specs.proofs_only.Codes.{desked_code};
+
+    ghost Value = { Desked };
+
+    ghost coded = { desked_code };
+
+    ghost view = { λ s. s.desk };
 }
 
 /// Puts a scratch into a list that has none.
@@ -59,11 +72,7 @@ fn fill(alloc: Global, scratch: &mut Vec<Scratch>) -> Result<(), AllocError>
 impl<A: Attributes, P: Policies> Service<A, P> {
     /// A service over a desk as it stands.
     pub fn new(alloc: Global, desk: Desk<A, P>) -> Service<A, P>
-        requires { held.IsReady A.sources P.slots desk }
-        ensures ready { IsReady A.sources P.slots result }
-        ensures world { world_of A.sources P.slots result ≡ held.world_of A.sources P.slots desk }
-        ensures count { count_of result ≡ desk.review.pdp.evaluations }
-        ensures from { result.desk.review.log.from ≡ desk.review.log.from }
+        ensures { result ≡ desk }
     {
         Service {
             alloc,
@@ -75,11 +84,9 @@ impl<A: Attributes, P: Policies> Service<A, P> {
     /// Makes an edit.
     #[tactic(auto, using(crate::proofs::KeptLemmas::edit_remembers))]
     pub(crate) fn edit(&mut self, edit: Edit) -> Result<Reply, AllocError>
-        requires { IsReady A.sources P.slots self.old }
-        ensures ready { IsReady A.sources P.slots self.new }
-        ensures reply { Replies A.sources P.slots (λ w. edited w edit) self.old self.new result }
-        ensures work { Works A.sources P.slots (λ s. edit_work s (Ok edit)) self.old self.new result }
-        ensures remembered { RemembersBy A.sources P.slots self.old self.new result }
+        ensures reply { Replies (λ w. edited w edit) self.old self.new result }
+        ensures work { Works (λ s. edit_work s (Ok edit)) self.old self.new result }
+        ensures remembered { RemembersBy self.old self.new result }
     {
         match self.desk.edit(edit) {
             Ok(accepted) => Ok(Reply::Accepted(accepted)),
@@ -89,7 +96,7 @@ impl<A: Attributes, P: Policies> Service<A, P> {
 
     /// The refusal of what can't be read, of which the last serial is told first.
     fn unread(&self, fault: EditFault) -> EditFault
-        ensures { result ≡ unread (world_of A.sources P.slots self.now).state fault }
+        ensures { result ≡ unread self.now.world.state fault }
     {
         if self.desk.review().serial() >= LAST_SERIAL {
             EditFault::Limit
@@ -101,13 +108,11 @@ impl<A: Attributes, P: Policies> Service<A, P> {
     /// Makes the edit of a change.
     #[tactic(auto, using(crate::proofs::KeptLemmas::edit_remembers))]
     fn change<J: JsonTree>(&mut self, change: Change<'_, J>) -> Result<Reply, AllocError>
-        requires { IsReady A.sources P.slots self.old }
-        ensures ready { IsReady A.sources P.slots self.new }
-        ensures reply { Replies A.sources P.slots (λ w. made w (edit_of (change_view J.content change.entry)))
+        ensures reply { Replies (λ w. made w (edit_of (change_view J.content change.entry)))
             self.old self.new result }
-        ensures work { Works A.sources P.slots (λ s. edit_work s (edit_of (change_view J.content change.entry)))
+        ensures work { Works (λ s. edit_work s (edit_of (change_view J.content change.entry)))
             self.old self.new result }
-        ensures remembered { RemembersBy A.sources P.slots self.old self.new result }
+        ensures remembered { RemembersBy self.old self.new result }
     {
         match read_edit(self.alloc, change) {
             Ok(edit) => self.edit(edit),
@@ -120,8 +125,7 @@ impl<A: Attributes, P: Policies> Service<A, P> {
     /// `table`.
     #[tactic(auto, unfolding(crate::specs::Commands::table_told))]
     fn table(&self) -> Result<Reply, AllocError>
-        requires { IsReady A.sources P.slots self.now }
-        ensures { Tells A.sources P.slots (λ w. table_told w.state) self.now result }
+        ensures { Tells (λ w. table_told w.state) self.now result }
     {
         let text = table_text(self.alloc, self.desk.review().cells())?;
         Ok(Reply::Text(text))
@@ -130,8 +134,7 @@ impl<A: Attributes, P: Policies> Service<A, P> {
     /// `cell`.
     #[tactic(auto, unfolding(crate::specs::Commands::cell_told))]
     fn cell(&self, person: &str, action: &str, resource: &str) -> Result<Reply, AllocError>
-        requires { IsReady A.sources P.slots self.now }
-        ensures { Tells A.sources P.slots (λ w. cell_told w.state (triple_of person.now action.now resource.now))
+        ensures { Tells (λ w. cell_told w.state (triple_of person.now action.now resource.now))
             self.now result }
     {
         match self.desk.review().cell(person, action, resource) {
@@ -146,13 +149,11 @@ impl<A: Attributes, P: Policies> Service<A, P> {
     /// `ask`.
     #[tactic(auto, using(crate::proofs::KeptLemmas::ask_keeps), unfolding(crate::specs::Commands::request_answered))]
     fn ask<J: JsonTree>(&mut self, json: &J) -> Result<Reply, AllocError>
-        requires { IsReady A.sources P.slots self.old }
-        ensures ready { IsReady A.sources P.slots self.new }
-        ensures reply { Replies A.sources P.slots (λ w. (request_answered w.state (J.content json.now), w))
+        ensures reply { Replies (λ w. (answered (request_answered w.state (J.content json.now)), w))
             self.old self.new result }
-        ensures work { Works A.sources P.slots (λ s. command_work s (asked.question (asked.ask (J.content json.now))))
+        ensures work { Works (λ s. command_work s (asked.question (asked.ask (J.content json.now))))
             self.old self.new result }
-        ensures kept { Keeps A.sources P.slots self.old self.new }
+        ensures kept { Keeps self.old self.new }
     {
         match read_request(self.alloc, json) {
             Ok(request) => {
@@ -172,15 +173,15 @@ impl<A: Attributes, P: Policies> Service<A, P> {
         session: u8,
         question: Question<'_, J>,
     ) -> Result<Reply, AllocError>
-        requires ready { IsReady A.sources P.slots self.old }
-        requires session { session < 16 }
-        ensures ready { IsReady A.sources P.slots self.new }
-        ensures reply { Replies A.sources P.slots
-            (λ w. (told (beside_of A.sources P.slots self.old) w session (question_view J.content question.entry), w))
+        requires { session < 16 }
+        ensures reply { Replies (λ w. (
+          answered (told (beside_of self.old) w session (question_view J.content question.entry)),
+          w,
+        ))
             self.old self.new result }
-        ensures work { Works A.sources P.slots
+        ensures work { Works
             (λ s. command_work s (asked.question (question_view J.content question.entry))) self.old self.new result }
-        ensures kept { Keeps A.sources P.slots self.old self.new }
+        ensures kept { Keeps self.old self.new }
     {
         match question {
             Question::Table => self.table(),
@@ -199,11 +200,13 @@ impl<A: Attributes, P: Policies> Service<A, P> {
             Question::Cells(wanted) => self.cells(wanted),
             Question::Attributes(category, entity) => self.attributes(category, entity),
             Question::Documents(id) => self.documents(id),
-            Question::ExplainCell(person, action, resource) => {
-                self.explain_cell(person, action, resource)
+            Question::ExplainCell(whole, person, action, resource) => {
+                self.explain_cell(whole, person, action, resource)
             }
-            Question::Explain(request) => self.explain(request),
+            Question::Explain(whole, request) => self.explain(whole, request),
             Question::Faults => self.faults(),
+            Question::Limits => self.limits(),
+            Question::Names(list, from, count) => self.names(list, from, count),
         }
     }
 
@@ -214,15 +217,13 @@ impl<A: Attributes, P: Policies> Service<A, P> {
         session: u8,
         command: Command<'_, J>,
     ) -> Result<Reply, AllocError>
-        requires ready { IsReady A.sources P.slots self.old }
-        requires session { session < 16 }
-        ensures ready { IsReady A.sources P.slots self.new }
-        ensures reply { Replies A.sources P.slots
-            (λ w. run (beside_of A.sources P.slots self.old) w session (command_view J.content command.entry))
+        requires { session < 16 }
+        ensures reply { Replies
+            (λ w. run (beside_of self.old) w session (command_view J.content command.entry))
             self.old self.new result }
-        ensures work { Works A.sources P.slots (λ s. command_work s (command_view J.content command.entry))
+        ensures work { Works (λ s. command_work s (command_view J.content command.entry))
             self.old self.new result }
-        ensures remembered { RemembersBy A.sources P.slots self.old self.new result }
+        ensures remembered { RemembersBy self.old self.new result }
     {
         match command {
             Command::Change(change) => self.change(change),
@@ -233,14 +234,12 @@ impl<A: Attributes, P: Policies> Service<A, P> {
 
     /// Does what a JSON value asks for.
     fn answer<J: JsonTree>(&mut self, value: &J) -> Result<Reply, AllocError>
-        requires { IsReady A.sources P.slots self.old }
-        ensures ready { IsReady A.sources P.slots self.new }
-        ensures reply { Replies A.sources P.slots
-            (λ w. requested (beside_of A.sources P.slots self.old) w (command_in (J.content value.now)))
+        ensures reply { Replies
+            (λ w. requested (beside_of self.old) w (command_in (J.content value.now)))
             self.old self.new result }
-        ensures work { Works A.sources P.slots (λ s. asked_work s (result_ok (command_in (J.content value.now))))
+        ensures work { Works (λ s. asked_work s (result_ok (command_in (J.content value.now))))
             self.old self.new result }
-        ensures remembered { RemembersBy A.sources P.slots self.old self.new result }
+        ensures remembered { RemembersBy self.old self.new result }
     {
         match command_in(value) {
             Ok((session, command)) => self.run(session, command),
@@ -250,12 +249,10 @@ impl<A: Attributes, P: Policies> Service<A, P> {
 
     /// Does what a line asks for whose JSON is read over that scratch.
     fn respond_over(&mut self, line: &[u8], scratch: &mut Scratch) -> Result<Reply, AllocError>
-        requires { IsReady A.sources P.slots self.old }
-        ensures ready { IsReady A.sources P.slots self.new }
-        ensures reply { Replies A.sources P.slots
-            (λ w. heard (beside_of A.sources P.slots self.old) w (data_of line.now)) self.old self.new result }
-        ensures work { Works A.sources P.slots (λ s. asked_work s (asked_by line.now)) self.old self.new result }
-        ensures remembered { RemembersBy A.sources P.slots self.old self.new result }
+        ensures reply { Replies
+            (λ w. heard (beside_of self.old) w (data_of line.now)) self.old self.new result }
+        ensures work { Works (λ s. asked_work s (asked_by line.now)) self.old self.new result }
+        ensures remembered { RemembersBy self.old self.new result }
     {
         match read_json(self.alloc, line, scratch)? {
             Some(value) => self.answer(&value),
@@ -266,12 +263,10 @@ impl<A: Attributes, P: Policies> Service<A, P> {
     /// Does what a line asks for that isn't too long. One scratch is kept from line to line, since a new one costs
     /// as much as a short line.
     fn respond(&mut self, line: &[u8]) -> Result<Reply, AllocError>
-        requires { IsReady A.sources P.slots self.old }
-        ensures ready { IsReady A.sources P.slots self.new }
-        ensures reply { Replies A.sources P.slots
-            (λ w. heard (beside_of A.sources P.slots self.old) w (data_of line.now)) self.old self.new result }
-        ensures work { Works A.sources P.slots (λ s. asked_work s (asked_by line.now)) self.old self.new result }
-        ensures remembered { RemembersBy A.sources P.slots self.old self.new result }
+        ensures reply { Replies
+            (λ w. heard (beside_of self.old) w (data_of line.now)) self.old self.new result }
+        ensures work { Works (λ s. asked_work s (asked_by line.now)) self.old self.new result }
+        ensures remembered { RemembersBy self.old self.new result }
     {
         let mut scratch = mem::replace(&mut self.scratch, Vec::new(self.alloc));
         fill(self.alloc, &mut scratch)?;
@@ -290,28 +285,26 @@ impl<A: Attributes, P: Policies> Answering for Service<A, P> {
 
     ghost World = { Counted };
 
-    ghost world = { counted_of A.sources P.slots };
+    ghost world = { counted_of };
 
     ghost answers = { Counts };
 
-    ghost is_ready = { IsReady A.sources P.slots };
+    ghost is_ready = { λ _. Unit {0} };
 
     ghost long_lines_alike = { long_lines_alike };
 
     /// Answers a line by one step of the service after the evaluations that it made so far, or by refusal 15 where
     /// memory is wanting, after which everything is as before but that count.
     ///
-    /// An accepted edit evaluates each cell that it touches once, and an answered request is evaluated once; where they
-    /// are refused for want of memory, no more than these are. Every other line evaluates nothing.
+    /// The count of evaluations rises by the cells that an accepted edit touches, and by one for an answered request;
+    /// where they are refused for want of memory, by no more than that; and by no other line.
     ///
     /// An accepted edit and a mark forget the tables from before the oldest mark, every other line forgets none.
     #[tactic(auto, unfolding(crate::specs::Commands::respond))]
     fn handle(&mut self, line: &[u8]) -> Reply
-        requires { IsReady A.sources P.slots self.old }
-        ensures ready { IsReady A.sources P.slots self.new }
-        ensures answer { Counts (counted_of A.sources P.slots self.old) line.now (reply_view result)
-            (counted_of A.sources P.slots self.new) }
-        ensures remembered { Remembers A.sources P.slots self.old self.new (reply_view result) }
+        ensures answer { Counts (counted_of self.old) line.now (reply_view result)
+            (counted_of self.new) }
+        ensures remembered { Remembers self.old self.new (reply_view result) }
     {
         // The count is a number of the type, so what is raised by nothing stays.
         let _before = self.desk.review().evaluations();

@@ -4,7 +4,7 @@ ghost use Rattle.std.specs.Prelude.{◌≡◌, ◌-◌, ◌≤◌, ◌&&◌, IfO
 ghost use Rattle.ent_line.specs.Headline.{Headline};
 ghost use Rattle.ent_line.specs.Serving.{ServesUntil};
 ghost use Rattle.ent_line.specs.proofs_only.Pieces.{AnswersLine};
-ghost use Rattle.ent_line.specs.World.{IsReady, counted_of};
+ghost use Rattle.ent_line.specs.World.{counted_of};
 
 use crate::answering::Answering;
 use crate::fault::ServeFault;
@@ -132,11 +132,9 @@ pub fn serve_review<A: Attributes, P: Policies, R: BufRead, W: Write>(
     reader: &mut R,
     writer: &mut W,
 ) -> Result<u64, ServeFault>
-    requires { IsReady A.sources P.slots service.old }
-    ensures ready { IsReady A.sources P.slots service.new }
     ensures headline { Headline (record {
-      start = counted_of A.sources P.slots service.old;
-      end = counted_of A.sources P.slots service.new;
+      start = counted_of service.old;
+      end = counted_of service.new;
       unread = R.remaining reader.old;
       left = R.remaining reader.new;
       wrote = W.contents writer.old;

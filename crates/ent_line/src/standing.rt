@@ -5,6 +5,7 @@ ghost use Rattle.std.specs.Prelude.{string_bytes};
 ghost use Rattle.std.specs.FinMap.{len};
 ghost use Rattle.json.specs.Token as token;
 ghost use Rattle.serde_json.specs.Data as json;
+ghost use Rattle.serde_json.specs.Written.{compact_text};
 ghost use Rattle.ent_finder.specs.RowEntry.{row_entry};
 ghost use Rattle.ent_finder.specs.Rows.{filled_source, is_filled, source_at};
 ghost use Rattle.ent_finder.specs.Slots.{document_count, held};
@@ -12,12 +13,10 @@ ghost use Rattle.ent_json.specs.Members.{only_member};
 ghost use Rattle.ent_json.specs.Text.{tokens_of};
 ghost use Rattle.ent_json.specs.proofs_only.Text.{items_tokens_of};
 ghost use Rattle.ent_dump.specs.Edits.{written_root};
-ghost use Rattle.ent_report.specs.Desk as desks;
 ghost use Rattle.ent_line.specs.Commands.{state_told};
 ghost use Rattle.ent_line.specs.Cells.{reply_data};
-ghost use Rattle.ent_line.specs.Standing.{environment_data, mark_data, state_data, state_text};
+ghost use Rattle.ent_line.specs.Standing.{environment_data, mark_data, state_data, state_reply};
 ghost use Rattle.ent_line.specs.proofs_only.Standing.{marked_from, row_count};
-ghost use Rattle.ent_line.specs.World.{IsReady};
 ghost use Rattle.ent_line.specs.proofs_only.Replying.{Tells};
 
 use crate::reply::Reply;
@@ -33,7 +32,7 @@ use ent_values::Value;
 use std::alloc::{AllocError, Global};
 
 /// How many documents are held. There is no memory for more than the type can count.
-fn document_count<P: Policies>(policies: &P) -> Result<u64, AllocError>
+pub(crate) fn document_count<P: Policies>(policies: &P) -> Result<u64, AllocError>
     ensures { IfOk result (λ n. n ≡ document_count (map held (P.slots policies.now))) }
 {
     let count = policies.document_count();
@@ -203,8 +202,7 @@ fn write_state<A: Attributes, P: Policies>(
     out: &mut JsonText,
     desk: &Desk<A, P>,
 ) -> Result<(), AllocError>
-    requires { desks.IsReady A.sources P.slots desk.now }
-    ensures { OnOk result (out.new ≡ out.old ++ tokens_of (state_data (desks.world_of A.sources P.slots desk.now))) }
+    ensures { OnOk result (out.new ≡ out.old ++ tokens_of (state_data desk.now.world)) }
 {
     let review = desk.review();
     let pdp = review.pdp();
@@ -229,9 +227,8 @@ fn write_state_reply<A: Attributes, P: Policies>(
     out: &mut JsonText,
     desk: &Desk<A, P>,
 ) -> Result<(), AllocError>
-    requires { desks.IsReady A.sources P.slots desk.now }
     ensures { OnOk result (out.new
-        ≡ out.old ++ tokens_of (reply_data (codes "state") (state_data (desks.world_of A.sources P.slots desk.now)))) }
+        ≡ out.old ++ tokens_of (reply_data (codes "state") (state_data desk.now.world))) }
 {
     out.begin_object()?;
     out.key("state")?;
@@ -244,8 +241,7 @@ fn state_text<A: Attributes, P: Policies>(
     alloc: Global,
     desk: &Desk<A, P>,
 ) -> Result<String, AllocError>
-    requires { desks.IsReady A.sources P.slots desk.now }
-    ensures { IfOk result (λ s. string_bytes s ≡ state_text (desks.world_of A.sources P.slots desk.now)) }
+    ensures { IfOk result (λ s. string_bytes s ≡ compact_text (state_reply desk.now.world)) }
 {
     let mut out = JsonText::with_room(alloc)?;
     write_state_reply(alloc, &mut out, desk)?;
@@ -256,8 +252,7 @@ impl<A: Attributes, P: Policies> Service<A, P> {
     /// `state`.
     #[tactic(auto, unfolding(crate::specs::Commands::state_told))]
     pub(crate) fn state(&self) -> Result<Reply, AllocError>
-        requires { IsReady A.sources P.slots self.now }
-        ensures { Tells A.sources P.slots state_told self.now result }
+        ensures { Tells state_told self.now result }
     {
         let text = state_text(self.alloc, &self.desk)?;
         Ok(Reply::Text(text))

@@ -1,4 +1,5 @@
 pub mod Counted
+pub mod Desks
 pub mod Differing
 pub mod Marks
 pub mod Pairs

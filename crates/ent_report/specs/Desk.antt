@@ -1,31 +1,41 @@
--- The world of a desk, when a desk is ready, and what it answers.
+-- What a desk is, to those who call it, and what it answers.
 use Rattle.std.specs.Prelude.{◌≡◌, ℕ, ◌≤◌, List, length, map, Option, Some, None, option_map, IfSome, Result, Ok, Err}
 use Rattle.std.specs.List.{All}
-use Rattle.ent_finder.specs.Rows.{Source}
-use Rattle.ent_finder.specs.Slots.{Slots}
 use Rattle.ent_table.specs.AnswerMap.{AnswerMap}
-use Rattle.ent_table.specs.Review.{IsFresh, state_of}
+use Rattle.ent_table.specs.Reviewed.{Past, Reviewed}
 use Rattle.ent_table.specs.State.{State}
 use Rattle.ent_report.specs.Notices.{notices}
 use Rattle.ent_report.specs.Reports.{counts}
 use Rattle.ent_report.specs.Serials.{mark_at}
-use Rattle.ent_report.specs.World.{World, marked, marked_table}
+use Rattle.ent_report.specs.World.{World, marked_table}
 use Rattle.ent_report.specs.declared.counts.Counts.{Counts}
-use Rattle.ent_report.specs.declared.desk.Desk.{Desk}
 use Rattle.ent_report.specs.declared.fault.NoticeFault.{NoticeFault}
 use Rattle.ent_report.specs.declared.fault.NoticeFault.TheVariants as notice_fault
 use Rattle.ent_report.specs.declared.fault.ReportFault.{ReportFault}
 use Rattle.ent_report.specs.declared.fault.ReportFault.TheVariants as report_fault
 use Rattle.ent_report.specs.declared.notices.Notice.{Notice}
 
--- the world of a desk whose attributes have these sources and whose policies these slots: each mark is the table at the serial that is kept
-abbrev pub world_of : {A P : Type 0} → (A → List Source) → (P → List Slots) → Desk A P → World
-world_of sources slots desk = record {
-  state = state_of sources slots desk.review;
-  marks = map (option_map (mark_at sources slots desk.review)) desk.marks;
+-- a world, what is known of the tables before it, how many times a request was evaluated, and counts that are kept
+pub record Desked : Type 0 where
+  pub world : World
+  pub past : Past
+  pub evaluations : ℕ
+  pub counts : Option Counts
+
+-- the review of a desk
+abbrev pub review_of : Desked → Reviewed
+review_of d = record { state = d.world.state; past = d.past; evaluations = d.evaluations }
+
+-- the desk of a review, marks and counts: each mark is the table at the serial that is kept
+abbrev pub desk_of : Reviewed → List (Option ℕ) → Option Counts → Desked
+desk_of review marks counts = record {
+  world = record { state = review.state; marks = map (option_map (mark_at review)) marks };
+  past = review.past;
+  evaluations = review.evaluations;
+  counts = counts;
 }
 
--- ---- when a desk is ready
+-- ---- what stands in a desk
 
 -- each mark is a serial whose table is known
 abbrev pub AreMarks : ℕ → ℕ → List (Option ℕ) → Type 0
@@ -36,32 +46,19 @@ abbrev pub AreCountsOf : State → Option Counts → Type 0
 AreCountsOf s None = Unit {0}
 AreCountsOf s (Some c) = c ≡ counts s
 
--- the present table is the fresh one, that of each mark is known, and kept counts are those of the present table
-pub record IsReady {A P : Type 0} (sources : A → List Source) (slots : P → List Slots) (desk : Desk A P) : Type 0 where
-  pub fresh : IsFresh sources slots desk.review
-  pub kept : AreMarks desk.review.log.from desk.review.log.serial desk.marks
-  pub sixteen : length desk.marks ≡ 16
-  pub counts : AreCountsOf (state_of sources slots desk.review) desk.counts
+-- the table of each of sixteen marks is known, and kept counts are those of the present table
+pub record IsReady (review : Reviewed) (marks : List (Option ℕ)) (known : Option Counts) : Type 0 where
+  pub kept : AreMarks review.past.from review.state.serial marks
+  pub sixteen : length marks ≡ 16
+  pub counts : AreCountsOf review.state known
 
--- ---- what becomes of the world, and what is answered in it
-
--- the world stays
-abbrev pub KeepsWorld : {A P : Type 0} → (A → List Source) → (P → List Slots) → Desk A P → Desk A P → Type 0
-KeepsWorld sources slots old new = world_of sources slots new ≡ world_of sources slots old
-
--- a session marks the present table, and nothing else changes
-abbrev pub Marks : {A P : Type 0} → (A → List Source) → (P → List Slots) → ℕ → Desk A P → Desk A P → Type 0
-Marks sources slots session old new = world_of sources slots new ≡ marked (world_of sources slots old) session
+-- ---- what is answered
 
 -- a report is that of its definition, or memory is wanting
 abbrev pub IsReported : {A : Type 0} → Result A ReportFault → Result A ReportFault → Type 0
 IsReported report (Ok x) = report ≡ Ok x
 IsReported report (Err report_fault.NotThere) = report ≡ Err report_fault.NotThere
 IsReported report (Err report_fault.Memory) = Unit {0}
-
--- the same of the report of the present state
-abbrev pub Reports : {A P B : Type 0} → (A → List Source) → (P → List Slots) → (State → Result B ReportFault) → Desk A P → Result B ReportFault → Type 0
-Reports sources slots report desk result = IsReported (report (world_of sources slots desk).state) result
 
 -- what a session that has this mark is told
 abbrev pub IsNoticed : Option AnswerMap → State → Result (List Notice) NoticeFault → Type 0

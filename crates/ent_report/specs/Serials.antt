@@ -1,9 +1,7 @@
 -- Marks by the serials at which they were made, and the oldest of them.
 use Rattle.std.specs.Prelude.{ℕ, List, [], ◌∷◌, map, min, Option, Some, None, option_map}
-use Rattle.ent_finder.specs.Rows.{Source}
-use Rattle.ent_finder.specs.Slots.{Slots}
 use Rattle.ent_table.specs.Tables.{table_at_serial}
-use Rattle.ent_table.specs.declared.review.Review.{Review}
+use Rattle.ent_table.specs.Reviewed.{Reviewed}
 use Rattle.ent_report.specs.World.{Mark, World}
 
 -- the serial of each session's mark
@@ -17,5 +15,5 @@ oldest (None ∷ marks) serial = oldest marks serial
 oldest (Some n ∷ marks) serial = min n (oldest marks serial)
 
 -- the mark that was made at a serial
-abbrev pub mark_at : {A P : Type 0} → (A → List Source) → (P → List Slots) → Review A P → ℕ → Mark
-mark_at sources slots v n = record { serial = n; table = table_at_serial sources slots v n }
+abbrev pub mark_at : Reviewed → ℕ → Mark
+mark_at review n = record { serial = n; table = table_at_serial review n }

@@ -1,21 +1,20 @@
 //! The desk: a review, and the marks of its sessions.
 
-ghost use Rattle.std.specs.Prelude.{◌≡◌, ◌+◌, ◌-◌, ◌<◌, ◌≤◌, ◌^◌, min, IfOk, Some, option_copied};
+ghost use Rattle.std.specs.Prelude.{◌≡◌, ◌+◌, ◌-◌, ◌<◌, ◌≤◌, ◌^◌, min, IfOk, None, Some, option_copied};
 ghost use Rattle.ent_walk.specs.Answer.{causes, recorded};
 ghost use Rattle.ent_request.specs.Held.{looks_in};
 ghost use Rattle.ent_table.specs.Ask.{answer_in};
-ghost use Rattle.ent_table.specs.Change.{Edits, IsSure};
+ghost use Rattle.ent_table.specs.Change.{Edits, IsIdle, IsSure};
 ghost use Rattle.ent_table.specs.Counted.{IsCounted};
-ghost use Rattle.ent_table.specs.Review.{IsFresh, IsIdle, OnlyEvaluates, state_of};
 ghost use Rattle.ent_table.specs.Step.{step};
 ghost use Rattle.ent_table.specs.Tables.{table_at_serial};
-ghost use Rattle.ent_report.specs.Desk.{IsNoticed, IsNoticedIn, IsReady, KeepsWorld, Marks, Reports, world_of};
+ghost use Rattle.ent_report.specs.Desk.{IsNoticed, IsNoticedIn, IsReported, review_of};
 ghost use Rattle.ent_report.specs.Kept.{Forgets, Remembers};
 ghost use Rattle.ent_report.specs.Known.{known_of};
 ghost use Rattle.ent_report.specs.Notices.{notices};
 ghost use Rattle.ent_report.specs.Reports.{by_rule, can, counts, who};
 ghost use Rattle.ent_report.specs.Serials.{mark_serials, oldest};
-ghost use Rattle.ent_report.specs.World.{unmarked};
+ghost use Rattle.ent_report.specs.World.{marked, unmarked};
 
 use crate::counts::{Counts, counted};
 use crate::fault::{NoticeFault, ReportFault};
@@ -26,6 +25,7 @@ use ent_finder::{AttributeFinder, Attributes, Policies, PolicyFinder};
 use ent_table::{Accepted, Edit, EditFault, List, Review};
 use ent_values::{Items, Text};
 use std::alloc::{AllocError, Global};
+use std::marker::Model;
 
 /// How many sessions there are. They are numbered from 0 on.
 pub const SESSIONS: u8 = 16;
@@ -34,12 +34,27 @@ pub const SESSIONS: u8 = 16;
 /// what edits changed since the oldest mark, and nothing from before it. Counts of the table may be kept until the next
 /// edit.
 #[derive(Drop)]
-pub struct Desk<A = AttributeFinder, P = PolicyFinder> {
+pub struct Desk<A: Attributes = AttributeFinder, P: Policies = PolicyFinder> {
     pub(crate) alloc: Global,
     pub(crate) review: Review<A, P>,
     pub(crate) marks: [Option<u64>; 16],
     // The counts of the present table, if they were kept since the last edit.
     pub(crate) counts: Option<Counts>,
+}
+
+impl<A: Attributes, P: Policies> Model for Desk<A, P> {
+    ghost use Rattle.ent_report.specs.Desk.{Desked};
+    ghost use Rattle.ent_report.specs.proofs_only.Codes.{desked_code};
+
+    ghost Value = { Desked };
+
+    ghost coded = { desked_code };
+
+    ghost use Rattle.ent_report.specs.Desk.{IsReady, desk_of};
+
+    ghost view = { λ d. desk_of d.review d.marks d.counts };
+
+    ghost invariant = { λ d. IsReady d.review d.marks d.counts };
 }
 
 /// The oldest mark, or the serial where there is none.
@@ -58,12 +73,10 @@ fn oldest(marks: &[Option<u64>], serial: u64) -> u64
 impl<A: Attributes, P: Policies> Desk<A, P> {
     /// A desk with a review and no marks.
     pub fn new(alloc: Global, review: Review<A, P>) -> Desk<A, P>
-        requires { IsFresh A.sources P.slots review }
-        ensures ready { IsReady A.sources P.slots result }
-        ensures world { world_of A.sources P.slots result
-            ≡ record { state = state_of A.sources P.slots review; marks = unmarked } }
-        ensures evaluations { result.review.pdp.evaluations ≡ review.pdp.evaluations }
-        ensures from { result.review.log.from ≡ review.log.from }
+        ensures world { result.world ≡ record { state = review.state; marks = unmarked } }
+        ensures past { result.past ≡ review.past }
+        ensures evaluations { result.evaluations ≡ review.evaluations }
+        ensures counts { result.counts ≡ None }
     {
         Desk {
             alloc,
@@ -78,25 +91,22 @@ impl<A: Attributes, P: Policies> Desk<A, P> {
 
     /// The review.
     pub fn review(&self) -> &Review<A, P>
-        ensures { result.now ≡ self.now.review }
+        ensures { result.now ≡ review_of self.now }
     {
         &self.review
     }
 
     /// The serial of each session's mark, in the order of the sessions.
     pub fn marks(&self) -> &[Option<u64>]
-        ensures { result.now ≡ mark_serials (world_of A.sources P.slots self.now) }
+        ensures { result.now ≡ mark_serials self.now.world }
     {
         &self.marks
     }
 
     /// Forgets what changed before the oldest mark, or before now where there is none. The marks stay.
     fn forget(&mut self)
-        requires { IsReady A.sources P.slots self.old }
-        ensures ready { IsReady A.sources P.slots self.new }
-        ensures world { KeepsWorld A.sources P.slots self.old self.new }
-        ensures forgotten { Forgets A.sources P.slots self.old self.new }
-        ensures rest { self.new ≡ record self.old { review = record self.old.review { log = self.new.review.log } } }
+        ensures rest { self.new ≡ record self.old { past = self.new.past } }
+        ensures forgotten { Forgets self.old self.new }
     {
         let oldest = oldest(&self.marks, self.review.serial());
         self.review.forget_before(oldest);
@@ -108,17 +118,13 @@ impl<A: Attributes, P: Policies> Desk<A, P> {
     /// An accepted edit counts one evaluation of each cell that it touches. Dropping a name evaluates nothing and takes
     /// no memory.
     pub fn edit(&mut self, edit: Edit) -> Result<Accepted, EditFault>
-        requires { IsReady A.sources P.slots self.old }
-        ensures ready { IsReady A.sources P.slots self.new }
-        ensures step { Edits A.sources P.slots (λ s. step s edit) self.old.review self.new.review result }
-        ensures sure { IsSure A.sources P.slots edit self.old.review result }
-        ensures idle { IsIdle edit self.old.review.pdp.evaluations self.new.review.pdp.evaluations }
-        ensures counted { IsCounted (step (world_of A.sources P.slots self.old).state edit)
-            (world_of A.sources P.slots self.old).state
-            self.old.review.pdp.evaluations self.new.review.pdp.evaluations result }
-        ensures marks { (world_of A.sources P.slots self.new).marks ≡ (world_of A.sources P.slots self.old).marks }
-        ensures serials { self.new.marks ≡ self.old.marks }
-        ensures remembered { Remembers A.sources P.slots self.old self.new result }
+        ensures step { Edits (λ s. step s edit) self.old.world.state self.new.world.state result }
+        ensures sure { IsSure edit self.old.world.state result }
+        ensures idle { IsIdle edit self.old.evaluations self.new.evaluations }
+        ensures counted { IsCounted (step self.old.world.state edit) self.old.world.state
+            self.old.evaluations self.new.evaluations result }
+        ensures marks { self.new.world.marks ≡ self.old.world.marks }
+        ensures remembered { Remembers self.old self.new result }
     {
         let accepted = self.review.edit(edit)?;
         self.counts = None;
@@ -136,12 +142,8 @@ impl<A: Attributes, P: Policies> Desk<A, P> {
     ///
     /// `AllocError` if memory runs out.
     pub fn ask(&mut self, request: &Request) -> Result<Answer, AllocError>
-        requires { IsReady A.sources P.slots self.old }
-        ensures ready { IsReady A.sources P.slots self.new }
-        ensures answer { IfOk result (λ a. a ≡ answer_in (world_of A.sources P.slots self.old).state request.now) }
-        ensures counted { self.new.review.pdp.evaluations ≡ min (self.old.review.pdp.evaluations + 1) (2 ^ 128 - 1) }
-        ensures rest { OnlyEvaluates self.old.review self.new.review }
-        ensures world { KeepsWorld A.sources P.slots self.old self.new }
+        ensures answer { IfOk result (λ a. a ≡ answer_in self.old.world.state request.now) }
+        ensures rest { self.new ≡ record self.old { evaluations = min (self.old.evaluations + 1) (2 ^ 128 - 1) } }
     {
         self.review.ask(request)
     }
@@ -154,17 +156,10 @@ impl<A: Attributes, P: Policies> Desk<A, P> {
     ///
     /// `AllocError` if memory runs out.
     pub fn explain(&mut self, request: &Request) -> Result<Explained, AllocError>
-        requires { IsReady A.sources P.slots self.old }
-        ensures ready { IsReady A.sources P.slots self.new }
-        ensures answer { IfOk result
-            (λ e. e.answer ≡ answer_in (world_of A.sources P.slots self.old).state request.now) }
-        ensures reads { IfOk result
-            (λ e. e.reads ≡ recorded (looks_in (world_of A.sources P.slots self.old).state.held) request.now) }
-        ensures causes { IfOk result
-            (λ e. e.causes ≡ causes (looks_in (world_of A.sources P.slots self.old).state.held) request.now) }
-        ensures counted { self.new.review.pdp.evaluations ≡ min (self.old.review.pdp.evaluations + 1) (2 ^ 128 - 1) }
-        ensures rest { OnlyEvaluates self.old.review self.new.review }
-        ensures world { KeepsWorld A.sources P.slots self.old self.new }
+        ensures answer { IfOk result (λ e. e.answer ≡ answer_in self.old.world.state request.now) }
+        ensures reads { IfOk result (λ e. e.reads ≡ recorded (looks_in self.old.world.state.held) request.now) }
+        ensures causes { IfOk result (λ e. e.causes ≡ causes (looks_in self.old.world.state.held) request.now) }
+        ensures rest { self.new ≡ record self.old { evaluations = min (self.old.evaluations + 1) (2 ^ 128 - 1) } }
     {
         self.review.explain(request)
     }
@@ -173,16 +168,11 @@ impl<A: Attributes, P: Policies> Desk<A, P> {
     /// no memory, so there is always a serial. Nothing is evaluated, and nothing is kept of what changed before the mark
     /// that is now the oldest.
     pub fn mark(&mut self, session: u8) -> Result<u64, AllocError>
-        requires ready { IsReady A.sources P.slots self.old }
-        requires session { session < 16 }
-        ensures ready { IsReady A.sources P.slots self.new }
-        ensures serial { result ≡ Ok (world_of A.sources P.slots self.old).state.serial }
-        ensures marks { Marks A.sources P.slots session self.old self.new }
-        ensures forgotten { Forgets A.sources P.slots self.old self.new }
-        ensures rest { self.new ≡ record self.old {
-          review = record self.old.review { log = self.new.review.log };
-          marks = self.new.marks;
-        } }
+        requires { session < 16 }
+        ensures serial { result ≡ Ok self.old.world.state.serial }
+        ensures rest { self.new
+            ≡ record self.old { world = marked self.old.world session; past = self.new.past } }
+        ensures forgotten { Forgets self.old self.new }
     {
         let serial = self.review.serial();
         self.marks[session as usize] = Some(serial);
@@ -192,11 +182,10 @@ impl<A: Attributes, P: Policies> Desk<A, P> {
 
     /// The requests whose answers differ between the table at a serial that is known and now.
     fn difference(&self, serial: u64) -> Result<Items<Notice>, AllocError>
-        requires ready { IsReady A.sources P.slots self.now }
-        requires kept { self.now.review.log.from ≤ serial }
-        requires reached { serial ≤ (world_of A.sources P.slots self.now).state.serial }
-        ensures { IfOk result (λ ns. ns ≡ notices (table_at_serial A.sources P.slots self.now.review serial)
-            (world_of A.sources P.slots self.now).state) }
+        requires kept { self.now.past.from ≤ serial }
+        requires reached { serial ≤ self.now.world.state.serial }
+        ensures { IfOk result
+            (λ ns. ns ≡ notices (table_at_serial (review_of self.now) serial) self.now.world.state) }
     {
         let changes = self.review.changes_since(serial)?;
         notices_of(self.alloc, changes)
@@ -205,9 +194,8 @@ impl<A: Attributes, P: Policies> Desk<A, P> {
     /// The requests whose answers differ between the session's mark and now, in byte order of person, then action, then
     /// resource. The mark stays. It takes time in proportion to what edits changed since the mark, times a logarithm.
     pub fn notices(&self, session: u8) -> Result<Items<Notice>, NoticeFault>
-        requires ready { IsReady A.sources P.slots self.now }
-        requires session { session < 16 }
-        ensures { IsNoticedIn (world_of A.sources P.slots self.now) session result }
+        requires { session < 16 }
+        ensures { IsNoticedIn self.now.world session result }
     {
         let Some(serial) = self.marks[session as usize] else {
             return Err(NoticeFault::NoMark);
@@ -223,9 +211,7 @@ impl<A: Attributes, P: Policies> Desk<A, P> {
     ///
     /// `NoticeFault::NoMark` if the table at the serial isn't known; `NoticeFault::Memory` if memory runs out.
     pub fn changes_since(&self, serial: u64) -> Result<Items<Notice>, NoticeFault>
-        requires { IsReady A.sources P.slots self.now }
-        ensures { IsNoticed (known_of A.sources P.slots self.now serial) (world_of A.sources P.slots self.now).state
-            result }
+        ensures { IsNoticed (known_of self.now serial) self.now.world.state result }
     {
         if serial < self.review.kept_from() || self.review.serial() < serial {
             return Err(NoticeFault::NoMark);
@@ -235,8 +221,7 @@ impl<A: Attributes, P: Policies> Desk<A, P> {
 
     /// Counts the cells of each decision.
     fn counted(&self) -> Counts
-        requires { IsReady A.sources P.slots self.now }
-        ensures { result ≡ counts (world_of A.sources P.slots self.now).state }
+        ensures { result ≡ counts self.now.world.state }
     {
         // There are no more cells than a machine word can count, so no count exceeds its type.
         let _count = self.review.cell_count();
@@ -246,8 +231,7 @@ impl<A: Attributes, P: Policies> Desk<A, P> {
     /// How many cells have each decision. It takes no memory, and visits no cell where `keep_counts` was called since
     /// the last edit.
     pub fn counts(&self) -> Counts
-        requires { IsReady A.sources P.slots self.now }
-        ensures { result ≡ counts (world_of A.sources P.slots self.now).state }
+        ensures { result ≡ counts self.now.world.state }
     {
         match self.counts {
             Some(counts) => counts,
@@ -258,19 +242,14 @@ impl<A: Attributes, P: Policies> Desk<A, P> {
     /// Counts the cells of each decision if that wasn't done since the last edit, and keeps the counts until the next
     /// one. It takes no memory.
     pub fn keep_counts(&mut self)
-        requires { IsReady A.sources P.slots self.old }
-        ensures ready { IsReady A.sources P.slots self.new }
-        ensures kept { self.new.counts ≡ Some (counts (world_of A.sources P.slots self.old).state) }
-        ensures rest { self.new ≡ record self.old { counts = self.new.counts } }
-        ensures world { KeepsWorld A.sources P.slots self.old self.new }
+        ensures { self.new ≡ record self.old { counts = Some (counts self.old.world.state) } }
     {
         self.counts = Some(self.counts());
     }
 
     /// What a person may do: the actions and resources of the person's Permit cells, in list order.
     pub fn can(&self, person: &str) -> Result<Items<(Text, Text)>, ReportFault>
-        requires { IsReady A.sources P.slots self.now }
-        ensures { Reports A.sources P.slots (λ s. can s person.now) self.now result }
+        ensures { IsReported (can self.now.world.state person.now) result }
     {
         if !self.review.listed(List::People, person) {
             return Err(ReportFault::NotThere);
@@ -280,8 +259,7 @@ impl<A: Attributes, P: Policies> Desk<A, P> {
 
     /// Who may do an action to a resource: the people of the Permit cells, in list order.
     pub fn who(&self, action: &str, resource: &str) -> Result<Items<Text>, ReportFault>
-        requires { IsReady A.sources P.slots self.now }
-        ensures { Reports A.sources P.slots (λ s. who s action.now resource.now) self.now result }
+        ensures { IsReported (who self.now.world.state action.now resource.now) result }
     {
         if !self.review.listed(List::Actions, action)
             || !self.review.listed(List::Resources, resource)
@@ -302,9 +280,7 @@ impl<A: Attributes, P: Policies> Desk<A, P> {
         policy: &str,
         rule: Option<&str>,
     ) -> Result<Items<(Text, Text, Text)>, ReportFault>
-        requires { IsReady A.sources P.slots self.now }
-        ensures { Reports A.sources P.slots
-            (λ s. Ok (by_rule s policy.now (option_copied rule.entry))) self.now result }
+        ensures { IsReported (Ok (by_rule self.now.world.state policy.now (option_copied rule.entry))) result }
     {
         Ok(by_rule_in(self.alloc, policy, rule, self.review.cells())?)
     }

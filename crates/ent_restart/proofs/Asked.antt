@@ -33,7 +33,7 @@ use Rattle.ent_table.specs.declared.edit.Edit.TheVariants.{AddPolicy, ReplacePol
 use Rattle.ent_table.specs.declared.edit.List.TheVariants as which
 use Rattle.ent_dump.specs.Edits.{edit_data}
 use Rattle.ent_line.specs.Asked as asked
-use Rattle.ent_line.specs.Asked.{Change, command_in, form_of, name_of, naming, setting, storing, withdrawing}
+use Rattle.ent_line.specs.Asked.{Change, command_in, form_of, naming, setting, storing, withdrawing}
 use Rattle.ent_line.specs.Keys.{AskedRow, category_named, kind_named, row_in}
 use Rattle.ent_line.specs.Edits.{edit_of, key_of_row, row_fault, row_read, values_in}
 use Rattle.ent_restart.specs.Carried.{IsRead, IsReadRow, values_of}
@@ -99,8 +99,8 @@ row_few key vs x good h = by (values_in key.datatype (items_of (map value_writte
 
 row_asked : (number : ℕ) (category entity attribute : List ℕ) (datatype : DataType) (issuer : Option (List ℕ)) (vs : List Value) → category_named category ≡ Some category
     → let key : RowKey = record { category = category; entity = entity; attribute = attribute; datatype = datatype; issuer = issuer } in
-    command_in (edit_data (SetAttribute number key vs)) ≡ Ok (0, asked.change (asked.set_attribute number (asked_row key vs)))
-unfolding edit_data command_in name_of form_of setting row_in
+    command_in (edit_data (SetAttribute number key vs)) ≡ Ok (0, asked.change (asked.set_attribute (Some number) (asked_row key vs)))
+unfolding edit_data command_in form_of setting row_in
 row_asked number category entity attribute datatype None vs h = rw h refl
 row_asked number category entity attribute datatype (Some issuer) vs h = rw h refl
 
@@ -109,10 +109,10 @@ row_asked number category entity attribute datatype (Some issuer) vs h = rw h re
 pub asked_of : Edit → Change
 asked_of (AddName list name) = asked.add_name list name
 asked_of (DropName list name) = asked.drop_name list name
-asked_of (AddPolicy number document) = asked.add_policy number (written document)
-asked_of (ReplacePolicy number document) = asked.replace_policy number (written document)
-asked_of (WithdrawPolicy number key) = asked.withdraw_policy number key.kind key.id (version_text key.version)
-asked_of (SetAttribute number key values) = asked.set_attribute number (asked_row key values)
+asked_of (AddPolicy number document) = asked.add_policy (Some number) (written document)
+asked_of (ReplacePolicy number document) = asked.replace_policy (Some number) (written document)
+asked_of (WithdrawPolicy number key) = asked.withdraw_policy (Some number) key.kind key.id (version_text key.version)
+asked_of (SetAttribute number key values) = asked.set_attribute (Some number) (asked_row key values)
 asked_of (SetRoot None) = asked.set_root json.null
 asked_of (SetRoot (Some root)) = asked.set_root (reference_written root)
 asked_of (SetDay None) = asked.set_day None
@@ -126,7 +126,7 @@ kind_back kinds.PolicySet = refl
 
 -- it asks for that, in session 0
 pub command_asked : (e : Edit) → IsRead e → command_in (edit_data e) ≡ Ok (0, asked.change (asked_of e))
-unfolding asked_of edit_data command_in name_of form_of naming storing withdrawing reference_written
+unfolding asked_of edit_data command_in form_of naming storing withdrawing reference_written
 command_asked (AddName which.People name) h = refl
 command_asked (AddName which.Actions name) h = refl
 command_asked (AddName which.Resources name) h = refl

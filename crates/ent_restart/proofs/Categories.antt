@@ -9,7 +9,7 @@ use Rattle.ent_request.specs.Uris as uris
 use Rattle.ent_line.proofs.ChangeLemmas.{HoldsOfReads, change_asked}
 use Rattle.ent_line.specs.Asked as asked
 use Rattle.ent_line.specs.Asked.{Change, command_in, naming, setting, storing, withdrawing}
-use Rattle.ent_line.specs.Keys.{◌>>=◌, AskedRow, category_named, kind_named, module_in, null_or_text_at, row_in}
+use Rattle.ent_line.specs.Keys.{◌>>=◌, AskedRow, category_named, kind_named, null_or_text_at, number_at, row_in}
 use Rattle.ent_polform.proofs.TypedValues.{AreSized, IsSized, then_there}
 use Rattle.ent_restart.proofs.Sized.{array_sized, get_sized, line_sized}
 use Rattle.ent_restart.proofs.Utf8Data.{AreUtf8Items, IfThere, IsUtf8Data, array_utf8, get_utf8, line_utf8, text_utf8}
@@ -142,26 +142,26 @@ name_given : (make : List ℕ → Change) (d : Data) → IsOfLine d → ((name :
 unfolding naming
 name_given make d line more = last_gives IsUtf8 make (text_at (codes "name") d) (text_utf8 (codes "name") d line.utf8) more
 
-document_given : (make : ℕ → Data → Change) (d : Data) → IsOfLine d → ((number : ℕ) (document : Data) → IsUtf8Data document → IsWhole (make number document)) → Gives IsWhole (storing make d)
+document_given : (make : Option ℕ → Data → Change) (d : Data) → IsOfLine d → ((number : Option ℕ) (document : Data) → IsUtf8Data document → IsWhole (make number document)) → Gives IsWhole (storing make d)
 unfolding storing
 document_given make d line more =
-    then_part (module_in d) _ (λ number. last_gives IsUtf8Data (make number) (get (codes "document") d) (get_utf8 (codes "document") d line.utf8) (more number))
+    then_part (number_at (codes "module") 0 d) _ (λ number. last_gives IsUtf8Data (make number) (get (codes "document") d) (get_utf8 (codes "document") d line.utf8) (more number))
 
 withdraw_given : (d : Data) → IsOfLine d → Gives IsWhole (withdrawing d)
 unfolding withdrawing
 withdraw_given d line =
-    then_part (module_in d) _ (λ number.
+    then_part (number_at (codes "module") 0 d) _ (λ number.
     then_part (text_at (codes "kind") d >>= kind_named) _ (λ kind.
     part_gives IsUtf8 (text_at (codes "id") d) _ (text_utf8 (codes "id") d line.utf8) (λ id is.
     then_last (asked.withdraw_policy number kind id) (text_at (codes "version") d) (λ version. is))))
 
-row_set : (number : ℕ) (o : Option AskedRow) → Gives IsWholeRow o → Gives IsWhole (option_map (asked.set_attribute number) o)
+row_set : (number : Option ℕ) (o : Option AskedRow) → Gives IsWholeRow o → Gives IsWhole (option_map (asked.set_attribute number) o)
 row_set number None h = record { is = tt }
 row_set number (Some row) h = record { is = h.is }
 
 row_given : (d : Data) → IsOfLine d → Gives IsWhole (setting d)
 unfolding setting
-row_given d line = then_part (module_in d) _ (λ number. row_set number (row_in d) (row_named d line))
+row_given d line = then_part (number_at (codes "module") 0 d) _ (λ number. row_set number (row_in d) (row_named d line))
 
 -- what is read in a line is whole
 whole_reads : (d : Data) → IsOfLine d → HoldsOfReads IsWhole d

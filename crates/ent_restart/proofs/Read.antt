@@ -28,7 +28,7 @@ use Rattle.ent_table.specs.declared.edit.EditFault.TheVariants.{BadValue}
 use Rattle.ent_table.specs.declared.edit.Edit.TheVariants.{AddPolicy, ReplacePolicy, WithdrawPolicy, SetAttribute, AddName, DropName, SetRoot, SetDay, SetMoment}
 use Rattle.ent_line.specs.Asked as asked
 use Rattle.ent_line.specs.Asked.{Change, command_in}
-use Rattle.ent_line.specs.Edits.{edit_of, if_read, key_of_row, root_of, row_fault, row_read, values_in, with_read}
+use Rattle.ent_line.specs.Edits.{edit_of, if_read, key_of_row, module_number, root_of, row_fault, row_read, values_in, with_read}
 use Rattle.ent_line.specs.Keys.{AskedRow, category_named}
 use Rattle.ent_restart.specs.Carried.{IsRead, IsReadRow}
 use Rattle.ent_restart.proofs.Categories.{IsOfLine, IsWhole, change_read}
@@ -120,12 +120,12 @@ root_read (json.object ms) o h = reference_read (json.object ms) o h
 edit_read : (c : Change) (e : Edit) → IsWhole c → edit_of c ≡ Ok e → IsRead e
 edit_read (asked.add_name list name) e good h = let same : AddName list name ≡ e = cc in subst IsRead same tt
 edit_read (asked.drop_name list name) e good h = let same : DropName list name ≡ e = cc in subst IsRead same tt
-edit_read (asked.add_policy number d) e good h = read_with IsRead (AddPolicy number) (document_of d) e (document_checked d) h
-edit_read (asked.replace_policy number d) e good h = read_with IsRead (ReplacePolicy number) (document_of d) e (document_checked d) h
+edit_read (asked.add_policy number d) e good h = read_with IsRead (AddPolicy (module_number number)) (document_of d) e (document_checked d) h
+edit_read (asked.replace_policy number d) e good h = read_with IsRead (ReplacePolicy (module_number number)) (document_of d) e (document_checked d) h
 edit_read (asked.withdraw_policy number kind id written) e good h =
-    read_if IsRead (λ version. WithdrawPolicy number (record { kind = kind; id = id; version = version })) BadValue (version_of written) e (λ version is. is_version_of written version is) h
+    read_if IsRead (λ version. WithdrawPolicy (module_number number) (record { kind = kind; id = id; version = version })) BadValue (version_of written) e (λ version is. is_version_of written version is) h
 edit_read (asked.set_attribute number row) e good h =
-    read_if IsRead (λ x. SetAttribute number x.0 x.1) (row_fault row) (row_read row) e (λ x is. row_typed row x good.category good.sized is) h
+    read_if IsRead (λ x. SetAttribute (module_number number) x.0 x.1) (row_fault row) (row_read row) e (λ x is. row_typed row x good.category good.sized is) h
 edit_read (asked.set_root d) e good h = read_with IsRead SetRoot (root_of d) e (root_read d) h
 edit_read (asked.set_day None) e good h = let same : SetDay None ≡ e = cc in subst IsRead same tt
 edit_read (asked.set_day (Some written)) e good h = read_if IsRead (λ day. SetDay (Some day)) BadValue (date_of written) e (date_real written) h

@@ -1,15 +1,16 @@
 -- The lines of a reply that tells a dump.
-use Rattle.std.proofs.Common.{◌≡◌, ℕ, ◌≤◌, List, [], ◌∷◌, map, Bool, true, false, Some, refl, sym, ap, subst, ◌∙◌, arith, IsUtf8}
+use Rattle.std.proofs.Common.{◌≡◌, ℕ, ◌≤◌, List, [], ◌∷◌, map, Bool, true, false, Some, Ok, Err, refl, sym, ap, subst, ◌∙◌, arith, IsUtf8}
 use Rattle.std.specs.Prelude.{◌==◌, codes, if◌then◌else◌, option_and_then}
 use Rattle.std.specs.List.{AllByRecursion, list_any}
 use Rattle.std.proofs.lemmas.Bool.Decides.{nat_tests}
 use Rattle.std.proofs.lemmas.Str.{is_utf8-from_IsUtf8}
 use Rattle.serde_json.specs.Data as json
+use Rattle.serde_json.specs.Data.{Data}
 use Rattle.serde_json.specs.View.{items_of}
 use Rattle.serde_json.specs.Written.{compact_text}
 use Rattle.ent_table.specs.declared.edit.Edit.{Edit}
 use Rattle.ent_rebuild.specs.Rebuilding.{emptied, rebuilding}
-use Rattle.ent_dump.specs.Dumped.{dump_text, dumped, format_data}
+use Rattle.ent_dump.specs.Dumped.{dump_data, dump_text, dumped, format_data}
 use Rattle.ent_dump.specs.Edits.{edit_data}
 use Rattle.ent_dump.specs.Reply.{lines_in, reply_data, texts_of, told_lines}
 use Rattle.ent_table.specs.State.{State}
@@ -17,7 +18,7 @@ use Rattle.ent_report.specs.World.{World}
 use Rattle.ent_line.specs.Commands.{dump_told}
 use Rattle.ent_line.specs.Dumping.{can_tell, is_moment}
 use Rattle.ent_line.specs.Lines.{NoNewline}
-use Rattle.ent_line.specs.Replies.{Answer, refused, text}
+use Rattle.ent_line.specs.Replies.{Answer, answered, text}
 use Rattle.ent_line.specs.Runs.{Run}
 use Rattle.ent_line.specs.Step.{Answers}
 use Rattle.ent_line.specs.declared.refusal.Refusal.TheVariants.{BadValue}
@@ -85,21 +86,21 @@ replies_read_back version start w lines answers nothing few run is =
 
 -- ---- the reply to `dump`
 
-told_dump : (version : ℕ) (s : State) (reply : List ℕ) → dump_told (Some version) s ≡ text reply → (can_tell version s.held.environment ≡ true) × (dump_text version s ≡ reply)
-unfolding dump_told
-told_dump version s reply h = by (can_tell version s.held.environment) refl (dump_text version s) h
+told_dump : (version : ℕ) (s : State) (reply : List ℕ) → answered (dump_told (Some version) s) ≡ text reply → (can_tell version s.held.environment ≡ true) × (dump_text version s ≡ reply)
+unfolding dump_told dump_text
+told_dump version s reply h = by (can_tell version s.held.environment) refl (dump_data version s) h
   where
-    by : (b : Bool) → can_tell version s.held.environment ≡ b → (written : List ℕ) → (if b then text written else refused BadValue) ≡ text reply
-        → (can_tell version s.held.environment ≡ true) × (written ≡ reply)
-    by true is written h = (is, cc)
-    by false is written h = absurd cc
+    by : (b : Bool) → can_tell version s.held.environment ≡ b → (d : Data) → answered (if b then Ok d else Err BadValue) ≡ text reply
+        → (can_tell version s.held.environment ≡ true) × (compact_text d ≡ reply)
+    by true is d h = (is, cc)
+    by false is d h = absurd cc
 
 there_is : {A : Type 0} (x y : A) → Some x ≡ Some y → x ≡ y
 there_is x y h = cc
 
 -- the lines that are read of what `dump` is answered are those of the dump
 lines_told : (version : ℕ) (start w : World) (lines told : List (List ℕ)) (answers : List Answer) (reply : List ℕ) → start.state ≡ emptied start.state → HasFewModules start.state → Run Answers start lines answers w
-    → dump_told (Some version) w.state ≡ text reply → texts_of reply ≡ Some told → (can_tell version w.state.held.environment ≡ true) × (dumped version w.state ≡ told)
+    → answered (dump_told (Some version) w.state) ≡ text reply → texts_of reply ≡ Some told → (can_tell version w.state.held.environment ≡ true) × (dumped version w.state ≡ told)
 lines_told version start w lines told answers reply nothing few run answered reads =
     let dump = told_dump version w.state reply answered in
     let is = version_told version (is_moment w.state.held.environment) dump.0 in

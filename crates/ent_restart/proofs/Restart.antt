@@ -29,13 +29,13 @@ use Rattle.ent_dump.specs.Dumped.{dumped, format_data}
 use Rattle.ent_dump.specs.Edits.{edit_data}
 use Rattle.ent_report.specs.World.{World}
 use Rattle.ent_line.specs.Asked as asked
-use Rattle.ent_line.specs.Asked.{command_in, form_of, name_of}
+use Rattle.ent_line.specs.Asked.{command_in, form_of}
 use Rattle.ent_line.specs.Beside.{Beside}
 use Rattle.ent_line.specs.Commands.{edited, format_told, heard, made, requested, respond, run, settled, told}
-use Rattle.ent_line.specs.Dumping.{format_text, is_moment, is_version}
+use Rattle.ent_line.specs.Dumping.{format_reply, is_moment, is_version}
 use Rattle.ent_line.specs.Edits.{edit_of}
 use Rattle.ent_line.specs.Lines.{line_limit}
-use Rattle.ent_line.specs.Replies.{Answer, accepted, refused, text}
+use Rattle.ent_line.specs.Replies.{Answer, accepted, answered, refused, text}
 use Rattle.ent_line.specs.Runs.{Run}
 use Rattle.ent_line.specs.Step.{Answers, data_of}
 use Rattle.ent_line.specs.declared.making.NoEdit.{NoEdit}
@@ -214,14 +214,14 @@ version_told version moment h = by (version == 1) (version == 2) moment h
     by false false moment h = absurd cc
 
 format_asked : (version : ℕ) → command_in (format_data version) ≡ Ok (0, asked.question (asked.format (Some version)))
-unfolding command_in name_of form_of
+unfolding command_in form_of
 format_asked version = refl
 
-format_run : (n : Beside) (w : World) (version : ℕ) → is_version version ≡ true → run n w 0 (asked.question (asked.format (Some version))) ≡ (text (format_text version), w)
+format_run : (n : Beside) (w : World) (version : ℕ) → is_version version ≡ true → run n w 0 (asked.question (asked.format (Some version))) ≡ (answered (Ok (format_reply version)), w)
 unfolding run told format_told
 format_run n w version h = rw h refl
 
-line_formats : (n : Beside) (w : World) (line : List ℕ) (version : ℕ) → IsLineOf (format_data version) line → is_version version ≡ true → respond n w line ≡ (text (format_text version), w)
+line_formats : (n : Beside) (w : World) (line : List ℕ) (version : ℕ) → IsLineOf (format_data version) line → is_version version ≡ true → respond n w line ≡ (answered (Ok (format_reply version)), w)
 line_formats n w line version is h =
     short_heard n w line is.short ∙ ap (heard n w) is.reads ∙ ap (requested n w) (format_asked version) ∙ format_run n w version h
 
@@ -260,7 +260,7 @@ taken : (version : ℕ) (es : List Edit) (u v : World) (t : State) (line : List 
     → stepped u.state es ≡ Ok t → Run Answers u (line ∷ lines) answers v → AllByRecursion IsNoWant answers → AreTaken version answers × (v.state ≡ t) × (v.marks ≡ u.marks)
 taken version es u v t line lines [] is formats good few are leads run plenty = absurd run
 taken version es u v t line lines (a ∷ answers) is formats good few are leads (mid, one, others) plenty =
-    let answer : (a, mid) ≡ (text (format_text version), u) = no_want u mid line a _ plenty.0 (λ n. line_formats n u line version formats is) one in
+    let answer : (a, mid) ≡ (answered (Ok (format_reply version)), u) = no_want u mid line a _ plenty.0 (λ n. line_formats n u line version formats is) one in
     let there : mid ≡ u = ap (λ y. y.1) answer in
     let rest = lines_lead es u v t lines answers good few are leads (subst (λ (x : World). Run Answers x lines answers v) there others) plenty.1 in
     ((ap (λ y. y.0) answer, rest.0), rest.1, rest.2)
@@ -294,7 +294,7 @@ text_told a reply h why is = let clash : text reply ≡ refused why = sym h ∙ 
 
 all_told : (version : ℕ) (answers : List Answer) → AreTaken version answers → AllByRecursion IsTold answers
 all_told version [] h = absurd h
-all_told version (a ∷ answers) h = (text_told a (format_text version) h.0, others answers h.1)
+all_told version (a ∷ answers) h = (text_told a (compact_text (format_reply version)) h.0, others answers h.1)
   where
     others : (answers : List Answer) → AllByRecursion IsAccepted answers → AllByRecursion IsTold answers
     others [] g = tt

@@ -41,7 +41,7 @@ use Rattle.ent_dump.specs.Edits.{adding, document_data, dropping, edit_data, nam
 use Rattle.ent_line.specs.Asked as asked
 use Rattle.ent_line.specs.Asked.{Change, command_in}
 use Rattle.ent_line.specs.Keys.{AskedRow}
-use Rattle.ent_line.specs.Edits.{edit_of, key_of_row, root_of, row_fault, row_read, values_in}
+use Rattle.ent_line.specs.Edits.{edit_of, key_of_row, module_number, root_of, row_fault, row_read, values_in}
 use Rattle.ent_restart.proofs.Categories.{IsOfLine, IsWhole, IsWholeRow, category_utf8, change_read}
 use Rattle.ent_polform.proofs.TypedValues.{date_real, moment_real}
 use Rattle.ent_restart.proofs.Read.{read_if, read_with, then_read}
@@ -209,16 +209,16 @@ unfolding edit_data
 edit_utf8 (asked.add_name list name) e u h = let same : AddName list name ≡ e = cc in subst IsUtf8Edit same (name_data_utf8 (adding list) name (adding_ascii list) u)
 edit_utf8 (asked.drop_name list name) e u h = let same : DropName list name ≡ e = cc in subst IsUtf8Edit same (name_data_utf8 (dropping list) name (dropping_ascii list) u)
 edit_utf8 (asked.add_policy number d) e u h =
-    read_with IsUtf8Edit (AddPolicy number) (document_of d) e (λ t is. document_data_utf8 (codes "policy.add") number t refl (document_utf8 d t u is)) h
+    read_with IsUtf8Edit (AddPolicy (module_number number)) (document_of d) e (λ t is. document_data_utf8 (codes "policy.add") (module_number number) t refl (document_utf8 d t u is)) h
 edit_utf8 (asked.replace_policy number d) e u h =
-    read_with IsUtf8Edit (ReplacePolicy number) (document_of d) e (λ t is. document_data_utf8 (codes "policy.replace") number t refl (document_utf8 d t u is)) h
+    read_with IsUtf8Edit (ReplacePolicy (module_number number)) (document_of d) e (λ t is. document_data_utf8 (codes "policy.replace") (module_number number) t refl (document_utf8 d t u is)) h
 edit_utf8 (asked.withdraw_policy number kind id text) e u h =
-    read_if IsUtf8Edit (λ version. WithdrawPolicy number (record { kind = kind; id = id; version = version })) BadValue (version_of text) e (λ version is.
+    read_if IsUtf8Edit (λ version. WithdrawPolicy (module_number number) (record { kind = kind; id = id; version = version })) BadValue (version_of text) e (λ version is.
     object_utf8 ((codes "do", Some (json.string (codes "policy.withdraw"))) ∷ (codes "id", Some (json.string id)) ∷ (codes "kind", Some (json.string (kind_word kind)))
-    ∷ (codes "module", Some (json.number (json.unsigned number))) ∷ (codes "version", Some (json.string (version_text version))) ∷ [])
+    ∷ (codes "module", Some (json.number (json.unsigned (module_number number)))) ∷ (codes "version", Some (json.string (version_text version))) ∷ [])
     ((refl, ascii_string (codes "policy.withdraw") refl), ((refl, u), ((refl, kind_utf8 kind), ((refl, tt), ((refl, version_utf8 version), tt)))))) h
 edit_utf8 (asked.set_attribute number row) e u h =
-    read_if IsUtf8Edit (λ x. SetAttribute number x.0 x.1) (row_fault row) (row_read row) e (λ x is. row_utf8 number row x u is) h
+    read_if IsUtf8Edit (λ x. SetAttribute (module_number number) x.0 x.1) (row_fault row) (row_read row) e (λ x is. row_utf8 (module_number number) row x u is) h
 edit_utf8 (asked.set_root d) e u h =
     read_with IsUtf8Edit SetRoot (root_of d) e (λ o is. one_more_utf8 (codes "reference") (codes "root.set") (written_root o) refl refl (root_data_utf8 o (root_utf8 d o u is))) h
 edit_utf8 (asked.set_day None) e u h = let same : SetDay None ≡ e = cc in subst IsUtf8Edit same (day_utf8 json.null tt)

@@ -1,5 +1,5 @@
 -- A new service that is told the dump of a state.
-use Rattle.std.specs.Prelude.{◌≡◌, ◌≢◌, ℕ, ◌≤◌, List, [], ◌∷◌, length, Some, ◌^◌, true}
+use Rattle.std.specs.Prelude.{◌≡◌, ◌≢◌, ℕ, ◌≤◌, List, [], ◌∷◌, length, Some, Ok, ◌^◌, true}
 use Rattle.std.specs.List.{AllByRecursion}
 use Rattle.ent_values.specs.ReadBack.{HasFewYears}
 use Rattle.ent_table.specs.State.{State, table_of}
@@ -9,9 +9,9 @@ use Rattle.ent_dump.specs.Dumped.{dump_text, dumped}
 use Rattle.ent_dump.specs.Reply.{texts_of}
 use Rattle.ent_report.specs.World.{World}
 use Rattle.ent_line.specs.Commands.{dump_told}
-use Rattle.ent_line.specs.Dumping.{can_tell, format_text, is_version}
+use Rattle.ent_line.specs.Dumping.{can_tell, format_reply, is_version}
 use Rattle.ent_line.specs.Lines.{NoNewline, line_limit}
-use Rattle.ent_line.specs.Replies.{Answer, accepted, refused, text}
+use Rattle.ent_line.specs.Replies.{Answer, accepted, answered, refused, text}
 use Rattle.ent_line.specs.Runs.{Run}
 use Rattle.ent_line.specs.Step.{Answers}
 use Rattle.ent_line.specs.declared.refusal.Refusal.TheVariants.{Memory}
@@ -42,7 +42,7 @@ IsAccepted other = ⊥
 -- the first line is answered by the version that it tells, and each other is accepted
 abbrev pub AreTaken : ℕ → List Answer → Type 0
 AreTaken version [] = ⊥
-AreTaken version (a ∷ answers) = (a ≡ text (format_text version)) × AllByRecursion IsAccepted answers
+AreTaken version (a ∷ answers) = (a ≡ answered (Ok (format_reply version))) × AllByRecursion IsAccepted answers
 
 -- a service was made anew: it took each line, and its state is the other's, with so many accepted edits as the state needs. So its table is the
 -- other's, and so are the lines that it tells
@@ -64,7 +64,7 @@ DumpsRestart =
     → Run Answers start (dumped version w.state) others v → AllByRecursion IsNoWant others
     → IsRestarted version start w v others
 
--- the same by what is seen of it alone: whatever was asked of a service that held nothing at its start, a service with the same start that is told the
+-- the law by what is seen of a service alone: whatever was asked of a service that held nothing at its start, a service with the same start that is told the
 -- dump of its state, answers the first line by its version and accepts each other, is made anew
 abbrev pub TakenDumpsRestart : Type 0
 TakenDumpsRestart =
@@ -86,7 +86,7 @@ abbrev pub RepliesRestart : Type 0
 RepliesRestart =
     (version : ℕ) (start w v : World) (lines told : List (List ℕ)) (answers others : List Answer) (reply : List ℕ)
     → start.state ≡ emptied start.state → HasFewModules start.state → Run Answers start lines answers w
-    → dump_told (Some version) w.state ≡ text reply → texts_of reply ≡ Some told
+    → answered (dump_told (Some version) w.state) ≡ text reply → texts_of reply ≡ Some told
     → IsShortState w.state → AllByRecursion IsShortText told → Run Answers start told others v → AllByRecursion IsNoWant others
     → IsRestarted version start w v others
 
@@ -95,7 +95,7 @@ abbrev pub TakenRepliesRestart : Type 0
 TakenRepliesRestart =
     (version : ℕ) (start w v : World) (lines told : List (List ℕ)) (answers others : List Answer) (reply : List ℕ)
     → start.state ≡ emptied start.state → HasFewModules start.state → Run Answers start lines answers w
-    → dump_told (Some version) w.state ≡ text reply → texts_of reply ≡ Some told
+    → answered (dump_told (Some version) w.state) ≡ text reply → texts_of reply ≡ Some told
     → Run Answers start told others v → AreTaken version others
     → IsRestarted version start w v others
 

@@ -5,11 +5,11 @@ use Rattle.ent_finder.specs.Rows.{Source}
 use Rattle.ent_finder.specs.Slots.{Slots, document_count}
 use Rattle.ent_log.specs.Entries.{entries_since}
 use Rattle.ent_log.specs.Tables.{IsSameLog, room_of}
-use Rattle.ent_table.specs.declared.review.Review.{Review}
-use Rattle.ent_table.specs.Change.{Stays}
+use Rattle.ent_table.specs.declared.review_parts.Parts.{Parts}
+use Rattle.ent_table.specs.proofs_only.Change.{Stays}
 use Rattle.ent_table.specs.Difference.{changes}
-use Rattle.ent_table.specs.Limits.{IsStandardAtMost}
-use Rattle.ent_table.specs.Review.{IsFresh}
+use Rattle.ent_table.specs.Limits.{IsWithinGreatest}
+use Rattle.ent_table.specs.Fresh.{IsFresh}
 use Rattle.ent_table.specs.State.{State, fresh_cells}
 use Rattle.ent_table.specs.Step.{next}
 use Rattle.ent_table.proofs.Changes.{changes-same_names}
@@ -21,13 +21,13 @@ unlike_changes s t old new names was is = (λ i. unlike_count (fresh_answers s o
 
 module _ {A P : Type 0} (sources : A → List Source) (slots : P → List Slots) where
   -- where state, cells, count of documents and what is logged are as before, the cells are right as before
-  pub fresh_again : (old new : Review A P) → IsFresh sources slots old → new.table.cells ≡ old.table.cells → new.documents ≡ old.documents
+  pub fresh_again : (old new : Parts A P) → IsFresh sources slots old → new.table.cells ≡ old.table.cells → new.documents ≡ old.documents
       → IsSameLog old.log new.log → room_of old.log ≤ room_of new.log → Stays sources slots old new → IsFresh sources slots new
   fresh_again old new is cells documents log grows same = record {
     cells = cells ∙ is.cells ∙ ap (λ (u : State). fresh_cells u) (sym same);
     documents = documents ∙ is.documents ∙ ap (λ (u : State). document_count u.held.modules) (sym same);
     serial = subst (λ n. n ≤ 2 ^ 63) (ap (λ (u : State). u.serial) (sym same)) is.serial;
-    limits = subst IsStandardAtMost (ap (λ (u : State). u.limits) (sym same)) is.limits;
+    limits = subst IsWithinGreatest (ap (λ (u : State). u.limits) (sym same)) is.limits;
     closed = (λ i. entries_since (log.serial i) (log.entries i)) ∙ is.closed;
     room = let long : length new.table.cells ≡ length old.table.cells = ap length cells in omega (arith, long, is.room, grows);
   }

@@ -33,14 +33,14 @@ use Rattle.ent_log.proofs.MapsBefore.{get-map_before, maps-stay}
 use Rattle.ent_log.proofs.Unique.{difference-same}
 use Rattle.ent_table.specs.declared.edit.List.{List as Which}
 use Rattle.ent_table.specs.declared.edit.List.TheVariants as which
-use Rattle.ent_table.specs.declared.review.Review.{Review}
+use Rattle.ent_table.specs.declared.review_parts.Parts.{Parts}
 use Rattle.ent_table.specs.AnswerMap.{answers_of}
-use Rattle.ent_table.specs.Change.{Stays}
+use Rattle.ent_table.specs.proofs_only.Change.{Keeps, Stays}
 use Rattle.ent_table.specs.Names.{Names, Triple, has_name, is_listed, list_of, triples, with_list, with_name}
-use Rattle.ent_table.specs.Review.{IsFresh, state_of}
+use Rattle.ent_table.specs.Fresh.{IsFresh, reviewed, state_of}
 use Rattle.ent_table.specs.State.{State, answer_at, answer_to, fresh_cells}
 use Rattle.ent_table.specs.proofs_only.Table.{requests_with, unanswered}
-use Rattle.ent_table.specs.Tables.{IsFreshAtSerial, KeepsTables, Logs, table_at_serial}
+use Rattle.ent_table.specs.Tables.{IsFreshAtSerial, Logs, table_at_serial}
 use Rattle.ent_table.proofs.AnswerMaps.{get-answers_of, tests}
 use Rattle.ent_table.proofs.Changes.{more_names}
 use Rattle.ent_table.proofs.Counts.{AllPass, own_listed}
@@ -165,8 +165,8 @@ undone_more s list name none =
 
 module _ {A P : Type 0} (sources : A → List Source) (slots : P → List Slots) where
   -- over an edit whose old answers undo it
-  pub kept_over : (old new : Review A P) (between : Log Who Answer) (olds : List (OldAnswer Who Answer)) → IsSameLog old.log between → Logs olds between new.log
-      → Undoes request_order olds (answer_at (state_of sources slots old)) (answer_at (state_of sources slots new)) → KeepsTables sources slots old new
+  pub kept_over : (old new : Parts A P) (between : Log Who Answer) (olds : List (OldAnswer Who Answer)) → IsSameLog old.log between → Logs olds between new.log
+      → Undoes request_order olds (answer_at (state_of sources slots old)) (answer_at (state_of sources slots new)) → Keeps sources slots old new
   kept_over old new between olds same logs undoes =
       let s : State = state_of sources slots old in
       let t : State = state_of sources slots new in
@@ -180,19 +180,19 @@ module _ {A P : Type 0} (sources : A → List Source) (slots : P → List Slots)
       }
 
   -- where the log and the state are as before
-  pub kept_stays : (old new : Review A P) → IsSameLog old.log new.log → Stays sources slots old new → KeepsTables sources slots old new
+  pub kept_stays : (old new : Parts A P) → IsSameLog old.log new.log → Stays sources slots old new → Keeps sources slots old new
   kept_stays old new same stays = record {
     from = same.from;
     each = λ n le i. map_before request_order (logged_answers (entries_since n (same.entries i))) (answers_of (stays i));
   }
 
-  pub kept_itself : (v : Review A P) → KeepsTables sources slots v v
+  pub kept_itself : (v : Parts A P) → Keeps sources slots v v
   kept_itself v = record { from = refl; each = λ n le. refl }
 
   -- the difference of a table at a serial and the present one, as that of their maps
-  pub difference_told : (v : Review A P) (n : ℕ) (changes : List (Change Who Answer))
+  pub difference_told : (v : Parts A P) (n : ℕ) (changes : List (Change Who Answer))
       → IsDifference request_order same_answer (table_at request_order v.log (answer_at (state_of sources slots v)) n) (answer_at (state_of sources slots v)) changes
-      → changes ≡ map_difference same_answer (table_at_serial sources slots v n) (answers_of (state_of sources slots v))
+      → changes ≡ map_difference same_answer (table_at_serial (reviewed sources slots v) n) (answers_of (state_of sources slots v))
   difference_told v n changes d =
       let s : State = state_of sources slots v in
       let olds : List (OldAnswer Who Answer) = logged_answers (entries_since n v.log.entries.items) in
@@ -203,5 +203,5 @@ module _ {A P : Type 0} (sources : A → List Source) (slots : P → List Slots)
       d)
 
   -- the present table is the one at the present serial
-  pub table_now : (v : Review A P) → IsFresh sources slots v → IsFreshAtSerial sources slots v
+  pub table_now : (v : Parts A P) → IsFresh sources slots v → IsFreshAtSerial (reviewed sources slots v)
   table_now v fresh = ap (λ es. map_before request_order (logged_answers es) (answers_of (state_of sources slots v))) fresh.closed

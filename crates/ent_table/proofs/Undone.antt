@@ -4,9 +4,9 @@ use Rattle.ent_finder.specs.Rows.{Source}
 use Rattle.ent_finder.specs.Slots.{Slots}
 use Rattle.ent_table.specs.declared.change.Exchange.{Exchange}
 use Rattle.ent_table.specs.declared.change.Exchange.TheVariants.{Document, Row, Root, Environment}
-use Rattle.ent_table.specs.declared.review.Review.{Review}
+use Rattle.ent_table.specs.declared.review_parts.Parts.{Parts}
 use Rattle.ent_table.specs.proofs_only.Exchange.{IsMade, IsWithin, OnlyHeld, taken, with_exchange}
-use Rattle.ent_table.specs.Review.{state_of}
+use Rattle.ent_table.specs.Fresh.{state_of}
 use Rattle.ent_table.specs.State.{State}
 use Rattle.ent_table.proofs.Exchanges.{undone}
 use Rattle.ent_table.proofs.Rows.{all_filled, filled_within, values_undone}
@@ -21,10 +21,10 @@ exchange-undone s ss (Environment environment) are h = refl
 
 module _ {A P : Type 0} where
   -- of two changes each left all but what is held
-  pub held_twice : (old between new : Review A P) → OnlyHeld old between → OnlyHeld between new → OnlyHeld old new
+  pub held_twice : (old between new : Parts A P) → OnlyHeld old between → OnlyHeld between new → OnlyHeld old new
   held_twice old between new one two =
       two
-      ∙ ap (λ (v : Review A P). record v {
+      ∙ ap (λ (v : Parts A P). record v {
         pdp = record v.pdp {
           attributes = new.pdp.attributes;
           policies = new.pdp.policies;
@@ -35,11 +35,11 @@ module _ {A P : Type 0} where
 
 module _ {A P : Type 0} (sources : A → List Source) (slots : P → List Slots) where
   -- where what was exchanged is exchanged with what stood there, the state is as before both
-  pub taken_back : (old between new : Review A P) (x back : Exchange) → IsWithin (state_of sources slots old) x → state_of sources slots between ≡ with_exchange (state_of sources slots old) x → back ≡ taken (state_of sources slots old) x
+  pub taken_back : (old between new : Parts A P) (x back : Exchange) → IsWithin (state_of sources slots old) x → state_of sources slots between ≡ with_exchange (state_of sources slots old) x → back ≡ taken (state_of sources slots old) x
       → state_of sources slots new ≡ with_exchange (state_of sources slots between) back → state_of sources slots new ≡ state_of sources slots old
   taken_back old between new x back h there is again =
       again ∙ (λ i. with_exchange (there i) (is i)) ∙ exchange-undone (state_of sources slots old) (sources old.pdp.attributes) x refl h
 
-  pub made_back : (before now new : Review A P) (back : Exchange) → IsMade sources slots before now back → state_of sources slots new ≡ with_exchange (state_of sources slots now) back
+  pub made_back : (before now new : Parts A P) (back : Exchange) → IsMade sources slots before now back → state_of sources slots new ≡ with_exchange (state_of sources slots now) back
       → state_of sources slots new ≡ state_of sources slots before
   made_back before now new back made again = taken_back before now new made.0 back made.1 made.2 made.3 again

@@ -5,11 +5,12 @@ pub mod Counted
 pub mod Difference
 pub mod Doubles
 pub mod Failed
+pub mod Fresh
 pub mod Left
 pub mod Limits
 pub mod Names
 pub mod Parts
-pub mod Review
+pub mod Reviewed
 pub mod State
 pub mod Step
 pub mod Tables

@@ -21,7 +21,7 @@ pub record State : Type 0 where
 abbrev pub answer_by : Looks → Triple → Answer
 answer_by looks t = answer looks (listed t.person t.action t.resource)
 
--- the same, evaluated afresh in a state
+-- the answer to one, evaluated afresh in a state
 abbrev pub answer_to : State → Triple → Answer
 answer_to s t = answer_by (looks_in s.held) t
 

@@ -7,42 +7,37 @@ use Rattle.ent_cells.specs.Order.{request_order}
 use Rattle.ent_cells.specs.declared.who.Who.{Who}
 use Rattle.ent_request.specs.declared.answer.Answer.{Answer}
 use Rattle.ent_request.specs.Same.{same_answer}
-use Rattle.ent_finder.specs.Rows.{Source}
-use Rattle.ent_finder.specs.Slots.{Slots}
-use Rattle.ent_log.specs.Maps.{map_at, map_difference}
+use Rattle.ent_log.specs.Entries.{answers_of as logged_answers, entries_since}
+use Rattle.ent_log.specs.Maps.{map_before, map_difference}
 use Rattle.ent_log.specs.Tables.{IsClosed, KeepsTables as KeepsBefore}
 use Rattle.ent_log.specs.declared.change.Change.{Change as Logged}
 use Rattle.ent_log.specs.declared.entry.OldAnswer.{OldAnswer}
 use Rattle.ent_log.specs.declared.log.Log.{Log}
 use Rattle.ent_table.specs.declared.since.Change.{Change}
-use Rattle.ent_table.specs.declared.review.Review.{Review}
 use Rattle.ent_table.specs.AnswerMap.{AnswerMap, answers_of}
 use Rattle.ent_table.specs.Difference.{same_optional}
 use Rattle.ent_table.specs.Names.{Triple, triple_of}
-use Rattle.ent_table.specs.Review.{state_of}
+use Rattle.ent_table.specs.Reviewed.{Reviewed}
 use Rattle.ent_table.specs.State.{State, answer_at}
 
--- the table at a serial
-abbrev pub table_at_serial : {A P : Type 0} → (A → List Source) → (P → List Slots) → Review A P → ℕ → AnswerMap
-table_at_serial sources slots v n = map_at request_order v.log (answers_of (state_of sources slots v)) n
+-- the table at a serial: the present one with the answers that changed since then put back
+abbrev pub table_at_serial : Reviewed → ℕ → AnswerMap
+table_at_serial r n =
+    map_before request_order (logged_answers (entries_since n r.past.logged)) (answers_of r.state)
 
 -- the table at each serial so far stays what it was, and as many are known as before
-pub record KeepsTables {A P : Type 0} (sources : A → List Source) (slots : P → List Slots) (old new : Review A P)
-    : Type 0 where
-  pub from : new.log.from ≡ old.log.from
-  pub each : (n : ℕ) → n ≤ (state_of sources slots old).serial
-      → table_at_serial sources slots new n ≡ table_at_serial sources slots old n
+pub record KeepsTables (old new : Reviewed) : Type 0 where
+  pub from : new.past.from ≡ old.past.from
+  pub each : (n : ℕ) → n ≤ old.state.serial → table_at_serial new n ≡ table_at_serial old n
 
 -- the table at each serial so far that is still known stays what it was
-abbrev pub LeavesTables : {A P : Type 0} → (A → List Source) → (P → List Slots) → Review A P → Review A P → Type 0
-LeavesTables sources slots old new =
-    (n : ℕ) → new.log.from ≤ n → n ≤ (state_of sources slots old).serial
-    → table_at_serial sources slots new n ≡ table_at_serial sources slots old n
+abbrev pub LeavesTables : Reviewed → Reviewed → Type 0
+LeavesTables old new =
+    (n : ℕ) → new.past.from ≤ n → n ≤ old.state.serial → table_at_serial new n ≡ table_at_serial old n
 
 -- the table at the present serial is the fresh one
-abbrev pub IsFreshAtSerial : {A P : Type 0} → (A → List Source) → (P → List Slots) → Review A P → Type 0
-IsFreshAtSerial sources slots v =
-    table_at_serial sources slots v (state_of sources slots v).serial ≡ answers_of (state_of sources slots v)
+abbrev pub IsFreshAtSerial : Reviewed → Type 0
+IsFreshAtSerial r = table_at_serial r r.state.serial ≡ answers_of r.state
 
 -- ---- what changed
 

@@ -1,4 +1,5 @@
 pub mod Change
+pub mod Codes
 pub mod Exchange
 pub mod Left
 pub mod Look

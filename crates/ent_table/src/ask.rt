@@ -2,7 +2,6 @@
 
 ghost use Rattle.std.specs.Prelude.{◌≡◌, ◌+◌, ◌-◌, ◌^◌, min, IfOk};
 ghost use Rattle.ent_table.specs.Ask.{answer_in};
-ghost use Rattle.ent_table.specs.Review.{IsFresh, OnlyEvaluates, state_of};
 
 use crate::review::Review;
 use ent_eval::{Answer, Request};
@@ -19,12 +18,9 @@ impl<A: Attributes, P: Policies> Review<A, P> {
     ///
     /// `AllocError` if memory runs out.
     pub fn ask(&mut self, request: &Request) -> Result<Answer, AllocError>
-        requires { IsFresh A.sources P.slots self.old }
-        ensures fresh { IsFresh A.sources P.slots self.new }
-        ensures answer { IfOk result (λ a. a ≡ answer_in (state_of A.sources P.slots self.old) request.now) }
-        ensures counted { self.new.pdp.evaluations ≡ min (self.old.pdp.evaluations + 1) (2 ^ 128 - 1) }
-        ensures rest { OnlyEvaluates self.old self.new }
+        ensures answer { IfOk result (λ a. a ≡ answer_in self.old.state request.now) }
+        ensures rest { self.new ≡ record self.old { evaluations = min (self.old.evaluations + 1) (2 ^ 128 - 1) } }
     {
-        self.pdp.answer(request)
+        self.parts.pdp.answer(request)
     }
 }

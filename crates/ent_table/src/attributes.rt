@@ -9,16 +9,14 @@ ghost use Rattle.ent_values.specs.Same.{same_type};
 ghost use Rattle.ent_values.specs.Types.{datatype_of};
 ghost use Rattle.ent_policy.specs.Names.{is_bad_name};
 ghost use Rattle.ent_finder.specs.Rows.{source_at};
-ghost use Rattle.ent_table.specs.Change.{Edits, Stays};
-ghost use Rattle.ent_table.specs.proofs_only.Change.{Becomes, Counted, Tries};
-ghost use Rattle.ent_table.specs.Review.{IsFresh, state_of};
+ghost use Rattle.ent_table.specs.proofs_only.Change.{Becomes, Counted, Keeps, Makes, Stays, Tries};
+ghost use Rattle.ent_table.specs.Fresh.{IsFresh, state_of};
 ghost use Rattle.ent_table.specs.proofs_only.Exchange.{row_at};
 ghost use Rattle.ent_table.specs.Step.{attribute_set, is_bad_row, is_reserved, is_source, with_values};
-ghost use Rattle.ent_table.specs.Tables.{KeepsTables};
 
 use crate::change::Exchange;
 use crate::edit::{Accepted, EditFault};
-use crate::review::Review;
+use crate::review_parts::Parts;
 use ent_eval::id_attribute;
 use ent_finder::{Attributes, Policies, RowKey};
 use ent_policy::is_bad_name;
@@ -65,7 +63,7 @@ fn is_bad_row(key: &RowKey, values: &[Value]) -> bool
         || !are_of(key.datatype, values)
 }
 
-impl<A: Attributes, P: Policies> Review<A, P> {
+impl<A: Attributes, P: Policies> Parts<A, P> {
     pub(crate) fn set_attribute(
         &mut self,
         number: usize,
@@ -74,9 +72,9 @@ impl<A: Attributes, P: Policies> Review<A, P> {
     ) -> Result<Accepted, EditFault>
         requires { IsFresh A.sources P.slots self.old }
         ensures fresh { IsFresh A.sources P.slots self.new }
-        ensures step { Edits A.sources P.slots (λ s. attribute_set s number key values) self.old self.new result }
+        ensures step { Makes A.sources P.slots (λ s. attribute_set s number key values) self.old self.new result }
         ensures counted { Counted A.sources P.slots (λ s. attribute_set s number key values) self.old self.new result }
-        ensures tables { KeepsTables A.sources P.slots self.old self.new }
+        ensures tables { Keeps A.sources P.slots self.old self.new }
     {
         self.row_fault(number, &key, values.as_slice())?;
         let documents = self.documents;

@@ -1,12 +1,11 @@
 //! What an edit changes: once it is exchanged, what was there before, so that exchanging it again takes the edit back.
 
 ghost use Rattle.std.specs.Prelude.{◌≡◌, OnErr, OnOk};
-ghost use Rattle.ent_table.specs.Change.{Stays};
-ghost use Rattle.ent_table.specs.proofs_only.Change.{Becomes};
+ghost use Rattle.ent_table.specs.proofs_only.Change.{Becomes, Stays};
 ghost use Rattle.ent_table.specs.proofs_only.Exchange.{IsMade, IsThere, IsWithin, OnlyHeld, taken, with_exchange};
-ghost use Rattle.ent_table.specs.Review.{state_of};
+ghost use Rattle.ent_table.specs.Fresh.{state_of};
 
-use crate::review::Review;
+use crate::review_parts::Parts;
 use ent_eval::Environment;
 use ent_finder::{Attributes, Policies, RowKey};
 use ent_policy::{DocKey, Document, Reference};
@@ -26,7 +25,7 @@ pub(crate) enum Exchange {
     Environment(Environment),
 }
 
-impl<A: Attributes, P: Policies> Review<A, P> {
+impl<A: Attributes, P: Policies> Parts<A, P> {
     /// Exchanges one thing of what is held. Once this is done, it can be done again without memory, and then all is as
     /// before. It evaluates nothing.
     pub(crate) fn exchange(&mut self, exchange: &mut Exchange) -> Result<(), AllocError>
@@ -62,7 +61,7 @@ impl<A: Attributes, P: Policies> Review<A, P> {
     pub(crate) fn take_back(&mut self, exchange: &mut Exchange)
         requires within { IsWithin (state_of A.sources P.slots self.old) exchange.old }
         requires there { IsThere A.sources P.slots self.old exchange.old }
-        ensures before { (before : Review A P) → IsMade A.sources P.slots before self.old exchange.old
+        ensures before { (before : Parts A P) → IsMade A.sources P.slots before self.old exchange.old
             → Stays A.sources P.slots before self.new }
         ensures rest { OnlyHeld self.old self.new }
     {

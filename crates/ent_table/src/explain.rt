@@ -4,7 +4,6 @@ ghost use Rattle.std.specs.Prelude.{◌≡◌, ◌+◌, ◌-◌, ◌^◌, min, I
 ghost use Rattle.ent_walk.specs.Answer.{causes, recorded};
 ghost use Rattle.ent_request.specs.Held.{looks_in};
 ghost use Rattle.ent_table.specs.Ask.{answer_in};
-ghost use Rattle.ent_table.specs.Review.{IsFresh, OnlyEvaluates, state_of};
 
 use crate::review::Review;
 use ent_eval::{Explained, Request};
@@ -20,17 +19,11 @@ impl<A: Attributes, P: Policies> Review<A, P> {
     ///
     /// `AllocError` if memory runs out.
     pub fn explain(&mut self, request: &Request) -> Result<Explained, AllocError>
-        requires { IsFresh A.sources P.slots self.old }
-        ensures fresh { IsFresh A.sources P.slots self.new }
-        ensures answer { IfOk result
-            (λ e. e.answer ≡ answer_in (state_of A.sources P.slots self.old) request.now) }
-        ensures reads { IfOk result
-            (λ e. e.reads ≡ recorded (looks_in (state_of A.sources P.slots self.old).held) request.now) }
-        ensures causes { IfOk result
-            (λ e. e.causes ≡ causes (looks_in (state_of A.sources P.slots self.old).held) request.now) }
-        ensures counted { self.new.pdp.evaluations ≡ min (self.old.pdp.evaluations + 1) (2 ^ 128 - 1) }
-        ensures rest { OnlyEvaluates self.old self.new }
+        ensures answer { IfOk result (λ e. e.answer ≡ answer_in self.old.state request.now) }
+        ensures reads { IfOk result (λ e. e.reads ≡ recorded (looks_in self.old.state.held) request.now) }
+        ensures causes { IfOk result (λ e. e.causes ≡ causes (looks_in self.old.state.held) request.now) }
+        ensures rest { self.new ≡ record self.old { evaluations = min (self.old.evaluations + 1) (2 ^ 128 - 1) } }
     {
-        self.pdp.explain(request)
+        self.parts.pdp.explain(request)
     }
 }

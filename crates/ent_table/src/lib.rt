@@ -20,6 +20,7 @@ mod policies;
 mod reading;
 mod requests;
 mod review;
+mod review_parts;
 mod since;
 mod table;
 

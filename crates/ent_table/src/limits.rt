@@ -4,7 +4,7 @@ ghost use Rattle.std.specs.Prelude.{◌≡◌};
 ghost use Rattle.ent_table.specs.Limits.{standard_limits};
 
 /// The most names, cells and documents that a review may have.
-#[derive(Clone, Copy)]
+#[derive(Clone, Copy, Debug, PartialEq, Eq)]
 pub struct Limits {
     pub people: usize,
     pub actions: usize,
@@ -14,7 +14,7 @@ pub struct Limits {
 }
 
 impl Limits {
-    /// 256 people, 32 actions, 256 resources, 65,536 cells and 1,024 documents.
+    /// Those that hold where none are given: 256 people, 32 actions, 256 resources, 65,536 cells and 1,024 documents.
     pub fn standard() -> Limits
         ensures { result ≡ standard_limits }
     {

@@ -40,9 +40,6 @@ impl Model for Lists {
 }
 
 impl Lists {
-    /// The most names that one of the lists may have.
-    pub(crate) const MOST: usize = 256;
-
     /// Three empty lists.
     pub(crate) fn new(alloc: Global) -> Lists
         ensures { result ≡ no_names }
@@ -57,7 +54,7 @@ impl Lists {
     /// The names of one list.
     pub(crate) fn names(&self, list: List) -> &[String]
         ensures names { texts result.now ≡ list_of list self.now }
-        ensures few { length result.now ≤ 256 }
+        ensures few { length result.now ≤ 65536 }
     {
         match list {
             List::People => self.people.as_slice(),
@@ -137,8 +134,8 @@ impl Lists {
     /// Where the cells of one name of a list stand.
     pub(crate) fn blocks(&self, list: List) -> Blocks
         ensures blocks { result ≡ blocks_of list self.now }
-        ensures few { result.each ≤ 65536 }
-        ensures fit { result.count * result.each ≤ 65536 }
+        ensures few { result.each ≤ 4294967296 }
+        ensures fit { result.count * result.each ≤ 4294967296 }
         ensures distinct { IsDistinct (pointwise nat_eq) (list_of list self.now) }
     {
         let people = self.people.as_slice().len();
@@ -165,7 +162,7 @@ impl Lists {
 
     /// Puts a name last that the list doesn't have. After a refusal the lists are as before.
     pub(crate) fn push(&mut self, alloc: Global, list: List, name: Text) -> Result<(), AllocError>
-        requires room { length (list_of list self.old) < 256 }
+        requires room { length (list_of list self.old) < 65536 }
         requires absent { has_name name (list_of list self.old) ≡ false }
         ensures ok { OnOk result (self.new ≡ with_name list name self.old) }
         ensures err { OnErr result (self.new ≡ self.old) }
@@ -192,7 +189,7 @@ impl Lists {
     pub(crate) fn remove(&mut self, list: List, name: &str) -> Option<usize>
         ensures taken { IsTaken name.now (list_of list self.old) (list_of list self.new) result }
         ensures rest { self.new ≡ with_list list (list_of list self.new) self.old }
-        ensures few { IfSome result (λ place. place < 256) }
+        ensures few { IfSome result (λ place. place < 65536) }
     {
         match list {
             List::People => self.people.remove(name),
@@ -204,7 +201,7 @@ impl Lists {
     /// The place of a name in its list, if it is there.
     pub(crate) fn place_in(&self, list: List, name: &str) -> Option<usize>
         ensures at { IsAt name.now (list_of list self.now) result }
-        ensures few { IfSome result (λ place. place < 256) }
+        ensures few { IfSome result (λ place. place < 65536) }
     {
         match list {
             List::People => self.people.place(name),

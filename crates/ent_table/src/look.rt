@@ -5,15 +5,14 @@ ghost use Rattle.std.specs.List.{AllByRecursion};
 ghost use Rattle.std.specs.Option.{option_copied, option_eq};
 ghost use Rattle.ent_policy.specs.Same.{same_document};
 ghost use Rattle.ent_request.specs.Held.{looks_in};
-ghost use Rattle.ent_table.specs.Change.{Stays};
-ghost use Rattle.ent_table.specs.proofs_only.Change.{Becomes};
+ghost use Rattle.ent_table.specs.proofs_only.Change.{Becomes, Stays};
 ghost use Rattle.ent_table.specs.proofs_only.Exchange.{IsThere, IsWithin, OnlyHeld, document_in, taken, with_exchange};
 ghost use Rattle.ent_table.specs.proofs_only.Look.{AreChanged, HasReadKeys, IsSeen, asks, environment_keys};
 ghost use Rattle.ent_table.specs.proofs_only.Look.{finds_another, is_another, keys_in, look_of, which};
-ghost use Rattle.ent_table.specs.Review.{state_of};
+ghost use Rattle.ent_table.specs.Fresh.{state_of};
 
 use crate::change::Exchange;
-use crate::review::Review;
+use crate::review_parts::Parts;
 use ent_eval::ReadKey;
 use ent_finder::{AttrKey, Attributes, Policies};
 use ent_policy::{Document, Reference};
@@ -102,7 +101,7 @@ impl Exchange {
     }
 }
 
-impl<A: Attributes, P: Policies> Review<A, P> {
+impl<A: Attributes, P: Policies> Parts<A, P> {
     /// Makes an exchange, which then has what was there before, and tells which of the keys that cells read give
     /// another for it. After a refusal all is as before. It evaluates nothing.
     pub(crate) fn exchange_and_tell(
@@ -242,7 +241,7 @@ impl<A: Attributes, P: Policies> Review<A, P> {
         }
     }
 
-    /// The same of a reference, by one comparison.
+    /// Whether a reference finds another after an exchange, by one comparison.
     fn finds_another(&self, reference: &Reference, look: &Look, exchange: &Exchange) -> bool
         requires { IsWithin (state_of A.sources P.slots self.now) exchange.now }
         ensures { result ≡ finds_another (document_in exchange.now)

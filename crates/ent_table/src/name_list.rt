@@ -30,7 +30,7 @@ fn index_of(names: &IndexSet<String>, name: &str) -> Option<usize>
     names.get_index_of(name)
 }
 
-/// Names in order of insertion and without doubles, at most 256 of them. A name is found by a `&str`, without memory.
+/// Names in order of insertion and without doubles, at most 65,536 of them. A name is found by a `&str`, without memory.
 /// Each stands beside it as a text, which those who speak of the name may share.
 #[derive(Drop)]
 pub(crate) struct NameList {
@@ -46,7 +46,7 @@ impl Model for NameList {
 
     ghost view = { λ l. texts l.names.keys };
 
-    ghost invariant = { λ l. (texts l.names.keys ≡ l.shared.items) × (length l.names.keys ≤ 256) };
+    ghost invariant = { λ l. (texts l.names.keys ≡ l.shared.items) × (length l.names.keys ≤ 65536) };
 }
 
 impl NameList {
@@ -63,7 +63,7 @@ impl NameList {
     /// The names.
     pub(crate) fn as_slice(&self) -> &[String]
         ensures names { texts result.now ≡ self.now }
-        ensures few { length result.now ≤ 256 }
+        ensures few { length result.now ≤ 65536 }
         ensures distinct { IsDistinct (pointwise nat_eq) self.now }
     {
         self.names.as_slice()
@@ -72,7 +72,7 @@ impl NameList {
     /// The names as texts.
     pub(crate) fn shared(&self) -> &[Text]
         ensures names { result.now ≡ self.now }
-        ensures few { length result.now ≤ 256 }
+        ensures few { length result.now ≤ 65536 }
     {
         self.shared.as_slice()
     }
@@ -87,14 +87,14 @@ impl NameList {
     /// The place of a name, if it is there.
     pub(crate) fn place(&self, name: &str) -> Option<usize>
         ensures at { IsAt name.now self.now result }
-        ensures few { IfSome result (λ place. place < 256) }
+        ensures few { IfSome result (λ place. place < 65536) }
     {
         index_of(&self.names, name)
     }
 
     /// Puts a name last that the list doesn't have. After a refusal the list is as before.
     pub(crate) fn push(&mut self, alloc: Global, name: Text) -> Result<(), AllocError>
-        requires room { length self.old < 256 }
+        requires room { length self.old < 65536 }
         requires absent { has_name name self.old ≡ false }
         ensures ok { OnOk result (self.new ≡ self.old ++ name ∷ []) }
         ensures err { OnErr result (self.new ≡ self.old) }
@@ -117,7 +117,7 @@ impl NameList {
     /// Takes a name out, and tells where it stood. Those behind it move up. It takes no memory.
     pub(crate) fn remove(&mut self, name: &str) -> Option<usize>
         ensures taken { IsTaken name.now self.old self.new result }
-        ensures few { IfSome result (λ place. place < 256) }
+        ensures few { IfSome result (λ place. place < 65536) }
     {
         let place = take_out(&mut self.names, name)?;
         self.shared.remove(place);

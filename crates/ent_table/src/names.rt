@@ -1,27 +1,25 @@
 //! Edits of names.
 
 ghost use Rattle.std.specs.Prelude.{◌≡◌, Err, IfErr};
-ghost use Rattle.ent_table.specs.Change.{Edits};
-ghost use Rattle.ent_table.specs.proofs_only.Change.{Counted, Tries};
-ghost use Rattle.ent_table.specs.Review.{IsFresh, state_of};
+ghost use Rattle.ent_table.specs.proofs_only.Change.{Counted, Keeps, Makes, Tries};
+ghost use Rattle.ent_table.specs.Fresh.{IsFresh, state_of};
 ghost use Rattle.ent_table.specs.Step.{name_added, name_dropped};
 ghost use Rattle.ent_table.specs.proofs_only.Names.{Exceeds};
-ghost use Rattle.ent_table.specs.Tables.{KeepsTables};
 
 use crate::edit::{Accepted, EditFault, List};
-use crate::review::Review;
+use crate::review_parts::Parts;
 use ent_finder::{Attributes, Policies};
 use ent_policy::is_bad_name;
 use ent_values::Text;
 
-impl<A: Attributes, P: Policies> Review<A, P> {
+impl<A: Attributes, P: Policies> Parts<A, P> {
     /// Puts a name last in its list. The other answers stay, so only the requests of the name are evaluated.
     pub(crate) fn add_name(&mut self, list: List, name: Text) -> Result<Accepted, EditFault>
         requires { IsFresh A.sources P.slots self.old }
         ensures fresh { IsFresh A.sources P.slots self.new }
-        ensures step { Edits A.sources P.slots (λ s. name_added s list name) self.old self.new result }
+        ensures step { Makes A.sources P.slots (λ s. name_added s list name) self.old self.new result }
         ensures counted { Counted A.sources P.slots (λ s. name_added s list name) self.old self.new result }
-        ensures tables { KeepsTables A.sources P.slots self.old self.new }
+        ensures tables { Keeps A.sources P.slots self.old self.new }
     {
         self.name_fault(list, &name)?;
         let table = &mut self.table;
@@ -35,11 +33,11 @@ impl<A: Attributes, P: Policies> Review<A, P> {
     pub(crate) fn drop_name(&mut self, list: List, name: &Text) -> Result<Accepted, EditFault>
         requires { IsFresh A.sources P.slots self.old }
         ensures fresh { IsFresh A.sources P.slots self.new }
-        ensures step { Edits A.sources P.slots (λ s. name_dropped s list name.now) self.old self.new result }
+        ensures step { Makes A.sources P.slots (λ s. name_dropped s list name.now) self.old self.new result }
         ensures sure { IfErr result
             (λ fault. name_dropped (state_of A.sources P.slots self.old) list name.now ≡ Err fault) }
         ensures counted { Counted A.sources P.slots (λ s. name_dropped s list name.now) self.old self.new result }
-        ensures tables { KeepsTables A.sources P.slots self.old self.new }
+        ensures tables { Keeps A.sources P.slots self.old self.new }
         ensures idle { self.new.pdp ≡ self.old.pdp }
     {
         if !self.table.names.has(list, name.as_str()) {

@@ -3,7 +3,6 @@
 ghost use Rattle.std.specs.Prelude.{◌≡◌};
 ghost use Rattle.ent_table.specs.Left.{cells_left};
 ghost use Rattle.ent_table.specs.Parts.{answers_to, cells_of, column_left};
-ghost use Rattle.ent_table.specs.Review.{IsFresh, state_of};
 ghost use Rattle.ent_table.specs.State.{table_of};
 
 use crate::cells::Cells;
@@ -17,21 +16,21 @@ impl<A: Attributes, P: Policies> Review<A, P> {
     /// The cells of a person in list order of action, then resource: none where the person isn't listed. No other cell
     /// is visited.
     pub fn cells_of(&self, person: &str) -> Cells<'_>
-        requires { IsFresh A.sources P.slots self.now }
-        ensures { cells_left result ≡ cells_of person.now (table_of (state_of A.sources P.slots self.now)) }
+        ensures { cells_left result ≡ cells_of person.now (table_of self.now.state) }
     {
-        let names = &self.table.names;
+        let table = &self.parts.table;
+        let names = &table.names;
         let people = names.names(List::People);
         let actions = names.names(List::Actions);
         let resources = names.names(List::Resources);
         let blocks = names.blocks(List::People);
         match names.place_in(List::People, person) {
-            None => Cells::new(&[], actions, resources, &self.table.cells, 0),
+            None => Cells::new(&[], actions, resources, &table.cells, 0),
             Some(row) => Cells::new(
                 slice::from_ref(&people[row]),
                 actions,
                 resources,
-                &self.table.cells,
+                &table.cells,
                 row * blocks.each,
             ),
         }
@@ -40,22 +39,21 @@ impl<A: Attributes, P: Policies> Review<A, P> {
     /// The people in list order, each with the answer to an action and a resource: none where one of these isn't
     /// listed. No other cell is visited.
     pub fn answers_to(&self, action: &str, resource: &str) -> Column<'_>
-        requires { IsFresh A.sources P.slots self.now }
-        ensures { column_left result
-            ≡ answers_to action.now resource.now (table_of (state_of A.sources P.slots self.now)) }
+        ensures { column_left result ≡ answers_to action.now resource.now (table_of self.now.state) }
     {
-        let names = &self.table.names;
+        let table = &self.parts.table;
+        let names = &table.names;
         let columns = names.blocks(List::Actions);
         let depths = names.blocks(List::Resources);
         let Some(column) = names.place_in(List::Actions, action) else {
-            return Column::new(&[], &self.table.cells, 0, columns.width);
+            return Column::new(&[], &table.cells, 0, columns.width);
         };
         let Some(depth) = names.place_in(List::Resources, resource) else {
-            return Column::new(&[], &self.table.cells, 0, columns.width);
+            return Column::new(&[], &table.cells, 0, columns.width);
         };
         Column::new(
             names.names(List::People),
-            &self.table.cells,
+            &table.cells,
             column * columns.each + depth * depths.each,
             columns.width,
         )

@@ -5,22 +5,20 @@ ghost use Rattle.std.specs.FinMap as finmap;
 ghost use Rattle.std.specs.Option.{ForSome};
 ghost use Rattle.ent_policy.specs.Key.{key_of};
 ghost use Rattle.ent_finder.specs.Slots.{module_at};
-ghost use Rattle.ent_table.specs.Change.{Edits, Stays};
-ghost use Rattle.ent_table.specs.proofs_only.Change.{Becomes, Counted, Tries};
-ghost use Rattle.ent_table.specs.Review.{IsFresh, state_of};
+ghost use Rattle.ent_table.specs.proofs_only.Change.{Becomes, Counted, Keeps, Makes, Stays, Tries};
+ghost use Rattle.ent_table.specs.Fresh.{IsFresh, state_of};
 ghost use Rattle.ent_table.specs.proofs_only.Exchange.{policy_at};
 ghost use Rattle.ent_table.specs.Step.{is_module, module_holds, module_lacks, policy_added};
 ghost use Rattle.ent_table.specs.Step.{policy_replaced, policy_withdrawn, with_policy};
-ghost use Rattle.ent_table.specs.Tables.{KeepsTables};
 
 use crate::change::Exchange;
 use crate::edit::{Accepted, EditFault};
-use crate::review::Review;
+use crate::review_parts::Parts;
 use ent_finder::{Attributes, Policies};
 use ent_policy::{DocKey, Document, is_bad_name};
 use std::alloc::AllocError;
 
-impl<A: Attributes, P: Policies> Review<A, P> {
+impl<A: Attributes, P: Policies> Parts<A, P> {
     pub(crate) fn add_policy(
         &mut self,
         number: usize,
@@ -28,9 +26,9 @@ impl<A: Attributes, P: Policies> Review<A, P> {
     ) -> Result<Accepted, EditFault>
         requires { IsFresh A.sources P.slots self.old }
         ensures fresh { IsFresh A.sources P.slots self.new }
-        ensures step { Edits A.sources P.slots (λ s. policy_added s number document) self.old self.new result }
+        ensures step { Makes A.sources P.slots (λ s. policy_added s number document) self.old self.new result }
         ensures counted { Counted A.sources P.slots (λ s. policy_added s number document) self.old self.new result }
-        ensures tables { KeepsTables A.sources P.slots self.old self.new }
+        ensures tables { Keeps A.sources P.slots self.old self.new }
     {
         let key = self.key_to_add(number, &document)?;
         let documents = self.documents + 1;
@@ -44,9 +42,9 @@ impl<A: Attributes, P: Policies> Review<A, P> {
     ) -> Result<Accepted, EditFault>
         requires { IsFresh A.sources P.slots self.old }
         ensures fresh { IsFresh A.sources P.slots self.new }
-        ensures step { Edits A.sources P.slots (λ s. policy_replaced s number document) self.old self.new result }
+        ensures step { Makes A.sources P.slots (λ s. policy_replaced s number document) self.old self.new result }
         ensures counted { Counted A.sources P.slots (λ s. policy_replaced s number document) self.old self.new result }
-        ensures tables { KeepsTables A.sources P.slots self.old self.new }
+        ensures tables { Keeps A.sources P.slots self.old self.new }
     {
         let key = self.key_to_replace(number, &document)?;
         let documents = self.documents;
@@ -60,9 +58,9 @@ impl<A: Attributes, P: Policies> Review<A, P> {
     ) -> Result<Accepted, EditFault>
         requires { IsFresh A.sources P.slots self.old }
         ensures fresh { IsFresh A.sources P.slots self.new }
-        ensures step { Edits A.sources P.slots (λ s. policy_withdrawn s number key) self.old self.new result }
+        ensures step { Makes A.sources P.slots (λ s. policy_withdrawn s number key) self.old self.new result }
         ensures counted { Counted A.sources P.slots (λ s. policy_withdrawn s number key) self.old self.new result }
-        ensures tables { KeepsTables A.sources P.slots self.old self.new }
+        ensures tables { Keeps A.sources P.slots self.old self.new }
     {
         self.withdrawal_fault(number, &key)?;
         let documents = self.documents - 1;

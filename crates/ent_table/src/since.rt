@@ -1,8 +1,6 @@
 //! What changed since a serial.
 
 ghost use Rattle.std.specs.Prelude.{◌≡◌, ◌≤◌, IfOk, map, max};
-ghost use Rattle.ent_table.specs.Change.{Stays};
-ghost use Rattle.ent_table.specs.Review.{IsFresh, state_of};
 ghost use Rattle.ent_table.specs.Tables.{AreTheDifference, LeavesTables, change_of, changes_from, table_at_serial};
 
 use crate::review::Review;
@@ -50,12 +48,11 @@ fn all_named(alloc: Global, logged: Items<Logged<Who, Answer>>) -> Result<Items<
 }
 
 impl<A: Attributes, P: Policies> Present<Who, Answer> for Review<A, P> {
-    ghost use Rattle.ent_table.specs.Review.{IsFresh, state_of};
     ghost use Rattle.ent_table.specs.State.{answer_at};
 
-    ghost can_answer = { λ v. IsFresh A.sources P.slots v };
+    ghost can_answer = { λ _. Unit {0} };
 
-    ghost answers = { λ v. answer_at (state_of A.sources P.slots v) };
+    ghost answers = { λ v. answer_at v.state };
 
     fn answer(&self, key: &Who) -> Option<&Shared<Answer>> {
         self.shared_answer(
@@ -69,9 +66,9 @@ impl<A: Attributes, P: Policies> Present<Who, Answer> for Review<A, P> {
 impl<A: Attributes, P: Policies> Review<A, P> {
     /// The least serial whose table is known: 0 for a new review.
     pub fn kept_from(&self) -> u64
-        ensures { result ≡ self.now.log.from }
+        ensures { result ≡ self.now.past.from }
     {
-        self.log.kept_from()
+        self.parts.log.kept_from()
     }
 
     /// What changed since a serial that is still known: each request to which the tables at that serial and now give
@@ -82,30 +79,25 @@ impl<A: Attributes, P: Policies> Review<A, P> {
     ///
     /// `AllocError` if memory runs out.
     pub fn changes_since(&self, serial: u64) -> Result<Items<Change>, AllocError>
-        requires fresh { IsFresh A.sources P.slots self.now }
-        requires kept { self.now.log.from ≤ serial }
-        requires reached { serial ≤ (state_of A.sources P.slots self.now).serial }
-        ensures difference { IfOk result
-            (AreTheDifference (table_at_serial A.sources P.slots self.now serial)
-            (state_of A.sources P.slots self.now)) }
-        ensures told { IfOk result (λ changes. changes
-            ≡ changes_from (table_at_serial A.sources P.slots self.now serial) (state_of A.sources P.slots self.now)) }
+        requires kept { self.now.past.from ≤ serial }
+        requires reached { serial ≤ self.now.state.serial }
+        ensures difference { IfOk result (AreTheDifference (table_at_serial self.now serial) self.now.state) }
+        ensures told { IfOk result
+            (λ changes. changes ≡ changes_from (table_at_serial self.now serial) self.now.state) }
     {
-        let logged = self.log.changes_since(self.alloc, self, serial)?;
-        all_named(self.alloc, logged)
+        let parts = &self.parts;
+        let logged = parts.log.changes_since(parts.alloc, self, serial)?;
+        all_named(parts.alloc, logged)
     }
 
     /// Forgets the tables before a serial: those at the serials from there on stay known. It takes no memory. Where the
     /// tables before the serial are forgotten already, nothing changes.
     pub fn forget_before(&mut self, serial: u64)
-        requires fresh { IsFresh A.sources P.slots self.old }
-        requires reached { serial ≤ (state_of A.sources P.slots self.old).serial }
-        ensures fresh { IsFresh A.sources P.slots self.new }
-        ensures from { self.new.log.from ≡ max serial self.old.log.from }
-        ensures tables { LeavesTables A.sources P.slots self.old self.new }
-        ensures state { Stays A.sources P.slots self.old self.new }
-        ensures rest { self.new ≡ record self.old { log = self.new.log } }
+        requires { serial ≤ self.old.state.serial }
+        ensures rest { self.new ≡ record self.old { past = self.new.past } }
+        ensures from { self.new.past.from ≡ max serial self.old.past.from }
+        ensures tables { LeavesTables self.old self.new }
     {
-        self.log.forget_before(serial);
+        self.parts.log.forget_before(serial);
     }
 }

@@ -1,22 +1,16 @@
 -- What is written of slots and of rows, part by part.
-use Rattle.std.specs.Prelude.{ℕ, List, [], ◌∷◌, Bool, true, Option, Some, None, if◌then◌else◌, is_some, bytes_eq, codes, map}
+use Rattle.std.specs.Prelude.{ℕ, List, [], ◌∷◌, Bool, true, Option, Some, None, if◌then◌else◌, is_some, bytes_eq}
 use Rattle.std.specs.List.{flat_map}
 use Rattle.std.specs.Option.{option_map_or}
 use Rattle.json.specs.Token.{Token}
-use Rattle.serde_json.specs.Data as json
 use Rattle.serde_json.specs.Data.{Data}
-use Rattle.serde_json.specs.View.{items_of}
 use Rattle.ent_values.specs.declared.value.Value.{Value}
 use Rattle.ent_policy.specs.declared.document.Tree.{Tree}
 use Rattle.ent_policy.specs.declared.key.DocKey.{DocKey}
 use Rattle.ent_finder.specs.declared.row.RowKey.{RowKey}
-use Rattle.ent_request.specs.Held.{Held}
-use Rattle.ent_finder.specs.Rows.{Source}
-use Rattle.ent_json.specs.Members.{only_member}
 use Rattle.ent_json.specs.Text.{tokens_of}
-use Rattle.ent_reach.specs.Reached.{is_reached}
-use Rattle.ent_held.specs.Attributes.{is_of_entity, row_data, rows_of}
-use Rattle.ent_held.specs.Documents.{document_data, documents}
+use Rattle.ent_held.specs.Attributes.{is_of_entity, row_data}
+use Rattle.ent_held.specs.Documents.{document_data}
 use Rattle.ent_reach.specs.declared.place.Place.{Place}
 
 -- the tokens of several values, one after the other
@@ -36,11 +30,3 @@ slot_data reached id number (key, Some document) = if is_asked id key then docum
 abbrev pub filled_data : List ℕ → List ℕ → ℕ → RowKey × List Value → List Data
 filled_data category entity number (key, []) = []
 filled_data category entity number (key, v ∷ vs) = if is_of_entity category entity key then row_data (number, key, v ∷ vs) ∷ [] else []
-
--- the replies
-abbrev pub documents_data : Held → Option (List ℕ) → Data
-documents_data held id =
-    only_member (codes "documents") (json.array (items_of (map (document_data (is_reached held.modules held.root) (is_some id)) (documents id held.modules))))
-
-abbrev pub attributes_data : List Source → List ℕ → List ℕ → Data
-attributes_data sources category entity = only_member (codes "attributes") (json.array (items_of (map row_data (rows_of category entity sources))))

@@ -1,7 +1,9 @@
 -- What the commands of the code ask for, by the data that their JSON values have.
-use Rattle.std.specs.Prelude.{ℕ, map, option_copied, option_map, Result, Ok, Err}
+use Rattle.std.specs.Prelude.{ℕ, List, map, option_copied, Option, option_map, Result, Ok, Err}
 use Rattle.serde_json.specs.Data.{Data}
 use Rattle.serde_json.specs.View.{items_of}
+use Rattle.ent_json.specs.Objects.{has_only}
+use Rattle.ent_polform.specs.Objects.{must, need}
 use Rattle.ent_line.specs.Asked as asked
 use Rattle.ent_line.specs.Keys as keys
 use Rattle.ent_line.specs.Wanted as wanted
@@ -10,9 +12,10 @@ use Rattle.ent_line.specs.declared.command.Change.TheVariants.{AddName, DropName
 use Rattle.ent_line.specs.declared.command.Command as command
 use Rattle.ent_line.specs.declared.command.Command.TheVariants as commands
 use Rattle.ent_line.specs.declared.command.Question.{Question}
-use Rattle.ent_line.specs.declared.command.Question.TheVariants.{Table, Cell, Ask, Counts, Can, Who, ByRule, Notices, Changes, Work, Format, Dump, State, Cells, Attributes, Documents, ExplainCell, Explain, Faults}
+use Rattle.ent_line.specs.declared.command.Question.TheVariants.{Table, Cell, Ask, Counts, Can, Who, ByRule, Notices, Changes, Work, Format, Dump, State, Cells, Attributes, Documents, ExplainCell, Explain, Faults, Limits, Names}
 use Rattle.ent_line.specs.declared.keys.AskedRow.{AskedRow}
 use Rattle.ent_line.specs.declared.refusal.Refusal.{Refusal}
+use Rattle.ent_line.specs.declared.refusal.Refusal.TheVariants.{Shape}
 use Rattle.ent_line.specs.declared.wanted.Wanted.{Wanted}
 use Rattle.ent_table.specs.Names.{triple_of}
 
@@ -66,20 +69,26 @@ question_view content State = asked.state
 question_view content (Cells wanted) = asked.cells (wanted_view content wanted)
 question_view content (Attributes category entity) = asked.attributes (option_copied category) entity.now
 question_view content (Documents id) = asked.documents (option_copied id)
-question_view content (ExplainCell person action resource) = asked.explain_cell (triple_of person.now action.now resource.now)
-question_view content (Explain request) = asked.explain (content request.now)
+question_view content (ExplainCell whole person action resource) = asked.explain_cell whole (triple_of person.now action.now resource.now)
+question_view content (Explain whole request) = asked.explain whole (content request.now)
 question_view content Faults = asked.faults
+question_view content Limits = asked.limits
+question_view content (Names list from count) = asked.names list from count
 
--- the same of a command
+-- a command without where its parts lie in memory
 abbrev pub command_view : {J : Type 0} → (J → Data) → command.Command J → asked.Command
 command_view content (commands.Change change) = asked.change (change_view content change)
 command_view content (commands.Question question) = asked.question (question_view content question)
 command_view content commands.Mark = asked.mark
 
--- the same, or a refusal
+-- a command so, or a refusal
 abbrev pub asked_view : {J : Type 0} → (J → Data) → Result (command.Command J) Refusal → Result asked.Command Refusal
 asked_view content (Ok command) = Ok (command_view content command)
 asked_view content (Err refusal) = Err refusal
+
+-- what was read of an object under some keys, `do` and `session` among them, or a refusal
+abbrev pub asks_in : List (List ℕ) → Option asked.Command → Data → Result asked.Command Refusal
+asks_in keys asked d = must Shape (has_only keys d) (need Shape asked)
 
 -- a command with its session, or a refusal
 abbrev pub session_view : {J : Type 0} → (J → Data) → Result (ℕ × command.Command J) Refusal → Result (ℕ × asked.Command) Refusal

@@ -1,4 +1,4 @@
--- What the parts of an edit do to a review.
+-- What the phases of an edit do to the parts of a review.
 use Rattle.std.specs.Prelude.{Result, Ok, Err, IsOk, ◌≡◌, ◌≤◌, List}
 use Rattle.ent_cells.specs.Count.{most}
 use Rattle.ent_finder.specs.Rows.{Source}
@@ -7,9 +7,11 @@ use Rattle.ent_table.specs.declared.edit.EditFault.{EditFault}
 use Rattle.ent_table.specs.State.{State}
 use Rattle.ent_table.specs.Step.{IsRefusal}
 use Rattle.ent_table.specs.declared.edit.Accepted.{Accepted}
-use Rattle.ent_table.specs.declared.review.Review.{Review}
+use Rattle.ent_table.specs.declared.review_parts.Parts.{Parts}
 use Rattle.ent_table.specs.Counted.{IsCounted}
-use Rattle.ent_table.specs.Review.{state_of}
+use Rattle.ent_table.specs.Change.{Edits}
+use Rattle.ent_table.specs.Fresh.{reviewed, state_of}
+use Rattle.ent_table.specs.Tables.{KeepsTables}
 
 -- a test found no refusal but want of memory, or the one that stands
 abbrev pub IsTested : {A : Type 0} → Result State EditFault → Result A EditFault → Type 0
@@ -18,17 +20,31 @@ IsTested r (Err fault) = IsRefusal r fault
 
 -- a step is tried on the state: it has no fault but want of memory, or the one that is told
 abbrev pub Tries : {A P B : Type 0} → (A → List Source) → (P → List Slots) → (State → Result State EditFault)
-    → Review A P → Result B EditFault → Type 0
+    → Parts A P → Result B EditFault → Type 0
 Tries sources slots step v result = IsTested (step (state_of sources slots v)) result
 
 -- the state becomes what a change makes of it
 abbrev pub Becomes : {A P : Type 0} → (A → List Source) → (P → List Slots) → (State → State)
-    → Review A P → Review A P → Type 0
+    → Parts A P → Parts A P → Type 0
 Becomes sources slots change old new = state_of sources slots new ≡ change (state_of sources slots old)
+
+-- the state stays
+abbrev pub Stays : {A P : Type 0} → (A → List Source) → (P → List Slots) → Parts A P → Parts A P → Type 0
+Stays sources slots old new = state_of sources slots new ≡ state_of sources slots old
+
+-- the state becomes another by a step, and it is answered as that step is
+abbrev pub Makes : {A P : Type 0} → (A → List Source) → (P → List Slots) → (State → Result State EditFault)
+    → Parts A P → Parts A P → Result Accepted EditFault → Type 0
+Makes sources slots step old new result =
+    Edits step (state_of sources slots old) (state_of sources slots new) result
+
+-- the table at each serial so far stays what it was
+abbrev pub Keeps : {A P : Type 0} → (A → List Source) → (P → List Slots) → Parts A P → Parts A P → Type 0
+Keeps sources slots old new = KeepsTables (reviewed sources slots old) (reviewed sources slots new)
 
 -- the count of evaluations rises with an edit as its step says
 abbrev pub Counted : {A P : Type 0} → (A → List Source) → (P → List Slots) → (State → Result State EditFault)
-    → Review A P → Review A P → Result Accepted EditFault → Type 0
+    → Parts A P → Parts A P → Result Accepted EditFault → Type 0
 Counted sources slots step old new result =
     old.pdp.evaluations ≤ most
     → IsCounted (step (state_of sources slots old)) (state_of sources slots old)

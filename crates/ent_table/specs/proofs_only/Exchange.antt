@@ -14,8 +14,8 @@ use Rattle.ent_table.specs.declared.change.Exchange.{Exchange}
 use Rattle.ent_table.specs.declared.change.Exchange.TheVariants.{Document, Row, Root, Environment}
 use Rattle.ent_table.specs.declared.edit.EditFault.{EditFault}
 use Rattle.ent_table.specs.declared.edit.EditFault.TheVariants.{Limit}
-use Rattle.ent_table.specs.declared.review.Review.{Review}
-use Rattle.ent_table.specs.Review.{state_of}
+use Rattle.ent_table.specs.declared.review_parts.Parts.{Parts}
+use Rattle.ent_table.specs.Fresh.{state_of}
 use Rattle.ent_table.specs.State.{State}
 use Rattle.ent_table.specs.Step.{is_last, next, unless, with_environment, with_policy, with_root, with_values}
 
@@ -50,7 +50,7 @@ document_in _ = None
 abbrev pub exchanged : State → Exchange → Result State EditFault
 exchanged s x = Ok (next (with_exchange s x))
 
--- the same, unless the serial is the last
+-- that step, unless the serial is the last
 abbrev pub exchanged_unless_last : State → Exchange → Result State EditFault
 exchanged_unless_last s x = unless (is_last s) Limit (exchanged s x)
 
@@ -62,7 +62,7 @@ IsWithin s (Root root) = Unit {0}
 IsWithin s (Environment environment) = Unit {0}
 
 -- there is a place for it, so that it takes no memory
-abbrev pub IsThere : {A P : Type 0} → (A → List Source) → (P → List Slots) → Review A P → Exchange → Type 0
+abbrev pub IsThere : {A P : Type 0} → (A → List Source) → (P → List Slots) → Parts A P → Exchange → Type 0
 IsThere sources slots v (Document number key document) = IsSome (get (module_at (slots v.pdp.policies) number) key)
 IsThere sources slots v (Row number key values) = IsSome (get (source_at (sources v.pdp.attributes) number).rows key)
 IsThere sources slots v (Root root) = Unit {0}
@@ -73,7 +73,7 @@ abbrev pub count_with : State → Exchange → ℕ
 count_with s x = document_count (with_exchange s x).held.modules
 
 -- only what is held changed
-abbrev pub OnlyHeld : {A P : Type 0} → Review A P → Review A P → Type 0
+abbrev pub OnlyHeld : {A P : Type 0} → Parts A P → Parts A P → Type 0
 OnlyHeld old new = new ≡ record old {
   pdp = record old.pdp {
     attributes = new.pdp.attributes;
@@ -84,7 +84,7 @@ OnlyHeld old new = new ≡ record old {
 }
 
 -- a review became another by an exchange, of which this stood there
-abbrev pub IsMade : {A P : Type 0} → (A → List Source) → (P → List Slots) → Review A P → Review A P → Exchange → Type 0
+abbrev pub IsMade : {A P : Type 0} → (A → List Source) → (P → List Slots) → Parts A P → Parts A P → Exchange → Type 0
 IsMade sources slots before now back =
     (x : Exchange) × IsWithin (state_of sources slots before) x
     × (state_of sources slots now ≡ with_exchange (state_of sources slots before) x)

@@ -1,5 +1,4 @@
 use Rattle.std.proofs.Common.{◌∙◌}
-use Rattle.ent_table.specs.Review.{state_of}
 use Rattle.ent_dump.specs.Dumped.{dump_data, dump_text}
 use Rattle.ent_dump.proofs.Lining.{text_written}
 use Rattle.ent_dump.proofs.dump.dump_text.Goals as goal
@@ -7,5 +6,5 @@ use Rattle.ent_dump.proofs.dump.dump_text.Goals as goal
 pub returns : goal.returns
 unfolding dump_text
 returns g c =
-    let state = state_of g.A.Attributes.sources g.P.Policies.slots c.args.review.now in
+    let state = c.args.review.now.state in
     c.into_string.ensures ∙ text_written (dump_data c.args.version state) _ _ c.in_ok-out.ensures c.in_ok-write_dump.ensures

@@ -2,7 +2,6 @@ use Rattle.std.proofs.Common.{[], ◌∷◌, codes}
 use Rattle.json.specs.Token as token
 use Rattle.serde_json.specs.Written.{compact_text}
 use Rattle.ent_polform.proofs.TextLemmas.{ends}
-use Rattle.ent_table.specs.Review.{state_of}
 use Rattle.ent_rebuild.specs.Rebuilding.{rebuilding}
 use Rattle.ent_dump.specs.Dumped.{format_data}
 use Rattle.ent_dump.specs.proofs_only.Walk.{line_tokens}
@@ -11,7 +10,7 @@ use Rattle.ent_dump.proofs.dump.write_dump.Goals as goal
 
 pub returns : goal.returns
 returns g c =
-    let state = state_of g.A.Attributes.sources g.P.Policies.slots c.args.review.now in
+    let state = c.args.review.now.state in
     rw (dump_tokens c.args.version state)
     (ends _ _ _ _ (token.begin_object ∷ []) _ c.in_ok-begin_object.ensures.ok
     (ends _ _ _ _ (token.key (codes "dump") ∷ []) _ c.in_ok-key.ensures.ok

@@ -1,7 +1,6 @@
 use Rattle.std.proofs.Common.{◌∙◌, map}
 use Rattle.ent_finder.specs.Rows.{filled_source}
-use Rattle.ent_held.specs.Attributes.{attributes_text}
-use Rattle.ent_held.specs.proofs_only.Walk.{attributes_data}
+use Rattle.ent_held.specs.Attributes.{attributes_data, attributes_text}
 use Rattle.ent_held.proofs.Told.{text_written}
 use Rattle.ent_held.proofs.attributes.attributes_text.Goals as goal
 

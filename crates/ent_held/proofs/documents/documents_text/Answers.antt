@@ -1,8 +1,7 @@
 use Rattle.std.proofs.Common.{◌∙◌}
 use Rattle.std.specs.Option.{option_copied}
 use Rattle.ent_eval.specs.LooksOf.{held_by}
-use Rattle.ent_held.specs.Documents.{documents_text}
-use Rattle.ent_held.specs.proofs_only.Walk.{documents_data}
+use Rattle.ent_held.specs.Documents.{documents_data, documents_text}
 use Rattle.ent_held.proofs.Told.{text_written}
 use Rattle.ent_held.proofs.documents.documents_text.Goals as goal
 

@@ -8,8 +8,8 @@ use Rattle.ent_json.specs.Text.{tokens_of}
 use Rattle.ent_polform.proofs.TextLemmas.{ends}
 use Rattle.ent_reach.specs.Reached.{has_place, is_reached}
 use Rattle.ent_reach.specs.declared.place.Place.{Place}
-use Rattle.ent_held.specs.Documents.{document_data, documents}
-use Rattle.ent_held.specs.proofs_only.Walk.{documents_data, each_tokens}
+use Rattle.ent_held.specs.Documents.{document_data, documents, documents_data}
+use Rattle.ent_held.specs.proofs_only.Walk.{each_tokens}
 use Rattle.ent_held.proofs.Told.{reached_told, reply_tokens, said}
 use Rattle.ent_held.proofs.documents.write_documents.Goals as goal
 

@@ -14,11 +14,11 @@ pub returns : goal.returns
 returns g c =
     let reference = c.args.reference.now in
     let members : List Part =
-    (codes "found", Some (or_null found_data (resolved reference (map held (g.P.Policies.slots c.args.policies.now)))))
+    (codes "found", Some (or_null (found_data c.args.whole) (resolved reference (map held (g.P.Policies.slots c.args.policies.now)))))
     ∷ (codes "reference", Some (reference_written reference)) ∷ [] in
     rw (object_tokens members, ← c.resolve.ensures)
     (ends _ _ _ _ (token.begin_object ∷ []) _ c.in_ok-begin_object.ensures.ok
     (ends _ _ _ _ (token.key (codes "found") ∷ []) _ c.in_ok-key.ensures.ok
-    (ends _ _ _ _ (tokens_of (or_null found_data (option_map (λ r. (r.0, r.1.now)) c.resolve.result))) _ c.in_ok-write_found.ensures
+    (ends _ _ _ _ (tokens_of (or_null (found_data c.args.whole) (option_map (λ r. (r.0, r.1.now)) c.resolve.result))) _ c.in_ok-write_found.ensures
     (ends _ _ _ _ (token.key (codes "reference") ∷ []) _ c.in_ok-key-2.ensures.ok
     (ends _ _ _ _ (tokens_of (reference_written reference)) _ c.in_ok-write_reference_text.ensures c.end_object.ensures.ok)))))

@@ -1,11 +1,12 @@
 use Rattle.std.proofs.Common.{[], ◌∷◌, ◌++◌, ◌∙◌, append_assoc, codes, decimal, map}
 use Rattle.json.specs.Token as token
 use Rattle.ent_json.specs.proofs_only.Text.{items_tokens_of}
-use Rattle.ent_line.specs.Reports.{notice_data}
+use Rattle.ent_line.specs.Reports.{changes_reply, notice_data}
 use Rattle.ent_line.proofs.TextLemmas.{ends_as, joined}
 use Rattle.ent_line.proofs.reports.write_changes_reply.Goals as goal
 
 pub returns : goal.returns
+unfolding changes_reply
 returns c =
     let old = c.args.out.now in
     let start = token.begin_object ∷ token.key (codes "changes") ∷ token.begin_array ∷ [] in

@@ -1,13 +1,13 @@
 use Rattle.std.proofs.Common.{◌≡◌, ◌∙◌, [], ◌∷◌, ap, codes, decimal, length, map}
 use Rattle.json.specs.Token as token
 use Rattle.ent_eval.specs.LooksOf.{held_by}
+use Rattle.ent_request.specs.Held.{Held}
 use Rattle.ent_finder.specs.Rows.{filled_source}
-use Rattle.ent_finder.specs.Slots.{document_count, held}
+use Rattle.ent_finder.specs.Slots.{document_count, held as held_in}
 use Rattle.ent_json.specs.Text.{tokens_of}
 use Rattle.ent_json.specs.proofs_only.Text.{items_tokens_of}
 use Rattle.ent_dump.specs.Edits.{written_root}
-use Rattle.ent_report.specs.Desk.{world_of}
-use Rattle.ent_table.specs.Review.{state_of}
+use Rattle.ent_report.specs.Desk.{review_of}
 use Rattle.ent_table.specs.State.{table_of}
 use Rattle.ent_line.specs.Standing.{environment_data, mark_data, marked_sessions, state_data}
 use Rattle.ent_line.specs.proofs_only.Standing.{marked_from, row_count}
@@ -19,26 +19,30 @@ pub returns : goal.returns
 returns g c =
     let sources = g.A.Attributes.sources in
     let slots = g.P.Policies.slots in
-    let state = state_of sources slots in
-    let world = world_of sources slots c.args.desk.now in
+    let world = c.args.desk.now.world in
     let s = world.state in
-    let review : c.review-review.result.now ≡ c.args.desk.now.review = c.review-review.ensures in
-    let pdp : c.pdp-pdp.result.now ≡ c.args.desk.now.review.pdp = c.pdp-pdp.ensures ∙ ap (λ v. v.pdp) review in
+    let review : c.review-review.result.now ≡ review_of c.args.desk.now = c.review-review.ensures in
+    let held : held_by sources slots c.pdp-pdp.result.now ≡ s.held =
+    c.pdp-pdp.ensures.held ∙ ap (λ v. v.state.held) review in
     let actions : length c.names-actions.result.now ≡ length s.names.actions =
-    ap length c.names-actions.ensures ∙ ap (λ v. length (state v).names.actions) review in
+    ap length c.names-actions.ensures ∙ ap (λ v. length v.state.names.actions) review in
     let people : length c.names-people.result.now ≡ length s.names.people =
-    ap length c.names-people.ensures ∙ ap (λ v. length (state v).names.people) review in
+    ap length c.names-people.ensures ∙ ap (λ v. length v.state.names.people) review in
     let resources : length c.names-resources.result.now ≡ length s.names.resources =
-    ap length c.names-resources.ensures ∙ ap (λ v. length (state v).names.resources) review in
-    let cells : c.cell_count.result ≡ length (table_of s) = c.cell_count.ensures ∙ ap (λ v. length (table_of (state v))) review in
+    ap length c.names-resources.ensures ∙ ap (λ v. length v.state.names.resources) review in
+    let cells : c.cell_count.result ≡ length (table_of s) =
+    c.cell_count.ensures ∙ ap (λ v. length (table_of v.state)) review in
     let documents : c.in_ok-documents.documents ≡ document_count s.held.modules =
-    c.in_ok-documents.ensures ∙ ap (λ p. document_count (map held (slots p))) c.policies.ensures ∙ ap (λ p. document_count (held_by sources slots p).modules) pdp in
+    c.in_ok-documents.ensures ∙ ap (λ p. document_count (map held_in (slots p))) c.policies.ensures
+    ∙ ap (λ (h : Held). document_count h.modules) held in
     let rows : c.in_ok-rows.rows ≡ row_count s.held.sources =
-    c.in_ok-rows.ensures ∙ ap (λ a. row_count (map filled_source (sources a))) c.attributes.ensures ∙ ap (λ p. row_count (held_by sources slots p).sources) pdp in
-    let environment : c.environment.result ≡ s.held.environment = c.environment.ensures ∙ ap (λ p. (held_by sources slots p).environment) pdp in
-    let root : c.root.result.now ≡ s.held.root = c.root.ensures ∙ ap (λ p. (held_by sources slots p).root) pdp in
+    c.in_ok-rows.ensures ∙ ap (λ a. row_count (map filled_source (sources a))) c.attributes.ensures
+    ∙ ap (λ (h : Held). row_count h.sources) held in
+    let environment : c.environment.result ≡ s.held.environment =
+    c.environment.ensures ∙ ap (λ (h : Held). h.environment) held in
+    let root : c.root.result.now ≡ s.held.root = c.root.ensures ∙ ap (λ (h : Held). h.root) held in
     let sessions : marked_from 0 c.marks.result.now ≡ marked_sessions world.marks = ap (marked_from 0) c.marks.ensures ∙ same_sessions world.marks in
-    let serial : c.serial.result ≡ s.serial = c.serial.ensures ∙ ap (λ v. (state v).serial) review in
+    let serial : c.serial.result ≡ s.serial = c.serial.ensures.value ∙ ap (λ v. v.state.serial) review in
     let whole : state_tokens (length c.names-actions.result.now) c.cell_count.result c.in_ok-documents.documents c.environment.result (marked_from 0 c.marks.result.now)
     (length c.names-people.result.now) (length c.names-resources.result.now) c.root.result.now c.in_ok-rows.rows c.serial.result
     ≡ tokens_of (state_data world) =

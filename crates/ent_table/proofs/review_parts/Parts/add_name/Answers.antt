@@ -1,0 +1,75 @@
+use Rattle.std.proofs.Common.{◌≡◌, ◌+◌, length, None, Ok, refl, sym, ap, subst, ◌∙◌}
+use Rattle.std.proofs.lemmas.List.{length-map}
+use Rattle.ent_cells.specs.Order.{request_order}
+use Rattle.ent_eval.specs.LooksOf.{held_by}
+use Rattle.ent_log.specs.Tables.{Undoes}
+use Rattle.ent_table.specs.Difference.{changes}
+use Rattle.ent_table.specs.Names.{Names}
+use Rattle.ent_table.specs.Fresh.{state_of}
+use Rattle.ent_table.specs.State.{State, answer_at}
+use Rattle.ent_table.specs.Step.{name_added, next}
+use Rattle.ent_table.specs.proofs_only.Table.{requests_with, unanswered}
+use Rattle.ent_table.proofs.Changes.{changes-name_added, more_names}
+use Rattle.ent_table.proofs.Counting.{made_counts, wanting_counts}
+use Rattle.ent_table.proofs.SerialTables.{kept_over, undone_more}
+use Rattle.ent_table.proofs.Steps.{name_passes}
+use Rattle.ent_table.proofs.Tables.{Shows, shows_more}
+use Rattle.ent_table.proofs.Touched.{touched_more}
+use Rattle.ent_table.proofs.review_parts.Parts.add_name.Goals as goal
+
+pub returns-in-Ok-clause-step : goal.returns-in-Ok-clause-step
+returns-in-Ok-clause-step g c =
+    let sources = g.A.Attributes.sources in
+    let slots = g.P.Policies.slots in
+    let old = c.args.self.now in
+    let s = state_of sources slots old in
+    let list = c.args.list in
+    let name = c.args.name in
+    let shows : Shows s old.table = record { names = refl; cells = c.requires.cells } in
+    let is = shows_more s list name old.table c.add.new.self shows c.in-Ok.ensures.ok in
+    let counted = c.log_edit.ensures in
+    let up : c.log_edit.new.self.log.serial ≡ old.log.serial + 1 = counted.logs.serial ∙ ap (λ n. n + 1) c.add.ensures.same.serial in
+    let after : state_of sources slots c.log_edit.new.self ≡ more_names s list name =
+    ap (state_of sources slots) counted.rest
+    ∙ ap (λ n. record s { held = held_by sources slots c.add.new.pdp; names = c.add.new.self.names; serial = n }) up
+    ∙ ap (λ p. record (next s) { held = held_by sources slots p; names = c.add.new.self.names }) c.in-Ok.ensures.rest
+    ∙ ap (λ (n : Names). record (next s) { names = n }) is.names in
+    let passes = name_passes s list name c.in_ok-name_fault.ensures in (
+      passes.1 ∙ ap Ok (sym after),
+      ap (λ a. a.serial) counted.accepted ∙ sym counted.logs.serial,
+      ap (λ a. a.changes) counted.accepted ∙ ap length c.in-Ok.ensures.olds ∙ length-map (requests_with list name s.names) (λ x. record { key = x; answer = None }) ∙ sym (changes-name_added s list name passes.0) ∙ ap (λ (u : State). changes s u) (sym after),
+    )
+
+pub returns-in-Ok-clause-tables : goal.returns-in-Ok-clause-tables
+returns-in-Ok-clause-tables g c =
+    let sources = g.A.Attributes.sources in
+    let slots = g.P.Policies.slots in
+    let s = state_of sources slots c.args.self.now in
+    let list = c.args.list in
+    let name = c.args.name in
+    let new = c.log_edit.new.self in
+    let passes = name_passes s list name c.in_ok-name_fault.ensures in
+    let ok : Ok (more_names s list name) ≡ Ok (state_of sources slots new) = sym passes.1 ∙ (returns-in-Ok-clause-step g c).0 in
+    let after : more_names s list name ≡ state_of sources slots new = cc in
+    let olds : unanswered (requests_with list name s.names) ≡ c.in-Ok.olds = sym c.in-Ok.ensures.olds in
+    kept_over sources slots c.args.self.now new c.add.new.log c.in-Ok.olds c.add.ensures.same c.log_edit.ensures.logs
+    (subst (λ t. Undoes request_order c.in-Ok.olds (answer_at s) (answer_at t)) after
+    (subst (λ os. Undoes request_order os (answer_at s) (answer_at (more_names s list name))) olds (undone_more s list name passes.0)))
+
+pub returns-in-Ok-clause-counted : goal.returns-in-Ok-clause-counted
+returns-in-Ok-clause-counted g c =
+    let s = state_of g.A.Attributes.sources g.P.Policies.slots c.args.self.now in
+    let list = c.args.list in
+    let name = c.args.name in
+    let passes = name_passes s list name c.in_ok-name_fault.ensures in
+    λ h. made_counts (name_added s list name) s (more_names s list name) c.args.self.now.pdp.evaluations c.log_edit.new.self.pdp.evaluations (length (requests_with list name s.names)) c.log_edit.result
+    passes.1 (sym (touched_more s list name passes.0)) (ap (λ v. v.pdp.evaluations) c.log_edit.ensures.rest ∙ c.in-Ok.ensures.counted h)
+
+pub returns-in-Err-clause-counted : goal.returns-in-Err-clause-counted
+returns-in-Err-clause-counted g c =
+    let s = state_of g.A.Attributes.sources g.P.Policies.slots c.args.self.now in
+    let list = c.args.list in
+    let name = c.args.name in
+    let passes = name_passes s list name c.in_ok-name_fault.ensures in
+    λ h. wanting_counts (name_added s list name) s (more_names s list name) c.args.self.now.pdp.evaluations c.add.new.pdp.evaluations (length (requests_with list name s.names))
+    passes.1 (sym (touched_more s list name passes.0)) (c.in-Err.ensures.bound h)

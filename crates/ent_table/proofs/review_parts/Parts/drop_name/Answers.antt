@@ -1,0 +1,72 @@
+use Rattle.std.proofs.Common.{◌≡◌, ◌+◌, ◌≤◌, ℕ, List, Ok, refl, sym, ap, subst, ◌∙◌, false}
+use Rattle.ent_cells.specs.Old.{IsLogged}
+use Rattle.ent_table.specs.Difference.{changes}
+use Rattle.ent_table.specs.Fresh.{state_of}
+use Rattle.ent_table.specs.State.{State, fresh_cells}
+use Rattle.ent_table.specs.Step.{is_last, name_dropped, next}
+use Rattle.ent_table.specs.proofs_only.Table.{IsDropped}
+use Rattle.ent_table.specs.Tables.{Logs}
+use Rattle.ent_table.proofs.Changes.{less_names}
+use Rattle.ent_table.proofs.Counting.{made_counts, raised_none}
+use Rattle.ent_table.proofs.Logs.{same_log}
+use Rattle.ent_table.proofs.SerialTables.{kept_over, undone}
+use Rattle.ent_table.proofs.Steps.{name_leaves}
+use Rattle.ent_table.proofs.Tables.{Shows, dropped_changes, shows_less}
+use Rattle.ent_table.proofs.Touched.{touched_less}
+use Rattle.ent_table.proofs.review_parts.Parts.drop_name.Goals as goal
+
+pub returns-clause-step : goal.returns-clause-step
+returns-clause-step g c =
+    let sources = g.A.Attributes.sources in
+    let slots = g.P.Policies.slots in
+    let old = c.args.self.now in
+    let s = state_of sources slots old in
+    let list = c.args.list in
+    let name = c.args.name.now in
+    let new = c.remove.new.self in
+    let count = c.in-Some.changes in
+    let shows : Shows s old.table = record { names = refl; cells = c.requires.cells } in
+    let dropped : IsDropped list name old.table new count = subst (λ (k : List ℕ). IsDropped list k old.table new count) c.as_str-2.ensures c.in-Some.ensures.dropped in
+    let is = shows_less s list name old.table new count shows dropped in
+    let up : c.close.new.self.serial ≡ old.log.serial + 1 = c.close.ensures.serial ∙ ap (λ n. n + 1) c.remove.ensures.serial in
+    let after : state_of sources slots (record old { table = new; log = c.close.new.self }) ≡ less_names s list name = (λ i. record (next s) { names = is.names i; serial = up i }) in
+    let open_ : is_last s ≡ false = sym c.is_last.ensures ∙ c.if-is_last.false in (
+      name_leaves s list name dropped.there open_ ∙ ap Ok (sym after),
+      ap (λ a. a.serial) c.accepted.ensures,
+      ap (λ a. a.changes) c.accepted.ensures ∙ dropped_changes s list name old.table new count shows dropped ∙ ap (λ (u : State). changes s u) (sym after),
+    )
+
+pub returns-clause-counted : goal.returns-clause-counted
+returns-clause-counted g c =
+    let s = state_of g.A.Attributes.sources g.P.Policies.slots c.args.self.now in
+    let old = c.args.self.now in
+    let list = c.args.list in
+    let name = c.args.name.now in
+    let dropped : IsDropped list name old.table c.remove.new.self c.in-Some.changes = subst (λ (k : List ℕ). IsDropped list k old.table c.remove.new.self c.in-Some.changes) c.as_str-2.ensures c.in-Some.ensures.dropped in
+    λ h. made_counts (name_dropped s list name) s (less_names s list name) old.pdp.evaluations old.pdp.evaluations 0 c.accepted.result
+    (name_leaves s list name dropped.there (sym c.is_last.ensures ∙ c.if-is_last.false)) (sym (touched_less s list name)) (sym (raised_none old.pdp.evaluations h))
+
+pub returns-clause-tables : goal.returns-clause-tables
+returns-clause-tables g c =
+    let sources = g.A.Attributes.sources in
+    let slots = g.P.Policies.slots in
+    let old = c.args.self.now in
+    let new = record old { table = c.remove.new.self; log = c.close.new.self } in
+    let s = state_of sources slots old in
+    let list = c.args.list in
+    let name = c.args.name.now in
+    let shows : Shows s old.table = record { names = refl; cells = c.requires.cells } in
+    let dropped : IsDropped list name old.table c.remove.new.self c.in-Some.changes = subst (λ (k : List ℕ). IsDropped list k old.table c.remove.new.self c.in-Some.changes) c.as_str-2.ensures c.in-Some.ensures.dropped in
+    let logged : IsLogged old.table.cells c.remove.new.self.cells old.log c.remove.new.log = c.in-Some.ensures.logged in
+    let logs : Logs logged.0 old.log c.close.new.self = record {
+      from = c.close.ensures.from ∙ c.remove.ensures.from;
+      serial = c.close.ensures.serial ∙ ap (λ n. n + 1) c.remove.ensures.serial;
+      closed = c.close.ensures.closed;
+      kept = λ before after undoes n le k.
+          c.close.ensures.kept after after (λ _. refl) n (subst (λ m. n ≤ m) (sym c.remove.ensures.serial) le) k ∙ logged.2 before after undoes n le k;
+    } in
+    let left : Ok (less_names s list name) ≡ Ok (state_of sources slots new) =
+    sym (name_leaves s list name dropped.there (sym c.is_last.ensures ∙ c.if-is_last.false)) ∙ (returns-clause-step g c).0 in
+    let after : less_names s list name ≡ state_of sources slots new = cc in
+    let is = (shows_less s list name old.table c.remove.new.self c.in-Some.changes shows dropped).cells ∙ ap (λ (u : State). fresh_cells u) after in
+    kept_over sources slots old new old.log logged.0 (same_log old.log old.log refl) logs (undone s (state_of sources slots new) old.table.cells c.remove.new.self.cells logged.0 c.requires.cells is logged.1)

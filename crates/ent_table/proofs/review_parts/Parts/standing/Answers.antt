@@ -1,0 +1,18 @@
+use Rattle.std.proofs.Common.{sym, ap, subst, ◌∙◌}
+use Rattle.ent_finder.specs.Slots.{document_at, module_at}
+use Rattle.ent_table.specs.proofs_only.Exchange.{IsWithin, document_in, taken}
+use Rattle.ent_table.specs.Fresh.{state_of}
+use Rattle.ent_table.proofs.Exchanges.{held-taken, held_within}
+use Rattle.ent_table.proofs.review_parts.Parts.standing.Goals as goal
+
+pub returns-in-Document : goal.returns-in-Document
+returns-in-Document g c =
+    let slots = g.P.Policies.slots in
+    let ms = slots c.args.self.now.pdp.policies in
+    let s = state_of g.A.Attributes.sources slots c.args.self.now in
+    let number = c.in-Document.number in
+    let key = c.in-Document.key in
+    c.document_at.ensures
+    ∙ (λ t. document_at (module_at (slots (c.policies.ensures t)) number) key)
+    ∙ held-taken ms number key (held_within ms number (subst (IsWithin s) c.in-Document.is c.requires).0)
+    ∙ ap (λ x. document_in (taken s x)) (sym c.in-Document.is)
