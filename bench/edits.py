@@ -6,6 +6,7 @@
     PROGRAM=crates/review/out/review  the program (the default, as `rt run` leaves it)
     PEER=/path/of/another/program     run as `PEER serve` on the same lines, beside it, with ratios
     RUNS=3                            runs of each, of which the median counts
+    LARGE=1                           over a table of 1,048,576 cells too, which takes minutes
 
 An edit evaluates the cells that it touches, so its cost rests on their number (the column `touched`, by `work` before and after) and not on the size of the
 table: the column `size x` has the cost at 65,536 cells by that at 1,024. A kind that touches every cell, or those of a name, touches more in the larger table.
@@ -18,8 +19,12 @@ HERE = os.path.dirname(os.path.abspath(__file__))
 PROGRAM = os.environ.get('PROGRAM', os.path.join(HERE, '..', 'crates', 'review', 'out', 'review'))
 PEER = os.environ.get('PEER')
 RUNS = int(os.environ.get('RUNS', '3'))
-# People, actions and resources of the two tables.
+# People, actions and resources of the tables, and the options that the large one needs.
 SIZES = {1024: (8, 4, 32), 65536: (256, 4, 64)}
+LIMITS = []
+if os.environ.get('LARGE'):
+    SIZES[1048576] = (4096, 4, 64)
+    LIMITS = ['--people', '4096', '--cells', '1048576']
 ENVIRONMENT = 'urn:oasis:names:tc:xacml:3.0:attribute-category:environment'
 TODAY = 'urn:oasis:names:tc:xacml:1.0:environment:current-date'
 
@@ -47,11 +52,12 @@ def few(value):
     return policy('few', [{'RuleId': 'r', 'Effect': 'Permit', 'Condition': level}])
 
 
-def dated(id):
+def dated(id, department='d1'):
     """The root: what four cells read of a document, what four read of the day, and what every cell reads of its person."""
     day = apply('date-is-in', {'AttributeValue': {'Value': '2026-01-01', 'DataType': 'date'}}, designator(ENVIRONMENT, TODAY, 'date'))
     clock = policy('clock', [{'RuleId': 'r', 'Effect': 'Permit', 'Condition': day}])
-    works = apply('string-is-in', {'AttributeValue': {'Value': 'd1'}}, designator(SUBJECT, 'department', 'string'))
+    departments = designator(SUBJECT, 'department', 'string')
+    works = apply('string-is-in', {'AttributeValue': {'Value': department}}, departments)
     rest = policy('rest', [{'RuleId': 'r', 'Effect': 'Permit', 'Condition': works}])
     children = [gate('first', 'read', {'PolicyIdReference': {'Id': 'few'}}), gate('second', 'write', clock), rest]
     return {'PolicySet': {'PolicySetId': id, 'Version': '1', 'PolicyCombiningAlgId': POLICY_ALGORITHM + 'deny-overrides', 'Children': children}}
@@ -96,7 +102,6 @@ class Running:
 
     def __init__(self, command):
         self.child = subprocess.Popen(command, stdin=subprocess.PIPE, stdout=subprocess.PIPE)
-        self.rest = b''
 
     def cpu(self):
         with open(f'/proc/{self.child.pid}/schedstat') as file:
@@ -104,9 +109,9 @@ class Running:
 
     def tell(self, lines):
         """The replies to some lines, and the microseconds of CPU that they took."""
-        before, replies = self.cpu(), []
+        before, parts, left = self.cpu(), [], len(lines)
         data, sent = ''.join(text + '\n' for text in lines).encode(), 0
-        while len(replies) < len(lines):
+        while left > 0:
             writable = [self.child.stdin] if sent < len(data) else []
             readable, writable, _ = select.select([self.child.stdout], writable, [])
             if writable:
@@ -115,9 +120,9 @@ class Running:
                 read = os.read(self.child.stdout.fileno(), 1 << 20)
                 if not read:
                     sys.exit('the program ended')
-                *whole, self.rest = (self.rest + read).split(b'\n')
-                replies += whole
-        return replies, self.cpu() - before
+                parts.append(read)
+                left -= read.count(b'\n')
+        return b''.join(parts).split(b'\n')[:-1], self.cpu() - before
 
     def evaluations(self):
         return int(self.tell([line('work')])[0][0].split(b':')[1][:-1])
@@ -149,8 +154,8 @@ def measured(command, kinds):
 
 def main():
     kinds = sys.argv[1:] or list(KINDS)
-    ours = measured([PROGRAM, 'serve'], kinds)
-    theirs = measured([PEER, 'serve'], kinds) if PEER else {}
+    ours = measured([PROGRAM, 'serve', *LIMITS], kinds)
+    theirs = measured([PEER, 'serve', *LIMITS], kinds) if PEER else {}
     print(f'{"kind":20} {"cells":>7} {"touched":>9} {"us":>10} {"size x":>7}' + (f' {"peer us":>10} {"ratio":>7}' if PEER else ''))
     for kind in kinds:
         for size in SIZES:

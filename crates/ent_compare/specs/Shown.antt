@@ -63,7 +63,7 @@ also_at key before after keys = if same_data (get key before) (get key after) th
 abbrev pub also_of : Data → Data → List ℕ
 also_of before after = also_at (codes "advice") before after (also_at (codes "obligations") before after (also_at (codes "status") before after []))
 
--- the same where both are there
+-- what else is another of two cells, where both are there
 abbrev pub also_between : Option Data → Option Data → List ℕ
 also_between (Some before) (Some after) = if is_some (as_object before) && is_some (as_object after) then also_of before after else []
 also_between _ _ = []

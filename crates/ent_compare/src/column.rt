@@ -35,8 +35,8 @@ pub(crate) enum Column {
     Also,
 }
 
-/// The members of the list at a key.
-pub(crate) fn members_at<'v>(object: &'v Value, key: &str) -> &'v [Value]
+/// The members of the list at a key; none where no list stands there.
+pub fn members_at<'v>(object: &'v Value, key: &str) -> &'v [Value]
     ensures { map view result.now ≡ members_at key.now (view object.now) }
 {
     match list_at(object, key) {
@@ -63,8 +63,8 @@ pub(crate) fn name_at<'v>(change: &'v Value, key: &str) -> &'v str
     }
 }
 
-/// A text of a list, by its place.
-fn text_of(list: &Value, place: usize) -> &str
+/// A text of a list, by its place; the empty one where none stands there.
+pub fn text_of(list: &Value, place: usize) -> &str
     ensures { result.now ≡ text_of place (view list.now) }
 {
     match list.get(place) {

@@ -10,7 +10,9 @@ mod showing;
 mod table;
 mod writing;
 
+pub use column::{members_at, text_of};
 pub use gains::{Way, has};
 pub use report::{difference, is_nothing};
-pub use showing::shown;
+pub use showing::{push_shown, shown};
+pub use table::{names_text, value_of};
 pub use writing::markdown;

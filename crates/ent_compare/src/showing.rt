@@ -55,8 +55,12 @@ fn shown_byte(byte: u8) -> u8
     if byte < 32 || byte == 127 { b'?' } else { byte }
 }
 
-/// Puts a text behind others, as it is shown.
-fn push_shown(text: &[u8], out: &mut Vec<u8>) -> Result<(), AllocError>
+/// Puts a text behind others, as it is shown: control characters as question marks.
+///
+/// # Errors
+///
+/// `AllocError` if memory runs out.
+pub fn push_shown(text: &[u8], out: &mut Vec<u8>) -> Result<(), AllocError>
     ensures { OnOk result (out.new.items ≡ out.old.items ++ map shown_byte text.now) }
 {
     for &byte in text {

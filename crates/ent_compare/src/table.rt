@@ -12,8 +12,12 @@ use std::alloc::{AllocError, Global};
 use std::str;
 
 /// The text of a list of three names.
+///
+/// # Errors
+///
+/// `AllocError` if memory runs out.
 #[tactic(auto, unfolding(crate::specs::Tables::names_text))]
-fn names_text(
+pub fn names_text(
     alloc: Global,
     person: &str,
     action: &str,
@@ -73,7 +77,11 @@ fn table_in(alloc: Global, mut reply: Value) -> Result<Option<Map<String, Value>
 }
 
 /// The JSON value that a text is, or nothing where it is none.
-fn value_of(alloc: Global, text: &[u8]) -> Result<Option<Value>, AllocError>
+///
+/// # Errors
+///
+/// `AllocError` if memory runs out.
+pub fn value_of(alloc: Global, text: &[u8]) -> Result<Option<Value>, AllocError>
     ensures { IfOk result (λ o. option_map view o ≡ data_of text.now) }
 {
     let Ok(text) = str::from_utf8(text) else {

@@ -5,11 +5,14 @@ use Rattle.clap.specs.Matches.{first_value, matched_of, one_text, raw_values}
 use Rattle.clap.specs.Walk.{Row, all_of, first_of, one_of, rows_of}
 use Rattle.clap.specs.declared.parser.matches.Found.{Found}
 use Rattle.clap.proofs.WalkLemmas.{first_value-rows, one_text-rows, raw_values-rows}
-use Rattle.ent_program.specs.Options.{IsWritten}
+use Rattle.ent_program.specs.Options.{IsShare, IsWritten}
 
 -- the text of an option stands in the rows
 pub written_in_rows : (f : Found) (option : List ℕ) (count : ℕ) → IsWritten (one_text f option) count → IsWritten (one_of option (rows_of f)) count
 written_in_rows f option count h = subst (λ t. IsWritten t count) (one_text-rows f option) h
+
+pub share_in_rows : (f : Found) (option : List ℕ) (share : Option ℕ) → IsShare (one_text f option) share → IsShare (one_of option (rows_of f)) share
+share_in_rows f option share h = subst (λ t. IsShare t share) (one_text-rows f option) h
 
 now_of : (o : Option (Bor (List ℕ))) (e : Bor (List ℕ)) → (unwrap_or o e).now ≡ unwrap_or (option_map (λ s. s.now) o) e.now
 now_of None e = refl

@@ -13,14 +13,15 @@ use Rattle.ent_finder.proofs.Held.{entries-held, filled}
 use Rattle.ent_eval.specs.LooksOf.{held_by}
 use Rattle.ent_request.specs.declared.environment.Environment.TheVariants.{Empty}
 use Rattle.ent_eval.specs.declared.pdp.Pdp.{Pdp}
-use Rattle.ent_table.specs.Limits.{standard_limits}
 use Rattle.ent_table.specs.State.{initial}
 use Rattle.ent_table.specs.declared.limits.Limits.{Limits}
+use Rattle.ent_report.specs.World.{unmarked}
 use Rattle.ent_line.specs.Headline.{Headline, IsHeadline}
 use Rattle.ent_line.specs.Step.{Counted}
 use Rattle.ent_line.specs.declared.fault.ServeFault.{ServeFault}
 use Rattle.ent_line.specs.declared.fault.ServeFault.TheVariants.{Memory}
-use Rattle.ent_program.specs.Starting.{no_rows, state_at_start}
+use Rattle.ent_program.specs.Starting.{no_rows, start_of}
+use Rattle.ent_program.specs.proofs_only.Begun.{begun}
 
 none_of_length : {A : Type 0} (xs : List A) → length xs ≡ 0 → xs ≡ []
 none_of_length [] e = refl
@@ -59,14 +60,26 @@ map-replicate f x y is (suc n) = λ t. is t ∷ map-replicate f x y is n t
 alike : {A B : Type 0} (f : A → B) (x : A) (y : B) → f x ≡ y → (xs : List A) (n count : ℕ) → xs ≡ replicate n x → n ≡ count → map f xs ≡ replicate count y
 alike f x y is xs n count are all = ap (map f) are ∙ map-replicate f x y is n ∙ ap (λ m. replicate m y) all
 
--- a decision point over modules that hold nothing, with no root, where nothing is known of the time
-pub started : {A P : Type 0} (sources : A → List Source) (slots : P → List Slots) (pdp : Pdp A P) (limits : Limits) (attributes : A) (policies : P) (os : List Source) (ms : List Slots) (n m a p : ℕ)
-    → pdp.root ≡ None → pdp.environment ≡ Empty → pdp.attributes ≡ attributes → pdp.policies ≡ policies → sources attributes ≡ os → slots policies ≡ ms
-    → os ≡ replicate n no_rows → ms ≡ replicate m empty → n ≡ a → m ≡ p → limits ≡ standard_limits → initial (held_by sources slots pdp) limits ≡ state_at_start a p
-started sources slots pdp limits attributes policies os ms n m a p no_root no_time rows documents rows-seen documents-seen no_row no_document all_a all_p standard =
-    let rowless : map filled_source (sources pdp.attributes) ≡ replicate a no_rows = ap (λ v. map filled_source (sources v)) rows ∙ ap (map filled_source) rows-seen ∙ alike filled_source no_rows no_rows filled-no_rows os n a no_row all_a in
-    let empty_ones : map held (slots pdp.policies) ≡ replicate p empty = ap (λ v. map held (slots v)) documents ∙ ap (map held) documents-seen ∙ alike held empty empty held-empty ms m p no_document all_p in
-    λ t. initial (record { root = no_root t; modules = empty_ones t; sources = rowless t; environment = no_time t }) (standard t)
+-- a decision point over what holds values and documents, with no root, where nothing is known of the time
+pub started : {A P : Type 0} (sources : A → List Source) (slots : P → List Slots) (pdp : Pdp A P) (limits : Limits) (attributes : A) (policies : P)
+    → pdp.root ≡ None → pdp.environment ≡ Empty → pdp.attributes ≡ attributes → pdp.policies ≡ policies
+    → initial (held_by sources slots pdp) limits ≡ (begun limits (sources attributes) (slots policies)).state
+started sources slots pdp limits attributes policies no_root no_time rows documents = λ t. initial (record {
+  root = no_root t;
+  modules = map held (slots (documents t));
+  sources = map filled_source (sources (rows t));
+  environment = no_time t;
+}) limits
+
+-- modules that hold nothing, as many as are asked for
+pub nothing_held : (limits : Limits) (os : List Source) (ms : List Slots) (n m a p : ℕ)
+    → os ≡ replicate n no_rows → ms ≡ replicate m empty → n ≡ a → m ≡ p → begun limits os ms ≡ start_of limits a p
+nothing_held limits os ms n m a p no_row no_document all_a all_p =
+    let rowless = alike filled_source no_rows no_rows filled-no_rows os n a no_row all_a in
+    let empty_ones = alike held empty empty held-empty ms m p no_document all_p in λ t. record {
+      state = initial (record { root = None; modules = empty_ones t; sources = rowless t; environment = Empty }) limits;
+      marks = unmarked;
+    }
 
 -- where memory was wanting, nothing was served
 pub not_begun : (replies : IsHeadline) (w : Counted) (unread wrote : Option (List ℕ)) (r : Result ℕ ServeFault) → r ≡ Err Memory → (end : Counted) × Headline (record { start = w; end = end; unread = unread; left = unread; wrote = wrote; holds = wrote }) r

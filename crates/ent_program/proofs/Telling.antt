@@ -1,7 +1,7 @@
 -- A line more for a part more.
 use Rattle.std.proofs.Common.{◌≡◌, ℕ, ◌+◌, ◌<◌, List, [], ◌∷◌, ◌++◌, length, get_or, take}
 use Rattle.std.proofs.lemmas.List.{take_more}
-use Rattle.ent_explain.specs.Told.{IsPlaced}
+use Rattle.ent_faults.specs.Told.{IsPlaced}
 use Rattle.ent_meaning.specs.declared.warning.Warning.{Warning}
 use Rattle.ent_program.specs.Meant.{AreToldOf}
 

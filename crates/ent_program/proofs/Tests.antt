@@ -87,7 +87,7 @@ tested_same plan name all i session before now cases lt is runs (tested, wrote) 
 -- one more session is tested
 pub tested_more : (plan : Plan) (name : List ℕ) (all : List Session) (i : ℕ) (session : Session) (before now next : Option (List ℕ))
     (cases after : List Case) (test : Case) → i < length all → session ≡ get_or all i session → is_chosen plan.only session ≡ true
-    → (replies : List ℕ) × AreRepliesTo session.modules (sent_to plan.state.now session) replies × (sure plan (session, replies) ≡ true)
+    → (replies : List ℕ) × AreRepliesTo plan.limits session.modules (sent_to plan.state.now session) replies × (sure plan (session, replies) ≡ true)
     × (test ≡ case_of name plan (session, replies))
     → Appends now next test.told → after ≡ cases ++ test ∷ [] → TestsEach plan name (take i all) before now (Ok cases)
     → TestsEach plan name (take (i + 1) all) before next (Ok after)
@@ -96,7 +96,7 @@ tested_more plan name all i session before now next cases after test lt is chose
       (
         runs ++ run ∷ [],
         map_push (λ r. r.0) runs run ∙ ap (λ sessions. sessions ++ session ∷ []) ran ∙ sym (chosen_more plan all i session true lt is chosen_so),
-        All-push (λ r. AreRepliesTo r.0.modules (sent_to plan.state.now r.0) r.1 × (sure plan r ≡ true)) runs run each (replied, certain),
+        All-push (λ r. AreRepliesTo plan.limits r.0.modules (sent_to plan.state.now r.0) r.1 × (sure plan r ≡ true)) runs run each (replied, certain),
         grown ∙ ap (λ tests. tests ++ test ∷ []) gave ∙ ap (λ x. map (case_of name plan) runs ++ x ∷ []) became ∙ sym (map_push (case_of name plan) runs run),
       ),
       subst (λ bytes. Appends before next bytes) (told_push cases test ∙ ap told_of_cases (sym grown))

@@ -80,7 +80,7 @@ places_by Bytes text reply = []
 places_by Data text reply = places_in true text reply
 places_by Part text reply = places_in false text reply
 
--- the same of what is expected, if anything is
+-- the places at which a reply isn't as is expected, if anything is
 abbrev pub places_of : Option Expected → List ℕ → List (List ℕ)
 places_of None reply = []
 places_of (Some expected) reply = places_by expected.comparison expected.text reply

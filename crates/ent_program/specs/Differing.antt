@@ -13,7 +13,8 @@ use Rattle.ent_compare.specs.declared.gains.Way.TheVariants.{Gained, Lost}
 use Rattle.ent_sessions.specs.declared.session.Step.{Step}
 use Rattle.ent_line.specs.declared.fault.ServeFault.{ServeFault}
 use Rattle.ent_line.specs.declared.fault.ServeFault.TheVariants as fault
-use Rattle.ent_program.specs.Comparing.{behind, differences, is_newline, pass}
+use Rattle.ent_program.specs.Comparing.{are_sure, behind, differences, is_newline, is_wanting, pass}
+use Rattle.ent_table.specs.declared.limits.Limits.{Limits}
 use Rattle.ent_program.specs.Testing.{AreRepliesTo, asked}
 use Rattle.ent_program.specs.declared.differing.Ending.{Ending}
 use Rattle.ent_program.specs.declared.differing.Lines.{Lines}
@@ -25,12 +26,13 @@ use Rattle.ent_program.specs.declared.differing.Ending.TheVariants.{Same, Differ
 abbrev pub table_line : List ℕ
 table_line = codes "{\"do\":\"table\"}\n"
 
--- a reply is what a new service, of two modules of each sort, tells of its table behind these lines, each of which it accepted
-pub record IsTableBehind (steps : List Step) (reply : List ℕ) : Type 0 where
+-- a reply is what a new service within those limits, of two modules of each sort, tells of its table behind these lines, each of which it accepted; it doesn't want memory
+pub record IsTableBehind (limits : Limits) (steps : List Step) (reply : List ℕ) : Type 0 where
   pub replies : List ℕ
-  pub run : AreRepliesTo 2 (asked steps ++ table_line) replies
+  pub run : AreRepliesTo limits 2 (asked steps ++ table_line) replies
   pub accepted : pass steps replies ≡ true
   pub last : reply ≡ before_first is_newline (behind steps replies)
+  pub sure : is_wanting reply ≡ false
 
 -- a line says what format those behind it have, as the first line of a dump does
 abbrev pub says_format : List ℕ → Bool
@@ -45,17 +47,18 @@ is_state (step ∷ steps) = says_format step.line
 abbrev pub base_of : List Step → List Step → List Step
 base_of state changes = if is_state changes then [] else state
 
--- of what a new service replied to these lines of one file and then of another, that which refuses one is written
-pub record Refuses (name : List ℕ) (base : List Step) (lines : Lines) (before after : Option (List ℕ)) : Type 0 where
+-- of what a new service within those limits replied to these lines of one file and then of another, that which refuses one is written; none is refused for want of memory
+pub record Refuses (limits : Limits) (name : List ℕ) (base : List Step) (lines : Lines) (before after : Option (List ℕ)) : Type 0 where
   pub replies : List ℕ
-  pub run : AreRepliesTo 2 (asked (base ++ lines.steps.now) ++ table_line) replies
+  pub run : AreRepliesTo limits 2 (asked (base ++ lines.steps.now) ++ table_line) replies
   pub refused : pass (base ++ lines.steps.now) replies ≡ false
+  pub sure : are_sure (base ++ lines.steps.now) replies ≡ true
   pub written : Appends before after (differences name base replies ++ differences lines.name.now lines.steps.now (behind base replies))
 
 -- the reply of a new service that tells its table behind these lines of one file and then of another; or none, where it refused one
-abbrev pub GivesTable : List ℕ → List Step → Lines → Option (List ℕ) → Option (List ℕ) → Option (List ℕ) → Type 0
-GivesTable name base lines before after (Some reply) = IsTableBehind (base ++ lines.steps.now) reply × Appends before after []
-GivesTable name base lines before after None = Refuses name base lines before after
+abbrev pub GivesTable : Limits → List ℕ → List Step → Lines → Option (List ℕ) → Option (List ℕ) → Option (List ℕ) → Type 0
+GivesTable limits name base lines before after (Some reply) = IsTableBehind limits (base ++ lines.steps.now) reply × Appends before after []
+GivesTable limits name base lines before after None = Refuses limits name base lines before after
 
 -- a comparison ended so: nothing differs, or something does, and requests gain Permit or lose it
 abbrev pub ended_by : Data → Ending
@@ -68,25 +71,25 @@ IsTextOf Table told text = text ≡ shown_text told
 IsTextOf Markdown told text = text ≡ markdown_text told
 
 -- what was written is what differs between the table behind the lines of a state and that behind the changes
-pub record TellsDifference (form : Form) (state changes : Lines) (before after : Option (List ℕ)) (ended : Ending) : Type 0 where
+pub record TellsDifference (limits : Limits) (form : Form) (state changes : Lines) (before after : Option (List ℕ)) (ended : Ending) : Type 0 where
   pub first : List ℕ
   pub second : List ℕ
   pub told : Data
   pub text : List ℕ
-  pub table : IsTableBehind state.steps.now first
-  pub other : IsTableBehind (base_of state.steps.now changes.steps.now ++ changes.steps.now) second
+  pub table : IsTableBehind limits state.steps.now first
+  pub other : IsTableBehind limits (base_of state.steps.now changes.steps.now ++ changes.steps.now) second
   pub difference : difference_of first second ≡ Some told
   pub spelled : IsTextOf form told text
   pub written : Appends before after text
   pub result : ended ≡ ended_by told
 
 -- a line of the state was refused, or one that is sent to the second service, and which it was is what was written
-abbrev pub TellsRefused : Lines → Lines → Option (List ℕ) → Option (List ℕ) → Type 0
-TellsRefused state changes before after = Refuses [] [] state before after
-    ⊎ ((first : List ℕ) × IsTableBehind state.steps.now first × Refuses state.name.now (base_of state.steps.now changes.steps.now) changes before after)
+abbrev pub TellsRefused : Limits → Lines → Lines → Option (List ℕ) → Option (List ℕ) → Type 0
+TellsRefused limits state changes before after = Refuses limits [] [] state before after
+    ⊎ ((first : List ℕ) × IsTableBehind limits state.steps.now first × Refuses limits state.name.now (base_of state.steps.now changes.steps.now) changes before after)
 
 -- what a comparison writes and gives; where a line is refused, nothing is compared
-abbrev pub Compares : Form → Lines → Lines → Option (List ℕ) → Option (List ℕ) → Result Ending ServeFault → Type 0
-Compares form state changes before after (Ok Refused) = TellsRefused state changes before after
-Compares form state changes before after (Ok ended) = TellsDifference form state changes before after ended
-Compares form state changes before after (Err e) = e ≢ fault.Read
+abbrev pub Compares : Limits → Form → Lines → Lines → Option (List ℕ) → Option (List ℕ) → Result Ending ServeFault → Type 0
+Compares limits form state changes before after (Ok Refused) = TellsRefused limits state changes before after
+Compares limits form state changes before after (Ok ended) = TellsDifference limits form state changes before after ended
+Compares limits form state changes before after (Err e) = e ≢ fault.Read

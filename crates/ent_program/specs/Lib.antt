@@ -2,6 +2,7 @@ pub mod Checking
 pub mod Comparing
 pub mod Declaring
 pub mod Differing
+pub mod Limiting
 pub mod Listing
 pub mod Meant
 pub mod Options
@@ -10,3 +11,4 @@ pub mod Sources
 pub mod Starting
 pub mod Statuses
 pub mod Testing
+pub mod proofs_only

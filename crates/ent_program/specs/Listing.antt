@@ -26,7 +26,7 @@ abbrev pub AreListed : Plan → List ℕ → List Session → Option (List ℕ) 
 AreListed plan name sessions before after tally =
     (tally ≡ record { passed = length (chosen plan sessions); failed = 0 }) × Appends before after (flat_map (heading_told name) (chosen plan sessions))
 
--- the same of a file's sessions; of none, that there are none, which is a test that failed
+-- those of a file's sessions are; of none, it is told that there are none, which is a test that failed
 abbrev pub ListsAll : Plan → List ℕ → List Session → Option (List ℕ) → Option (List ℕ) → Tally → Type 0
 ListsAll plan name [] before after tally = Fails before after tally (told_at name 1 (codes ": ") (codes "no test begins here"))
 ListsAll plan name (session ∷ sessions) before after tally = AreListed plan name (session ∷ sessions) before after tally

@@ -75,6 +75,10 @@ abbrev pub words_status : WordsFault → ℕ
 words_status words.NotText = 1
 words_status words.Memory = 3
 
+-- a limit that can't be taken gives 2
+abbrev pub limit_status : ℕ
+limit_status = 2
+
 -- a command line that asks for help gives 0, want of memory 3, and any that can't be used 1
 abbrev pub usage_status : ErrorKind → ℕ
 usage_status DisplayHelp = 0
@@ -82,7 +86,7 @@ usage_status DisplayVersion = 0
 usage_status OutOfMemory = 3
 usage_status other = 1
 
--- the same, where what is asked to be told may be lost: that is a write fault
+-- the status of such a command line where what is asked to be told may be lost: that is a write fault
 abbrev pub told_status : Bool → ErrorKind → ℕ
 told_status lost DisplayHelp = if lost then 2 else 0
 told_status lost DisplayVersion = if lost then 2 else 0

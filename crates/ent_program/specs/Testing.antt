@@ -21,6 +21,8 @@ use Rattle.ent_line.specs.declared.fault.ServeFault.{ServeFault}
 use Rattle.ent_line.specs.declared.fault.ServeFault.TheVariants as fault
 use Rattle.ent_program.specs.Comparing.{are_sure, behind, differences, pass, told_at}
 use Rattle.ent_program.specs.Starting.{start_of}
+use Rattle.ent_table.specs.declared.limits.Limits.{Limits}
+use Rattle.ent_program.specs.Limiting.{bounded}
 use Rattle.ent_program.specs.declared.testing.Plan.{Plan}
 use Rattle.ent_program.specs.declared.tally.Tally.{Tally}
 
@@ -32,10 +34,10 @@ asked steps = flat_map (λ step. ended step.line) steps
 abbrev pub few : ℕ → ℕ
 few count = if nat_le 1 count && nat_le count 4 then count else 2
 
--- these bytes are what a new service of that number of modules of each sort replies to the lines that are sent
-unfoldable pub AreRepliesTo : ℕ → List ℕ → List ℕ → Type 0
-AreRepliesTo modules sent replies = (end : Counted) × (left : Option (List ℕ)) × (number : ℕ) × Headline (record {
-  start = at_start (start_of (few modules) (few modules));
+-- these bytes are what a new service within those limits, of that number of modules of each sort, replies to the lines that are sent
+unfoldable pub AreRepliesTo : Limits → ℕ → List ℕ → List ℕ → Type 0
+AreRepliesTo limits modules sent replies = (end : Counted) × (left : Option (List ℕ)) × (number : ℕ) × Headline (record {
+  start = at_start (start_of (bounded limits) (few modules) (few modules));
   end = end;
   unread = Some sent;
   left = left;
@@ -104,11 +106,16 @@ chosen plan sessions = filter (is_chosen plan.only) sessions
 abbrev pub case_of : List ℕ → Plan → Ran → Case
 case_of name plan run = record { name = run.0.name; number = run.0.number; passed = passed plan run; told = told_of name plan run }
 
+-- a session was run over a new service behind the lines of the state, memory wasn't wanting, and this became of it
+abbrev pub IsRun : Plan → List ℕ → Session → Case → Type 0
+IsRun plan name session test = (replies : List ℕ) × AreRepliesTo plan.limits session.modules (sent_to plan.state.now session) replies
+    × (sure plan (session, replies) ≡ true) × (test ≡ case_of name plan (session, replies))
+
 -- these sessions were run one after the other, each over a new service and behind the lines of the state; of none that didn't pass memory was
 -- wanting, and this became of them
 abbrev pub AreTested : Plan → List ℕ → List Session → List Case → Type 0
 AreTested plan name sessions cases = (runs : List Ran) × (map (λ run. run.0) runs ≡ sessions)
-    × All (λ run. AreRepliesTo run.0.modules (sent_to plan.state.now run.0) run.1 × (sure plan run ≡ true)) runs
+    × All (λ run. AreRepliesTo plan.limits run.0.modules (sent_to plan.state.now run.0) run.1 × (sure plan run ≡ true)) runs
     × (cases ≡ map (case_of name plan) runs)
 
 -- what is told of tests, one after the other
@@ -152,7 +159,7 @@ abbrev pub TestsBytes : Plan → List ℕ → List ℕ → Option (List ℕ) →
 TestsBytes plan name bytes before after (Ok suite) = (suite.name.now ≡ name) × TestsSpelled plan name (sessions_of bytes) before after suite
 TestsBytes plan name bytes before after (Err e) = e ≢ fault.Read
 
--- the same of all that the reader has, where that is known; where it fails, nothing is written
+-- what a test of all that the reader has gives and writes, where that is known; where it fails, nothing is written
 abbrev pub Tests : Plan → List ℕ → Option (List ℕ) → Option (List ℕ) → Option (List ℕ) → Result Suite ServeFault → Type 0
 Tests plan name unread before after (Ok suite) = IfSome unread (λ all. TestsBytes plan name all before after (Ok suite))
 Tests plan name unread before after (Err fault.Read) = Appends before after []

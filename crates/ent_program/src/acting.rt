@@ -4,16 +4,20 @@ ghost use Rattle.std.specs.Prelude.{◌≡◌};
 ghost use Rattle.clap.specs.Values.{kind_of};
 ghost use Rattle.ent_program.specs.Starting.{IsFew};
 ghost use Rattle.ent_program.specs.Statuses.{told_status};
+ghost use Rattle.ent_table.specs.Limits.{IsWithinGreatest};
 
 use crate::checking::{FILE_LIMIT, read_fault};
 use crate::declaring::{Declared, declared_in};
 use crate::documents::check_documents;
+use crate::limiting::given_limits;
 use crate::options::{Modules, Task, task_of};
 use crate::running::serve_from;
 use crate::sentences::{declared_sentence, terminal_sentence};
 use crate::sources::{Shown, Source};
-use crate::status::{REFUSED, lines_status, serve_status, status_of, usage_status, words_status};
-use crate::tabling::compare_states;
+use crate::status::{
+    REFUSED, limit_status, lines_status, serve_status, status_of, usage_status, words_status,
+};
+use crate::tabling::{compare_states, cover_state};
 use crate::trying::run_tests;
 use crate::watching::Watched;
 use crate::words::{command, given_words};
@@ -21,6 +25,7 @@ use clap::ArgMatches;
 use clap::error::ErrorKind;
 use ent_declared::Attribute;
 use ent_line::{LinesFault, ServeFault, dump_lines};
+use ent_table::Limits;
 use ent_values::Items;
 use std::fs::File;
 use std::io;
@@ -41,15 +46,17 @@ pub(crate) fn tell_unread(rt: &impl Eprint, source: Source<'_>, cause: io::Error
     status
 }
 
-/// Serves standard input to standard output, with modules of those numbers, and gives the exit status. Somebody at a
-/// terminal is told on standard error how to use it.
+/// Serves standard input to standard output, with modules of those numbers and within those limits, and gives the exit
+/// status. Somebody at a terminal is told on standard error how to use it.
 fn serve_input<R: Input + Print + Eprint + AllocGlobal>(
     rt: &R,
     modules: Modules,
+    limits: Limits,
     is_terminal: bool,
 ) -> u8
     requires attributes { IsFew modules.attributes }
     requires policies { IsFew modules.policies }
+    requires limits { IsWithinGreatest limits }
 {
     if is_terminal {
         let _ = rt.eprintln(terminal_sentence());
@@ -61,7 +68,7 @@ fn serve_input<R: Input + Print + Eprint + AllocGlobal>(
     let Ok(mut writer) = BufWriter::new(alloc, io::writer(rt)) else {
         return status_of(rt, ServeFault::Memory);
     };
-    let served = serve_from(alloc, modules, &mut reader, &mut writer);
+    let served = serve_from(alloc, modules, limits, &mut reader, &mut writer);
     let status = serve_status(rt, served);
     tell_cause(rt, Source::Input, reader.get_ref().cause());
     status
@@ -160,19 +167,24 @@ fn act<R: Files + Input + Print + Eprint + AllocGlobal>(
     matches: &ArgMatches<'_>,
     is_terminal: bool,
 ) -> u8 {
+    let limits = match given_limits(matches) {
+        Ok(limits) => limits,
+        Err(wrong) => return limit_status(rt, wrong),
+    };
     match task_of(matches) {
-        Some(Task::Serve(modules)) => serve_input(rt, modules, is_terminal),
+        Some(Task::Serve(modules)) => serve_input(rt, modules, limits, is_terminal),
         Some(Task::Check(asked)) => check_documents(rt, asked),
+        Some(Task::Cover(asked)) => cover_state(rt, limits, asked),
         Some(Task::Lines) => write_lines(rt),
-        Some(Task::Compare(states)) => compare_states(rt, states),
-        Some(Task::Test(tests)) => run_tests(rt, tests),
+        Some(Task::Compare(states)) => compare_states(rt, limits, states),
+        Some(Task::Test(tests)) => run_tests(rt, limits, tests),
         None => REFUSED,
     }
 }
 
 /// Runs the program with the words of its command line, where standard input is a terminal or not, and gives its exit
 /// status: 0 where all went well, 1 where the command line can't be used, a file was refused, the input is no dump or a
-/// test failed, 2 where reading or writing failed, and 3 for want of memory.
+/// test failed, 2 where a limit can't be taken or reading or writing failed, and 3 for want of memory.
 pub fn run<R: Env + Files + Input + Print + Eprint + AllocGlobal>(rt: &R, is_terminal: bool) -> u8 {
     let words = match given_words(rt) {
         Ok(words) => words,

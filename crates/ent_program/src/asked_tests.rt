@@ -1,13 +1,13 @@
 //! Which tests the command line asks for.
 
 ghost use Rattle.std.specs.Prelude.{◌≡◌, codes, option_map, IfNone, IfSome, List, ℕ, Some};
-ghost use Rattle.clap.specs.Matches.{found_of};
+ghost use Rattle.clap.specs.Matches.{found_of, one_text};
 ghost use Rattle.clap.specs.Walk.{all_of, first_of, rows_of};
-ghost use Rattle.ent_program.specs.Options.{AreAsked, is_given};
+ghost use Rattle.ent_program.specs.Options.{AreAsked, IsShare, is_given};
 ghost use Rattle.ent_program.specs.Sources.{path_named, path_of};
 
 use crate::sources::Source;
-use crate::words::{FILE, JUNIT, LIST, RUN, STATE};
+use crate::words::{COVERAGE, COVERAGE_MIN, FILE, JUNIT, LIST, RUN, STATE};
 use clap::ArgMatches;
 
 /// Which tests are asked for.
@@ -23,6 +23,10 @@ pub struct AskedTests<'m, 'a> {
     pub listed: bool,
     /// The path of the file to which what becomes of them is written as JUnit XML, if there is one.
     pub junit: Option<&'a str>,
+    /// Whether it is told which rules give no decision.
+    pub covered: bool,
+    /// How many of a hundred rules have to give one, if that is said.
+    pub least: Option<usize>,
 }
 
 /// Whether an option without a value is given.
@@ -53,6 +57,13 @@ fn word_of<'a>(options: &ArgMatches<'a>, option: &str) -> Option<&'a str>
     options.get_str(option)
 }
 
+/// How many of a hundred rules have to give a decision, if an option says it.
+fn least_of(options: &ArgMatches<'_>) -> Option<usize>
+    ensures { IsShare (one_text (found_of options.now) (codes "coverage-min")) result }
+{
+    options.get_one::<usize>(COVERAGE_MIN)
+}
+
 /// The tests that the options of `test` ask for; none where no file is named.
 pub(crate) fn asked_tests<'m, 'a: 'm>(options: &'m ArgMatches<'a>) -> Option<AskedTests<'m, 'a>>
     ensures none { IfNone result ((texts : List (List ℕ))
@@ -66,6 +77,8 @@ pub(crate) fn asked_tests<'m, 'a: 'm>(options: &'m ArgMatches<'a>) -> Option<Ask
             only: word_of(options, RUN),
             listed: is_given(options, LIST),
             junit: word_of(options, JUNIT),
+            covered: is_given(options, COVERAGE),
+            least: least_of(options),
         }),
         None => None,
     }

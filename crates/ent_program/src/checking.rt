@@ -9,7 +9,7 @@ ghost use Rattle.ent_program.specs.Checking.{Checks, IsToldOf, Judges, is_fine, 
 ghost use Rattle.ent_program.specs.Checking.{document_in, verdict_in, verdict_of};
 ghost use Rattle.ent_program.specs.declared.checking.Verdict.TheVariants.{Passed, Refused};
 
-use ent_explain::explain;
+use ent_faults::explain;
 use ent_json::read_json;
 use ent_line::{LINE_LIMIT, Refusal, ServeFault, send_all};
 use ent_polform::read_document;
@@ -142,7 +142,7 @@ fn told_of(alloc: Global, bytes: &[u8], verdict: &Verdict) -> Result<Option<Stri
     }
 }
 
-/// The same, if that is wanted.
+/// Where in a file that is refused what is wrong, if that is wanted and can be said.
 fn told_if_wanted(
     alloc: Global,
     bytes: &[u8],

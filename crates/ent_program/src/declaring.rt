@@ -10,7 +10,7 @@ use crate::checking::{FILE_LIMIT, Judged, is_passed, judge, write_verdict};
 use ent_declared::{
     Attribute, AttributeFault, AttributesFault, DECLARED_KEYS, read_attributes, undeclared,
 };
-use ent_explain::{explain_text, line_and_column};
+use ent_faults::{explain_text, line_and_column};
 use ent_json::read_json;
 use ent_line::ServeFault;
 use ent_values::Items;

@@ -14,6 +14,7 @@ use ent_compare::{Way, difference, has, is_nothing, markdown, shown};
 use ent_json::{read_json, text_at};
 use ent_line::{ServeFault, send_all};
 use ent_sessions::Step;
+use ent_table::Limits;
 use json::Scratch;
 use serde_json::Value;
 use std::alloc::{AllocError, Global};
@@ -22,8 +23,8 @@ use std::io::Write;
 /// The line that asks for the table.
 const TABLE: &[u8] = b"{\"do\":\"table\"}\n";
 
-/// How many modules of each sort a service has here.
-const MODULES: usize = 2;
+/// How many modules of each sort a service has where nobody says another number.
+pub(crate) const MODULES: usize = 2;
 
 /// Lines of a file.
 #[derive(Clone, Copy)]
@@ -119,17 +120,18 @@ fn asking(alloc: Global, first: &[Step], second: &[Step]) -> Result<Vec<u8>, All
 /// them; else those that it refuses are told.
 fn table_behind<W: Write>(
     alloc: Global,
+    limits: Limits,
     name: &str,
     base: &[Step],
     lines: Lines<'_>,
     writer: &mut W,
 ) -> Result<Option<Vec<u8>>, ServeFault>
-    ensures table { IfOk result (λ o. GivesTable name.now base.now lines.entry
+    ensures table { IfOk result (λ o. GivesTable limits name.now base.now lines.entry
         (W.contents writer.old) (W.contents writer.new) (option_map (λ v. v.items) o)) }
     ensures fault { IfErr result (λ e. e ≢ Read) }
 {
     let sent = asking(alloc, base, lines.steps)?;
-    let replies = replies_to(alloc, MODULES, sent.as_slice())?;
+    let replies = replies_to(alloc, limits, MODULES, sent.as_slice())?;
     let (accepted, rest) = compare(alloc, name, base, replies.as_slice(), writer)?;
     let (also, rest) = compare(alloc, lines.name, lines.steps, rest, writer)?;
     if !(accepted & also) {
@@ -192,7 +194,7 @@ fn send_difference<W: Write>(
 /// Writes what differs between the tables behind the lines of a state and behind changes, and says whether anything does.
 ///
 /// The changes are lines that are sent behind those of the state; or, where the first of them is `format`, as in a dump,
-/// the lines of a state of their own. Each service is a new one, over two modules of each sort. What differs is one line
+/// the lines of a state of their own. Each service is a new one within those limits, over two modules of each sort. What differs is one line
 /// of JSON ([`difference`](ent_compare::difference)), a table ([`shown`](ent_compare::shown)), or Markdown
 /// ([`markdown`](ent_compare::markdown)). Where a line is refused, it is told by two lines, `NAME:LINE: expected no refusal`
 /// and `NAME:LINE: replied REPLY`, and nothing is compared.
@@ -200,18 +202,19 @@ fn send_difference<W: Write>(
 #[tactic(auto, using(crate::proofs::Differences::compared, crate::proofs::Differences::refused_second))]
 pub fn compare_from<W: Write>(
     alloc: Global,
+    limits: Limits,
     form: Form,
     state: Lines<'_>,
     changes: Lines<'_>,
     writer: &mut W,
 ) -> Result<Ending, ServeFault>
-    ensures { Compares form state.entry changes.entry (W.contents writer.old) (W.contents writer.new) result }
+    ensures { Compares limits form state.entry changes.entry (W.contents writer.old) (W.contents writer.new) result }
 {
     let base = base_of(alloc, state.steps, changes.steps)?;
-    let Some(first) = table_behind(alloc, "", &[], state, writer)? else {
+    let Some(first) = table_behind(alloc, limits, "", &[], state, writer)? else {
         return Ok(Ending::Refused);
     };
-    let Some(second) = table_behind(alloc, state.name, base, changes, writer)? else {
+    let Some(second) = table_behind(alloc, limits, state.name, base, changes, writer)? else {
         return Ok(Ending::Refused);
     };
     match difference(alloc, first.as_slice(), second.as_slice())? {

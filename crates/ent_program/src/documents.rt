@@ -17,7 +17,7 @@ use crate::sources::{Shown, Source};
 use crate::state_file::read_state;
 use crate::status::{REFUSED, check_status, found_status, status_of};
 use ent_declared::Attribute;
-use ent_explain::{explain_all, warnings};
+use ent_faults::{explain_all, warnings};
 use ent_line::ServeFault;
 use ent_policy::Document;
 use ent_together::{State, Together};
@@ -344,7 +344,7 @@ fn tell_empty(rt: &impl Eprint, folders: &[String]) -> usize {
     folders.len()
 }
 
-/// Does so with the documents that these words name, beside so many folders without one.
+/// Checks the documents that these words name, beside so many folders without one, and gives the exit status.
 fn check_words<R: Files + Input + Print + Eprint + AllocGlobal>(
     rt: &R,
     asked: &AskedCheck<'_, '_>,

@@ -43,7 +43,7 @@ impl Known {
         all.get(..self.declared).unwrap_or(all)
     }
 
-    /// The same, with the ids of which names are listed.
+    /// The attributes that are declared, and the ids of which names are listed.
     pub(crate) fn with_names(&self) -> &[Attribute] {
         self.attributes.as_slice()
     }

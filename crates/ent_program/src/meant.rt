@@ -1,11 +1,11 @@
 //! What is said of a document that can be used, but isn't what its author may think.
 
 ghost use Rattle.std.specs.Prelude.{◌≡◌, IfOk, map, string_bytes, take};
-ghost use Rattle.ent_explain.specs.Told.{IsPlaced};
+ghost use Rattle.ent_faults.specs.Told.{IsPlaced};
 ghost use Rattle.ent_meaning.specs.Warnings.{warnings_of};
 ghost use Rattle.ent_program.specs.Meant.{AreToldOf};
 
-use ent_explain::{line_and_column, placed, shortened};
+use ent_faults::{Places, placed, shortened};
 use ent_meaning::{Meaning, Warning, warnings};
 use ent_policy::{Document, Effect};
 use std::alloc::{AllocError, Global};
@@ -48,11 +48,11 @@ fn sentence(alloc: Global, meaning: &Meaning) -> Result<String, AllocError> {
 }
 
 /// A line on a part of a document, with its place, its line and its column.
-fn line_of(alloc: Global, text: &[u8], warning: &Warning) -> Result<String, AllocError>
+fn line_of(alloc: Global, places: &mut Places<'_>, warning: &Warning) -> Result<String, AllocError>
     ensures { IfOk result (λ s. IsPlaced warning.now.pointer (string_bytes s)) }
 {
     let pointer = warning.pointer.as_str();
-    let position = line_and_column(alloc, text, pointer)?;
+    let position = places.line_and_column(pointer)?;
     let (line, column) = (position.line, position.column);
     let sentence = sentence(alloc, &warning.meaning)?;
     let sentence = sentence.as_str();
@@ -72,9 +72,10 @@ fn first(warnings: &[Warning]) -> &[Warning]
 fn lines_of(alloc: Global, text: &[u8], warnings: &[Warning]) -> Result<Vec<String>, AllocError>
     ensures { IfOk result (λ lines. AreToldOf warnings.now (map string_bytes lines.items)) }
 {
+    let mut places = Places::of(alloc, text);
     let mut lines = Vec::new(alloc);
     for warning in warnings {
-        lines.push(line_of(alloc, text, warning)?)?;
+        lines.push(line_of(alloc, &mut places, warning)?)?;
     }
     Ok(lines)
 }

@@ -39,7 +39,7 @@ pub(crate) fn pass_check(rt: &impl Eprint, asked: &AskedCheck<'_, '_>) -> Result
     pass_inputs(rt, asked.files, &others)
 }
 
-/// The same of states that are compared.
+/// Passes states that are to be compared, or gives the exit status as `pass_check` does.
 pub(crate) fn pass_states(rt: &impl Eprint, states: &AskedStates<'_>) -> Result<(), u8> {
     pass_inputs(rt, &[], &[Some(states.state), Some(states.changes)])
 }
@@ -62,7 +62,7 @@ fn is_misused(tests: &AskedTests<'_, '_>, path: &str) -> bool {
     false
 }
 
-/// The same of tests.
+/// Passes tests that are to run, or gives the exit status as `pass_check` does.
 pub(crate) fn pass_tests(rt: &impl Eprint, tests: &AskedTests<'_, '_>) -> Result<(), u8> {
     if let Some(path) = tests.junit {
         if is_misused(tests, path) {

@@ -4,10 +4,11 @@ ghost use Rattle.std.specs.Prelude.{◌≡◌};
 ghost use Rattle.clap.specs.Matches.{found_of, one_text};
 ghost use Rattle.clap.specs.Simple.{subcommand_rows_of};
 ghost use Rattle.clap.specs.Walk.{rows_of};
-ghost use Rattle.ent_program.specs.Options.{AreFew, AreModules, HasFew, IsTaskOf, IsWritten};
+ghost use Rattle.ent_program.specs.Options.{AreFew, AreModules, HasFew, IsCheckTask, IsTaskOf, IsWritten};
 ghost use Rattle.ent_program.specs.Starting.{IsFew};
 
 use crate::asked_check::{AskedCheck, asked_check};
+use crate::asked_coverage::{AskedCoverage, asked_coverage};
 use crate::asked_states::{AskedStates, asked_states};
 use crate::asked_tests::{AskedTests, asked_tests};
 use crate::words::{ATTRIBUTE_MODULES, POLICY_MODULES};
@@ -29,6 +30,8 @@ pub enum Task<'m, 'a> {
     Serve(Modules),
     /// To check documents.
     Check(AskedCheck<'m, 'a>),
+    /// To tell which rules of a state give no decision.
+    Cover(AskedCoverage<'a>),
     /// To write the lines of the dump on standard input.
     Lines,
     /// To compare the tables of states.
@@ -56,6 +59,17 @@ fn modules_of(options: &ArgMatches<'_>) -> Modules
     }
 }
 
+/// What the options of `check` ask for; none where no file is named, and no state.
+fn check_task<'m, 'a: 'm>(options: &'m ArgMatches<'a>) -> Option<Task<'m, 'a>>
+    ensures few { HasFew result }
+    ensures task { IsCheckTask (rows_of (found_of options.now)) result }
+{
+    match asked_coverage(options) {
+        Some(coverage) => Some(Task::Cover(coverage)),
+        None => Some(Task::Check(asked_check(options)?)),
+    }
+}
+
 /// What is asked for by words that the command line takes: which subcommand, with how many modules or on which files.
 pub fn task_of<'m, 'a: 'm>(matches: &'m ArgMatches<'a>) -> Option<Task<'m, 'a>>
     ensures few { HasFew result }
@@ -64,7 +78,7 @@ pub fn task_of<'m, 'a: 'm>(matches: &'m ArgMatches<'a>) -> Option<Task<'m, 'a>>
     let (name, options) = matches.subcommand()?;
     match name {
         "serve" => Some(Task::Serve(modules_of(options))),
-        "check" => Some(Task::Check(asked_check(options)?)),
+        "check" => check_task(options),
         "lines" => Some(Task::Lines),
         "compare" => Some(Task::Compare(asked_states(options))),
         "test" => Some(Task::Test(asked_tests(options)?)),

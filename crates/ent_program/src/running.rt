@@ -5,11 +5,14 @@ ghost use Rattle.std.specs.FinMap.{empty};
 ghost use Rattle.ent_line.specs.Headline.{Headline};
 ghost use Rattle.ent_line.specs.Step.{Counted, at_start};
 ghost use Rattle.ent_program.specs.Starting.{IsFew, categories, no_rows, start_of};
+ghost use Rattle.ent_program.specs.proofs_only.Begun.{begun};
+ghost use Rattle.ent_table.specs.Limits.{IsWithinGreatest};
 
 use crate::options::Modules;
 use ent_eval::{ACCESS_SUBJECT, ACTION, Pdp, RESOURCE};
 use ent_finder::{
-    AttributeFinder, AttributeFinderModule, MapDocs, MapRows, PolicyFinder, PolicyFinderModule,
+    AttributeFinder, AttributeFinderModule, Attributes, MapDocs, MapRows, Policies, PolicyFinder,
+    PolicyFinderModule,
 };
 use ent_line::{ServeFault, Service, replies_are_fresh, serve_review};
 use ent_report::Desk;
@@ -57,18 +60,47 @@ fn push_empty(
     Ok(())
 }
 
-/// Answers each line of the reader by one line into the writer, by a service whose modules, of those numbers, hold
-/// nothing before the first of them, and gives their number.
+/// Serves by a service over what holds values and documents, within those limits, which begins without a root, marks and
+/// names, and knows nothing of the time. No function holds such a service over boxed modules, so this one is generic in
+/// them.
+fn serve_over<A: Attributes, P: Policies, R: BufRead, W: Write>(
+    alloc: Global,
+    attributes: A,
+    policies: P,
+    limits: Limits,
+    reader: &mut R,
+    writer: &mut W,
+) -> Result<u64, ServeFault>
+    requires { IsWithinGreatest limits }
+    ensures { (end : Counted) × Headline (record {
+      start = at_start (begun limits (A.sources attributes) (P.slots policies));
+      end = end;
+      unread = R.remaining reader.old;
+      left = R.remaining reader.new;
+      wrote = W.contents writer.old;
+      holds = W.contents writer.new;
+    }) result }
+{
+    let pdp = Pdp::new(alloc, attributes, policies);
+    let review = Review::new(alloc, pdp, limits);
+    let mut service = Service::new(alloc, Desk::new(alloc, review));
+    serve_review(alloc, &mut service, reader, writer)
+}
+
+/// Answers each line of the reader by one line into the writer, by a service within those limits whose modules,
+/// of those numbers, hold nothing before the first of them, and gives their number.
 pub fn serve_from<R: BufRead, W: Write>(
     alloc: Global,
     count: Modules,
+    limits: Limits,
     reader: &mut R,
     writer: &mut W,
 ) -> Result<u64, ServeFault>
     requires attributes { IsFew count.attributes }
     requires policies { IsFew count.policies }
+    requires limits { IsWithinGreatest limits }
     ensures { (end : Counted) × Headline (record {
-      start = at_start (start_of count.attributes count.policies);
+      start = at_start (start_of limits count.attributes count.policies);
       end = end;
       unread = R.remaining reader.old;
       left = R.remaining reader.new;
@@ -86,12 +118,12 @@ pub fn serve_from<R: BufRead, W: Write>(
     for _ in 0..count.policies {
         push_empty(&mut policies, Box::new(alloc, MapDocs::new(alloc))?)?;
     }
-    let pdp = Pdp::new(
+    serve_over(
         alloc,
         AttributeFinder::new(attributes),
         PolicyFinder::new(policies),
-    );
-    let review = Review::new(alloc, pdp, Limits::standard());
-    let mut service = Service::new(alloc, Desk::new(alloc, review));
-    serve_review(alloc, &mut service, reader, writer)
+        limits,
+        reader,
+        writer,
+    )
 }

@@ -3,12 +3,14 @@
 ghost use Rattle.std.specs.Prelude.{◌≡◌};
 ghost use Rattle.clap.specs.Values.{kind_of};
 ghost use Rattle.ent_program.specs.Statuses.{check_status, compare_status, different_status, fails, fault_status};
-ghost use Rattle.ent_program.specs.Statuses.{found_status};
+ghost use Rattle.ent_program.specs.Statuses.{found_status, limit_status};
 ghost use Rattle.ent_program.specs.Statuses.{lines_fault_status, lines_status, serve_status};
 ghost use Rattle.ent_program.specs.Statuses.{test_status, usage_status, words_status};
 
 use crate::differing::{Ending, Failing};
+use crate::limiting::WrongLimit;
 use crate::sentences::{fault_sentence, lines_sentence, words_sentence};
+use crate::sources::Shown;
 use crate::tally::Tally;
 use crate::words::WordsFault;
 use clap::error::ErrorKind;
@@ -20,7 +22,7 @@ const OKAY: u8 = 0;
 /// The command line can't be used, a file was refused, the input is no dump, or a test failed.
 pub(crate) const REFUSED: u8 = 1;
 
-/// Reading or writing failed.
+/// A limit can't be taken, or reading or writing failed.
 const BROKEN: u8 = 2;
 
 /// Memory was wanting.
@@ -153,6 +155,19 @@ pub fn words_status(rt: &impl Eprint, fault: WordsFault) -> u8
         WordsFault::NotText => REFUSED,
         WordsFault::Memory => NO_MEMORY,
     }
+}
+
+/// Says on standard error that a limit can't be taken, and why, and gives the exit status for it.
+pub(crate) fn limit_status(rt: &impl Eprint, wrong: WrongLimit<'_>) -> u8
+    ensures { result ≡ limit_status }
+{
+    let _ = eprintln!(rt;
+        "review: --{} takes a whole number from 1 to {}, and not '{}'",
+        wrong.option,
+        wrong.greatest,
+        Shown(wrong.word)
+    );
+    BROKEN
 }
 
 /// The exit status where the command line asks for help, or can't be used.

@@ -1,11 +1,14 @@
 //! The comparison that the command line asks for, over the runtime that the program is started with.
 
+use crate::asked_coverage::AskedCoverage;
 use crate::asked_states::AskedStates;
+use crate::covering::cover_from;
 use crate::differing::{Ending, Form, Lines, compare_from};
 use crate::misused::pass_states;
 use crate::status::{compare_status, status_of};
 use crate::trying::read_state;
 use ent_line::ServeFault;
+use ent_table::Limits;
 use std::alloc::Global;
 use std::io;
 use std::io::{BufWriter, Write};
@@ -14,12 +17,13 @@ use std::rt::Files;
 /// Compares the tables behind lines, writes what differs, and flushes the writer.
 fn write_difference<W: Write>(
     alloc: Global,
+    limits: Limits,
     form: Form,
     state: Lines<'_>,
     changes: Lines<'_>,
     writer: &mut W,
 ) -> Result<Ending, ServeFault> {
-    let compared = compare_from(alloc, form, state, changes, writer)?;
+    let compared = compare_from(alloc, limits, form, state, changes, writer)?;
     match writer.flush() {
         Ok(()) => Ok(compared),
         Err(_) => Err(ServeFault::Write),
@@ -30,6 +34,7 @@ fn write_difference<W: Write>(
 /// status, or that of a fault, which is told on standard error.
 fn compare_sources<R: Files + Input + Print + Eprint + AllocGlobal>(
     rt: &R,
+    limits: Limits,
     states: AskedStates<'_>,
 ) -> Result<u8, u8> {
     pass_states(rt, &states)?;
@@ -47,7 +52,7 @@ fn compare_sources<R: Files + Input + Print + Eprint + AllocGlobal>(
         name: states.changes.name(),
         steps: second.as_slice(),
     };
-    let compared = write_difference(alloc, states.form, state, changes, &mut writer);
+    let compared = write_difference(alloc, limits, states.form, state, changes, &mut writer);
     Ok(compare_status(rt, states.failing, compared))
 }
 
@@ -55,9 +60,57 @@ fn compare_sources<R: Files + Input + Print + Eprint + AllocGlobal>(
 /// 2 where a line was refused; where it is said which differences fail, 4 where there are such, and else 0.
 pub(crate) fn compare_states<R: Files + Input + Print + Eprint + AllocGlobal>(
     rt: &R,
+    limits: Limits,
     states: AskedStates<'_>,
 ) -> u8 {
-    match compare_sources(rt, states) {
+    match compare_sources(rt, limits, states) {
+        Ok(status) => status,
+        Err(status) => status,
+    }
+}
+
+/// Writes which rules of a state give no decision in its table, and flushes the writer.
+fn write_coverage<W: Write>(
+    alloc: Global,
+    limits: Limits,
+    is_json: bool,
+    state: Lines<'_>,
+    writer: &mut W,
+) -> Result<Ending, ServeFault> {
+    let covered = cover_from(alloc, limits, is_json, state, writer)?;
+    match writer.flush() {
+        Ok(()) => Ok(covered),
+        Err(_) => Err(ServeFault::Write),
+    }
+}
+
+/// Tells on standard output which rules of a state give no decision in its table, and gives the exit status, or that of a
+/// fault, which is told on standard error.
+fn cover_source<R: Files + Input + Print + Eprint + AllocGlobal>(
+    rt: &R,
+    limits: Limits,
+    asked: AskedCoverage<'_>,
+) -> Result<u8, u8> {
+    let steps = read_state(rt, asked.state)?;
+    let alloc = rt.alloc();
+    let Ok(mut writer) = BufWriter::new(alloc, io::writer(rt)) else {
+        return Err(status_of(rt, ServeFault::Memory));
+    };
+    let state = Lines {
+        name: asked.state.name(),
+        steps: steps.as_slice(),
+    };
+    let covered = write_coverage(alloc, limits, asked.is_json, state, &mut writer);
+    Ok(compare_status(rt, None, covered))
+}
+
+/// Does so, and gives the exit status: 0, or 2 where a line was refused.
+pub(crate) fn cover_state<R: Files + Input + Print + Eprint + AllocGlobal>(
+    rt: &R,
+    limits: Limits,
+    asked: AskedCoverage<'_>,
+) -> u8 {
+    match cover_source(rt, limits, asked) {
         Ok(status) => status,
         Err(status) => status,
     }

@@ -5,18 +5,22 @@ ghost use Rattle.std.specs.Prelude.{IfErr, IfOk, IfSome, OnOk};
 ghost use Rattle.std.specs.Io.KnownBytes.{Appends};
 ghost use Rattle.ent_line.specs.declared.fault.ServeFault.TheVariants.{Memory, Read};
 ghost use Rattle.ent_program.specs.Starting.{IsFew};
-ghost use Rattle.ent_program.specs.Testing.{AreRepliesTo, Tests, TestsBytes, TestsEach, asked, case_of, few};
-ghost use Rattle.ent_program.specs.Testing.{has_expected, is_chosen, passed, passes, sent_to, sure, told_of};
+ghost use Rattle.ent_program.specs.Testing.{AreRepliesTo, IsRun, Tests, TestsBytes, TestsEach, asked, case_of};
+ghost use Rattle.ent_program.specs.Testing.{few, has_expected, is_chosen, passed, passes, sent_to, sure, told_of};
 ghost use Rattle.ent_program.specs.Testing.{told_of_test};
 ghost use Rattle.ent_program.specs.Comparing.{are_sure};
+ghost use Rattle.ent_table.specs.Limits.{standard_limits};
 
 use crate::comparing::{compare, tell};
+use crate::limiting::bounded;
 use crate::options::Modules;
 use crate::running::serve_from;
+use crate::sharing::{AtHand, are_lines, run_next, shared_replies, split_replies};
 use crate::untested::{NO_TEST, line_on, misplaced_line, untested};
 use ent_junit::{Case, Suite};
 use ent_line::{ServeFault, send_all};
 use ent_sessions::{Session, SessionFault, Step, read_sessions};
+use ent_table::Limits;
 use ent_values::Items;
 use std::alloc::{AllocError, Global};
 use std::io::{ErrorKind, Read, Write};
@@ -33,18 +37,22 @@ pub struct Plan<'a> {
     pub state: &'a [Step],
     /// What the tests are called that run, where not all do.
     pub only: Option<&'a str>,
+    /// The limits of their services.
+    pub limits: Limits,
 }
 
 impl Plan<'_> {
-    /// No lines, and all tests run.
+    /// No lines, all tests run, and the limits are those that hold where none are given.
     pub fn all() -> Plan<'static>
         ensures state { result.state.now ≡ [] }
         ensures only { result.only ≡ None }
+        ensures limits { result.limits ≡ standard_limits }
     {
         Plan {
             state_name: "",
             state: &[],
             only: None,
+            limits: Limits::standard(),
         }
     }
 }
@@ -73,17 +81,22 @@ pub(crate) fn push_asked(steps: &[Step], lines: &mut Vec<u8>) -> Result<(), Allo
 }
 
 /// That number of modules, or two where it isn't from 1 to 4.
-fn few(count: usize) -> usize
+pub(crate) fn few(count: usize) -> usize
     ensures value { result ≡ few count }
     ensures few { IsFew result }
 {
     if 1 <= count && count <= 4 { count } else { 2 }
 }
 
-/// What a new service of that number of modules of each sort replies to lines.
+/// What a new service within those limits, of that number of modules of each sort, replies to lines.
 #[tactic(auto, unfolding(crate::specs::Testing::AreRepliesTo))]
-pub(crate) fn replies_to(alloc: Global, modules: usize, lines: &[u8]) -> Result<Vec<u8>, ServeFault>
-    ensures replies { IfOk result (λ v. AreRepliesTo modules lines.now v.items) }
+pub(crate) fn replies_to(
+    alloc: Global,
+    limits: Limits,
+    modules: usize,
+    lines: &[u8],
+) -> Result<Vec<u8>, ServeFault>
+    ensures replies { IfOk result (λ v. AreRepliesTo limits modules lines.now v.items) }
     ensures fault { IfErr result (λ e. e ≡ Memory) }
 {
     let count = few(modules);
@@ -91,9 +104,10 @@ pub(crate) fn replies_to(alloc: Global, modules: usize, lines: &[u8]) -> Result<
         attributes: count,
         policies: count,
     };
+    let limits = bounded(limits);
     let mut unread = lines;
     let mut replies = Vec::new(alloc);
-    match serve_from(alloc, modules, &mut unread, &mut replies) {
+    match serve_from(alloc, modules, limits, &mut unread, &mut replies) {
         Ok(_) => Ok(replies),
         // A slice is read, and a list written, as long as there is memory.
         Err(_) => Err(ServeFault::Memory),
@@ -212,26 +226,24 @@ fn case_of(
     })
 }
 
-/// Runs a session over a service of its own, writes what isn't as it is to be, and says what became of it.
+/// Judges a session by the replies to what is sent to its service, writes what isn't as it is to be, and says what became
+/// of it.
 #[tactic(auto, using(crate::proofs::Tests::told_alone))]
-fn run_one<W: Write>(
+pub(crate) fn run_by<W: Write>(
     alloc: Global,
     plan: Plan<'_>,
     name: &str,
     session: &Session,
+    replies: &[u8],
     writer: &mut W,
 ) -> Result<Case, ServeFault>
-    ensures ran { IfOk result (λ test. (replies : List ℕ)
-        × AreRepliesTo session.now.modules (sent_to plan.entry.state.now session.now) replies
-        × (sure plan.entry (session.now, replies) ≡ true)
-        × (test ≡ case_of name.now plan.entry (session.now, replies))) }
+    ensures ran { IfOk result (λ test. (sure plan.entry (session.now, replies.now) ≡ true)
+        × (test ≡ case_of name.now plan.entry (session.now, replies.now))) }
     ensures told { IfOk result (λ test. Appends (W.contents writer.old) (W.contents writer.new) test.told) }
     ensures fault { IfErr result (λ e. e ≢ Read) }
 {
-    let lines = sent_to(alloc, plan.state, session)?;
-    let replies = replies_to(alloc, session.modules, lines.as_slice())?;
     let mut told = Vec::new(alloc);
-    let judged = judge(alloc, plan, name, session, replies.as_slice(), &mut told);
+    let judged = judge(alloc, plan, name, session, replies, &mut told);
     send_all(writer, &[told.as_slice()])?;
     match judged {
         Ok(passed) => Ok(case_of(alloc, session, passed, told)?),
@@ -240,8 +252,25 @@ fn run_one<W: Write>(
     }
 }
 
-/// Runs those of the sessions that are chosen, each over a service of its own, writes of each what isn't as it is to
-/// be, and says what became of them.
+/// Runs a session over a service of its own, writes what isn't as it is to be, and says what became of it.
+pub(crate) fn run_one<W: Write>(
+    alloc: Global,
+    plan: Plan<'_>,
+    name: &str,
+    session: &Session,
+    writer: &mut W,
+) -> Result<Case, ServeFault>
+    ensures ran { IfOk result (λ test. IsRun plan.entry name.now session.now test) }
+    ensures told { IfOk result (λ test. Appends (W.contents writer.old) (W.contents writer.new) test.told) }
+    ensures fault { IfErr result (λ e. e ≢ Read) }
+{
+    let lines = sent_to(alloc, plan.state, session)?;
+    let replies = replies_to(alloc, plan.limits, session.modules, lines.as_slice())?;
+    run_by(alloc, plan, name, session, replies.as_slice(), writer)
+}
+
+/// Runs those of the sessions that are chosen, writes of each what isn't as it is to be, and says what became of them:
+/// each as over a service of its own, but those that only ask share one.
 fn test_each<W: Write>(
     alloc: Global,
     plan: Plan<'_>,
@@ -251,11 +280,20 @@ fn test_each<W: Write>(
 ) -> Result<Items<Case>, ServeFault>
     ensures { TestsEach plan.entry name.now sessions.now (W.contents writer.old) (W.contents writer.new) result }
 {
+    let is_clean = are_lines(plan.state);
+    let replies = shared_replies(alloc, is_clean, plan, sessions)?;
+    let (first, mut rest) = split_replies(plan.state, replies.as_slice());
     let mut cases = Items::new(alloc);
     for session in sessions {
         if is_chosen(plan.only, session) {
-            let case = run_one(alloc, plan, name, session, writer)?;
+            let at_hand = AtHand {
+                is_clean,
+                first,
+                rest,
+            };
+            let (case, left) = run_next(alloc, plan, name, session, at_hand, writer)?;
             cases.push(case)?;
+            rest = left;
         }
     }
     Ok(cases)

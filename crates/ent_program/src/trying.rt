@@ -4,17 +4,20 @@ ghost use Rattle.std.specs.Prelude.{◌≡◌, IfOk};
 
 use crate::acting::read_source;
 use crate::asked_tests::AskedTests;
+use crate::covering::{Covered, Share};
 use crate::junit::{broken_off, write_junit};
 use crate::listing::list_tests;
 use crate::misused::pass_tests;
 use crate::sources::Source;
-use crate::status::{status_of, test_status};
+use crate::status::{REFUSED, status_of, test_status};
 use crate::tally::{Tally, send_tally};
 use crate::testing::{Plan, test_from};
 use ent_junit::Suite;
-use ent_line::ServeFault;
+use ent_line::{ServeFault, send_all};
 use ent_sessions::{Step, read_lines};
+use ent_table::Limits;
 use ent_values::Items;
+use std::alloc::{AllocError, Global};
 use std::io;
 use std::io::{BufWriter, Write};
 use std::rt::Files;
@@ -43,6 +46,52 @@ impl Ended {
     }
 }
 
+/// What became of the tests of files, and which rules gave decisions in them, if that is wanted.
+#[derive(Drop)]
+struct Gathered<'a> {
+    suites: Vec<Suite<'a>>,
+    covered: Option<Covered>,
+}
+
+impl Gathered<'_> {
+    /// Nothing yet of what is asked for.
+    fn new<'a>(alloc: Global, tests: AskedTests<'_, '_>) -> Gathered<'a> {
+        let covered = if tests.covered || tests.least.is_some() {
+            Some(Covered::new(alloc))
+        } else {
+            None
+        };
+        Gathered {
+            suites: Vec::new(alloc),
+            covered,
+        }
+    }
+
+    /// How many of the rules gave a decision, if that is wanted.
+    fn share(&self, alloc: Global) -> Result<Option<Share>, AllocError> {
+        match &self.covered {
+            Some(covered) => Ok(Some(covered.share(alloc)?)),
+            None => Ok(None),
+        }
+    }
+}
+
+/// The exit status of tests that would end with another: where all passed, 1 if fewer of a hundred rules gave a decision
+/// than have to, which is told on standard error.
+fn covered_status(rt: &impl Eprint, least: Option<usize>, share: &Option<Share>, status: u8) -> u8 {
+    let (Some(least), Some(share)) = (least, share) else {
+        return status;
+    };
+    if status != 0 || share.seen.saturating_mul(100) >= share.rules.saturating_mul(least) {
+        return status;
+    }
+    let (seen, rules) = (share.seen, share.rules);
+    let _ = eprintln!(rt;
+        "review: {seen} of {rules} rules gave a decision, and {least} of 100 have to"
+    );
+    REFUSED
+}
+
 /// The lines of a source, or the exit status of a fault, which is told on standard error.
 pub(crate) fn read_state<R: Files + Input + Eprint + AllocGlobal>(
     rt: &R,
@@ -62,18 +111,21 @@ fn run_source<'a, R: Files + Input + Eprint + AllocGlobal, W: Write>(
     plan: Plan<'_>,
     source: Source<'a>,
     writer: &mut W,
+    covered: &mut Option<Covered>,
 ) -> Result<Suite<'a>, u8> {
+    let alloc = rt.alloc();
     let bytes = read_source(rt, source, u64::MAX)?;
-    match test_from(
-        rt.alloc(),
-        plan,
-        source.name(),
-        &mut bytes.as_slice(),
-        writer,
-    ) {
-        Ok(suite) => Ok(suite),
-        Err(fault) => Err(status_of(rt, fault)),
+    let tested = test_from(alloc, plan, source.name(), &mut bytes.as_slice(), writer);
+    let suite = match tested {
+        Ok(suite) => suite,
+        Err(fault) => return Err(status_of(rt, fault)),
+    };
+    if let Some(covered) = covered {
+        if let Err(fault) = covered.add_file(alloc, plan, bytes.as_slice()) {
+            return Err(status_of(rt, fault));
+        }
     }
+    Ok(suite)
 }
 
 /// Runs the tests of a source, writes what isn't as it is to be, and puts what became of them last. Gives how many
@@ -83,9 +135,9 @@ fn test_source<'a, R: Files + Input + Eprint + AllocGlobal, W: Write>(
     plan: Plan<'_>,
     source: Source<'a>,
     writer: &mut W,
-    suites: &mut Vec<Suite<'a>>,
+    gathered: &mut Gathered<'a>,
 ) -> Result<Tally, u8> {
-    let (suite, tested) = match run_source(rt, plan, source, writer) {
+    let (suite, tested) = match run_source(rt, plan, source, writer, &mut gathered.covered) {
         Ok(suite) => {
             let tally = Tally::of(&suite);
             (suite, Ok(tally))
@@ -95,7 +147,7 @@ fn test_source<'a, R: Files + Input + Eprint + AllocGlobal, W: Write>(
             Err(_) => return Err(status_of(rt, ServeFault::Memory)),
         },
     };
-    match suites.push(suite) {
+    match gathered.suites.push(suite) {
         Ok(()) => tested,
         Err(_) => Err(status_of(rt, ServeFault::Memory)),
     }
@@ -162,23 +214,30 @@ fn test_each<'a, R: Files + Input + Eprint + AllocGlobal, W: Write>(
     plan: Plan<'_>,
     words: &[&'a str],
     writer: &mut W,
-    suites: &mut Vec<Suite<'a>>,
+    gathered: &mut Gathered<'a>,
 ) -> Ended {
     let mut ended = Ended {
         tally: Tally::none(),
         fault: None,
     };
     for &word in words {
-        let tested = test_source(rt, plan, Source::named(word), writer, suites);
+        let tested = test_source(rt, plan, Source::named(word), writer, gathered);
         ended = ended.with(tested);
     }
     ended
 }
 
-/// Writes how many tests passed, and flushes the writer.
-fn write_tally<W: Write>(writer: &mut W, tally: Tally) -> Result<Tally, ServeFault>
+/// Writes which rules gave no decision, if that is wanted, and how many tests passed, and flushes the writer.
+fn write_end<W: Write>(
+    writer: &mut W,
+    share: &Option<Share>,
+    tally: Tally,
+) -> Result<Tally, ServeFault>
     ensures { IfOk result (λ t. t ≡ tally) }
 {
+    if let Some(share) = share {
+        send_all(writer, &[share.text.as_slice()])?;
+    }
     send_tally(writer, tally)?;
     match writer.flush() {
         Ok(()) => Ok(tally),
@@ -191,18 +250,20 @@ fn write_tally<W: Write>(writer: &mut W, tally: Tally) -> Result<Tally, ServeFau
 fn test_by<R: Files + Input + Print + Eprint + AllocGlobal>(
     rt: &R,
     plan: Plan<'_>,
-    words: &[&str],
-    junit: Option<&str>,
+    tests: AskedTests<'_, '_>,
 ) -> u8 {
     let Ok(mut writer) = BufWriter::new(rt.alloc(), io::writer(rt)) else {
         return status_of(rt, ServeFault::Memory);
     };
-    let mut suites = Vec::new(rt.alloc());
-    let ended = test_each(rt, plan, words, &mut writer, &mut suites);
-    let status = test_status(rt, write_tally(&mut writer, ended.tally));
-    let status = ended.fault.unwrap_or(status);
-    match junit {
-        Some(path) => match write_junit(rt, path, suites.as_slice()) {
+    let mut gathered = Gathered::new(rt.alloc(), tests);
+    let ended = test_each(rt, plan, tests.files, &mut writer, &mut gathered);
+    let Ok(share) = gathered.share(rt.alloc()) else {
+        return status_of(rt, ServeFault::Memory);
+    };
+    let status = test_status(rt, write_end(&mut writer, &share, ended.tally));
+    let status = covered_status(rt, tests.least, &share, ended.fault.unwrap_or(status));
+    match tests.junit {
+        Some(path) => match write_junit(rt, path, gathered.suites.as_slice()) {
             Ok(()) => status,
             Err(fault) => fault,
         },
@@ -214,6 +275,7 @@ fn test_by<R: Files + Input + Print + Eprint + AllocGlobal>(
 /// one, 1 where a test failed or none ran, and 0 where all passed.
 pub(crate) fn run_tests<R: Files + Input + Print + Eprint + AllocGlobal>(
     rt: &R,
+    limits: Limits,
     tests: AskedTests<'_, '_>,
 ) -> u8 {
     if let Err(status) = pass_tests(rt, &tests) {
@@ -221,13 +283,14 @@ pub(crate) fn run_tests<R: Files + Input + Print + Eprint + AllocGlobal>(
     }
     let plan = Plan {
         only: tests.only,
+        limits,
         ..Plan::all()
     };
     if tests.listed {
         return list_by(rt, plan, tests.files);
     }
     let Some(source) = tests.state else {
-        return test_by(rt, plan, tests.files, tests.junit);
+        return test_by(rt, plan, tests);
     };
     match read_state(rt, source) {
         Ok(state) => {
@@ -235,8 +298,9 @@ pub(crate) fn run_tests<R: Files + Input + Print + Eprint + AllocGlobal>(
                 state_name: source.name(),
                 state: state.as_slice(),
                 only: tests.only,
+                limits,
             };
-            test_by(rt, plan, tests.files, tests.junit)
+            test_by(rt, plan, tests)
         }
         Err(status) => status,
     }

@@ -33,7 +33,7 @@ pub fn given_words<R: Env + AllocGlobal>(rt: &R) -> Result<Vec<String>, WordsFau
 
 /// What `review --version` says behind the program's name: the version, and the logic by which it is proved, as
 /// `rt version` names it behind the kit.
-const VERSION: &str = "1.0.0 (logic dac8208d650f15bf)";
+const VERSION: &str = "1.1.0 (logic dac8208d650f15bf)";
 
 /// The argument of `check`, and of `test`: what is read.
 pub const FILE: &str = "FILE";
@@ -83,11 +83,48 @@ pub const ALL: &str = "all";
 /// The option of `check` by which a warning counts as a fault.
 pub const STRICT: &str = "strict";
 
+/// The option of `check` that names a file with the lines of a state, of whose table is told which rules it rests on; and
+/// of `test` by which the same is told of the tests.
+pub const COVERAGE: &str = "coverage";
+
+/// The option of `test` that says how many of a hundred rules have to give a decision.
+pub const COVERAGE_MIN: &str = "coverage-min";
+
+/// The option of `check` by which that is told as JSON.
+pub const JSON: &str = "json";
+
 /// The option of `serve` that says how many modules hold values of attributes.
 pub const ATTRIBUTE_MODULES: &str = "attribute-modules";
 
 /// The option of `serve` that says how many modules hold policies.
 pub const POLICY_MODULES: &str = "policy-modules";
+
+/// The option that says how many people may be listed.
+pub const PEOPLE: &str = "people";
+
+/// The option that says how many actions may be listed.
+pub const ACTIONS: &str = "actions";
+
+/// The option that says how many resources may be listed.
+pub const RESOURCES: &str = "resources";
+
+/// The option that says how many cells the table may have.
+pub const CELLS: &str = "cells";
+
+/// The option that says how many documents may be stored.
+pub const DOCUMENTS: &str = "documents";
+
+/// The most people, or resources, that the command line takes as a limit.
+pub const MOST_NAMES: usize = 65_536;
+
+/// The most actions.
+pub const MOST_ACTIONS: usize = 1_024;
+
+/// The most cells.
+pub const MOST_CELLS: usize = 16_777_216;
+
+/// The most documents.
+pub const MOST_DOCUMENTS: usize = 65_536;
 
 /// An option that gives a number of modules, from 1 to 4.
 fn number_of_modules<'a>(alloc: Global, option: &'static str, help: &'static str) -> Arg<'a> {
@@ -97,6 +134,61 @@ fn number_of_modules<'a>(alloc: Global, option: &'static str, help: &'static str
         .help(help)
         .value_parser(value_parser!(usize).range(1..=4))
         .default_value("2")
+}
+
+/// An option that gives a limit, with the one that holds where it isn't given.
+fn limit<'a>(
+    alloc: Global,
+    option: &'static str,
+    standard: &'static str,
+    help: &'static str,
+) -> Arg<'a> {
+    Arg::new(alloc, option)
+        .long(option)
+        .value_name("N")
+        .help(help)
+        .allow_negative_numbers(true)
+        .default_value(standard)
+}
+
+/// A subcommand that takes limits too.
+fn with_limits<'a>(alloc: Global, command: Command<'a>) -> Result<Command<'a>, AllocError> {
+    let people = limit(
+        alloc,
+        PEOPLE,
+        "256",
+        "How many people may be listed, up to 65536",
+    );
+    let actions = limit(
+        alloc,
+        ACTIONS,
+        "32",
+        "How many actions may be listed, up to 1024",
+    );
+    let resources = limit(
+        alloc,
+        RESOURCES,
+        "256",
+        "How many resources may be listed, up to 65536",
+    );
+    let cells = limit(
+        alloc,
+        CELLS,
+        "65536",
+        "How many cells the table may have, up to 16777216",
+    );
+    let documents = limit(
+        alloc,
+        DOCUMENTS,
+        "1024",
+        "How many policies and policy sets may be stored, up to 65536",
+    );
+    command
+        .arg(people)?
+        .arg(actions)?
+        .arg(resources)?
+        .arg(cells)?
+        .arg(documents)
 }
 
 /// The subcommand `serve`.
@@ -111,10 +203,11 @@ fn serve<'a>(alloc: Global) -> Result<Command<'a>, AllocError> {
         POLICY_MODULES,
         "How many modules hold policies, from 1 to 4",
     );
-    Command::new(alloc, "serve")
+    let serve = Command::new(alloc, "serve")
         .about("Serves commands on standard input, one line each, to standard output")
         .arg(attribute_modules)?
-        .arg(policy_modules)
+        .arg(policy_modules)?;
+    with_limits(alloc, serve)
 }
 
 /// The subcommand `check`.
@@ -124,7 +217,19 @@ fn check<'a>(alloc: Global) -> Result<Command<'a>, AllocError> {
             "Policies and policy sets in JSON, each of at most 1048576 bytes; - is standard input",
         )
         .num_args(1..)
-        .required(true);
+        .required_unless_present(COVERAGE)?;
+    let coverage = Arg::new(alloc, COVERAGE)
+        .long(COVERAGE)
+        .value_name("STATE")
+        .conflicts_with(FILE)?
+        .help(
+            "The lines of a dump: tell which rules of its policies give no decision in its table",
+        );
+    let json = Arg::new(alloc, JSON)
+        .long(JSON)
+        .requires_arg(COVERAGE)?
+        .action(ArgAction::SetTrue)
+        .help("Tell that as JSON");
     let attributes = Arg::new(alloc, ATTRIBUTES)
         .long(ATTRIBUTES)
         .value_name("DECLARED")
@@ -144,14 +249,17 @@ fn check<'a>(alloc: Global) -> Result<Command<'a>, AllocError> {
         .long(STRICT)
         .help("Count a warning as a fault")
         .action(ArgAction::SetTrue);
-    Command::new(alloc, "check")
+    let check = Command::new(alloc, "check")
         .about("Says whether the policies in files may be stored, or why not")
         .arg(attributes)?
         .arg(stored)?
         .arg(lines)?
         .arg(all)?
         .arg(strict)?
-        .arg(file)
+        .arg(coverage)?
+        .arg(json)?
+        .arg(file)?;
+    with_limits(alloc, check)
 }
 
 /// The subcommand `lines`.
@@ -181,13 +289,25 @@ fn test<'a>(alloc: Global) -> Result<Command<'a>, AllocError> {
     let junit = Arg::new(alloc, JUNIT).long(JUNIT).value_name("OUT").help(
         "Write what became of the tests to this file, as JUnit XML",
     );
-    Command::new(alloc, "test")
+    let coverage = Arg::new(alloc, COVERAGE)
+        .long(COVERAGE)
+        .action(ArgAction::SetTrue)
+        .help("Tell which rules of the policies give no decision that a test asks for");
+    let least = Arg::new(alloc, COVERAGE_MIN)
+        .long(COVERAGE_MIN)
+        .value_name("N")
+        .value_parser(value_parser!(usize).range(0..=100))
+        .help("The same, and fail where less than N of a hundred rules give one");
+    let test = Command::new(alloc, "test")
         .about("Runs the tests in files, and says which replies are not as expected")
         .arg(state)?
         .arg(run)?
         .arg(list)?
         .arg(junit)?
-        .arg(files)
+        .arg(coverage)?
+        .arg(least)?
+        .arg(files)?;
+    with_limits(alloc, test)
 }
 
 /// The subcommand `compare`.
@@ -214,13 +334,14 @@ fn compare<'a>(alloc: Global) -> Result<Command<'a>, AllocError> {
         .help(
             "End with 4 where a request gains Permit, loses it, or anything differs, and else with 0",
         );
-    Command::new(alloc, "compare")
+    let compare = Command::new(alloc, "compare")
         .about("Says which requests have another decision or other reasons in another state")
         .arg(text)?
         .arg(markdown)?
         .arg(failing)?
         .arg(state)?
-        .arg(changes)
+        .arg(changes)?;
+    with_limits(alloc, compare)
 }
 
 /// What the program takes: the subcommands `serve`, `check`, `lines`, `test` and `compare`.

@@ -26,16 +26,21 @@ Usage: review serve [OPTIONS]
 Options:
       --attribute-modules <N>  How many modules hold values of attributes, from 1 to 4 [default: 2]
       --policy-modules <N>     How many modules hold policies, from 1 to 4 [default: 2]
+      --people <N>             How many people may be listed, up to 65536 [default: 256]
+      --actions <N>            How many actions may be listed, up to 1024 [default: 32]
+      --resources <N>          How many resources may be listed, up to 65536 [default: 256]
+      --cells <N>              How many cells the table may have, up to 16777216 [default: 65536]
+      --documents <N>          How many policies and policy sets may be stored, up to 65536 [default: 1024]
   -h, --help                   Print help
 ";
 
 const HELP_OF_CHECK: &str = "\
 Says whether the policies in files may be stored, or why not
 
-Usage: review check [OPTIONS] <FILE>...
+Usage: review check [OPTIONS] [FILE]...
 
 Arguments:
-  <FILE>...  Policies and policy sets in JSON, each of at most 1048576 bytes; - is standard input
+  [FILE]...  Policies and policy sets in JSON, each of at most 1048576 bytes; - is standard input
 
 Options:
       --attributes <DECLARED>  The attributes that the policies may ask for, and their values, in JSON
@@ -43,6 +48,13 @@ Options:
       --lines <LINES>          Lines that set values, to be compared with the attributes
       --all                    Tell what is wrong behind the first fault of a policy too
       --strict                 Count a warning as a fault
+      --coverage <STATE>       The lines of a dump: tell which rules of its policies give no decision in its table
+      --json                   Tell that as JSON
+      --people <N>             How many people may be listed, up to 65536 [default: 256]
+      --actions <N>            How many actions may be listed, up to 1024 [default: 32]
+      --resources <N>          How many resources may be listed, up to 65536 [default: 256]
+      --cells <N>              How many cells the table may have, up to 16777216 [default: 65536]
+      --documents <N>          How many policies and policy sets may be stored, up to 65536 [default: 1024]
   -h, --help                   Print help
 ";
 
@@ -64,11 +76,18 @@ Arguments:
   <FILE>...  Tests: lines with the replies that are expected; - is standard input
 
 Options:
-      --state <STATE>  Lines with which each test begins, as those of a dump; all have to be accepted
-      --run <NAME>     Run the tests of that name alone
-      --list           Say where each test begins and what it is called, and run none
-      --junit <OUT>    Write what became of the tests to this file, as JUnit XML
-  -h, --help           Print help
+      --state <STATE>     Lines with which each test begins, as those of a dump; all have to be accepted
+      --run <NAME>        Run the tests of that name alone
+      --list              Say where each test begins and what it is called, and run none
+      --junit <OUT>       Write what became of the tests to this file, as JUnit XML
+      --coverage          Tell which rules of the policies give no decision that a test asks for
+      --coverage-min <N>  The same, and fail where less than N of a hundred rules give one
+      --people <N>        How many people may be listed, up to 65536 [default: 256]
+      --actions <N>       How many actions may be listed, up to 1024 [default: 32]
+      --resources <N>     How many resources may be listed, up to 65536 [default: 256]
+      --cells <N>         How many cells the table may have, up to 16777216 [default: 65536]
+      --documents <N>     How many policies and policy sets may be stored, up to 65536 [default: 1024]
+  -h, --help              Print help
 ";
 
 const HELP_OF_COMPARE: &str = "\
@@ -85,6 +104,11 @@ Options:
       --markdown        Write Markdown of at most 50 lines: who gains Permit and who loses it, by rule
       --fail-on <KIND>  End with 4 where a request gains Permit, loses it, or anything differs, and else with 0 \
 [possible values: gain, loss, any]
+      --people <N>      How many people may be listed, up to 65536 [default: 256]
+      --actions <N>     How many actions may be listed, up to 1024 [default: 32]
+      --resources <N>   How many resources may be listed, up to 65536 [default: 256]
+      --cells <N>       How many cells the table may have, up to 16777216 [default: 65536]
+      --documents <N>   How many policies and policy sets may be stored, up to 65536 [default: 1024]
   -h, --help            Print help
 ";
 

@@ -1,11 +1,12 @@
 //! The service itself over a reader or a writer that fails, and under limits that no line can set.
 
-ghost use Rattle.ent_table.specs.Limits.{IsStandardAtMost};
+ghost use Rattle.ent_table.specs.Limits.{IsWithinGreatest};
 
 use crate::serving::{Narrow, Slow};
 use ent_eval::Pdp;
 use ent_finder::{
-    AttributeFinder, AttributeFinderModule, MapDocs, MapRows, PolicyFinder, PolicyFinderModule,
+    AttributeFinder, AttributeFinderModule, Attributes, MapDocs, MapRows, Policies, PolicyFinder,
+    PolicyFinderModule,
 };
 use ent_line::{Answering, Reply, ServeFault, Service, serve};
 use ent_report::Desk;
@@ -50,22 +51,33 @@ fn answers<S: Answering>(alloc: Global, service: &mut S, case: &Case) -> bool
     is_written & (end == case.end) & (then == case.refusal)
 }
 
+/// Whether a new service over what holds values and documents, within those limits, answers a case as it says.
+fn is_answered_over<A: Attributes, P: Policies>(
+    alloc: Global,
+    attributes: A,
+    policies: P,
+    limits: Limits,
+    case: &Case,
+) -> bool
+    requires { IsWithinGreatest limits }
+{
+    let pdp = Pdp::new(alloc, attributes, policies);
+    let review = Review::new(alloc, pdp, limits);
+    let mut service = Service::new(alloc, Desk::new(alloc, review));
+    answers(alloc, &mut service, case)
+}
+
 /// Whether a new service within those limits answers a case as it says.
 fn is_answered(alloc: Global, limits: Limits, case: &Case) -> Result<bool, AllocError>
-    requires { IsStandardAtMost limits }
+    requires { IsWithinGreatest limits }
 {
     let mut modules: Vec<Box<dyn PolicyFinderModule>> = Vec::new(alloc);
     modules.push(Box::new(alloc, MapDocs::new(alloc))?)?;
     let mut attributes: Vec<Box<dyn AttributeFinderModule>> = Vec::new(alloc);
     attributes.push(Box::new(alloc, MapRows::new(alloc, Items::new(alloc)))?)?;
-    let pdp = Pdp::new(
-        alloc,
-        AttributeFinder::new(attributes),
-        PolicyFinder::new(modules),
-    );
-    let review = Review::new(alloc, pdp, limits);
-    let mut service = Service::new(alloc, Desk::new(alloc, review));
-    Ok(answers(alloc, &mut service, case))
+    let attributes = AttributeFinder::new(attributes);
+    let policies = PolicyFinder::new(modules);
+    Ok(is_answered_over(alloc, attributes, policies, limits, case))
 }
 
 /// Faults of a reader in the middle of a line, and of a writer behind the first reply.
@@ -104,7 +116,7 @@ fn goes_on_after_a_fault(rt: HostRuntime) -> Result<(), Fail> {
 
 /// Limits of two people, two actions, two resources, four cells and one document.
 fn small() -> Limits
-    ensures { IsStandardAtMost result }
+    ensures { IsWithinGreatest result }
 {
     Limits {
         people: 2,

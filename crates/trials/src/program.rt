@@ -13,13 +13,13 @@ const POLICY: &str = r#"{"Policy":{"PolicyId":"p3","Version":"1",
 const RUNS: &[(&[&str], &str, &str, u8)] = &[
     (
         &["review", "--version"],
-        "review 1.0.0 (logic dac8208d650f15bf)\n",
+        "review 1.1.0 (logic dac8208d650f15bf)\n",
         "",
         0,
     ),
     (
         &["review", "-V"],
-        "review 1.0.0 (logic dac8208d650f15bf)\n",
+        "review 1.1.0 (logic dac8208d650f15bf)\n",
         "",
         0,
     ),
@@ -38,6 +38,18 @@ const RUNS: &[(&[&str], &str, &str, u8)] = &[
         2,
     ),
     (&["review", "lines"], "", "review: not a dump\n", 1),
+    (
+        &["review", "serve", "--people", "0"],
+        "",
+        "review: --people takes a whole number from 1 to 65536, and not '0'\n",
+        2,
+    ),
+    (
+        &["review", "compare", "--cells", "many", "none", "none"],
+        "",
+        "review: --cells takes a whole number from 1 to 16777216, and not 'many'\n",
+        2,
+    ),
 ];
 
 /// Whether the machine has written and said that and no more, and the status is that.

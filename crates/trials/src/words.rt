@@ -5,8 +5,8 @@ use clap::ArgMatches;
 use ent_line::{LinesFault, ServeFault};
 use ent_policy::DocFault;
 use ent_program::{
-    FileFault, WordsFault, command, file_sentence, given_words, lines_status, status_of, task_of,
-    usage_status, words_status,
+    FileFault, WordsFault, command, file_sentence, given_limits, given_words, lines_status,
+    status_of, task_of, usage_status, words_status,
 };
 use std::alloc::{AllocError, Global};
 use std::cell::RefCell;
@@ -116,19 +116,19 @@ const TAKEN: &[(&[&str], &str)] = &[
     (&["lines"], "Lines"),
     (
         &["test", "a", "-", "b"],
-        "Test(AskedTests { files: [\"a\", \"-\", \"b\"], state: None, only: None, listed: false, junit: None })",
+        "Test(AskedTests { files: [\"a\", \"-\", \"b\"], state: None, only: None, listed: false, junit: None, covered: false, least: None })",
     ),
     (
         &["test", "--state", "s", "--run", "n", "a"],
-        "Test(AskedTests { files: [\"a\"], state: Some(File(\"s\")), only: Some(\"n\"), listed: false, junit: None })",
+        "Test(AskedTests { files: [\"a\"], state: Some(File(\"s\")), only: Some(\"n\"), listed: false, junit: None, covered: false, least: None })",
     ),
     (
         &["test", "--junit", "x", "a"],
-        "Test(AskedTests { files: [\"a\"], state: None, only: None, listed: false, junit: Some(\"x\") })",
+        "Test(AskedTests { files: [\"a\"], state: None, only: None, listed: false, junit: Some(\"x\"), covered: false, least: None })",
     ),
     (
         &["test", "--list", "a"],
-        "Test(AskedTests { files: [\"a\"], state: None, only: None, listed: true, junit: None })",
+        "Test(AskedTests { files: [\"a\"], state: None, only: None, listed: true, junit: None, covered: false, least: None })",
     ),
     (
         &["compare", "a", "-"],
@@ -163,6 +163,74 @@ fn is_asked(alloc: Global, words: &[&str], want: &str) -> Result<bool, Fail> {
 fn words_that_are_taken(rt: HostRuntime) -> Result<(), Fail> {
     for &(words, want) in TAKEN {
         assert!(rt; is_asked(rt.alloc(), words, want)?, "{want}");
+    }
+    Ok(())
+}
+
+/// Words that the program takes, with the limits that they give or what is wrong with them.
+const LIMITED: &[(&[&str], &str)] = &[
+    (
+        &["serve"],
+        "Ok(Limits { people: 256, actions: 32, resources: 256, cells: 65536, documents: 1024 })",
+    ),
+    (
+        &["lines"],
+        "Ok(Limits { people: 256, actions: 32, resources: 256, cells: 65536, documents: 1024 })",
+    ),
+    (
+        &[
+            "serve",
+            "--people",
+            "65536",
+            "--actions",
+            "1024",
+            "--resources",
+            "65536",
+            "--cells",
+            "16777216",
+            "--documents",
+            "65536",
+        ],
+        "Ok(Limits { people: 65536, actions: 1024, resources: 65536, cells: 16777216, documents: 65536 })",
+    ),
+    (
+        &["test", "--people", "1", "--cells=0007", "a"],
+        "Ok(Limits { people: 1, actions: 32, resources: 256, cells: 7, documents: 1024 })",
+    ),
+    (
+        &["serve", "--people", "65537"],
+        "Err(WrongLimit { option: \"people\", word: \"65537\", greatest: 65536 })",
+    ),
+    (
+        &["compare", "--actions", "1025", "a", "b"],
+        "Err(WrongLimit { option: \"actions\", word: \"1025\", greatest: 1024 })",
+    ),
+    (
+        &["check", "--resources", "0", "--coverage", "a"],
+        "Err(WrongLimit { option: \"resources\", word: \"0\", greatest: 65536 })",
+    ),
+    (
+        &["serve", "--cells", "many"],
+        "Err(WrongLimit { option: \"cells\", word: \"many\", greatest: 16777216 })",
+    ),
+    (
+        &["serve", "--documents", "-1"],
+        "Err(WrongLimit { option: \"documents\", word: \"-1\", greatest: 65536 })",
+    ),
+];
+
+/// Whether the words give those limits, or that is wrong with them.
+fn is_limited(alloc: Global, words: &[&str], want: &str) -> Result<bool, Fail> {
+    let all = line_of(alloc, words)?;
+    let matches = command(alloc)?.try_get_matches_from(all.as_slice())?;
+    let given = given_limits(&matches);
+    Ok(format!(in alloc; "{given:?}")?.as_str() == want)
+}
+
+#[test]
+fn words_that_give_limits(rt: HostRuntime) -> Result<(), Fail> {
+    for &(words, want) in LIMITED {
+        assert!(rt; is_limited(rt.alloc(), words, want)?, "{want}");
     }
     Ok(())
 }

@@ -1,7 +1,7 @@
 use Rattle.std.proofs.Common.{codes, refl}
 use Rattle.clap.specs.Matches.{found_of}
 use Rattle.clap.specs.Walk.{rows_of}
-use Rattle.ent_program.proofs.Rows.{arguments_found, arguments_missing}
+use Rattle.ent_program.proofs.Rows.{arguments_found, arguments_missing, share_in_rows}
 use Rattle.ent_program.proofs.asked_tests.asked_tests.Goals as goal
 
 pub returns-in-Some-clause-asked : goal.returns-in-Some-clause-asked
@@ -11,6 +11,8 @@ returns-in-Some-clause-asked c = record {
   only = c.word_of.ensures;
   listed = c.is_given.ensures;
   junit = c.word_of-in-Some.ensures;
+  covered = c.is_given-in-Some.ensures;
+  least = share_in_rows (found_of c.args.options.now) (codes "coverage-min") _ c.least_of.ensures;
 }
 
 pub returns-in-None-clause-none : goal.returns-in-None-clause-none

@@ -3,26 +3,15 @@ use Rattle.clap.specs.Matches.{found_of}
 use Rattle.clap.specs.Simple.{subcommand_rows_of}
 use Rattle.clap.specs.Walk.{all_of, rows_of}
 use Rattle.ent_program.proofs.Rows.{rows_found}
-use Rattle.ent_program.specs.Options.{AreAsked, IsCheckOf}
+use Rattle.ent_program.specs.Options.{AreAsked, IsCheckTask}
 use Rattle.ent_program.proofs.options.task_of.Goals as goal
 
-pub returns-in_ok-asked_check-in-check-clause-task : goal.returns-in_ok-asked_check-in-check-clause-task
-returns-in_ok-asked_check-in-check-clause-task c = record {
+pub returns-in-check-clause-task : goal.returns-in-check-clause-task
+returns-in-check-clause-task c = record {
   serve = search rules;
-  check = λ options found texts is.
+  check = λ options found.
       let rows = rows_found (rows_of (found_of c.in_ok-name.options.now)) options (subcommand_rows_of c.args.matches.now) (codes "check") c.in_ok-name.ensures.rows found in
-      (c.in_ok-asked_check-in-check.field-0, refl, subst (λ rs. IsCheckOf rs c.in_ok-asked_check-in-check.field-0) rows c.in_ok-asked_check-in-check.ensures.asked);
-  compare = search rules;
-  lines = search rules;
-  test = search rules;
-}
-
-pub returns-in_err-asked_check-in-check-clause-task : goal.returns-in_err-asked_check-in-check-clause-task
-returns-in_err-asked_check-in-check-clause-task c = record {
-  serve = search rules;
-  check = λ options found texts is.
-      let rows = rows_found (rows_of (found_of c.in_ok-name.options.now)) options (subcommand_rows_of c.args.matches.now) (codes "check") c.in_ok-name.ensures.rows found in
-      absurd (c.in_err-asked_check-in-check.ensures.none texts (ap (all_of (codes "FILE")) rows ∙ is));
+      subst (λ rs. IsCheckTask rs c.check_task.result) rows c.check_task.ensures.task;
   compare = search rules;
   lines = search rules;
   test = search rules;

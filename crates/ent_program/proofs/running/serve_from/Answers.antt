@@ -1,42 +1,35 @@
 use Rattle.std.proofs.Common.{◌≡◌, ◌∙◌, Err, arith, ap, map}
 use Rattle.std.specs.FinMap.{empty}
 use Rattle.std.proofs.lemmas.Result.{err_from_is_err_and}
-use Rattle.ent_finder.specs.contracts.attribute_finder.AttributeFinderAttributes.TheImpl as attributes
-use Rattle.ent_finder.specs.contracts.finder.PolicyFinderPolicies.TheImpl as policies
-use Rattle.ent_program.proofs.running.serve_from.OwnLists.{own-1, lawful-own-1, own-2, lawful-own-2}
-use Rattle.ent_program.proofs.Starting.{not_begun, one_more, started}
+use Rattle.ent_program.proofs.Starting.{not_begun, nothing_held, one_more}
 use Rattle.ent_program.specs.Starting.{no_rows, start_of}
-use Rattle.ent_report.specs.World.{unmarked}
-use Rattle.ent_table.specs.State.{State}
 use Rattle.ent_line.specs.Step.{at_start}
-use Rattle.ent_line.specs.World.{count_of, world_of}
-use Rattle.ent_line.proofs.KnownLemmas.{begun}
 use Rattle.ent_program.proofs.running.serve_from.Goals as goal
 
 pub returns-in_err-categories : goal.returns-in_err-categories
 returns-in_err-categories g c =
     let p = err_from_is_err_and c.from_residual.result c.from_residual.ensures.1 in
-    not_begun c.replies_are_fresh.ensures (at_start (start_of c.args.count.attributes c.args.count.policies)) (g.R.Read.remaining c.args.reader.now) (g.W.Write.contents c.args.writer.now) c.from_residual.result (p.1 ∙ ap Err p.2)
+    not_begun c.replies_are_fresh.ensures (at_start (start_of c.args.limits c.args.count.attributes c.args.count.policies)) (g.R.Read.remaining c.args.reader.now) (g.W.Write.contents c.args.writer.now) c.from_residual.result (p.1 ∙ ap Err p.2)
 
 pub returns-in_err-new : goal.returns-in_err-new
 returns-in_err-new g c =
     let p = err_from_is_err_and c.from_residual-in_err-new.result c.from_residual-in_err-new.ensures.1 in
-    not_begun c.replies_are_fresh.ensures (at_start (start_of c.args.count.attributes c.args.count.policies)) (g.R.Read.remaining c.args.reader.now) (g.W.Write.contents c.args.writer.now) c.from_residual-in_err-new.result (p.1 ∙ ap Err p.2)
+    not_begun c.replies_are_fresh.ensures (at_start (start_of c.args.limits c.args.count.attributes c.args.count.policies)) (g.R.Read.remaining c.args.reader.now) (g.W.Write.contents c.args.writer.now) c.from_residual-in_err-new.result (p.1 ∙ ap Err p.2)
 
 pub returns-in_err-push_rowless : goal.returns-in_err-push_rowless
 returns-in_err-push_rowless g c =
     let p = err_from_is_err_and c.from_residual-in_err-push_rowless.result c.from_residual-in_err-push_rowless.ensures.1 in
-    not_begun c.replies_are_fresh.ensures (at_start (start_of c.args.count.attributes c.args.count.policies)) (g.R.Read.remaining c.args.reader.now) (g.W.Write.contents c.args.writer.now) c.from_residual-in_err-push_rowless.result (p.1 ∙ ap Err p.2)
+    not_begun c.replies_are_fresh.ensures (at_start (start_of c.args.limits c.args.count.attributes c.args.count.policies)) (g.R.Read.remaining c.args.reader.now) (g.W.Write.contents c.args.writer.now) c.from_residual-in_err-push_rowless.result (p.1 ∙ ap Err p.2)
 
 pub returns-in_err-new-2 : goal.returns-in_err-new-2
 returns-in_err-new-2 g c =
     let p = err_from_is_err_and c.from_residual-in_err-new-2.result c.from_residual-in_err-new-2.ensures.1 in
-    not_begun c.replies_are_fresh.ensures (at_start (start_of c.args.count.attributes c.args.count.policies)) (g.R.Read.remaining c.args.reader.now) (g.W.Write.contents c.args.writer.now) c.from_residual-in_err-new-2.result (p.1 ∙ ap Err p.2)
+    not_begun c.replies_are_fresh.ensures (at_start (start_of c.args.limits c.args.count.attributes c.args.count.policies)) (g.R.Read.remaining c.args.reader.now) (g.W.Write.contents c.args.writer.now) c.from_residual-in_err-new-2.result (p.1 ∙ ap Err p.2)
 
 pub returns-in_err-push_empty : goal.returns-in_err-push_empty
 returns-in_err-push_empty g c =
     let p = err_from_is_err_and c.from_residual-in_err-push_empty.result c.from_residual-in_err-push_empty.ensures.1 in
-    not_begun c.replies_are_fresh.ensures (at_start (start_of c.args.count.attributes c.args.count.policies)) (g.R.Read.remaining c.args.reader.now) (g.W.Write.contents c.args.writer.now) c.from_residual-in_err-push_empty.result (p.1 ∙ ap Err p.2)
+    not_begun c.replies_are_fresh.ensures (at_start (start_of c.args.limits c.args.count.attributes c.args.count.policies)) (g.R.Read.remaining c.args.reader.now) (g.W.Write.contents c.args.writer.now) c.from_residual-in_err-push_empty.result (p.1 ∙ ap Err p.2)
 
 pub loop-init : goal.loop-init
 loop-init g c = record {
@@ -79,16 +72,6 @@ pub returns : goal.returns
 returns g c =
     let rowless : c.loop.counter ≡ c.args.count.attributes = omega (arith, c.loop-test.false, c.loop.auto.counter-end) in
     let empty_ones : c.loop-2.counter ≡ c.args.count.policies = omega (arith, c.loop-2-test.false, c.loop-2.auto.counter-end) in
-    let sources = (attributes.ghosts (own-1, lawful-own-1)).sources in
-    let slots = (policies.ghosts (own-2, lawful-own-2)).slots in
-    let w = start_of c.args.count.attributes c.args.count.policies in
-    let empty_state = started sources slots c.new-pdp.result c.standard.result _ _ _ _ _ _ _ _
-    c.new-pdp.ensures.root c.new-pdp.ensures.environment c.new-pdp.ensures.attributes c.new-pdp.ensures.policies c.new-2.ensures c.new-3.ensures
-    c.loop.invariant.sources c.loop-2.invariant.slots rowless empty_ones c.standard.ensures in
-    let is : world_of sources slots c.new-service.result ≡ w =
-    c.new-service.ensures.world ∙ c.new-4.ensures.world ∙ ap (λ (s : State). record { state = s; marks = unmarked }) (c.new-review.ensures.state ∙ empty_state) in
-    let none : count_of c.new-service.result ≡ 0 =
-    c.new-service.ensures.count ∙ c.new-4.ensures.evaluations ∙ c.new-review.ensures.counted ∙ c.new-pdp.ensures.evaluations in
-    let from : c.new-service.result.desk.review.log.from ≡ 0 = c.new-service.ensures.from ∙ c.new-4.ensures.from ∙ c.new-review.ensures.from in
-    let run = rw (begun sources slots c.new-service.result w c.new-service.ensures.ready is none from) at c.serve_review.ensures.headline.bytes in
-    (_, record { bytes = run; replies = c.replies_are_fresh.ensures })
+    let is = nothing_held c.args.limits _ _ _ _ c.args.count.attributes c.args.count.policies
+    (c.new-2.ensures ∙ c.loop.invariant.sources) (c.new-3.ensures ∙ c.loop-2.invariant.slots) rowless empty_ones in
+    rw is at c.serve_over.ensures

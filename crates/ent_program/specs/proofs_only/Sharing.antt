@@ -1,0 +1,48 @@
+-- Which tests are sent to one service, one behind the other, and what its replies are to each of them.
+use Rattle.std.specs.Prelude.{ℕ, ◌==◌, ◌-◌, ◌&&◌, Bool, not, List, [], ◌∷◌, ◌++◌, length, take, ⊤}
+use Rattle.std.specs.List.{filter, flat_map, list_all, list_any}
+use Rattle.ent_sessions.specs.declared.session.Session.{Session}
+use Rattle.ent_sessions.specs.declared.session.Step.{Step}
+use Rattle.ent_line.specs.Asking.{only_asks}
+use Rattle.ent_program.specs.Comparing.{behind, is_newline}
+use Rattle.ent_program.specs.Testing.{AreRepliesTo, few, is_chosen, sent_to}
+use Rattle.ent_program.specs.declared.testing.Plan.{Plan}
+
+-- what is sent in a step is one line
+abbrev pub is_line : Step → Bool
+is_line step = not (list_any is_newline step.line)
+
+-- what is sent in each of these steps is
+abbrev pub are_lines : List Step → Bool
+are_lines steps = list_all is_line steps
+
+-- what is sent in a step is one line, which only asks
+abbrev pub is_asking : Step → Bool
+is_asking step = is_line step && only_asks step.line
+
+-- what is sent in each of these steps is
+abbrev pub are_asking : List Step → Bool
+are_asking steps = list_all is_asking steps
+
+-- a test shares a service of two modules of each sort with others: it runs, and only asks
+abbrev pub shares : Plan → Session → Bool
+shares plan session = are_lines plan.state.now && (is_chosen plan.only session && (few session.modules == 2 && are_asking session.steps))
+
+-- those of some tests that share a service
+abbrev pub sharing : Plan → List Session → List Session
+sharing plan sessions = filter (shares plan) sessions
+
+-- their steps, in this order
+abbrev pub shared_steps : Plan → List Session → List Step
+shared_steps plan sessions = flat_map (λ session. session.steps) (sharing plan sessions)
+
+-- the replies to these steps, at the front of others
+abbrev pub front : List Step → List ℕ → List ℕ
+front steps replies = take (length replies - length (behind steps replies)) replies
+
+-- these replies are, one after the other, what follows on the replies to a state where the lines of each of these tests are sent behind it
+abbrev pub AreShared : Plan → List ℕ → List Session → List ℕ → Type 0
+AreShared plan first [] replies = ⊤
+AreShared plan first (session ∷ sessions) replies =
+    AreRepliesTo plan.limits session.modules (sent_to plan.state.now session) (first ++ front session.steps replies)
+    × AreShared plan first sessions (behind session.steps replies)
