@@ -1,0 +1,10 @@
+pub mod Differed
+pub mod Kept
+pub mod Led
+pub mod Merging
+pub mod Pieces
+pub mod Reported
+pub mod Rowed
+pub mod Spared
+pub mod Summed
+pub mod Tabled
