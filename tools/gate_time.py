@@ -5,9 +5,9 @@
 
 Every two seconds it looks at the processes below the command, and adds up the time of each by crate and by what it
 does: proofs, tests (a crate once more with its tests), wrong bodies. At the end it prints a row a crate in processor
-minutes, and with --write puts it into CONTRIBUTING.md. What begins and ends between two looks is missed: a percent or
-two. The lines that say how many passed are kept in out/gate.txt, for what says of a package what was proved of it
-(tools/release.sh). It ends as the command does."""
+minutes, and how much there was to do, and with --write puts both into CONTRIBUTING.md. What begins and ends between two
+looks is missed: a percent or two. The lines that say how many passed are kept in out/gate.txt, for what says of a
+package what was proved of it (tools/release.sh). It ends as the command does."""
 import collections
 import os
 import pathlib
@@ -59,6 +59,15 @@ def work_of(number):
     return crate, 'tests' if '--test' in words else 'proof'
 
 
+def counted():
+    """How many crates there are, functions in them, and wrong bodies."""
+    crates = TOP / 'crates'
+    functions = sum(len(re.findall(r'(?m)^ *(?:pub(?:\([^)]*\))? )?fn ', path.read_text(encoding='utf-8')))
+                    for path in crates.glob('*/src/**/*.rt'))
+    bodies = len(list(crates.glob('*/wrong/*.edit')))
+    return f'{len(list(crates.glob("*/src")))} crates, {functions:,} functions, {bodies} wrong bodies'
+
+
 def table(spent, seconds):
     """The rows of what was spent, most first."""
     total = collections.Counter()
@@ -70,7 +79,8 @@ def table(spent, seconds):
         row = [sum(ticks for (_, does), ticks in own.items() if does == kind) for kind in KINDS]
         lines.append(f'    {crate:20}' + ''.join(f'{ticks / TICKS / 60:9.1f}' for ticks in [*row, sum(row)]))
     processors = len(os.sched_getaffinity(0))
-    lines.append(f'\nIn processor minutes; {seconds / 60:.0f} minutes by the clock on {processors} processors.')
+    clock = f'{seconds / 60:.0f} minutes by the clock on {processors} processors'
+    lines.append(f'\nIn processor minutes; {clock}; {counted()}.')
     return '\n'.join(lines) + '\n'
 
 

@@ -16,8 +16,8 @@ COMMANDS = (r'"(?:(?:person|action|resource)\.(?:add|drop)|(?:attr|day|moment|ro
             r'|policy\.(?:add|replace|withdraw))')
 PROGRAMS = ['conformance', 'faults_told', 'attributes_told', 'together_told', 'review', 'review_with_options']
 EVALUATING = ['ent_request', 'ent_notes', 'ent_walk', 'ent_eval']
-BELOW_LINES = ['ent_values', 'ent_functions', 'ent_combine', 'ent_policy', 'ent_finder', *EVALUATING, 'ent_reach',
-               'ent_index', 'ent_log', 'ent_cells', 'ent_table', 'ent_rebuild']
+BELOW_LINES = ['ent_values', 'ent_functions', 'ent_combine', 'ent_policy', 'ent_finder', *EVALUATING, 'ent_tree',
+               'ent_reach', 'ent_index', 'ent_log', 'ent_cells', 'ent_table', 'ent_rebuild']
 
 
 def lines_of_crates():
@@ -90,7 +90,7 @@ def in_sessions_files():
 
 
 def places_in_the_service():
-    words = ['ent_meaning', 'ent_places', 'ent_explain', 'ent_declared', 'ent_together']
+    words = ['ent_meaning', 'ent_places', 'ent_faults', 'ent_declared', 'ent_together']
     told = ['faults_told', 'attributes_told', 'together_told']
     yield from named(words, but=words + ['ent_program'] + told + TRIALS)
 
@@ -150,6 +150,57 @@ def unseen():
     yield from found(r'(?m)^\s*(?:pub(?:\(crate\))? )?static ')
 
 
+# Calls that are asked for by name, or stay for now, and that no part of the program makes.
+UNCALLED = ['ent_polform write_document', 'ent_profile write_given', 'ent_profile write_response',
+            'ent_index Index::cells_of', 'ent_request Request::exchange_resource', 'ent_program check_from',
+            'ent_split merge_who', 'ent_split merge_by_rule', 'ent_split sum_counts', 'ent_split sum_changes']
+
+
+def given_out(crate):
+    """The names that a crate gives out."""
+    library = CRATES / crate / 'src' / 'lib.rt'
+    uses = re.findall(r'pub use [\w:]+::(?:\{([^}]*)\}|(\w+));', code(library)) if library.exists() else []
+    return {word for many, one in uses for word in re.findall(r'\w+', many or one)}
+
+
+def public_calls(crate):
+    """The public functions of a crate that aren't laws, which have nothing to run: the type of each, if it has one."""
+    names = given_out(crate)
+    for path in files([crate]):
+        text = code(path)
+        owned = re.findall(r'(?ms)^impl(?:<[^{]*?>)? (\w+)[^{\n]*\{\n(.*?)^\}', text)
+        for owner, body in [('', text), *owned]:
+            deep = '    ' if owner else ''
+            for name, law in re.findall(rf'(?ms)^{deep}pub fn (\w+).*?^{deep}\{{(\}}?)$', body):
+                if (owner or name) in names and not law:
+                    yield owner, name
+
+
+def is_called(crate, owner, name, texts):
+    """Whether a call of that name stands where it may: in the crate, or in one that stands on it; of a function only
+    where it is imported."""
+    call = re.compile(rf'(?<!fn )\b{name}\b(?=\s*(?:::<[^>]*>)?\(|[,)])')
+    for path, (uses, text) in texts.items():
+        other = where(path).split('/')[0]
+        if other == crate or crate in LINES[other] and (owner or name in uses):
+            if name in text and call.search(text):
+                return True
+    return False
+
+
+def uncalled():
+    texts = {}
+    for path in files():
+        if where(path).split('/')[0] not in TRIALS and path.name != 'lib.rt':
+            text = code(path)
+            imports = re.findall(r'\buse (?!crate\b)[^;]*;', text)
+            texts[path] = set(re.findall(r'\w+', ' '.join(imports))), re.sub(r'\buse [^;]*;', '', text)
+    there = [f'{crate} {owner}::{name}' if owner else f'{crate} {name}' for crate in LINES
+             for owner, name in public_calls(crate) if not is_called(crate, owner, name, texts)]
+    yield from (f'nothing calls {call}' for call in there if call not in UNCALLED)
+    yield from (f'{call} is called' for call in UNCALLED if call not in there)
+
+
 def unsafe():
     yield from found(r'\bunsafe\b', but=['ent_json/src/text.rt'])
     if len(re.findall(r'\bunsafe\b', code(CRATES / 'ent_json/src/text.rt'))) > 1:
@@ -184,6 +235,7 @@ CHECKS = {
     'clocks, threads, sockets': clocks,
     'memory at a commit, a way back, a drop': memory_at_commit,
     "what a clause doesn't see": unseen,
+    'public calls that nobody makes': uncalled,
     '`unsafe`, but once': unsafe,
     'tests beside the code': lambda: found(r'#\[test\]', but=TRIALS),
     '`jiff`, `slab`, `indexmap` elsewhere': libraries,

@@ -1,36 +1,63 @@
 #!/usr/bin/env python3
-"""Prints the table of commands that the definition `form_of` is, as JSON: of each its word, its kind (change, question
+"""Prints the table of commands that the definition `forms` is, as JSON: of each its word, its kind (change, question
 or mark) and its keys besides `do` and `session`. The tests of the front compare their own tables with it.
 
-    commands.py"""
+    commands.py
+    commands.py --check    says whether docs/COMMANDS.md lists the same words with the same keys; fails if not"""
 import json
 import pathlib
 import re
 import sys
 
-ASKED = pathlib.Path(__file__).resolve().parents[2] / 'crates' / 'ent_line' / 'specs' / 'Asked.antt'
-LIST = r'(\[\]|\((?:codes "[^"]+" ∷ )+\[\]\))'
-# A change or a question, and a mark, whose record stands written out.
-FORMS = [rf'(changes|asks) \(codes "([^"]+)"\) {LIST} ', rf'(record) \{{ word = codes "([^"]+)"; keys = {LIST}; ']
-KINDS = {'changes': 'change', 'asks': 'question', 'record': 'mark'}
+ROOT = pathlib.Path(__file__).resolve().parents[2]
+ASKED = ROOT / 'crates' / 'ent_line' / 'specs' / 'Asked.antt'
+PAGE = ROOT / 'docs' / 'COMMANDS.md'
+FORM = re.compile(r'form \(codes "([^"]+)"\)\s+(\[\]|\((?:codes "[^"]+"\s+∷ )+\[\]\))')
+# A definition of the table, and what its forms are.
+KINDS = {'changes': 'change', 'questions': 'question', 'forms': 'mark'}
 
 
 def commands(text):
-    """The commands of the table, each of which has to be understood, and to be among all names."""
-    table, names = [], []
-    for name, form in re.findall(r'^form_of names\.(\w+) = (.*)$', text, re.M):
-        found = next(filter(None, (re.match(one, form) for one in FORMS)), None)
-        if not found:
-            sys.exit(f'{ASKED}: the form of {name} has another shape than this script knows: {form}')
-        names.append(name)
-        kind, word, keys = found.groups()
-        table.append({'word': word, 'kind': KINDS[kind], 'keys': re.findall(r'"([^"]+)"', keys)})
-    every = re.search(r'^every_name =\n((?: +.*\n)+)', text, re.M)
-    if not every or sorted(re.findall(r'names\.(\w+)', every[1])) != sorted(names):
-        sys.exit(f'{ASKED}: form_of has other names than every_name')
+    """The commands of the table, each of which has to be understood."""
+    table = []
+    for name, kind in KINDS.items():
+        body = re.search(rf'^{name} =((?:.*\n)(?:[ ]+.*\n)*)', text, re.M)
+        forms = FORM.findall(body[1]) if body else []
+        if not forms or len(forms) != len(re.findall(r'\bform\b', body[1])):
+            sys.exit(f'{ASKED}: {name} has another shape than this script knows')
+        table += [{'word': word, 'kind': kind, 'keys': re.findall(r'"([^"]+)"', keys)} for word, keys in forms]
     return table
 
 
-if __name__ == '__main__':
-    json.dump(commands(ASKED.read_text()), sys.stdout, indent=1)
+def rows(text):
+    """The words of the page's list, each with the keys that its row names: the words of small letters in backticks that
+    no command has, or behind which `?` says that they may be left out."""
+    table = text.split('| `do` | Keys |', 1)[1].split('\n\n', 1)[0]
+    rows = re.findall(r'^\| ((?:`[\w.]+`(?:, )?)+) \| (.*?) ?\| ', table, re.M)
+    listed = {word: keys for words, keys in rows for word in re.findall(r'`([\w.]+)`', words)}
+    named = re.compile(r'`([a-z]+)`(\??)')
+    return {word: sorted({key for key, optional in named.findall(keys) if optional or key not in listed})
+            for word, keys in listed.items()}
+
+
+def differences(table, listed):
+    """What the page says otherwise than the table."""
+    told = {one['word']: sorted(one['keys']) for one in table}
+    for word in sorted(set(told) | set(listed)):
+        if told.get(word) != listed.get(word):
+            yield f'{PAGE.name}: `{word}` has the keys {listed.get(word)}, and in the table {told.get(word)}'
+
+
+def main():
+    table = commands(ASKED.read_text())
+    if sys.argv[1:] == ['--check']:
+        wrong = list(differences(table, rows(PAGE.read_text())))
+        print('\n'.join(wrong) or f'{len(table)} commands')
+        return 1 if wrong else 0
+    json.dump(table, sys.stdout, indent=1)
     print()
+    return 0
+
+
+if __name__ == '__main__':
+    sys.exit(main())

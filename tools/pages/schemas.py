@@ -1,11 +1,12 @@
 #!/usr/bin/env python3
 """Writes JSON Schemas (2020-12) of what people write: documents, requests, lines, and what tests expect. Editors
 complete and mark by them as one types. They are made of the tables that the reader itself goes by: which keys a part
-has (ent_places), which it must have (ent_explain), which functions, algorithms and types there are (ent_functions,
+has (ent_places), which it must have (ent_faults), which functions, algorithms and types there are (ent_functions,
 ent_combine, ent_values), and which keys a command has (ent_line).
 
     schemas.py             writes tools/schemas/
-    schemas.py --check     says whether they are up to date; fails if not
+    schemas.py --check     says whether they are up to date, and whether tools/xacml_form/names.py has the reader's
+                           functions and types; fails if not
 
 A schema knows the form alone. What the reader refuses besides stands in REASONS, and tools/try_schemas.py sees that
 there is nothing else."""
@@ -16,9 +17,11 @@ import re
 import sys
 
 sys.dont_write_bytecode = True
-import commands  # noqa: E402
-
 ROOT = pathlib.Path(__file__).resolve().parents[2]
+sys.path.append(str(ROOT / 'tools'))
+import commands  # noqa: E402
+from xacml_form import names  # noqa: E402
+
 CRATES = ROOT / 'crates'
 SCHEMAS = ROOT / 'tools' / 'schemas'
 
@@ -76,7 +79,7 @@ def described():
 
 def required():
     """Of each part the keys that it must have."""
-    text = source('ent_explain', 'form').split('fn required_keys', 1)[1].split('\n}', 1)[0]
+    text = source('ent_faults', 'form').split('fn required_keys', 1)[1].split('\n}', 1)[0]
     keys = {}
     for names, listed in parted(r'(Part::[\w:| ]+?) => &\[(.*?)\]', text, 'required_keys'):
         for name in re.findall(r'Part::(\w+)', names):
@@ -252,6 +255,9 @@ AT_KEY = {
     'decisions': {'type': 'array', 'items': {'enum': DECISIONS}},
     'version': NUMBER_FROM_0,
     'since': NUMBER_FROM_0,
+    'list': {'enum': ['people', 'actions', 'resources']},
+    'from': NUMBER_FROM_0,
+    'count': NUMBER_FROM_0,
 }
 # The keys that may be absent, by the command.
 MAY_BE_ABSENT = {
@@ -262,6 +268,7 @@ MAY_BE_ABSENT = {
     'dump': ['version'],
     'cells': ['person', 'action', 'resource', 'decisions'],
     'documents': ['id'],
+    'names': ['from', 'count'],
 }
 
 
@@ -287,7 +294,7 @@ def lines():
 
 
 ANSWERS = ['Response', 'attributes', 'by_rule', 'can', 'cell', 'cells', 'counts', 'documents', 'dump', 'evaluations']
-ANSWERS += ['explain', 'faults', 'format', 'mark', 'notices', 'state', 'table', 'who']
+ANSWERS += ['explain', 'faults', 'format', 'limits', 'mark', 'names', 'notices', 'state', 'table', 'who']
 
 
 def reply():
@@ -335,8 +342,17 @@ def written():
     }
 
 
+def other_names():
+    """What the XML tool's own lists have that the reader hasn't, or lack."""
+    for told, ours, theirs in [('functions', functions(), names.HERE_FUNCTIONS),
+                               ('types', types(), [*names.HERE_TYPES, *names.HERE_TYPES.values()])]:
+        other = sorted(set(ours) ^ set(theirs))
+        if other:
+            yield f'tools/xacml_form/names.py has other {told} than the reader: {", ".join(other)}'
+
+
 def main():
-    wrong = []
+    wrong = list(other_names()) if sys.argv[1:] == ['--check'] else []
     for name, shape in written().items():
         path = SCHEMAS / f'{name}.json'
         said = json.dumps(shape, indent=1) + '\n'

@@ -1,5 +1,5 @@
-//! The program once more, as it is called with other numbers of modules than without options: the gate runs a program
-//! with one list of words.
+//! The program once more, as it is called with other numbers of modules and other limits than without options: the gate
+//! runs a program with one list of words.
 #![tactic(auto)]
 
 use ent_program::run;
