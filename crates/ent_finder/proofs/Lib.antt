@@ -12,6 +12,7 @@ pub mod KeyLaws
 pub mod Keys
 pub mod Latest
 pub mod Lone
+pub mod Lying
 pub mod NamedBlocks
 pub mod Names
 pub mod Orders

@@ -5,7 +5,7 @@ ghost use Rattle.ent_finder.specs.Rows.{Source, source_at};
 
 use crate::attribute_module::AttributeFinderModule;
 use crate::attributes::Attributes;
-use crate::boxed_attributes::{find_in, row_in, supports_in, swap_in};
+use crate::boxed_attributes::{find_in, row_in, sole_in, supports_in, swap_in};
 use crate::row::{AttrKey, Row, RowKey};
 use ent_values::{Bag, Items, Value};
 use std::alloc::AllocError;
@@ -56,6 +56,18 @@ impl Attributes for AttributeFinder {
             }
         }
         Ok(())
+    }
+
+    fn sole(&self, key: &AttrKey) -> Option<&[Value]> {
+        for store in &self.modules {
+            if supports_in(store.as_ref(), key.category.as_str()) {
+                let values = sole_in(store.as_ref(), key)?;
+                if !values.is_empty() {
+                    return Some(values);
+                }
+            }
+        }
+        Some(&[])
     }
 
     fn swap_row(

@@ -1,6 +1,6 @@
 //! What a module of attributes promises.
 
-ghost use Rattle.std.specs.Prelude.{◌≡◌, ◌≢◌, ◌≤◌, ℕ, List, [], None, OnErr, OnOk, slice_get};
+ghost use Rattle.std.specs.Prelude.{◌≡◌, ◌≢◌, ◌≤◌, ℕ, List, [], IfSome, None, OnErr, OnOk, slice_get};
 ghost use Rattle.std.specs.FinMap as finmap;
 ghost use Rattle.std.specs.Option.{option_copied, option_map};
 ghost use Rattle.ent_values.specs.Bags.{AllOfType};
@@ -31,6 +31,13 @@ pub trait AttributeFinderModule: Drop {
 
         // Memory is asked for values that are found alone, so a look that finds none is not refused.
         ensures memory { OnErr result (values_of key.now (filled (source self.now).rows) ≢ []) };
+
+    /// The values of the rows that the key names, where one of these rows has them all. It takes no memory.
+    fn sole(&self, key: &AttrKey) -> Option<&[Value]>
+        ensures value { IfSome result (λ v. v.now ≡ values_of key.now (filled (source self.now).rows)) }
+
+        // Each has the key's type.
+        ensures types { IfSome result (λ v. AllOfType key.now.datatype v.now) };
 
     /// Exchanges what is in the row of a key with `values`. The row is made if it isn't there; where it is, the
     /// exchange takes no memory, so that a second one undoes the first.

@@ -1,6 +1,6 @@
 //! What the layers above need of where values of attributes are held.
 
-ghost use Rattle.std.specs.Prelude.{◌≡◌, ◌≢◌, ◌<◌, ◌≤◌, List, [], None, OnErr, OnOk, length, map, slice_get};
+ghost use Rattle.std.specs.Prelude.{◌≡◌, ◌≢◌, ◌<◌, ◌≤◌, List, [], IfSome, None, OnErr, OnOk, length, map, slice_get};
 ghost use Rattle.std.specs.FinMap as finmap;
 ghost use Rattle.std.specs.Option.{option_copied, option_map};
 ghost use Rattle.ent_values.specs.Bags.{AllOfType};
@@ -39,6 +39,14 @@ pub trait Attributes: Drop {
 
         // Memory is asked for values that are found alone, so a look that finds none is not refused.
         ensures memory { OnErr result (looked key.now (map filled_source (sources self.now)) ≢ []) };
+
+    /// The values of the first module that supports the key's category and has any that the key names, where one row
+    /// there has them all. It takes no memory.
+    fn sole(&self, key: &AttrKey) -> Option<&[Value]>
+        ensures value { IfSome result (λ v. v.now ≡ looked key.now (map filled_source (sources self.now))) }
+
+        // Each has the key's type.
+        ensures types { IfSome result (λ v. AllOfType key.now.datatype v.now) };
 
     /// Exchanges what is in the row of a key with `values`, in the module of that number. The row is made if it isn't
     /// there; where it is, the exchange takes no memory, so that a second one undoes the first.

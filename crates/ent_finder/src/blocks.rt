@@ -19,6 +19,7 @@ use crate::hints::{Hints, mixed};
 use crate::passing::count_passing;
 use crate::row::{AttrKey, Row, RowKey};
 use crate::rows;
+use crate::sole::either;
 use ent_values::{Bag, Items, Value};
 use std::alloc::{AllocError, Global};
 use std::cmp::Ordering;
@@ -254,14 +255,34 @@ fn beginning(blocks: &[Block], key: &AttrKey) -> usize {
     number.saturating_mul(PLACES).saturating_add(place)
 }
 
-/// The values of a row, as a bag.
-fn values_in(alloc: Global, row: &Row) -> Result<Bag, AllocError>
-    ensures value { IfOk result (λ b. b ≡ record { datatype = row.now.key.datatype; values = row.now.values }) }
-    ensures memory { OnErr result (row.now.values ≢ []) }
+/// The values of the rows that a key names, where one of these rows has them all.
+pub fn sole<'a>(blocks: &'a [Block], hints: &Hints, key: &AttrKey) -> Option<&'a [Value]>
+    requires { RowsAreSorted (rows_in blocks.now) }
+    ensures value { IfSome result (λ v. v.now ≡ values_of key.now (filled (held_in blocks.now))) }
+    ensures types { IfSome result (λ v. AllOfType key.now.datatype v.now) }
 {
-    let mut bag = Bag::new(alloc, row.key.datatype);
-    rows::add_all(alloc, &mut bag, row.values.as_slice())?;
-    Ok(bag)
+    let asked = mixed(mixed(0, key.entity.as_str()), key.attribute.as_str());
+    let hint = hints.place(asked);
+    if let Some(row) = only_row(blocks, hint / PLACES, hint % PLACES, key) {
+        return Some(row.values.as_slice());
+    }
+    hints.keep(asked, beginning(blocks, key));
+    named_in_one(blocks, key)
+}
+
+/// The same, found by a search.
+fn named_in_one<'a>(blocks: &'a [Block], key: &AttrKey) -> Option<&'a [Value]>
+    requires { RowsAreSorted (rows_in blocks.now) }
+    ensures value { IfSome result (λ v. v.now ≡ values_of key.now (filled (held_in blocks.now))) }
+    ensures types { IfSome result (λ v. AllOfType key.now.datatype v.now) }
+{
+    let (start, end) = bounds(blocks, key);
+    let named = &blocks[start..end];
+    let mut so_far: &'a [Value] = &[];
+    for block in named {
+        so_far = either(so_far, rows::named_in_one(&block.rows, key)?)?;
+    }
+    Some(so_far)
 }
 
 /// The values of the rows that a key names.
@@ -275,16 +296,17 @@ pub fn values_of(
     ensures value { IfOk result (λ b. b ≡ bag_found key.now (held_in blocks.now)) }
     ensures memory { OnErr result (values_of key.now (filled (held_in blocks.now)) ≢ []) }
 {
-    let asked = mixed(mixed(0, key.entity.as_str()), key.attribute.as_str());
-    let hint = hints.place(asked);
-    if let Some(row) = only_row(blocks, hint / PLACES, hint % PLACES, key) {
-        return values_in(alloc, row);
+    match sole(blocks, hints, key) {
+        None => all_values_of(alloc, blocks, key),
+        Some(values) => {
+            let mut bag = Bag::new(alloc, key.datatype);
+            rows::add_all(alloc, &mut bag, values)?;
+            Ok(bag)
+        }
     }
-    hints.keep(asked, beginning(blocks, key));
-    all_values_of(alloc, blocks, key)
 }
 
-/// The values of a key, found by a search.
+/// Those of several rows.
 fn all_values_of(alloc: Global, blocks: &[Block], key: &AttrKey) -> Result<Bag, AllocError>
     requires { RowsAreSorted (rows_in blocks.now) }
     ensures value { IfOk result (λ b. b ≡ bag_found key.now (held_in blocks.now)) }

@@ -1,6 +1,6 @@
 //! What is asked of one boxed module of attributes, with the clauses of a module.
 
-ghost use Rattle.std.specs.Prelude.{◌≡◌, ◌≢◌, ◌≤◌, [], None, OnErr, OnOk, slice_get};
+ghost use Rattle.std.specs.Prelude.{◌≡◌, ◌≢◌, ◌≤◌, [], IfSome, None, OnErr, OnOk, slice_get};
 ghost use Rattle.std.specs.FinMap as finmap;
 ghost use Rattle.std.specs.Option.{option_copied, option_map};
 ghost use Rattle.ent_values.specs.Bags.{AllOfType};
@@ -31,6 +31,13 @@ pub fn find_in(
     ensures memory { OnErr result (values_of key.now (filled (source store.now).rows) ≢ []) }
 {
     store.find(key, bag)
+}
+
+pub fn sole_in<'a>(store: &'a dyn AttributeFinderModule, key: &AttrKey) -> Option<&'a [Value]>
+    ensures value { IfSome result (λ v. v.now ≡ values_of key.now (filled (source store.now).rows)) }
+    ensures types { IfSome result (λ v. AllOfType key.now.datatype v.now) }
+{
+    store.sole(key)
 }
 
 pub fn swap_in(

@@ -5,7 +5,7 @@ use std::cell::Cell;
 use std::marker::Model;
 
 /// So many places are kept.
-const PLACES: usize = 256;
+const PLACES: usize = 4096;
 
 /// So many bytes of a text's end count in a number.
 const MIXED_BYTES: usize = 4;

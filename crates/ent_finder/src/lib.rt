@@ -22,6 +22,7 @@ mod policies;
 mod row;
 mod rows;
 mod slot;
+mod sole;
 
 pub use attribute_finder::AttributeFinder;
 pub use attribute_module::AttributeFinderModule;
@@ -42,3 +43,4 @@ pub use module::PolicyFinderModule;
 pub use policies::Policies;
 pub use row::{AttrKey, Row, RowKey};
 pub use slot::DocSlot;
+pub use sole::either;

@@ -74,6 +74,10 @@ impl AttributeFinderModule for MapRows {
         Ok(())
     }
 
+    fn sole(&self, key: &AttrKey) -> Option<&[Value]> {
+        blocks::sole(&self.blocks, &self.hints, key)
+    }
+
     fn swap_row(&mut self, key: &RowKey, values: &mut Items<Value>) -> Result<(), AllocError> {
         blocks::swap_row(self.alloc, &mut self.blocks, &mut self.count, key, values)?;
         Ok(())

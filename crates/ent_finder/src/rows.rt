@@ -1,7 +1,7 @@
 //! A list of rows in the order of their keys.
 
 ghost use Rattle.std.specs.Prelude.{◌≡◌, ◌≢◌, ◌≤◌, ◌++◌, [], false, length, true};
-ghost use Rattle.std.specs.Prelude.{IfErr, IfOk, None, OnErr, OnOk, is_some, slice_range};
+ghost use Rattle.std.specs.Prelude.{IfErr, IfOk, IfSome, None, OnErr, OnOk, is_some, slice_range};
 ghost use Rattle.std.specs.FinMap as finmap;
 ghost use Rattle.std.specs.List.{filter};
 ghost use Rattle.ent_values.specs.Bags.{AllOfType};
@@ -13,6 +13,7 @@ ghost use Rattle.ent_finder.specs.Rows.{filled, row_cmp, values_at};
 
 use crate::passing::count_passing;
 use crate::row::{AttrKey, Row, RowKey};
+use crate::sole::either;
 use ent_values::{Bag, Items, Text, Value};
 use std::alloc::{AllocError, Global};
 use std::cmp::Ordering;
@@ -144,4 +145,19 @@ pub fn add_named(
         add_all(alloc, bag, row.values.as_slice())?;
     }
     Ok(())
+}
+
+/// The values of the rows that a key names, where one of these rows has them all.
+pub fn named_in_one<'a>(rows: &'a [Row], key: &AttrKey) -> Option<&'a [Value]>
+    requires { RowsAreSorted rows.now }
+    ensures value { IfSome result (λ v. v.now ≡ values_of key.now (filled (rows_of rows.now))) }
+    ensures types { IfSome result (λ v. AllOfType key.now.datatype v.now) }
+{
+    let (start, end) = bounds(rows, key);
+    let named = &rows[start..end];
+    let mut so_far: &'a [Value] = &[];
+    for row in named {
+        so_far = either(so_far, row.values.as_slice())?;
+    }
+    Some(so_far)
 }

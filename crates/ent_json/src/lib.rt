@@ -16,7 +16,7 @@ mod whole;
 
 pub use keyed::{write_count, write_optional, write_text};
 pub use line::read_json;
-pub use members::{filled, only_member, put_optional, put_text};
+pub use members::{only_member, put_text};
 pub use objects::{filled_list_at, flag_at, list_at, text_at, text_or_absent};
 pub use text::JsonText;
 pub use tree::JsonTree;

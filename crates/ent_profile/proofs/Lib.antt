@@ -1,7 +1,7 @@
 pub mod ReadLemmas
 pub mod TypeLemmas
 pub mod DoubleLemmas
-pub mod WrittenLemmas
+pub mod FittingLemmas
 pub mod TextLemmas
 pub mod TokenLemmas
 pub mod SpelledLemmas
