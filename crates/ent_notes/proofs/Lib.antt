@@ -2,3 +2,4 @@ pub mod KeysAsked
 pub mod Marking
 pub mod MetBefore
 pub mod Noting
+pub mod Settling

@@ -10,7 +10,7 @@ use Rattle.ent_request.specs.contracts.key.ReadKeyOrd.TheImpl.Laws.{total-law}
 use Rattle.ent_request.specs.declared.key.ReadKey.{ReadKey}
 use Rattle.ent_request.specs.declared.question.Question.{Question}
 use Rattle.ent_notes.specs.proofs_only.Noted.{IsNoted}
-use Rattle.ent_request.specs.Note.{Note, asks, fails}
+use Rattle.ent_request.specs.Note.{Note, asks, fails, passed}
 use Rattle.ent_request.specs.Noted.{noted, read_cmp, with_key}
 use Rattle.ent_notes.specs.proofs_only.Noted.{Notes, is_asked, noting, with_asked, with_note}
 use Rattle.ent_request.proofs.Keys.{read_cmp-IsAntisymmetric}
@@ -107,6 +107,7 @@ asked_stays (Some questions) question more there = asked_still questions questio
 noted_stays : (notes : Notes) (question : Question) (more : Note) → IsNoted notes.questions question → IsNoted (with_note notes more).questions question
 noted_stays notes question (asks more) there = asked_stays notes.questions question more there
 noted_stays notes question (fails cause) there = there
+noted_stays notes question (passed cause) there = there
 
 -- one that is noted stays noted
 pub noted_stay : (notes : Notes) (question : Question) (more : List Note) → IsNoted notes.questions question → IsNoted (noting notes more).questions question

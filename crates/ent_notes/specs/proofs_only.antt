@@ -1,3 +1,4 @@
 pub mod Marks
+pub mod Met
 pub mod Noted
 pub mod Path

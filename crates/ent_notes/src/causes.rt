@@ -1,8 +1,9 @@
 //! What is told of the parts that failed.
 
 ghost use Rattle.std.specs.Prelude.{◌≡◌, ◌∷◌, ◌++◌, ◌-◌, [], None, OnOk, length, take};
+ghost use Rattle.ent_notes.specs.proofs_only.Met.{with_failing};
 ghost use Rattle.ent_request.specs.Note.{status_of};
-ghost use Rattle.ent_notes.specs.proofs_only.Noted.{with_failed};
+ghost use Rattle.ent_notes.specs.proofs_only.Noted.{with_more};
 ghost use Rattle.ent_request.specs.proofs_only.Reason.{what_of};
 
 use crate::distinct::Distinct;
@@ -23,7 +24,7 @@ pub(crate) struct Causes {
 impl Causes {
     // Nothing failed so far. Nothing is allocated.
     pub(crate) fn none(alloc: Global) -> Causes
-        ensures { result ≡ record { path = []; rule = None; told = [] } }
+        ensures { result ≡ record { path = []; rule = None; told = record { causes = []; named = None } } }
     {
         Causes {
             path: Trail::new(alloc),
@@ -35,7 +36,7 @@ impl Causes {
     // Something failed.
     #[tactic(auto, using(crate::proofs::MetBefore::failed_here))]
     pub(crate) fn add(&mut self, alloc: Global, reason: Reason<'_>) -> Result<(), AllocError>
-        ensures { OnOk result (self.new ≡ with_failed self.old (record {
+        ensures { OnOk result (self.new ≡ with_more with_failing self.old (record {
           path = [];
           rule = None;
           status = status_of (what_of reason.entry);

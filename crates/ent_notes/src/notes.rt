@@ -2,12 +2,14 @@
 
 ghost use Rattle.std.specs.Prelude.{◌≡◌, [], IfOk, IfSome, OnOk, Some, None, false, if◌then◌else◌};
 ghost use Rattle.std.specs.List.{flat_map};
+ghost use Rattle.ent_request.specs.Causes.{named_first};
 ghost use Rattle.ent_request.specs.Note.{asks, fails, status_of};
 ghost use Rattle.ent_request.specs.Noted.{noted};
 ghost use Rattle.ent_request.specs.Questions.{AreNumbers, BeginsWith, at_numbers};
 ghost use Rattle.ent_request.specs.Sources as sources;
 ghost use Rattle.ent_request.specs.Sources.{asked_of};
-ghost use Rattle.ent_notes.specs.proofs_only.Noted.{entering, in_rule, leaving, rule_in, with_note};
+ghost use Rattle.ent_notes.specs.proofs_only.Noted.{entering, in_rule, is_named, leaving, rule_in, settling};
+ghost use Rattle.ent_notes.specs.proofs_only.Noted.{with_note};
 ghost use Rattle.ent_notes.specs.proofs_only.Path.{keys_of};
 ghost use Rattle.ent_request.specs.proofs_only.Reason.{what_of};
 ghost use Rattle.ent_request.specs.declared.question.Question.TheVariants.{Of, Ref, Root};
@@ -136,9 +138,35 @@ impl Notes {
         self.failed
     }
 
-    /// What failed, each cause once, if that is asked for.
+    /// Whether something failed that isn't passed over, if what failed is asked for.
+    #[inline(always)]
+    pub fn is_named(&self) -> bool
+        ensures { result ≡ is_named self.now }
+    {
+        match &self.causes {
+            None => false,
+            Some(causes) => causes.told.is_named(),
+        }
+    }
+
+    /// Behind a part of the evaluation: what failed in it is passed over unless it is Indeterminate. Whether something
+    /// that failed before isn't is given: then nothing has to be done.
+    #[inline(always)]
+    pub fn settle(&mut self, was_named: bool, is_indeterminate: bool)
+        ensures { self.new ≡ settling was_named is_indeterminate self.old }
+    {
+        if is_indeterminate || was_named {
+            return;
+        }
+        if let Some(causes) = &mut self.causes {
+            causes.told.pass();
+        }
+    }
+
+    /// What failed, each cause once, if that is asked for: the first that isn't passed over before the others.
     pub fn take_causes(&mut self, alloc: Global) -> Result<Items<Cause>, AllocError>
-        ensures { IfOk result (λ causes. IfSome self.old.causes (λ k. causes ≡ k.told)) }
+        ensures { IfOk result (λ causes. IfSome self.old.causes (λ k.
+            causes ≡ named_first k.told.named k.told.causes)) }
     {
         match mem::replace(&mut self.causes, None) {
             None => Ok(Items::new(alloc)),
@@ -237,7 +265,11 @@ impl Notebook {
     pub fn open(&mut self, alloc: Global, is_asked: bool, is_told: bool) -> Notes
         ensures { result ≡ record {
           questions = if is_asked then Some [] else None;
-          causes = if is_told then Some (record { path = []; rule = None; told = [] }) else None;
+          causes = if is_told then Some (record {
+            path = [];
+            rule = None;
+            told = record { causes = []; named = None };
+          }) else None;
           failed = false;
         } }
     {

@@ -1,5 +1,5 @@
 -- The causes of an evaluation that failed: what fails in it by itself, each once (section 5.55).
-use Rattle.std.specs.Prelude.{List, [], ◌∷◌, ◌++◌, Bool, true, false, if◌then◌else◌}
+use Rattle.std.specs.Prelude.{List, [], ◌∷◌, ◌++◌, Bool, true, false, if◌then◌else◌, filter, not, Option, Some, None}
 use Rattle.std.specs.List.{list_any}
 use Rattle.ent_request.specs.contracts.cause.CausePartialEq.TheImpl as cause
 use Rattle.ent_request.specs.declared.cause.Cause.{Cause}
@@ -21,3 +21,8 @@ told_once causes (more ∷ others) = told_once (with_cause causes more) others
 abbrev pub are_any : List Cause → Bool
 are_any [] = false
 are_any (cause ∷ others) = true
+
+-- causes, the one that is named before the others
+abbrev pub named_first : Option Cause → List Cause → List Cause
+named_first None causes = causes
+named_first (Some named) causes = named ∷ filter (λ cause. not (same_cause named cause)) causes

@@ -1,10 +1,10 @@
 -- A part of an evaluation: what it comes to, and what is noted of it.
-use Rattle.std.specs.Prelude.{ℕ, List, [], ◌∷◌, ◌++◌, Bool, map}
+use Rattle.std.specs.Prelude.{ℕ, List, [], ◌∷◌, ◌++◌, Bool, if◌then◌else◌, map}
 use Rattle.ent_combine.specs.Seen.{up_to_first}
 use Rattle.ent_policy.specs.declared.key.DocKey.{DocKey}
 use Rattle.ent_request.specs.declared.cause.What.{What}
 use Rattle.ent_request.specs.declared.question.Question.{Question}
-use Rattle.ent_request.specs.Note.{Note, asks, failing, note_of_rule, note_within}
+use Rattle.ent_request.specs.Note.{Note, asks, failing, note_of_rule, note_within, passed_over}
 
 -- a value, the questions that are asked for it, as often as they are asked, and what fails by itself, in their order
 pub record Part (A : Type 0) : Type 0 where
@@ -42,6 +42,10 @@ within key p = record { value = p.value; notes = map (note_within key) p.notes }
 -- a part that stands in a rule
 abbrev pub of_rule : {A : Type 0} → List ℕ → Part A → Part A
 of_rule id p = record { value = p.value; notes = map (note_of_rule id) p.notes }
+
+-- a part in which what fails is passed over, unless its value is Indeterminate
+abbrev pub settled : {A : Type 0} → (A → Bool) → Part A → Part A
+settled is_so p = record { value = p.value; notes = if is_so p.value then p.notes else map passed_over p.notes }
 
 -- what several parts come to
 abbrev pub values : {A : Type 0} → List (Part A) → List A

@@ -9,6 +9,7 @@ mod environment;
 mod given;
 mod hashed;
 mod key;
+mod lent_bag;
 mod look_ups;
 mod own;
 mod own_bag;
@@ -29,9 +30,10 @@ pub use change::{
 pub use environment::Environment;
 pub use given::{Assignment, Given};
 pub use key::ReadKey;
+pub use lent_bag::LentBag;
 pub use look_ups::LookUps;
 pub use own::{Sought, own_values, same_issuer, same_text};
-pub use own_bag::{is_among, is_empty, is_own, lacks, only_own};
+pub use own_bag::{is_among, is_empty, lacks, only_own};
 pub use question::{Asked, Question, same_reference};
 pub use questions::Questions;
 pub use readers::{

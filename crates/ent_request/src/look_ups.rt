@@ -1,12 +1,13 @@
 //! What an evaluation asks of what is held.
 
-ghost use Rattle.std.specs.Prelude.{◌≡◌, [], OnErr, OnOk};
+ghost use Rattle.std.specs.Prelude.{◌≡◌, [], IfSome, OnErr, OnOk};
 ghost use Rattle.std.specs.Option.{option_copied};
+ghost use Rattle.ent_values.specs.Bags.{AllOfType};
 ghost use Rattle.ent_request.specs.Looks.{Looks};
 
 use ent_finder::AttrKey;
 use ent_policy::{Document, Reference};
-use ent_values::{Bag, Date, DateTime, Time};
+use ent_values::{Bag, Date, DateTime, Time, Value};
 use std::alloc::AllocError;
 
 /// Gives the look-ups of an evaluation, which asks nothing else of what is held.
@@ -30,6 +31,13 @@ pub trait LookUps {
           values = (looks self.now).values key.now;
         }) }
         ensures err { OnErr result (bag.new ≡ bag.old) };
+
+    /// The values that a key names, where they lie in one place. It takes no memory.
+    fn sole(&self, key: &AttrKey) -> Option<&[Value]>
+        ensures value { IfSome result (λ v. v.now ≡ (looks self.now).values key.now) }
+
+        // Each has the key's type.
+        ensures types { IfSome result (λ v. AllOfType key.now.datatype v.now) };
 
     /// The date, if it is known.
     fn date(&self) -> Option<Date>

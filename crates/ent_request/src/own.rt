@@ -1,12 +1,13 @@
 //! The values that a request itself has for a designator, and where they lie.
 
-ghost use Rattle.std.specs.Prelude.{◌≡◌, ◌++◌, IsTrue, MatchOption, false, option_copied};
+ghost use Rattle.std.specs.Prelude.{◌≡◌, IsTrue, MatchOption, false, option_copied};
 ghost use Rattle.std.specs.Str.{bytes_eq};
 ghost use Rattle.ent_values.specs.Bags.{AllOfType};
 ghost use Rattle.ent_request.specs.Own.{attributes_in, has_issuer, is_designated, own_values, values_in};
 ghost use Rattle.ent_request.specs.proofs_only.Sought.{AreSeveral, IsWhole, designator_of, values_of};
 
 use crate::request::{Attribute, Category, Request};
+use ent_finder::either;
 use ent_policy::Designator;
 use ent_values::{DataType, Text, Value};
 
@@ -66,19 +67,6 @@ fn values_of<'a>(category: &'a Category, sought: &Sought<'_>) -> Option<&'a [Val
         so_far = either(so_far, values_in(attribute, sought))?;
     }
     Some(so_far)
-}
-
-// The values of two slices, where one of these is empty.
-fn either<'a>(first: &'a [Value], second: &'a [Value]) -> Option<&'a [Value]>
-    ensures { MatchOption result (AreSeveral (first.now ++ second.now)) (λ v. v.now ≡ first.now ++ second.now) }
-{
-    if second.is_empty() {
-        Some(first)
-    } else if first.is_empty() {
-        Some(second)
-    } else {
-        None
-    }
 }
 
 // The attributes in a category, if it is the one of that id.

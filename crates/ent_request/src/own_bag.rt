@@ -1,32 +1,47 @@
 //! The request's own values for a designator as a bag, and what is told of them without one.
 
-ghost use Rattle.std.specs.Prelude.{◌≡◌, ◌++◌, IfOk, IfSome, OnOk, false, option_copied};
+ghost use Rattle.std.specs.Prelude.{◌≡◌, ◌++◌, IfOk, OnOk, option_copied};
 ghost use Rattle.ent_values.specs.Bags.{AllOfType};
 ghost use Rattle.ent_functions.specs.Sets.{is_among};
 ghost use Rattle.ent_request.specs.Own.{is_empty, own_values, sole_value};
 ghost use Rattle.ent_request.specs.proofs_only.Sought.{designator_of, values_of};
 
+use crate::lent_bag::LentBag;
 use crate::own::{Sought, attributes_in, own_values, values_in};
 use crate::request::{Category, Request};
 use ent_policy::Designator;
 use ent_values::{Bag, DataType, Value};
 use std::alloc::{AllocError, Global};
 
-// The request's own values, as a bag of the designator's type.
-pub(crate) fn own_bag(
+// The request's own values for a designator. They are copied only where they lie in several attributes.
+pub(crate) fn own_bag<'a>(
     alloc: Global,
-    request: &Request,
+    request: &'a Request,
     designator: &Designator,
-) -> Result<Bag, AllocError>
+) -> Result<LentBag<'a>, AllocError>
     ensures { IfOk result (λ b. b ≡ record {
       datatype = designator.now.datatype;
       values = own_values designator.now request.now;
     }) }
 {
-    gathered(alloc, request, &Sought::of(designator))
+    let sought = Sought::of(designator);
+    match own_values(request, &sought) {
+        None => LentBag::owned(alloc, gathered(alloc, request, &sought)?),
+        Some(values) => Ok(LentBag::lying(sought.datatype, values)),
+    }
 }
 
-// Copies of those in each category.
+// Copies of values, as a bag.
+pub(crate) fn copied(alloc: Global, datatype: DataType, values: &[Value]) -> Result<Bag, AllocError>
+    requires { AllOfType datatype values.now }
+    ensures { IfOk result (λ b. b ≡ record { datatype = datatype; values = values.now }) }
+{
+    let mut bag = Bag::new(alloc, datatype);
+    add_copies(alloc, values, &mut bag)?;
+    Ok(bag)
+}
+
+// Copies of the request's own values, as a bag.
 fn gathered(alloc: Global, request: &Request, sought: &Sought<'_>) -> Result<Bag, AllocError>
     ensures { IfOk result (λ b. b ≡ record {
       datatype = sought.now.datatype;
@@ -70,17 +85,6 @@ fn add_copies(alloc: Global, values: &[Value], bag: &mut Bag) -> Result<(), Allo
     Ok(())
 }
 
-/// Whether a value is one of the request's own, where one slice has them all and there are any.
-pub fn is_own(request: &Request, designator: &Designator, value: &Value) -> Option<bool>
-    ensures { IfSome result (λ b. (is_empty (own_values designator.now request.now) ≡ false)
-        × (b ≡ is_among value.now (own_values designator.now request.now))) }
-{
-    match own_values(request, &Sought::of(designator))? {
-        [] => None,
-        values => Some(is_among(value, values)),
-    }
-}
-
 /// Whether a request has no values of its own.
 pub fn lacks(request: &Request, sought: &Sought<'_>) -> bool
     ensures { result ≡ is_empty (own_values (designator_of sought.now) request.now) }
@@ -114,11 +118,11 @@ pub fn only_own<'a>(request: &'a Request, sought: &Sought<'_>) -> Option<&'a Val
     }
 }
 
-/// Whether a bag is empty.
-pub fn is_empty(bag: &Bag) -> bool
-    ensures { result ≡ is_empty bag.now.values }
+/// Whether there is no value.
+pub fn is_empty(values: &[Value]) -> bool
+    ensures { result ≡ is_empty values.now }
 {
-    match bag.values() {
+    match values {
         [] => true,
         _ => false,
     }

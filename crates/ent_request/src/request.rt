@@ -1,12 +1,11 @@
 //! Requests.
 
-ghost use Rattle.std.specs.Prelude.{◌≡◌, IfOk, codes, slice_index_or};
-ghost use Rattle.ent_request.specs.Listed.{ExchangesResource, about, asked_about, listed, named};
+ghost use Rattle.std.specs.Prelude.{◌≡◌, IfOk, codes};
+ghost use Rattle.ent_request.specs.Listed.{listed, named};
 
 use crate::uris::{ACCESS_SUBJECT, ACTION, ACTION_ID, RESOURCE, RESOURCE_ID, SUBJECT_ID};
 use ent_values::{Bag, Items, Text, Value};
 use std::alloc::{AllocError, Global};
-use std::mem;
 
 /// An attribute of a request, with its values (sections 5.46 and 7.3).
 #[derive(PartialEq, Eq, Drop)]
@@ -24,15 +23,6 @@ pub struct Attribute {
 pub struct Category {
     pub id: Text,
     pub attributes: Items<Attribute>,
-}
-
-impl Category {
-    /// The category of a resource by its id, a text without an issuer (appendix B.2 and B.5).
-    pub fn of_resource(alloc: Global, resource: &str) -> Result<Category, AllocError>
-        ensures { IfOk result (λ c. c ≡ about resource.now) }
-    {
-        named(alloc, RESOURCE, RESOURCE_ID, resource)
-    }
 }
 
 /// What is asked: the attributes of the subject, of the action, of the resource (section 5.42).
@@ -56,23 +46,8 @@ impl Request {
         let mut categories = Items::with_capacity(alloc, 3)?;
         categories.push(named(alloc, ACCESS_SUBJECT, SUBJECT_ID, person)?)?;
         categories.push(named(alloc, ACTION, ACTION_ID, action)?)?;
-        categories.push(Category::of_resource(alloc, resource)?)?;
+        categories.push(named(alloc, RESOURCE, RESOURCE_ID, resource)?)?;
         Ok(Request { categories })
-    }
-
-    /// Exchanges the third category, which in a listed request is that of the resource, with another: what was listed
-    /// for one resource is then listed for the other. Where there is no third one, nothing changes. No memory is
-    /// needed.
-    pub fn exchange_resource(&mut self, alloc: Global, resource: &mut Category)
-        ensures request { self.new ≡ asked_about resource.old self.old }
-        ensures resource { resource.new ≡ slice_index_or self.old.categories 2 resource.old }
-        ensures listed { ExchangesResource self.old resource.old self.new resource.new }
-    {
-        let mut categories = mem::replace(&mut self.categories, Items::new(alloc)).into_vec();
-        if categories.len() > 2 {
-            mem::swap(&mut categories[2], resource);
-        }
-        self.categories = Items::from_vec(categories);
     }
 }
 

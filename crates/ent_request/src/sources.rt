@@ -1,6 +1,6 @@
 //! Where the values of a designator come from.
 
-ghost use Rattle.std.specs.Prelude.{◌≡◌, IfOk, IfSome, OnOk, option_to_list};
+ghost use Rattle.std.specs.Prelude.{◌≡◌, IfOk, IfSome, option_to_list};
 ghost use Rattle.std.specs.Option.{option_copied};
 ghost use Rattle.ent_values.specs.Types.{datatype_of};
 ghost use Rattle.ent_values.specs.declared.datatype.DataType.TheVariants as types;
@@ -10,6 +10,7 @@ ghost use Rattle.ent_request.specs.Sources.{designated_values, source_values, te
 ghost use Rattle.ent_request.specs.proofs_only.Sought.{designator_of};
 
 use crate::answer::copied_text;
+use crate::lent_bag::LentBag;
 use crate::look_ups::LookUps;
 use crate::own::Sought;
 use crate::own_bag::{is_empty, only_own, own_bag};
@@ -20,35 +21,36 @@ use crate::uris::{
 };
 use ent_finder::AttrKey;
 use ent_policy::Designator;
-use ent_values::{Bag, DataType, Shared, Text, Value};
+use ent_values::{Bag, DataType, Text, Value};
 use std::alloc::{AllocError, Global};
 
-/// The values of a designator: the request's own, or else those of its source.
-pub fn designated<L: LookUps>(
+/// The values of a designator: the request's own, or else those of its source. They are copied only where they don't
+/// lie in one place.
+pub fn designated<'a, L: LookUps>(
     alloc: Global,
-    held: &L,
-    request: &Request,
+    held: &'a L,
+    request: &'a Request,
     designator: &Designator,
-) -> Result<Bag, AllocError>
+) -> Result<LentBag<'a>, AllocError>
     ensures { IfOk result (λ b. b ≡ record {
       datatype = designator.now.datatype;
       values = designated_values (L.looks held.now) request.now designator.now;
     }) }
 {
     let own = own_bag(alloc, request, designator)?;
-    if !is_empty(&own) {
+    if !is_empty(own.values()) {
         return Ok(own);
     }
     source(alloc, held, request, designator)
 }
 
 // The values of a designator for which the request has none.
-fn source<L: LookUps>(
+fn source<'a, L: LookUps>(
     alloc: Global,
-    held: &L,
+    held: &'a L,
     request: &Request,
     designator: &Designator,
-) -> Result<Bag, AllocError>
+) -> Result<LentBag<'a>, AllocError>
     ensures { IfOk result (λ b. b ≡ record {
       datatype = designator.now.datatype;
       values = source_values (L.looks held.now) request.now designator.now;
@@ -65,13 +67,13 @@ fn source<L: LookUps>(
         return date_times(alloc, held);
     }
     match entity_of(request, designator.category.as_str()) {
-        None => Ok(Bag::new(alloc, designator.datatype)),
+        None => Ok(LentBag::empty(designator.datatype)),
         Some(entity) => values_of(alloc, held, designator, entity),
     }
 }
 
 // The date, if it is known.
-fn dates<L: LookUps>(alloc: Global, held: &L) -> Result<Bag, AllocError>
+fn dates<'a, L: LookUps>(alloc: Global, held: &L) -> Result<LentBag<'a>, AllocError>
     ensures { IfOk result (λ b. b ≡ record {
       datatype = types.Date;
       values = known_values values.Date (L.looks held.now).date;
@@ -81,7 +83,7 @@ fn dates<L: LookUps>(alloc: Global, held: &L) -> Result<Bag, AllocError>
 }
 
 // The time of day, if it is known.
-fn times<L: LookUps>(alloc: Global, held: &L) -> Result<Bag, AllocError>
+fn times<'a, L: LookUps>(alloc: Global, held: &L) -> Result<LentBag<'a>, AllocError>
     ensures { IfOk result (λ b. b ≡ record {
       datatype = types.Time;
       values = known_values values.Time (L.looks held.now).time;
@@ -91,7 +93,7 @@ fn times<L: LookUps>(alloc: Global, held: &L) -> Result<Bag, AllocError>
 }
 
 // The date and time, if both are known.
-fn date_times<L: LookUps>(alloc: Global, held: &L) -> Result<Bag, AllocError>
+fn date_times<'a, L: LookUps>(alloc: Global, held: &L) -> Result<LentBag<'a>, AllocError>
     ensures { IfOk result (λ b. b ≡ record {
       datatype = types.DateTime;
       values = known_values values.DateTime (L.looks held.now).date_time;
@@ -102,31 +104,38 @@ fn date_times<L: LookUps>(alloc: Global, held: &L) -> Result<Bag, AllocError>
 }
 
 // The values of an entity.
-fn values_of<L: LookUps>(
+fn values_of<'a, L: LookUps>(
     alloc: Global,
-    held: &L,
+    held: &'a L,
     designator: &Designator,
     entity: &Text,
-) -> Result<Bag, AllocError>
+) -> Result<LentBag<'a>, AllocError>
     ensures { IfOk result (λ b. b ≡ record {
       datatype = designator.now.datatype;
       values = (L.looks held.now).values (key_for designator.now entity.now);
     }) }
 {
     let key = key_for(alloc, designator, entity)?;
+    if let Some(values) = held.sole(&key) {
+        return Ok(LentBag::lying(key.datatype, values));
+    }
     let mut bag = Bag::new(alloc, designator.datatype);
     held.values(&key, &mut bag)?;
-    Ok(bag)
+    LentBag::owned(alloc, bag)
 }
 
 // The value of what is asked of the environment, or none.
-fn known(alloc: Global, datatype: DataType, value: Option<Value>) -> Result<Bag, AllocError>
+fn known<'a>(
+    alloc: Global,
+    datatype: DataType,
+    value: Option<Value>,
+) -> Result<LentBag<'a>, AllocError>
     requires { IfSome value (λ v. datatype_of v ≡ datatype) }
     ensures { IfOk result (λ b. b ≡ record { datatype = datatype; values = option_to_list value }) }
 {
     match value {
-        None => Ok(Bag::new(alloc, datatype)),
-        Some(value) => Bag::of_one(alloc, value),
+        None => Ok(LentBag::empty(datatype)),
+        Some(value) => LentBag::owned(alloc, Bag::of_one(alloc, value)?),
     }
 }
 

@@ -25,11 +25,11 @@ use Rattle.ent_walk.specs.declared.target.Targeted.TheVariants as is
 use Rattle.ent_walk.specs.Answer.{answer_part, most_hops, root_part}
 use Rattle.ent_walk.specs.Came.{Came, EqualTestsGiveEqualAnswers, Tests, child_came, element_came, found_came, gives, node_came, refer_came, root_came, rule, set_came, target}
 use Rattle.ent_walk.specs.Given.{finished}
-use Rattle.ent_walk.specs.Judged.{with_target}
+use Rattle.ent_walk.specs.Judged.{has_failed, with_target}
 use Rattle.ent_request.specs.Looks.{Looks}
 use Rattle.ent_walk.specs.Node.{Node, child_step, children_after, children_part, combined, element, followed, found_node, node_with, policy_key, refer, set_key, set_step}
 use Rattle.ent_walk.specs.Only.{only_one}
-use Rattle.ent_request.specs.Part.{Part, after_look, and_then, mapped, within, without_look}
+use Rattle.ent_request.specs.Part.{Part, after_look, and_then, mapped, settled, within, without_look}
 use Rattle.ent_walk.specs.Rule.{rule_part}
 use Rattle.ent_walk.specs.Target.{is_no_match, target_part}
 use Rattle.ent_walk.specs.proofs_only.Node.{set_node_with}
@@ -88,23 +88,23 @@ element_tells key s t own his cs ct p q inner xs ys same =
       Both : Type 0
       Both = (ys ≡ xs) × (◌≡◌ {A = Part Targeted × Part Answer} (within key t, element key t q his) (within key s, element key s p own))
 
-      whole : t ≡ s → ys ≡ xs → children_after his q s.value ≡ children_after own p s.value → Both
+      whole : t ≡ s → ys ≡ xs → children_after his (settled has_failed q) s.value ≡ children_after own (settled has_failed p) s.value → Both
       whole e rest children =
           (rest, ap (λ u. (within key u, element key u q his)) e ∙ ap (λ c. (within key s, behind key s (within key c))) children)
 
       by : (v : Targeted) → s.value ≡ v → t ≡ s → (if is_no_match s.value then [] else gives his ∷ ct) ++ ys ≡ (if is_no_match s.value then [] else gives own ∷ cs) ++ xs → Both
       by is.NoMatch at e rest =
           whole e (subst (λ v. (if is_no_match v then [] else gives his ∷ ct) ++ ys ≡ (if is_no_match v then [] else gives own ∷ cs) ++ xs) at rest)
-          (subst (λ v. children_after his q v ≡ children_after own p v) (sym at) refl)
+          (subst (λ v. children_after his (settled has_failed q) v ≡ children_after own (settled has_failed p) v) (sym at) refl)
       by is.Match at e rest =
           let all : gives his ∷ (ct ++ ys) ≡ gives own ∷ (cs ++ xs) = subst (λ v. (if is_no_match v then [] else gives his ∷ ct) ++ ys ≡ (if is_no_match v then [] else gives own ∷ cs) ++ xs) at rest in
           let given : his ≡ own = ap (λ ds. given_in own (head_or (gives own) ds)) all in
           let later = inner xs ys (ap tail_of all) in
-          whole e later.0 (subst (λ v. children_after his q v ≡ children_after own p v) (sym at) (ap₂ and_then later.1 given))
+          whole e later.0 (subst (λ v. children_after his (settled has_failed q) v ≡ children_after own (settled has_failed p) v) (sym at) (ap₂ and_then (ap (settled has_failed) later.1) given))
       by (is.Indeterminate status) at e rest =
           let all : gives his ∷ (ct ++ ys) ≡ gives own ∷ (cs ++ xs) = subst (λ v. (if is_no_match v then [] else gives his ∷ ct) ++ ys ≡ (if is_no_match v then [] else gives own ∷ cs) ++ xs) at rest in
           let later = inner xs ys (ap tail_of all) in
-          whole e later.0 (subst (λ v. children_after his q v ≡ children_after own p v) (sym at) (ap (mapped (with_target (is.Indeterminate status))) later.1))
+          whole e later.0 (subst (λ v. children_after his (settled has_failed q) v ≡ children_after own (settled has_failed p) v) (sym at) (ap (λ c. mapped (with_target (is.Indeterminate status)) (settled has_failed c)) later.1))
 
 -- ---- nodes
 
@@ -171,11 +171,12 @@ module _ (s t : World) where
     parts here nodes = (map (λ (n : Node). n.target) nodes, map (λ (n : Node). n.answer here) nodes)
 
     abbrev by_parts : PolicyAlg → List DocKey → List (Part Targeted) × List (Part Answer) → Part Answer
-    by_parts (Shared algorithm) here ps = combined here algorithm ps.1
+    by_parts (Shared algorithm) here ps = combined here algorithm (map (settled has_failed) ps.1)
     by_parts OnlyOne here ps = only_one ps.0 ps.1
 
     children_by : (algorithm : PolicyAlg) (here : List DocKey) (nodes : List Node) → children_part algorithm nodes here ≡ by_parts algorithm here (parts here nodes)
-    children_by (Shared algorithm) here nodes = refl
+    children_by (Shared algorithm) here nodes =
+        ap (combined here algorithm) (sym (map-map (λ (n : Node). n.answer here) (settled has_failed) nodes))
     children_by OnlyOne here nodes = refl
 
     abbrev below : World → List DocKey → List ChildTold → List Came
@@ -227,7 +228,7 @@ module _ (s t : World) where
     root_told : (root : Option Reference) → root_came t.looks t.request root ≡ root_came s.looks s.request root → root_part t.looks t.request root ≡ root_part s.looks s.request root
     root_told None same = refl
     root_told (Some r) same =
-        ap (λ (p : Part Targeted × Part Answer). p.1)
+        ap (λ (p : Part Targeted × Part Answer). settled has_failed p.1)
         (followed_told (λ u. refer u.looks u.request most_hops) (λ u. refer_came u.looks u.request most_hops) (refer_told most_hops) r (documents r) [] [] [] (ap (λ cs. cs ++ []) same)).1
 
 -- where the tests come to the same, so does the answer

@@ -31,15 +31,17 @@ use Rattle.ent_request.specs.SameLook.{IsSameLook}
 use Rattle.ent_walk.specs.Node.{Node, child_step, children_part, combined, followed, found_node, node_with, policy_key, policy_part, refer, set_key, set_step}
 use Rattle.ent_walk.specs.proofs_only.Node.{set_node_with}
 use Rattle.ent_request.specs.Causes.{told_once}
-use Rattle.ent_request.specs.Note.{Note, asks, causes_in, fails, questions_in}
+use Rattle.ent_request.specs.Note.{Note, asks, causes_in, fails, passed, questions_in}
 use Rattle.ent_request.specs.Noted.{noted}
 use Rattle.ent_request.specs.Sources.{keys_of}
 use Rattle.ent_walk.specs.Only.{chosen_part, choice_part, chosen, first_target_status, only_one, result_of_target, results, seen_choice, several, spoils}
-use Rattle.ent_request.specs.Part.{Part, after_look, without_look, notes_of, values}
+use Rattle.ent_request.specs.Part.{Part, after_look, settled, without_look, notes_of, values}
+use Rattle.ent_walk.specs.Judged.{has_failed}
 use Rattle.ent_walk.specs.Target.{target_part}
 use Rattle.ent_walk.proofs.Finds.{all-find}
 use Rattle.ent_request.proofs.Keys.{all_noted, by_recursion}
-use Rattle.ent_walk.proofs.Rests.{AllRest, Rests, Same, World, and_then-rests, combined-rests, condition-rests, element-rests, finished-rests, policy-rests, rests-by, rule-rests, target-rests, within-rests}
+use Rattle.ent_walk.proofs.Rests.{AllRest, Rests, Same, World, and_then-rests, combined-rests, condition-rests, element-rests, finished-rests, policy-rests, rests-by, rule-rests, settled-rests, target-rests}
+use Rattle.ent_walk.proofs.Rests.{within-rests}
 use Rattle.ent_request.proofs.Lists.{first_looks, later_looks}
 use Rattle.ent_walk.proofs.Sets.{map-map}
 use Rattle.ent_walk.proofs.Choices.{values-append}
@@ -161,11 +163,15 @@ module _ (s t : World) where
     each_child here [] = tt
     each_child here (n ∷ ns) = (n.1.1 here, each_child here ns)
 
+    each_settled : (here : List DocKey) (ns : List ChildRests) → AllRest s t (λ u n. settled has_failed ((node u n).answer here)) (map (λ e. e.0) ns)
+    each_settled here [] = tt
+    each_settled here (n ∷ ns) = (settled-rests s t has_failed (λ u. (node u n.0).answer here) (n.1.1 here), each_settled here ns)
+
     children-rest : (algorithm : PolicyAlg) (here : List DocKey) (ns : List ChildRests) → Rests s t (λ u. children_part algorithm (map (node u) (map (λ e. e.0) ns)) here)
     children-rest (Shared algorithm) here ns =
         let children : List Child = map (λ e. e.0) ns in
-        rests-by s t _ (λ u. combined here algorithm (map (λ n. (node u n).answer here) children)) (λ u. ap (combined here algorithm) (map-map (node u) (λ (n : Node). n.answer here) children))
-        (combined-rests s t here algorithm (λ u n. (node u n).answer here) children (each_child here ns))
+        rests-by s t _ (λ u. combined here algorithm (map (λ n. settled has_failed ((node u n).answer here)) children)) (λ u. ap (combined here algorithm) (map-map (node u) (λ (n : Node). settled has_failed (n.answer here)) children))
+        (combined-rests s t here algorithm (λ u n. settled has_failed ((node u n).answer here)) children (each_settled here ns))
     children-rest OnlyOne here ns =
         let children : List Child = map (λ e. e.0) ns in
         rests-by s t _ (λ u. only_one (map (λ n. (node u n).target) children) (map (λ n. (node u n).answer here) children))
@@ -204,7 +210,9 @@ module _ (s t : World) where
 
 root-rests : (s t : World) (root : Option Reference) → Rests s t (λ u. root_part u.looks u.request root)
 root-rests s t None h = refl
-root-rests s t (Some r) h = (followed-rests s t (λ u. refer u.looks u.request most_hops) (refer-rests s t most_hops) r).1 [] h
+root-rests s t (Some r) h =
+    settled-rests s t has_failed (λ u. (followed u.looks u.request (refer u.looks u.request most_hops) r).answer [])
+    ((followed-rests s t (λ u. refer u.looks u.request most_hops) (refer-rests s t most_hops) r).1 []) h
 
 answer-rests : (s t : World) → Rests s t (λ u. answer_part u.looks u.request)
 answer-rests s t h = ap (after_look Root) (ap (root_part t.looks t.request) (sym h.0) ∙ root-rests s t s.looks.root h.1)
@@ -214,6 +222,7 @@ all_same : (s t : World) (ns : List Note) → AllByRecursion (FindsSame s.looks 
 all_same s t [] h = tt
 all_same s t (asks question ∷ ns) h = (h.0, all_same s t ns h.1)
 all_same s t (fails cause ∷ ns) h = (tt, all_same s t ns h)
+all_same s t (passed cause ∷ ns) h = (tt, all_same s t ns h)
 
 -- where what is asked for an answer finds the same, the answer is the same, and so are what is asked and the causes
 pub findings-rest : EqualFindingsGiveEqualAnswers

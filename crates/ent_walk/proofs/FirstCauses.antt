@@ -1,7 +1,7 @@
 -- An Indeterminate match, expression or condition has the status of the first cause of it; one that isn't has none.
 use Rattle.std.proofs.Common.{◌≡◌, ℕ, zero, suc, Bool, true, false, List, [], ◌∷◌, ◌++◌, length, map, refl, sym, ap}
 use Rattle.std.proofs.Common.{ap₂, ◌∙◌, subst, Option, Some, None, Result, Ok, Err}
-use Rattle.std.specs.Prelude.{find, if◌then◌else◌, option_map, unwrap_or}
+use Rattle.std.specs.Prelude.{find, if◌then◌else◌, is_some, option_map, unwrap_or}
 use Rattle.std.specs.Option.{option_or}
 use Rattle.std.specs.List.{list_any}
 use Rattle.ent_combine.proofs.Combining.{whole as up_to_none}
@@ -17,8 +17,10 @@ use Rattle.ent_functions.specs.declared.arg.Fault.{Fault}
 use Rattle.ent_functions.specs.declared.function.Function.{Function}
 use Rattle.ent_policy.specs.Variables.{definition_of}
 use Rattle.ent_policy.specs.declared.document.AllOf.{AllOf}
+use Rattle.ent_policy.specs.declared.document.AnyOf.{AnyOf}
 use Rattle.ent_policy.specs.declared.document.Designator.{Designator}
 use Rattle.ent_policy.specs.declared.document.Match.{Match}
+use Rattle.ent_policy.specs.declared.document.Target.{Target}
 use Rattle.ent_policy.specs.declared.expression.Expression.{Expression}
 use Rattle.ent_policy.specs.declared.expression.Expression.TheOpen.{Expression-F}
 use Rattle.ent_policy.specs.declared.expression.Expression.TheFolds.{fold-roll-Expression, ind-Expression}
@@ -41,13 +43,12 @@ use Rattle.ent_walk.specs.Expression.{application, arguments_of, bag_of, defined
 use Rattle.ent_walk.specs.Expression.{fault_unless, faults, is_result, meaning, meaning_step, meaning_with, settles}
 use Rattle.ent_walk.specs.Expression.{variable_part}
 use Rattle.ent_request.specs.Looks.{Looks}
-use Rattle.ent_walk.specs.Named.{first_cause}
-use Rattle.ent_request.specs.Note.{Note, asks, failing, fails}
-use Rattle.ent_request.specs.Part.{Part, and_fails, and_then, mapped, notes_of, seen_parts, values}
+use Rattle.ent_request.specs.Note.{Note, asks, failing, fails, first_cause, passed, passed_over}
+use Rattle.ent_request.specs.Part.{Part, and_fails, and_then, mapped, notes_of, seen_parts, settled, values, whole}
 use Rattle.ent_walk.specs.Rule.{condition_part, truth_of, unfit_condition}
 use Rattle.ent_request.specs.Sources.{asked_of, designated_values, missing}
-use Rattle.ent_walk.specs.Target.{all_match, all_of_part, first_indeterminate, is_match, is_no_match, is_true}
-use Rattle.ent_walk.specs.Target.{match_part, matched, one_matches}
+use Rattle.ent_walk.specs.Target.{all_match, all_of_part, all_part, any_of_part, first_indeterminate, is_indeterminate}
+use Rattle.ent_walk.specs.Target.{is_match, is_no_match, is_true, match_part, matched, one_matches, one_part, target_part}
 use Rattle.ent_walk.proofs.Rests.{values-seen}
 
 -- ---- the statuses of what is Indeterminate
@@ -94,6 +95,7 @@ pub status_append : (ns ms : List Note) → status_in (ns ++ ms) ≡ option_or (
 status_append [] ms = refl
 status_append (asks question ∷ ns) ms = status_append ns ms
 status_append (fails cause ∷ ns) ms = refl
+status_append (passed cause ∷ ns) ms = status_append ns ms
 
 abbrev pub IsTold : {A : Type 0} → (A → Option Status) → Part A → Type 0
 IsTold of p = status_in p.notes ≡ of p.value
@@ -107,7 +109,7 @@ pub each-told : {X A : Type 0} (of : A → Option Status) (part : X → Part A) 
 each-told of part each [] = tt
 each-told of part each (x ∷ xs) = (each x, each-told of part each xs)
 
-told-notes : {A : Type 0} (of : A → Option Status) (ps : List (Part A)) → AllTold of ps
+pub told-notes : {A : Type 0} (of : A → Option Status) (ps : List (Part A)) → AllTold of ps
     → status_in (notes_of ps) ≡ first_of of (values ps)
 told-notes of [] each = refl
 told-notes of (p ∷ ps) each = status_append p.notes (notes_of ps) ∙ ap₂ option_or each.0 (told-notes of ps each.1)
@@ -139,7 +141,40 @@ pub then-told : {A B : Type 0} (of : A → Option Status) (to : B → Option Sta
 then-told of to p f told tells =
     status_append p.notes (f p.value).notes ∙ ap (λ o. option_or o (status_in (f p.value).notes)) told ∙ tells p.value
 
--- ---- matches and all-of elements
+none_passed : (ns : List Note) → status_in (map passed_over ns) ≡ None
+none_passed [] = refl
+none_passed (asks question ∷ ns) = none_passed ns
+none_passed (fails cause ∷ ns) = none_passed ns
+none_passed (passed cause ∷ ns) = none_passed ns
+
+-- the same of an Indeterminate alone, whatever fails in what isn't
+abbrev pub IsFirst : {A : Type 0} → (A → Option Status) → Part A → Type 0
+IsFirst of p = (status : Status) → of p.value ≡ Some status → status_in p.notes ≡ Some status
+
+-- then what fails in what isn't is passed over
+pub settled-told : {A : Type 0} (of : A → Option Status) (is_so : A → Bool) (p : Part A)
+    → is_so p.value ≡ is_some (of p.value) → IsFirst of p → IsTold of (settled is_so p)
+settled-told of is_so p agree first = at (is_so p.value) (of p.value) agree first where
+  at : (b : Bool) (o : Option Status) → b ≡ is_some o → ((status : Status) → o ≡ Some status → status_in p.notes ≡ Some status)
+      → status_in (if b then p.notes else map passed_over p.notes) ≡ o
+  at true (Some status) agree first = first status refl
+  at false None agree first = none_passed p.notes
+  at true None agree first = absurd (cc)
+  at false (Some status) agree first = absurd (cc)
+
+-- a whole that is Indeterminate as the first of its parts that is seen to be so
+pub whole-first : {A B : Type 0} (of : A → Option Status) (to : B → Option Status) (stop : A → Bool)
+    (of_values : List A → B)
+    → ((vs : List A) (status : Status) → to (of_values vs) ≡ Some status → first_of of (up_to_first stop vs) ≡ Some status)
+    → (ps : List (Part A)) → AllTold of ps → IsFirst to (whole stop of_values ps)
+whole-first of to stop of_values first ps each status e = told-seen of stop ps each ∙ first (values ps) status e
+
+target-agree : (t : Targeted) → is_indeterminate t ≡ is_some (of_target t)
+target-agree is.Match = refl
+target-agree is.NoMatch = refl
+target-agree (is.Indeterminate status) = refl
+
+-- ---- targets
 
 matched-told : (m : Match) (vs : List Value) → status_in (missing m.designator vs) ≡ of_target (matched m vs)
 matched-told m [] = at m.designator.must_be_present where
@@ -164,7 +199,7 @@ first_ind (is.NoMatch ∷ ts) otherwise = first_ind ts otherwise
 first_ind (is.Indeterminate status ∷ ts) otherwise = refl
 
 -- what has to match altogether is Indeterminate as the first of those that are seen
-pub all-first : (ts : List Targeted) (status : Status) → of_target (all_match ts) ≡ Some status
+all-first : (ts : List Targeted) (status : Status) → of_target (all_match ts) ≡ Some status
     → first_of of_target (up_to_first is_no_match ts) ≡ Some status
 all-first ts status = at (list_any is_no_match ts) refl where
   at : (b : Bool) → list_any is_no_match ts ≡ b
@@ -176,7 +211,7 @@ all-first ts status = at (list_any is_no_match ts) refl where
       ∙ sym (first_ind ts is.Match) ∙ e
 
 -- and so is that of which one has to match
-pub one-first : (ts : List Targeted) (status : Status) → of_target (one_matches ts) ≡ Some status
+one-first : (ts : List Targeted) (status : Status) → of_target (one_matches ts) ≡ Some status
     → first_of of_target (up_to_first is_match ts) ≡ Some status
 one-first ts status = at (list_any is_match ts) refl where
   at : (b : Bool) → list_any is_match ts ≡ b
@@ -187,14 +222,27 @@ one-first ts status = at (list_any is_match ts) refl where
       ap (first_of of_target) (up_to_none is_match ts none) ∙ sym (or_none (first_of of_target ts))
       ∙ sym (first_ind ts is.NoMatch) ∙ e
 
-pub all_of-told : (looks : Looks) (request : Request) (a : AllOf) (status : Status)
-    → of_target (all_of_part looks request a).value ≡ Some status
-    → status_in (all_of_part looks request a).notes ≡ Some status
-all_of-told looks request a status e =
+all_of-told : (looks : Looks) (request : Request) (a : AllOf) → IsTold of_target (all_of_part looks request a)
+all_of-told looks request a =
     let ps = map (match_part looks request) a.matches in
-    told-seen of_target is_no_match ps
-    (each-told of_target (match_part looks request) (match-told looks request) a.matches)
-    ∙ all-first (values ps) status e
+    settled-told of_target is_indeterminate (all_part ps) (target-agree (all_part ps).value)
+    (whole-first of_target of_target is_no_match all_match all-first ps
+    (each-told of_target (match_part looks request) (match-told looks request) a.matches))
+
+any_of-told : (looks : Looks) (request : Request) (a : AnyOf) → IsTold of_target (any_of_part looks request a)
+any_of-told looks request a =
+    let ps = map (all_of_part looks request) a.all_of in
+    settled-told of_target is_indeterminate (one_part ps) (target-agree (one_part ps).value)
+    (whole-first of_target of_target is_match one_matches one-first ps
+    (each-told of_target (all_of_part looks request) (all_of-told looks request) a.all_of))
+
+pub target-told : (looks : Looks) (request : Request) (target : Target)
+    → IsTold of_target (target_part looks request target)
+target-told looks request target =
+    let ps = map (any_of_part looks request) target.any_of in
+    settled-told of_target is_indeterminate (all_part ps) (target-agree (all_part ps).value)
+    (whole-first of_target of_target is_no_match all_match all-first ps
+    (each-told of_target (any_of_part looks request) (any_of-told looks request) target.any_of))
 
 -- ---- expressions
 

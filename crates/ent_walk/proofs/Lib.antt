@@ -9,7 +9,9 @@ pub mod Children
 pub mod Choices
 pub mod Finds
 pub mod FirstCauses
+pub mod FirstChildren
 pub mod FirstGiven
+pub mod FirstNodes
 pub mod Fit
 pub mod Gathered
 pub mod Giving
@@ -17,14 +19,13 @@ pub mod Going
 pub mod Hops
 pub mod Left
 pub mod Literals
-pub mod NamedCauses
-pub mod NamedNodes
 pub mod Once
 pub mod Parts
 pub mod PathKeys
 pub mod Recorded
 pub mod Rests
 pub mod Sets
+pub mod Settled
 pub mod Shallow
 pub mod Targets
 pub mod Typing

@@ -15,7 +15,7 @@ use Rattle.ent_policy.specs.declared.document.Rule.{Rule}
 use Rattle.ent_policy.specs.declared.document.Target.{Target}
 use Rattle.ent_policy.specs.declared.key.DocKey.{DocKey}
 use Rattle.ent_request.specs.declared.answer.Answer.{Answer}
-use Rattle.ent_request.specs.Note.{Note, asks, fails, note_of_rule, note_within}
+use Rattle.ent_request.specs.Note.{Note, asks, fails, note_of_rule, note_within, passed, passed_over}
 use Rattle.ent_request.specs.declared.question.Question.TheVariants.{Of}
 use Rattle.ent_request.specs.declared.request.Request.{Request}
 use Rattle.ent_walk.specs.declared.target.Targeted.{Targeted}
@@ -38,14 +38,16 @@ use Rattle.ent_request.specs.declared.answer.Status.{Status}
 use Rattle.ent_request.specs.declared.given.Given.{Given}
 use Rattle.ent_walk.specs.Given.{advice_after, assigned, assignment_part, effect_of, finished, given_in_turn, given_of, given_part, given_with, givens_part, goes_with, joined, together, unfit_assignment, with_own}
 use Rattle.ent_walk.specs.proofs_only.Gathered.{judged_by}
-use Rattle.ent_walk.specs.Judged.{judgement_of, stops, with_target}
+use Rattle.ent_walk.specs.Judged.{has_failed, judgement_of, stops, with_target}
 use Rattle.ent_walk.specs.Law.{FindsSame}
 use Rattle.ent_request.specs.Looks.{Looks}
 use Rattle.ent_walk.specs.Node.{children_after, combined, element, policy_key, policy_part, rules_part}
-use Rattle.ent_request.specs.Part.{Part, after_look, and_fails, and_then, mapped, notes_of, of_rule, seen_parts, values, whole, within, without_look}
+use Rattle.ent_request.specs.Part.{Part, after_look, and_fails, and_then, mapped, notes_of, of_rule, seen_parts, settled, values, whole}
+use Rattle.ent_request.specs.Part.{within, without_look}
 use Rattle.ent_walk.specs.Rule.{condition_part, decided, in_rule, rule_after, rule_part, truth_of, unfit_condition}
 use Rattle.ent_request.specs.Sources.{asked_of, demanded, missing, values_part}
-use Rattle.ent_walk.specs.Target.{all_match, all_of_part, any_of_part, is_match, is_no_match, match_part, matched, one_matches, target_part}
+use Rattle.ent_walk.specs.Target.{all_match, all_of_part, any_of_part, is_indeterminate, is_match, is_no_match, match_part, matched}
+use Rattle.ent_walk.specs.Target.{one_matches, target_part}
 use Rattle.ent_walk.proofs.Children.{judged_seen}
 use Rattle.ent_request.proofs.Lists.{first_looks, later_looks}
 
@@ -58,6 +60,7 @@ pub record World : Type 0 where
 abbrev pub Same : World → World → Note → Type 0
 Same s t (asks question) = FindsSame s.looks s.request t.looks t.request question
 Same s t (fails cause) = Unit {0}
+Same s t (passed cause) = Unit {0}
 
 -- a part is the same in both where what is asked for it is
 abbrev pub Rests : {A : Type 0} → World → World → (World → Part A) → Type 0
@@ -81,6 +84,7 @@ within-rests s t key p rests h = ap (within key) (rests (inside (p s).notes h)) 
   inside [] h = tt
   inside (asks question ∷ ns) h = (h.0, inside ns h.1)
   inside (fails cause ∷ ns) h = (tt, inside ns h.1)
+  inside (passed cause ∷ ns) h = (tt, inside ns h.1)
 
 of_rule-rests : {A : Type 0} (s t : World) (id : List ℕ) (p : World → Part A) → Rests s t p → Rests s t (λ u. of_rule id (p u))
 of_rule-rests s t id p rests h = ap (of_rule id) (rests (inside (p s).notes h)) where
@@ -88,6 +92,19 @@ of_rule-rests s t id p rests h = ap (of_rule id) (rests (inside (p s).notes h)) 
   inside [] h = tt
   inside (asks question ∷ ns) h = (h.0, inside ns h.1)
   inside (fails cause ∷ ns) h = (tt, inside ns h.1)
+  inside (passed cause ∷ ns) h = (tt, inside ns h.1)
+
+pub settled-rests : {A : Type 0} (s t : World) (is_so : A → Bool) (p : World → Part A) → Rests s t p → Rests s t (λ u. settled is_so (p u))
+settled-rests s t is_so p rests h = ap (settled is_so) (rests (at (is_so (p s).value) h)) where
+  inside : (ns : List Note) → AllByRecursion (Same s t) (map passed_over ns) → AllByRecursion (Same s t) ns
+  inside [] h = tt
+  inside (asks question ∷ ns) h = (h.0, inside ns h.1)
+  inside (fails cause ∷ ns) h = (tt, inside ns h.1)
+  inside (passed cause ∷ ns) h = (tt, inside ns h.1)
+
+  at : (b : Bool) → AllByRecursion (Same s t) (if b then (p s).notes else map passed_over (p s).notes) → AllByRecursion (Same s t) (p s).notes
+  at true h = h
+  at false h = inside (p s).notes h
 
 -- parts that each rest on their look-ups
 abbrev pub AllRest : {X A : Type 0} → World → World → (World → X → Part A) → List X → Type 0
@@ -155,14 +172,19 @@ match-rests : (s t : World) (m : Match) → Rests s t (λ u. match_part u.looks 
 match-rests s t m = mapped-rests s t (matched m) (λ u. demanded u.looks u.request m.designator) (demanded-rests s t m.designator)
 
 all_of-rests : (s t : World) (a : AllOf) → Rests s t (λ u. all_of_part u.looks u.request a)
-all_of-rests s t a = whole-rests s t is_no_match (λ u m. match_part u.looks u.request m) all_match all_match-seen a.matches (each-rests s t (λ u m. match_part u.looks u.request m) (match-rests s t) a.matches)
+all_of-rests s t a =
+    settled-rests s t is_indeterminate (λ u. whole is_no_match all_match (map (λ m. match_part u.looks u.request m) a.matches))
+    (whole-rests s t is_no_match (λ u m. match_part u.looks u.request m) all_match all_match-seen a.matches (each-rests s t (λ u m. match_part u.looks u.request m) (match-rests s t) a.matches))
 
 any_of-rests : (s t : World) (a : AnyOf) → Rests s t (λ u. any_of_part u.looks u.request a)
-any_of-rests s t a = whole-rests s t is_match (λ u m. all_of_part u.looks u.request m) one_matches one_matches-seen a.all_of (each-rests s t (λ u m. all_of_part u.looks u.request m) (all_of-rests s t) a.all_of)
+any_of-rests s t a =
+    settled-rests s t is_indeterminate (λ u. whole is_match one_matches (map (λ m. all_of_part u.looks u.request m) a.all_of))
+    (whole-rests s t is_match (λ u m. all_of_part u.looks u.request m) one_matches one_matches-seen a.all_of (each-rests s t (λ u m. all_of_part u.looks u.request m) (all_of-rests s t) a.all_of))
 
 pub target-rests : (s t : World) (target : Target) → Rests s t (λ u. target_part u.looks u.request target)
 target-rests s t target =
-    whole-rests s t is_no_match (λ u m. any_of_part u.looks u.request m) all_match all_match-seen target.any_of (each-rests s t (λ u m. any_of_part u.looks u.request m) (any_of-rests s t) target.any_of)
+    settled-rests s t is_indeterminate (λ u. whole is_no_match all_match (map (λ m. any_of_part u.looks u.request m) target.any_of))
+    (whole-rests s t is_no_match (λ u m. any_of_part u.looks u.request m) all_match all_match-seen target.any_of (each-rests s t (λ u m. any_of_part u.looks u.request m) (any_of-rests s t) target.any_of))
 
 -- ---- expressions
 
@@ -315,9 +337,10 @@ children-rest s t own owns children rests (is.Indeterminate status) = mapped-res
 pub element-rests : (s t : World) (key : DocKey) (target : Target) (own : World → Answer → Part Answer) → ((a : Answer) → Rests s t (λ u. own u a)) → (children : World → Part Answer) → Rests s t children
     → Rests s t (λ u. element key (target_part u.looks u.request target) (children u) (own u))
 element-rests s t key target own owns children rests =
-    and_then-rests s t (λ u. within key (target_part u.looks u.request target)) (λ u targeted. within key (children_after (own u) (children u) targeted))
+    and_then-rests s t (λ u. within key (target_part u.looks u.request target)) (λ u targeted. within key (children_after (own u) (settled has_failed (children u)) targeted))
     (within-rests s t key (λ u. target_part u.looks u.request target) (target-rests s t target))
-    (λ targeted. within-rests s t key (λ u. children_after (own u) (children u) targeted) (children-rest s t own owns children rests targeted))
+    (λ targeted. within-rests s t key (λ u. children_after (own u) (settled has_failed (children u)) targeted)
+    (children-rest s t own owns (λ u. settled has_failed (children u)) (settled-rests s t has_failed children rests) targeted))
 
 pub policy-rests : (s t : World) (path : List DocKey) (policy : Policy) → Rests s t (λ u. policy_part u.looks u.request path policy)
 policy-rests s t path policy =

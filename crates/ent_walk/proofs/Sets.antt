@@ -15,7 +15,9 @@ use Rattle.ent_policy.specs.declared.key.Kind.TheVariants as kind
 use Rattle.ent_request.specs.declared.request.Request.{Request}
 use Rattle.ent_request.specs.Looks.{Looks}
 use Rattle.ent_walk.specs.proofs_only.Hops.{children_combined, child_target, node_of, only_child, set_children, set_part}
+use Rattle.ent_request.specs.Part.{settled}
 use Rattle.ent_walk.specs.Given.{finished}
+use Rattle.ent_walk.specs.Judged.{has_failed}
 use Rattle.ent_walk.specs.Node.{Node, child_step, children_part, combined, element, refer, set_key, set_step}
 use Rattle.ent_walk.specs.Only.{only_one}
 use Rattle.ent_walk.specs.Target.{target_part}
@@ -29,7 +31,8 @@ map-map f g (x ∷ xs) = ap (λ zs. g (f x) ∷ zs) (map-map f g xs)
 -- the children of a set as they are evaluated
 pub shared_children : (looks : Looks) (request : Request) (hops : ℕ) (algorithm : RuleAlg) (children : List Child) (here : List DocKey)
     → children_part (Shared algorithm) (map (node_of looks request hops) children) here ≡ children_combined looks request hops here algorithm children
-shared_children looks request hops algorithm children here = ap (combined here algorithm) (map-map (node_of looks request hops) (λ (n : Node). n.answer here) children)
+shared_children looks request hops algorithm children here =
+    ap (combined here algorithm) (map-map (node_of looks request hops) (λ (n : Node). settled has_failed (n.answer here)) children)
 
 pub only_children : (looks : Looks) (request : Request) (hops : ℕ) (children : List Child) (here : List DocKey)
     → children_part OnlyOne (map (node_of looks request hops) children) here ≡ only_child looks request hops here children

@@ -1,19 +1,12 @@
 -- Parts of a target of which some are seen.
 use Rattle.std.proofs.Common.{◌≡◌, ℕ, ◌+◌, ◌<◌, Bool, true, false, List, [], ◌∷◌, ◌++◌, length, get_or, refl, sym, ap, ◌∙◌, Some, None}
 use Rattle.std.specs.Prelude.{find, if◌then◌else◌, unwrap_or}
-use Rattle.ent_values.specs.declared.value.Value.{Value}
-use Rattle.ent_policy.specs.declared.document.Designator.{Designator}
-use Rattle.ent_policy.specs.declared.document.Match.{Match}
-use Rattle.ent_request.specs.declared.request.Request.{Request}
 use Rattle.ent_walk.specs.declared.target.Targeted.{Targeted}
-use Rattle.ent_request.specs.Looks.{Looks}
-use Rattle.ent_request.specs.Own.{is_empty, own_values}
-use Rattle.ent_request.specs.Sources.{designated_values, source_values}
 use Rattle.ent_walk.specs.declared.target.Targeted.TheVariants as is
 use Rattle.ent_notes.specs.proofs_only.Noted.{Notes, noting}
 use Rattle.ent_request.specs.Part.{Part}
 use Rattle.ent_walk.specs.Target.{first_indeterminate, is_indeterminate, is_match, is_no_match}
-use Rattle.ent_walk.specs.proofs_only.Target.{own_match, unless_indeterminate}
+use Rattle.ent_walk.specs.proofs_only.Target.{unless_indeterminate}
 use Rattle.ent_walk.proofs.Going.{IsGoing, goes_on, values_to, values_to-next}
 
 -- none of the first i parts stops, and `so_far` is the first of them that is Indeterminate
@@ -85,14 +78,3 @@ pub isn't_match : (t : Targeted) → (t ≡ is.Match → ⊥) → is_match t ≡
 isn't_match is.Match not = absurd (not refl)
 isn't_match is.NoMatch not = refl
 isn't_match (is.Indeterminate status) not = refl
-
--- ---- values of a match
-
--- where the request has no match of its own it has no values of its own
-pub not_own : (m : Match) (vs : List Value) → None ≡ own_match m vs → vs ≡ []
-not_own m [] e = refl
-not_own m (v ∷ vs) e = absurd (cc)
-
--- and then they are those of the source
-pub from_source : (looks : Looks) (request : Request) (d : Designator) → own_values d request ≡ [] → source_values looks request d ≡ designated_values looks request d
-from_source looks request d own = ap (λ vs. if is_empty vs then source_values looks request d else vs) (sym own)

@@ -11,8 +11,7 @@ use Rattle.ent_combine.specs.declared.outcome.RuleAlg.{RuleAlg}
 use Rattle.ent_combine.specs.declared.outcome.RuleAlg.TheVariants as by
 use Rattle.ent_request.specs.declared.answer.Answer.{Answer}
 use Rattle.ent_request.specs.declared.answer.Status.{Status}
-use Rattle.ent_walk.specs.Judged.{decisions, first_status, status_before}
-use Rattle.ent_walk.specs.Named.{is_ind}
+use Rattle.ent_walk.specs.Judged.{decisions, first_status, is_ind, status_before}
 
 none_of : (q : Outcome → Bool) → ((o : Outcome) → is_ind o ≡ false → q o ≡ false) → (ds : List Outcome)
     → list_any is_ind ds ≡ false → list_any q ds ≡ false

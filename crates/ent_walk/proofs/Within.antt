@@ -9,9 +9,10 @@ use Rattle.ent_request.specs.declared.cause.Cause.{Cause}
 use Rattle.ent_notes.specs.declared.causes.Causes.{Causes}
 use Rattle.ent_walk.specs.declared.walk.Walk.{Walk}
 use Rattle.ent_request.specs.declared.request.Request.{Request}
-use Rattle.ent_request.specs.Causes.{with_cause}
+use Rattle.ent_notes.specs.proofs_only.Met.{Met, with_failing, with_passed}
 use Rattle.ent_request.specs.Looks.{Looks}
-use Rattle.ent_request.specs.Note.{Note, asks, fails, note_of_rule, note_within}
+use Rattle.ent_request.specs.Note.{Note, asks, cause_of_rule, cause_within, fails, note_of_rule, note_within}
+use Rattle.ent_request.specs.Note.{passed}
 use Rattle.ent_request.specs.Part.{Part, within}
 use Rattle.ent_walk.specs.proofs_only.Comes.{Adds, Comes, Keeps, in_walk}
 use Rattle.ent_notes.specs.proofs_only.Noted.{Notes, entering, in_rule, leaving, noting, rule_in, with_failure, with_note}
@@ -31,14 +32,16 @@ without_last xs x =
     let one : length (xs ++ x ∷ []) - 1 ≡ length xs = omega (arith, long) in
     ap (λ n. take n (xs ++ x ∷ [])) one ∙ take-append_seam xs (x ∷ [])
 
-failed_within : (key : DocKey) (o : Option Causes) (c : Cause) → with_failure (option_map (into key) o) c ≡ option_map (into key) (with_failure o (record c { path = key ∷ c.path }))
-failed_within key None c = refl
-failed_within key (Some k) c =
-    ap (λ path. Some (record k { path = k.path ++ key ∷ []; told = with_cause k.told (record c { path = path; rule = option_or c.rule k.rule }) })) (append_assoc k.path (key ∷ []) c.path)
+failed_within : (add : Met → Cause → Met) (key : DocKey) (o : Option Causes) (c : Cause)
+    → with_failure add (option_map (into key) o) c ≡ option_map (into key) (with_failure add o (cause_within key c))
+failed_within add key None c = refl
+failed_within add key (Some k) c =
+    ap (λ path. Some (record k { path = k.path ++ key ∷ []; told = add k.told (record c { path = path; rule = option_or c.rule k.rule }) })) (append_assoc k.path (key ∷ []) c.path)
 
 noted_within : (n : Notes) (key : DocKey) (x : Note) → with_note (entering n key) x ≡ entering (with_note n (note_within key x)) key
 noted_within n key (asks q) = refl
-noted_within n key (fails c) = ap (λ o. record n { causes = o; failed = true }) (failed_within key n.causes c)
+noted_within n key (fails c) = ap (λ o. record n { causes = o; failed = true }) (failed_within with_failing key n.causes c)
+noted_within n key (passed c) = ap (λ o. record n { causes = o; failed = true }) (failed_within with_passed key n.causes c)
 
 out_again : (key : DocKey) (o : Option Causes) → option_map out (option_map (into key) o) ≡ o
 out_again key None = refl
@@ -54,23 +57,31 @@ noting_within n key (x ∷ ns) = ap (λ m. leaving (noting m ns)) (noted_within 
 abbrev of : Option (List ℕ) → Causes → Causes
 of rule k = record k { rule = rule }
 
-failed_of : (id : List ℕ) (o : Option Causes) (c : Cause) → with_failure (option_map (of (Some id)) o) c ≡ option_map (of (Some id)) (with_failure o (record c { rule = option_or c.rule (Some id) }))
-failed_of id None c = refl
-failed_of id (Some k) c = ap (λ rule. Some (record k { rule = Some id; told = with_cause k.told (record c { path = k.path ++ c.path; rule = rule }) })) (at c.rule) where
+failed_of : (add : Met → Cause → Met) (id : List ℕ) (o : Option Causes) (c : Cause)
+    → with_failure add (option_map (of (Some id)) o) c ≡ option_map (of (Some id)) (with_failure add o (cause_of_rule id c))
+failed_of add id None c = refl
+failed_of add id (Some k) c = ap (λ rule. Some (record k { rule = Some id; told = add k.told (record c { path = k.path ++ c.path; rule = rule }) })) (at c.rule) where
   at : (r : Option (List ℕ)) → option_or r (Some id) ≡ option_or (option_or r (Some id)) k.rule
   at None = refl
   at (Some other) = refl
 
 noted_of : (n : Notes) (id : List ℕ) (x : Note) → with_note (in_rule n (Some id)) x ≡ in_rule (with_note n (note_of_rule id x)) (Some id)
 noted_of n id (asks q) = refl
-noted_of n id (fails c) = ap (λ o. record n { causes = o; failed = true }) (failed_of id n.causes c)
+noted_of n id (fails c) = ap (λ o. record n { causes = o; failed = true }) (failed_of with_failing id n.causes c)
+noted_of n id (passed c) = ap (λ o. record n { causes = o; failed = true }) (failed_of with_passed id n.causes c)
+
+failure_same : (n : Notes) (add : Met → Cause → Met) (c : Cause)
+    → rule_in (record n { causes = with_failure add n.causes c; failed = true }) ≡ rule_in n
+failure_same n add c = at n.causes where
+  at : (o : Option Causes)
+      → rule_in (record n { causes = with_failure add o c; failed = true }) ≡ rule_in (record n { causes = o })
+  at None = refl
+  at (Some k) = refl
 
 rule_same : (n : Notes) (x : Note) → rule_in (with_note n x) ≡ rule_in n
 rule_same n (asks q) = refl
-rule_same n (fails c) = at n.causes where
-  at : (o : Option Causes) → rule_in (record n { causes = with_failure o c; failed = true }) ≡ rule_in (record n { causes = o })
-  at None = refl
-  at (Some k) = refl
+rule_same n (fails c) = failure_same n with_failing c
+rule_same n (passed c) = failure_same n with_passed c
 
 back : (id : List ℕ) (n : Notes) → in_rule (in_rule n (Some id)) (rule_in n) ≡ n
 back id n = ap (λ o. record n { causes = o }) (at n.causes) where

@@ -18,6 +18,15 @@ use Rattle.ent_walk.specs.declared.told.Told.{Told}
 use Rattle.ent_walk.specs.declared.target.Targeted.TheVariants.{Match, NoMatch, Indeterminate}
 use Rattle.ent_request.specs.Plain.{nothing, indeterminate}
 
+-- whether a decision is Indeterminate
+abbrev pub is_ind : Outcome → Bool
+is_ind (Ind kind) = true
+is_ind decision = false
+
+-- whether what something comes to is
+abbrev pub has_failed : Answer → Bool
+has_failed answer = is_ind answer.decision
+
 -- the decisions of several children
 abbrev pub decisions : List Answer → List Outcome
 decisions [] = []

@@ -1,22 +1,26 @@
 -- An answer rests on what is asked for it, so on the look-ups that are recorded for it: those that are made, each once.
-use Rattle.std.specs.Prelude.{◌≡◌, ◌≢◌, ◌↔◌, List, ◌∷◌, ◌++◌, Option}
+use Rattle.std.specs.Prelude.{◌≡◌, ◌≢◌, ◌↔◌, List, ◌∷◌, ◌++◌, Option, Some, None, false}
 use Rattle.std.specs.List.{All, Contains}
+use Rattle.ent_combine.specs.declared.outcome.IndKind.{IndKind}
+use Rattle.ent_combine.specs.declared.outcome.Outcome.TheVariants.{Ind}
 use Rattle.ent_policy.specs.declared.document.Policy.{Policy}
 use Rattle.ent_policy.specs.declared.document.Rule.{Rule}
 use Rattle.ent_policy.specs.declared.document.Target.{Target}
 use Rattle.ent_policy.specs.declared.expression.Expression.{Expression}
 use Rattle.ent_policy.specs.declared.expression.VariableDefinition.{VariableDefinition}
 use Rattle.ent_policy.specs.declared.key.DocKey.{DocKey}
+use Rattle.ent_request.specs.declared.cause.Cause.{Cause}
 use Rattle.ent_request.specs.declared.key.ReadKey.{ReadKey}
 use Rattle.ent_request.specs.declared.key.ReadKey.TheVariants.{Root, Ref}
 use Rattle.ent_request.specs.declared.request.Request.{Request}
 use Rattle.ent_request.specs.declared.question.Question.{Question}
 use Rattle.ent_request.specs.declared.question.Question.TheVariants as question
-use Rattle.ent_walk.specs.Answer.{answer, asked, causes, looked_up, recorded}
+use Rattle.ent_walk.specs.Answer.{answer, asked, causes, looked_up, named, recorded}
 use Rattle.ent_request.specs.Looks.{Looks}
 use Rattle.ent_request.specs.Sources.{values_of}
 use Rattle.ent_request.specs.SameLook.{IsSameLook}
 use Rattle.ent_request.specs.Note.{questions_in}
+use Rattle.ent_walk.specs.Judged.{has_failed}
 use Rattle.ent_walk.specs.Node.{policy_part}
 use Rattle.ent_walk.specs.Rule.{condition_part, rule_part}
 use Rattle.ent_walk.specs.Target.{target_part}
@@ -65,3 +69,14 @@ EachKeyIsRecordedOnce = (looks : Looks) (request : Request) (before between afte
 -- a key is recorded for an answer exactly where it is looked up for it
 abbrev pub WhatIsLookedUpIsRecorded : Type 0
 WhatIsLookedUpIsRecorded = (looks : Looks) (request : Request) (key : ReadKey) → Contains (recorded looks request) key ↔ Contains (looked_up looks request) key
+
+-- an answer is Indeterminate only where there is a cause, and its status is that of the cause that is named of it
+abbrev pub IndeterminateHasItsCause : Type 0
+IndeterminateHasItsCause = (looks : Looks) (request : Request) (kind : IndKind)
+    → (answer looks request).decision ≡ Ind kind → (cause : Cause) × ((named looks request ≡ Some cause)
+    × (Contains (causes looks request) cause × (cause.status ≡ (answer looks request).status)))
+
+-- of one that isn't no cause is named, whatever failed below it
+abbrev pub DecidedNamesNoCause : Type 0
+DecidedNamesNoCause = (looks : Looks) (request : Request) → has_failed (answer looks request) ≡ false
+    → named looks request ≡ None

@@ -4,7 +4,6 @@ pub mod Expression
 pub mod Given
 pub mod Judged
 pub mod Law
-pub mod Named
 pub mod Node
 pub mod Only
 pub mod Rule

@@ -24,11 +24,12 @@ use Rattle.ent_request.specs.declared.request.Request.{Request}
 use Rattle.ent_walk.specs.declared.target.Targeted.{Targeted}
 use Rattle.ent_walk.specs.declared.target.Targeted.TheVariants.{Match, NoMatch, Indeterminate}
 use Rattle.ent_walk.specs.Given.{finished}
-use Rattle.ent_walk.specs.Judged.{judgement_of, stops, with_target}
+use Rattle.ent_walk.specs.Judged.{has_failed, judgement_of, stops, with_target}
 use Rattle.ent_request.specs.Plain.{nothing, unresolved}
 use Rattle.ent_request.specs.Looks.{Looks}
 use Rattle.ent_walk.specs.Only.{only_one}
-use Rattle.ent_request.specs.Part.{Part, after_look, and_then, mapped, that_fails, whole, within, without_look}
+use Rattle.ent_request.specs.Part.{Part, after_look, and_then, mapped, settled, that_fails, whole, within}
+use Rattle.ent_request.specs.Part.{without_look}
 use Rattle.ent_walk.specs.Rule.{rule_part}
 use Rattle.ent_walk.specs.Target.{target_part}
 
@@ -45,7 +46,7 @@ children_after own children (Indeterminate status) = mapped (with_target (Indete
 -- an element with a key, a target and children
 abbrev pub element : DocKey → Part Targeted → Part Answer → (Answer → Part Answer) → Part Answer
 element key target children own =
-    and_then (within key target) (λ targeted. within key (children_after own children targeted))
+    and_then (within key target) (λ targeted. within key (children_after own (settled has_failed children) targeted))
 
 -- the key of a policy
 abbrev pub policy_key : Policy → DocKey
@@ -81,7 +82,8 @@ pub record Node : Type 0 where
 
 -- the children of a set, where `here` leads from the root to the set
 abbrev pub children_part : PolicyAlg → List Node → List DocKey → Part Answer
-children_part (Shared algorithm) children here = combined here algorithm (map (λ (child : Node). child.answer here) children)
+children_part (Shared algorithm) children here =
+    combined here algorithm (map (λ (child : Node). settled has_failed (child.answer here)) children)
 children_part OnlyOne children here = only_one (map (λ (child : Node). child.target) children) (map (λ (child : Node). child.answer here) children)
 
 -- one level of a child, where `refer` gives what a reference comes to, with a set already seen

@@ -15,7 +15,7 @@ use Rattle.ent_request.specs.declared.request.Request.{Request}
 use Rattle.ent_walk.specs.declared.target.Targeted.{Targeted}
 use Rattle.ent_walk.specs.declared.target.Targeted.TheVariants as is
 use Rattle.ent_request.specs.Looks.{Looks}
-use Rattle.ent_request.specs.Part.{Part, mapped, whole}
+use Rattle.ent_request.specs.Part.{Part, mapped, settled, whole}
 use Rattle.ent_request.specs.Sources.{demanded}
 
 -- whether a function of a literal and a value is True (appendix A.3). On two values a function that gives a boolean has no fault
@@ -58,14 +58,25 @@ one_matches ts = if list_any is_match ts then is.Match else first_indeterminate 
 abbrev pub match_part : Looks → Request → Match → Part Targeted
 match_part looks request m = mapped (matched m) (demanded looks request m.designator)
 
+-- several of which all have to match, up to the first that doesn't
+abbrev pub all_part : List (Part Targeted) → Part Targeted
+all_part parts = whole is_no_match all_match parts
+
+-- several of which one has to, up to the first that does
+abbrev pub one_part : List (Part Targeted) → Part Targeted
+one_part parts = whole is_match one_matches parts
+
 -- an all-of element, up to its first match that is False (section 7.7)
 abbrev pub all_of_part : Looks → Request → AllOf → Part Targeted
-all_of_part looks request all_of = whole is_no_match all_match (map (match_part looks request) all_of.matches)
+all_of_part looks request all_of =
+    settled is_indeterminate (all_part (map (match_part looks request) all_of.matches))
 
 -- an any-of element, up to its first alternative that matches (section 7.7)
 abbrev pub any_of_part : Looks → Request → AnyOf → Part Targeted
-any_of_part looks request any_of = whole is_match one_matches (map (all_of_part looks request) any_of.all_of)
+any_of_part looks request any_of =
+    settled is_indeterminate (one_part (map (all_of_part looks request) any_of.all_of))
 
 -- a target, up to its first any-of element that doesn't match (section 7.7)
 abbrev pub target_part : Looks → Request → Target → Part Targeted
-target_part looks request target = whole is_no_match all_match (map (any_of_part looks request) target.any_of)
+target_part looks request target =
+    settled is_indeterminate (all_part (map (any_of_part looks request) target.any_of))

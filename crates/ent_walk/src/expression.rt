@@ -22,14 +22,12 @@ ghost use Rattle.ent_notes.specs.proofs_only.Noted.{asked_by};
 ghost use Rattle.ent_walk.specs.proofs_only.Uncopied.{any, equal_part, member, member_part, only_part};
 
 use crate::evaluated::Evaluated;
-use crate::uncopied::{
-    Sole, any, any_of, compared, equal, is_found, member, membership, one_and_only,
-};
+use crate::uncopied::{Sole, any, any_of, compared, equal, member, membership, one_and_only};
 use crate::walk::Walk;
 use ent_functions::{Arg, Fault, Function, apply};
 use ent_policy::{Designator, Expression, VariableDefinition};
-use ent_request::{LookUps, Reason, Status, is_empty, is_own};
-use ent_values::{Bag, Items, Text, Value};
+use ent_request::{LentBag, LookUps, Reason, Status};
+use ent_values::{Items, Text, Value};
 use std::alloc::AllocError;
 
 impl<L: LookUps> Walk<'_, L> {
@@ -114,7 +112,7 @@ impl<L: LookUps> Walk<'_, L> {
         }
         if let Some((test, literal, designator)) = any_of(function, arguments) {
             if let Some(bag) = self.lender.lent(designator)? {
-                return self.is_any(test, literal, designator, bag.get());
+                return self.is_any(test, literal, designator, &bag);
             }
         }
         let mut evaluated = Items::new(self.alloc);
@@ -143,7 +141,7 @@ impl<L: LookUps> Walk<'_, L> {
         function: Function,
         literal: &Value,
         designator: &Designator,
-        bag: &Bag,
+        bag: &LentBag<'_>,
     ) -> Result<Evaluated, AllocError>
         requires { Tests function literal.now bag.now.datatype }
         ensures value { IfOk result (λ v. v ≡ any function literal.now designator.now bag.now.values) }
@@ -153,11 +151,11 @@ impl<L: LookUps> Walk<'_, L> {
             self.old self.new) }
     {
         self.notes.note_values(self.alloc, designator)?;
-        self.demand(designator, bag)?;
+        self.demand(designator, bag.values())?;
         any(self.alloc, function, literal, designator, bag.values())
     }
 
-    // Is-in of a value and a designator, of whose values the request's own aren't copied.
+    // Is-in of a value and a designator.
     #[tactic(auto, using(crate::proofs::Going::noting_then))]
     fn is_in(&mut self, sole: &Sole<'_>, designator: &Designator) -> Result<Evaluated, AllocError>
         ensures comes { IfOk result (Comes
@@ -165,15 +163,8 @@ impl<L: LookUps> Walk<'_, L> {
         ensures typed { IfOk result (λ v. HasType (Some boolean) v) }
     {
         self.note_sole(sole)?;
-        self.notes.note_values(self.alloc, designator)?;
-        if let Some(bag) = self.lender.lent(designator)? {
-            return self.member_of(sole, designator, bag.get());
-        }
-        if let Some(found) = is_own(self.lender.request(), designator, sole.value) {
-            return Ok(is_found(found));
-        }
-        let bag = self.lender.lend(self.alloc, designator)?;
-        self.member_of(sole, designator, bag.get())
+        let bag = self.values(designator)?;
+        self.member_of(sole, designator, &bag)
     }
 
     // Is-in of a value and of the values of a designator.
@@ -181,13 +172,13 @@ impl<L: LookUps> Walk<'_, L> {
         &mut self,
         sole: &Sole<'_>,
         designator: &Designator,
-        bag: &Bag,
+        bag: &LentBag<'_>,
     ) -> Result<Evaluated, AllocError>
         ensures value { IfOk result (λ v. v ≡ member sole.now.value.now designator.now bag.now.values) }
         ensures typed { IfOk result (λ v. HasType (Some boolean) v) }
         ensures notes { OnOk result (Adds (missing designator.now bag.now.values) self.old self.new) }
     {
-        self.demand(designator, bag)?;
+        self.demand(designator, bag.values())?;
         Ok(member(sole.value, designator, bag.values()))
     }
 
@@ -219,10 +210,10 @@ impl<L: LookUps> Walk<'_, L> {
         ensures typed { IfOk result (λ v. HasType (Some (Many designator.now.datatype)) v) }
     {
         let bag = self.demanded(designator)?;
-        if designator.must_be_present && is_empty(bag.get()) {
+        if designator.must_be_present && bag.values().is_empty() {
             return Ok(Evaluated::Indeterminate(Status::MissingAttribute));
         }
-        Ok(Evaluated::Known(Arg::Many(bag.get().copy(self.alloc)?)))
+        Ok(Evaluated::Known(Arg::Many(bag.to_bag(self.alloc)?)))
     }
 
     // The value of a function of arguments that it takes. A fault is a processing error.

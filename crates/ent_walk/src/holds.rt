@@ -7,17 +7,8 @@ ghost use Rattle.ent_walk.specs.proofs_only.Typed.{Tests, TestsEach};
 ghost use Rattle.ent_values.specs.Types.{datatype_of};
 
 use ent_functions::{Arg, Fault, Function, apply};
-use ent_policy::Match;
 use ent_values::Value;
 use std::alloc::{AllocError, Global};
-
-// Whether the function of a match is True of its literal and one of the values.
-pub(crate) fn holds_in(alloc: Global, test: &Match, values: &[Value]) -> Result<bool, AllocError>
-    requires { TestsEach test.now.function test.now.literal values.now }
-    ensures { IfOk result (λ b. b ≡ list_any (is_true test.now.function test.now.literal) values.now) }
-{
-    holds_of_one(alloc, test.function, &test.literal, values)
-}
 
 // Whether a function is True of a literal and one of the values.
 pub(crate) fn holds_of_one(

@@ -1,11 +1,12 @@
 //! Laws of what answers rest on.
 
 ghost use Rattle.ent_walk.specs.Came.{EqualTestsGiveEqualAnswers};
-ghost use Rattle.ent_walk.specs.Law.{EqualFindingsGiveEqualConditions, EqualFindingsGiveEqualPolicies};
+ghost use Rattle.ent_walk.specs.Law.{DecidedNamesNoCause, EqualFindingsGiveEqualConditions};
+ghost use Rattle.ent_walk.specs.Law.{EqualFindingsGiveEqualPolicies};
 ghost use Rattle.ent_walk.specs.Law.{EqualFindingsGiveEqualRules, EqualFindingsGiveEqualTargets};
 ghost use Rattle.ent_walk.specs.Law.{EachKeyIsRecordedOnce, EqualFindingsGiveEqualAnswers};
-ghost use Rattle.ent_walk.specs.Law.{EqualLookUpsGiveEqualAnswers, WhatIsLookedUpIsRecorded};
-ghost use Rattle.ent_walk.specs.Named.{IndeterminateHasItsCause};
+ghost use Rattle.ent_walk.specs.Law.{EqualLookUpsGiveEqualAnswers, IndeterminateHasItsCause};
+ghost use Rattle.ent_walk.specs.Law.{WhatIsLookedUpIsRecorded};
 
 /// Law: where each question that is asked for an answer finds the same for another request, over what is held then, the
 /// answer is the same, and so are what is asked and the causes.
@@ -58,7 +59,12 @@ pub fn what_is_looked_up_is_recorded()
 {}
 
 /// Law: an answer is Indeterminate only where there is a cause, and its status is that of the cause that is named of
-/// it: its target's, or else that of its first Indeterminate child, or of what it gives (section 5.55).
+/// it: the first that isn't passed over (section 5.55).
 pub fn an_indeterminate_answer_has_its_cause()
     ensures { IndeterminateHasItsCause }
+{}
+
+/// Law: of an answer that isn't Indeterminate no cause is named, whatever failed below it.
+pub fn a_decided_answer_names_no_cause()
+    ensures { DecidedNamesNoCause }
 {}

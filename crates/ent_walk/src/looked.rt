@@ -13,15 +13,14 @@ use crate::lender::seeks_same;
 use crate::uncopied::{Sole, membership};
 use crate::walk::Walk;
 use ent_policy::{Designator, Expression, VariableDefinition};
-use ent_request::LookUps;
-use ent_values::{Bag, Shared};
+use ent_request::{LentBag, LookUps};
 use std::alloc::AllocError;
 
 // The values of a designator: conditions that follow each other mostly ask for the same.
 #[derive(Drop)]
 pub(crate) struct Looked<'a> {
     pub(crate) designator: &'a Designator,
-    pub(crate) bag: Shared<Bag>,
+    pub(crate) bag: LentBag<'a>,
 }
 
 impl<'a, L: LookUps> Walk<'a, L> {
@@ -70,11 +69,11 @@ impl<'a, L: LookUps> Walk<'a, L> {
         self.note_sole(sole)?;
         if let Some(latest) = &*looked {
             if seeks_same(latest.designator, designator) {
-                return self.member_of(sole, designator, latest.bag.get());
+                return self.member_of(sole, designator, &latest.bag);
             }
         }
         let bag = self.values(designator)?;
-        let found = self.member_of(sole, designator, bag.get())?;
+        let found = self.member_of(sole, designator, &bag)?;
         *looked = Some(Looked { designator, bag });
         Ok(found)
     }

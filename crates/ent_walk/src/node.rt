@@ -4,11 +4,12 @@ ghost use Rattle.std.specs.Prelude.{◌≡◌, IfOk, true};
 ghost use Rattle.std.specs.List.{list_all};
 ghost use Rattle.ent_policy.specs.Typing.{given_is_typed, rule_is_typed, target_is_typed};
 ghost use Rattle.ent_walk.specs.proofs_only.Comes.{Comes, in_walk};
-ghost use Rattle.ent_walk.specs.Judged.{under_target};
+ghost use Rattle.ent_walk.specs.Judged.{has_failed, is_ind, under_target};
 ghost use Rattle.ent_walk.specs.proofs_only.Judged.{or_nothing};
 ghost use Rattle.ent_walk.specs.Node.{policy_rules, rules_combined};
 ghost use Rattle.ent_walk.specs.proofs_only.Node.{in_policy, policy_after, policy_target};
 ghost use Rattle.ent_notes.specs.proofs_only.Path.{keys_of};
+ghost use Rattle.ent_request.specs.Part.{settled};
 
 use crate::gather::gather;
 use crate::rule::Within;
@@ -71,17 +72,34 @@ impl<'a, L: LookUps> Walk<'a, L> {
         match targeted {
             Targeted::NoMatch => Ok(None),
             Targeted::Match => {
-                let answer = self.rules_under(path, policy)?;
+                let answer = self.settled_rules(path, policy)?;
                 if answer.is_none() {
                     return Ok(None);
                 }
                 self.finished(policy.variables.as_slice(), &policy.given, answer)
             }
             Targeted::Indeterminate(status) => {
-                let answer = self.rules_under(path, policy)?;
+                let answer = self.settled_rules(path, policy)?;
                 Ok(under(self.alloc, status, answer))
             }
         }
+    }
+
+    // The rules of a policy. What fails in them is passed over unless they come to Indeterminate.
+    fn settled_rules(
+        &mut self,
+        path: &Path<'_>,
+        policy: &'a Policy,
+    ) -> Result<Option<Answer>, AllocError>
+        requires typed { list_all (rule_is_typed policy.now.variables) policy.now.rules ≡ true }
+        ensures comes { IfOk result (λ a. Comes
+            (settled has_failed (in_walk L.looks self.old policy_rules (keys_of path.now) policy.now))
+            self.old self.new (or_nothing a)) }
+    {
+        let was_named = self.notes.is_named();
+        let answer = self.rules_under(path, policy)?;
+        self.settle(was_named, has_failed(&answer));
+        Ok(answer)
     }
 
     // The rules of a policy.
@@ -131,6 +149,26 @@ impl<'a, L: LookUps> Walk<'a, L> {
             }
         }
         gathering.finish(self.alloc, &mut self.notes, within.path, algorithm)
+    }
+}
+
+// Whether an answer is Indeterminate.
+pub(crate) fn has_failed(answer: &Option<Answer>) -> bool
+    ensures { result ≡ has_failed (or_nothing answer.now) }
+{
+    match answer {
+        None => false,
+        Some(answer) => is_ind(answer.decision),
+    }
+}
+
+// Whether a decision is.
+fn is_ind(decision: Outcome) -> bool
+    ensures { result ≡ is_ind decision }
+{
+    match decision {
+        Outcome::Ind(_) => true,
+        _ => false,
     }
 }
 

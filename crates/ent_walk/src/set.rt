@@ -3,18 +3,20 @@
 ghost use Rattle.std.specs.Prelude.{◌≡◌, ◌≤◌, [], IfOk, OnOk, length, map, true};
 ghost use Rattle.std.specs.List.{list_all};
 ghost use Rattle.ent_policy.specs.Typing.{given_is_typed, target_is_typed};
-ghost use Rattle.ent_walk.specs.proofs_only.Comes.{Adds, Comes, in_walk};
+ghost use Rattle.ent_walk.specs.proofs_only.Comes.{Adds, Comes, Settles, in_walk};
 ghost use Rattle.ent_walk.specs.proofs_only.Gathered.{Gathers, Tells};
 ghost use Rattle.ent_walk.specs.proofs_only.Hops.{child_part, children_combined, in_set, only_child};
-ghost use Rattle.ent_walk.specs.proofs_only.Hops.{set_after, set_children, set_target};
+ghost use Rattle.ent_walk.specs.proofs_only.Hops.{set_after, set_children, set_target, settled_child};
+ghost use Rattle.ent_walk.specs.Judged.{has_failed};
 ghost use Rattle.ent_walk.specs.proofs_only.Judged.{or_nothing};
 ghost use Rattle.ent_walk.specs.Only.{chosen_part};
 ghost use Rattle.ent_walk.specs.proofs_only.Opened.{is_fit_left, left_part};
 ghost use Rattle.ent_notes.specs.proofs_only.Path.{keys_of};
+ghost use Rattle.ent_request.specs.Part.{settled};
 ghost use Rattle.ent_walk.specs.proofs_only.Typed.{is_fit};
 
 use crate::gather::{Gathering, gather};
-use crate::node::under;
+use crate::node::{has_failed, under};
 use crate::only::Only;
 use crate::opened::Opened;
 use crate::target::Targeted;
@@ -44,7 +46,8 @@ impl<'a, L: LookUps> Walk<'a, L> {
         self.judge(path, opened)
     }
 
-    // One child more, which is gathered, and whether it fixes the decision.
+    // One child more, which is gathered, and whether it fixes the decision. What fails in it is passed over unless it
+    // is Indeterminate.
     #[cycle(child)]
     fn next_child(
         &mut self,
@@ -55,18 +58,20 @@ impl<'a, L: LookUps> Walk<'a, L> {
     ) -> Result<Progress, AllocError>
         requires fit { is_fit child.now ≡ true }
         ensures gathered { OnOk result (Gathers gathering.old gathering.new
-            (in_walk L.looks self.old child_part hops (keys_of path.now) child.now).value) }
+            (in_walk L.looks self.old settled_child hops (keys_of path.now) child.now).value) }
         ensures progress { IfOk result (Tells gathering.old
-            (in_walk L.looks self.old child_part hops (keys_of path.now) child.now).value) }
+            (in_walk L.looks self.old settled_child hops (keys_of path.now) child.now).value) }
         ensures notes { OnOk result (Adds
-            (in_walk L.looks self.old child_part hops (keys_of path.now) child.now).notes
+            (in_walk L.looks self.old settled_child hops (keys_of path.now) child.now).notes
             self.old self.new) }
     {
+        let was_named = self.notes.is_named();
         let opened = self.open(hops, child)?;
         if let Opened::Passed = opened {
+            self.settle(was_named, false);
             return Ok(gathering.pass());
         }
-        self.next_left(gathering, path, opened)
+        self.next_left(gathering, path, opened, was_named)
     }
 
     // The same of what is left of a child. It stands apart, since few children come so far.
@@ -77,17 +82,18 @@ impl<'a, L: LookUps> Walk<'a, L> {
         gathering: &mut Gathering,
         path: &Path<'_>,
         opened: Opened<'a>,
+        was_named: bool,
     ) -> Result<Progress, AllocError>
         requires fit { is_fit_left opened ≡ true }
         ensures gathered { OnOk result (Gathers gathering.old gathering.new
             (in_walk L.looks self.old left_part (keys_of path.now) opened.entry).value) }
         ensures progress { IfOk result (Tells gathering.old
             (in_walk L.looks self.old left_part (keys_of path.now) opened.entry).value) }
-        ensures notes { OnOk result (Adds
-            (in_walk L.looks self.old left_part (keys_of path.now) opened.entry).notes
-            self.old self.new) }
+        ensures notes { OnOk result (Settles was_named
+            (in_walk L.looks self.old left_part (keys_of path.now) opened.entry) self.old self.new) }
     {
         let answer = self.judge(path, opened)?;
+        self.settle(was_named, has_failed(&answer));
         gathering.take(answer)
     }
 
@@ -146,17 +152,37 @@ impl<'a, L: LookUps> Walk<'a, L> {
         match targeted {
             Targeted::NoMatch => Ok(None),
             Targeted::Match => {
-                let answer = self.children_under(hops, path, set)?;
+                let answer = self.settled_children(hops, path, set)?;
                 if answer.is_none() {
                     return Ok(None);
                 }
                 self.finished(&[], &set.given, answer)
             }
             Targeted::Indeterminate(status) => {
-                let answer = self.children_under(hops, path, set)?;
+                let answer = self.settled_children(hops, path, set)?;
                 Ok(under(self.alloc, status, answer))
             }
         }
+    }
+
+    // The children of a set. What fails in them is passed over unless they come to Indeterminate.
+    #[cycle(child)]
+    fn settled_children(
+        &mut self,
+        hops: usize,
+        path: &Path<'_>,
+        set: &'a PolicySet,
+    ) -> Result<Option<Answer>, AllocError>
+        requires fit { list_all is_fit set.now.children ≡ true }
+        requires room { length set.now.children ≤ 256 }
+        ensures comes { IfOk result (λ a. Comes
+            (settled has_failed (in_walk L.looks self.old set_children hops (keys_of path.now) set.now))
+            self.old self.new (or_nothing a)) }
+    {
+        let was_named = self.notes.is_named();
+        let answer = self.children_under(hops, path, set)?;
+        self.settle(was_named, has_failed(&answer));
+        Ok(answer)
     }
 
     // The children of a set.

@@ -198,7 +198,7 @@ pub(crate) fn any(
 }
 
 // Whether a value is found.
-pub(crate) fn is_found(found: bool) -> Evaluated
+fn is_found(found: bool) -> Evaluated
     ensures value { result ≡ Known (Arg.One (Value.Boolean found)) }
     ensures typed { HasType (Some boolean) result }
 {

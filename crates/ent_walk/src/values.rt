@@ -6,41 +6,42 @@ ghost use Rattle.ent_walk.specs.proofs_only.Comes.{Adds, Comes, bag_part, in_wal
 
 use crate::walk::Walk;
 use ent_policy::Designator;
-use ent_request::{LookUps, Reason, is_empty};
-use ent_values::{Bag, Shared};
+use ent_request::{LentBag, LookUps, Reason};
+use ent_values::Value;
 use std::alloc::AllocError;
 
-impl<L: LookUps> Walk<'_, L> {
+impl<'a, L: LookUps> Walk<'a, L> {
     // The values of a designator: the request's own, or else those of its source. The question is noted.
-    pub(crate) fn values(&mut self, designator: &Designator) -> Result<Shared<Bag>, AllocError>
+    pub(crate) fn values(&mut self, designator: &Designator) -> Result<LentBag<'a>, AllocError>
         ensures comes { IfOk result (Comes
             (bag_part designator.now.datatype (in_walk L.looks self.old values_part designator.now))
             self.old self.new) }
     {
         self.notes.note_values(self.alloc, designator)?;
-        match self.lender.lent(designator)? {
-            Some(bag) => Ok(bag),
-            None => self.lender.lend(self.alloc, designator),
-        }
+        self.lender.bag(self.alloc, designator)
     }
 
     // The same, of which there must be one where the designator says so.
     #[tactic(auto, using(crate::proofs::Going::noting_both))]
-    pub(crate) fn demanded(&mut self, designator: &Designator) -> Result<Shared<Bag>, AllocError>
+    pub(crate) fn demanded(&mut self, designator: &Designator) -> Result<LentBag<'a>, AllocError>
         ensures comes { IfOk result (Comes
             (bag_part designator.now.datatype (in_walk L.looks self.old demanded designator.now))
             self.old self.new) }
     {
         let bag = self.values(designator)?;
-        self.demand(designator, bag.get())?;
+        self.demand(designator, bag.values())?;
         Ok(bag)
     }
 
     // Notes that values are missing, where there are none and one must be present.
-    pub(crate) fn demand(&mut self, designator: &Designator, bag: &Bag) -> Result<(), AllocError>
-        ensures { OnOk result (Adds (missing designator.now bag.now.values) self.old self.new) }
+    pub(crate) fn demand(
+        &mut self,
+        designator: &Designator,
+        values: &[Value],
+    ) -> Result<(), AllocError>
+        ensures { OnOk result (Adds (missing designator.now values.now) self.old self.new) }
     {
-        if designator.must_be_present && is_empty(bag) {
+        if designator.must_be_present && values.is_empty() {
             return self.fail(Reason::Missing(designator));
         }
         Ok(())

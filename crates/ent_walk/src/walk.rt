@@ -5,10 +5,13 @@ ghost use Rattle.ent_walk.specs.Answer.{answer_part};
 ghost use Rattle.ent_request.specs.Note.{failing};
 ghost use Rattle.ent_walk.specs.proofs_only.Comes.{Adds, Comes, Keeps, in_walk};
 ghost use Rattle.ent_walk.specs.proofs_only.Hops.{followed_part};
-ghost use Rattle.ent_notes.specs.proofs_only.Noted.{entering, in_rule, leaving, rule_in};
+ghost use Rattle.ent_walk.specs.Judged.{has_failed};
+ghost use Rattle.ent_notes.specs.proofs_only.Noted.{entering, in_rule, leaving, rule_in, settling};
+ghost use Rattle.ent_request.specs.Part.{settled};
 ghost use Rattle.ent_request.specs.proofs_only.Reason.{what_of};
 
 use crate::lender::Lender;
+use crate::node::has_failed;
 use ent_notes::{Notes, Path};
 use ent_policy::{Kind, Reference, Version};
 use ent_request::{Answer, LookUps, Reason, Request};
@@ -90,6 +93,16 @@ impl<'a, L: LookUps> Walk<'a, L> {
         self.notes.leave_rule(outer);
     }
 
+    // Behind a part of the evaluation: what failed in it is passed over unless it is Indeterminate. Whether something
+    // that failed before it isn't passed over is given.
+    #[inline(always)]
+    pub(crate) fn settle(&mut self, was_named: bool, is_indeterminate: bool)
+        ensures notes { self.new.notes ≡ settling was_named is_indeterminate self.old.notes }
+        ensures keeps { Keeps self.old self.new }
+    {
+        self.notes.settle(was_named, is_indeterminate);
+    }
+
     /// The answer to the request.
     pub fn answer(&mut self) -> Result<Answer, AllocError>
         ensures comes { IfOk result (Comes
@@ -106,10 +119,13 @@ impl<'a, L: LookUps> Walk<'a, L> {
     // What the root's document comes to, where so many references may be followed on the way down from there.
     fn followed(&mut self, hops: usize, reference: &Reference) -> Result<Answer, AllocError>
         ensures comes { IfOk result (Comes
-            (in_walk L.looks self.old followed_part hops [] reference.now) self.old self.new) }
+            (settled has_failed (in_walk L.looks self.old followed_part hops [] reference.now))
+            self.old self.new) }
     {
+        let was_named = self.notes.is_named();
         let opened = self.open_followed(hops, reference)?;
         let answer = self.judge(&Path::Root, opened)?;
+        self.settle(was_named, has_failed(&answer));
         Ok(answer.unwrap_or(Answer::not_applicable(self.alloc)))
     }
 }

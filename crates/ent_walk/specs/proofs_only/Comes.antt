@@ -1,5 +1,5 @@
 -- What an evaluation leaves: the value of a part, and what is noted of it.
-use Rattle.std.specs.Prelude.{◌≡◌, List}
+use Rattle.std.specs.Prelude.{◌≡◌, Bool, List}
 use Rattle.ent_values.specs.Bags.{Contents}
 use Rattle.ent_values.specs.declared.datatype.DataType.{DataType}
 use Rattle.ent_values.specs.declared.value.Value.{Value}
@@ -7,8 +7,10 @@ use Rattle.ent_request.specs.declared.request.Request.{Request}
 use Rattle.ent_walk.specs.declared.walk.Walk.{Walk}
 use Rattle.ent_request.specs.Looks.{Looks}
 use Rattle.ent_request.specs.Note.{Note}
-use Rattle.ent_notes.specs.proofs_only.Noted.{noting}
+use Rattle.ent_notes.specs.proofs_only.Noted.{noting, settling}
 use Rattle.ent_request.specs.Part.{Part, mapped}
+use Rattle.ent_request.specs.declared.answer.Answer.{Answer}
+use Rattle.ent_walk.specs.Judged.{has_failed}
 
 -- what is said of look-ups and a request, of those of a walk
 abbrev pub in_walk {ℓ} : {L : Type 0} {A : Type ℓ} → (L → Looks) → Walk L → (Looks → Request → A) → A
@@ -28,6 +30,11 @@ pub record Adds {L : Type 0} (more : List Note) (before after : Walk L) : Type 0
 pub record Comes {A L : Type 0} (part : Part A) (before after : Walk L) (came : A) : Type 0 where
   pub value : came ≡ part.value
   pub notes : after.notes ≡ noting before.notes part.notes
+  pub keeps : Keeps before after
+
+-- a walk noted an answer's part, passed over what failed unless that is Indeterminate, and stays what it is otherwise
+pub record Settles {L : Type 0} (was_named : Bool) (part : Part Answer) (before after : Walk L) : Type 0 where
+  pub notes : after.notes ≡ settling was_named (has_failed part.value) (noting before.notes part.notes)
   pub keeps : Keeps before after
 
 -- the values of a part, as a bag of that type

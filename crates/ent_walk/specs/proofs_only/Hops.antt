@@ -9,11 +9,12 @@ use Rattle.ent_request.specs.declared.answer.Answer.{Answer}
 use Rattle.ent_request.specs.declared.request.Request.{Request}
 use Rattle.ent_walk.specs.declared.target.Targeted.{Targeted}
 use Rattle.ent_walk.specs.Given.{finished}
+use Rattle.ent_walk.specs.Judged.{has_failed}
 use Rattle.ent_request.specs.Looks.{Looks}
 use Rattle.ent_walk.specs.Node.{Node, children_after, children_part, combined, followed, node_with, refer, set_key}
 use Rattle.ent_walk.specs.proofs_only.Node.{set_node_with}
 use Rattle.ent_walk.specs.Only.{only_one}
-use Rattle.ent_request.specs.Part.{Part, within}
+use Rattle.ent_request.specs.Part.{Part, settled, within}
 use Rattle.ent_walk.specs.Target.{target_part}
 
 -- a child
@@ -27,6 +28,10 @@ set_node_of looks request hops = set_node_with looks request (refer looks reques
 -- what a child comes to
 abbrev pub child_part : Looks → Request → ℕ → List DocKey → Child → Part Answer
 child_part looks request hops path child = (node_of looks request hops child).answer path
+
+-- what it comes to among others, where what fails in it is passed over unless it is Indeterminate
+abbrev pub settled_child : Looks → Request → ℕ → List DocKey → Child → Part Answer
+settled_child looks request hops path child = settled has_failed (child_part looks request hops path child)
 
 -- the target of a child
 abbrev pub child_target : Looks → Request → ℕ → Child → Part Targeted
@@ -46,7 +51,8 @@ followed_part looks request hops path reference = (followed looks request (refer
 
 -- children together, where `here` leads from the root to their set
 abbrev pub children_combined : Looks → Request → ℕ → List DocKey → RuleAlg → List Child → Part Answer
-children_combined looks request hops here algorithm children = combined here algorithm (map (child_part looks request hops here) children)
+children_combined looks request hops here algorithm children =
+    combined here algorithm (map (settled_child looks request hops here) children)
 
 -- the only one of some children that applies
 abbrev pub only_child : Looks → Request → ℕ → List DocKey → List Child → Part Answer
@@ -59,7 +65,8 @@ set_children looks request hops path set =
 
 -- what stands in a set behind its target
 abbrev pub in_set : Looks → Request → ℕ → List DocKey → PolicySet → Targeted → Part Answer
-in_set looks request hops path set = children_after (finished looks request [] set.given) (set_children looks request hops path set)
+in_set looks request hops path set =
+    children_after (finished looks request [] set.given) (settled has_failed (set_children looks request hops path set))
 
 -- what comes behind the target of a set
 abbrev pub set_after : Looks → Request → ℕ → List DocKey → PolicySet → Targeted → Part Answer

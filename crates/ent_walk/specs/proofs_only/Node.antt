@@ -11,12 +11,15 @@ use Rattle.ent_walk.specs.declared.target.Targeted.{Targeted}
 use Rattle.ent_walk.specs.Given.{finished}
 use Rattle.ent_request.specs.Looks.{Looks}
 use Rattle.ent_walk.specs.Target.{target_part}
-use Rattle.ent_request.specs.Part.{Part, within}
+use Rattle.ent_request.specs.Part.{Part, settled, within}
+use Rattle.ent_walk.specs.Judged.{has_failed}
 use Rattle.ent_walk.specs.Node.{Node, child_step, children_after, policy_key, policy_rules, set_step}
 
 -- what stands in a policy behind its target
 abbrev pub in_policy : Looks → Request → List DocKey → Policy → Targeted → Part Answer
-in_policy looks request path policy = children_after (finished looks request policy.variables policy.given) (policy_rules looks request path policy)
+in_policy looks request path policy =
+    children_after (finished looks request policy.variables policy.given)
+    (settled has_failed (policy_rules looks request path policy))
 
 -- what comes behind the target of a policy
 abbrev pub policy_after : Looks → Request → List DocKey → Policy → Targeted → Part Answer

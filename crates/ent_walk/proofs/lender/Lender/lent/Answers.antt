@@ -5,7 +5,7 @@ use Rattle.ent_values.specs.Bags.{Contents}
 use Rattle.ent_request.specs.Sources.{asked_of, designated_values, values_of}
 use Rattle.ent_request.specs.declared.question.Asked.{Asked}
 use Rattle.ent_walk.specs.proofs_only.Basis.{Basis}
-use Rattle.ent_walk.specs.proofs_only.Lender.{IsLent}
+use Rattle.ent_walk.specs.proofs_only.Lender.{IsFound}
 use Rattle.ent_request.proofs.Numbering.{all_at}
 use Rattle.ent_walk.proofs.lender.Lender.lent.Goals as goal
 
@@ -14,11 +14,11 @@ returns-then-is_of g c =
     let looks = g.L.LookUps.looks c.self.inside.held.now in
     let request = c.self.inside.request.now in
     let d = c.args.designator.now in
-    let lent = c.lent-item.result in
-    let all : AllByRecursion (IsLent looks request) c.deref-lent-items.result.now = subst (AllByRecursion (IsLent looks request)) (sym c.deref-lent-items.ensures.value) c.self.invariant.1 in
-    let at : slice_get c.deref-lent-items.result.now c.loop-lent.lent-index ≡ Some lent =
-    slice_get-get_or c.deref-lent-items.result.now c.loop-lent.lent-index lent (omega (arith, c.loop-lent-test.true)) ∙ ap Some (sym c.lent-item.is) in
-    let same : lent.asked ≡ asked_of d = c.if-is_of.ensures refl in
+    let it = c.found-item.result in
+    let all : AllByRecursion (IsFound looks request) c.deref-found-items.result.now = subst (AllByRecursion (IsFound looks request)) (sym c.deref-found-items.ensures.value) c.self.invariant in
+    let at : slice_get c.deref-found-items.result.now c.loop-found.found-index ≡ Some it =
+    slice_get-get_or c.deref-found-items.result.now c.loop-found.found-index it (omega (arith, c.loop-found-test.true)) ∙ ap Some (sym c.found-item.is) in
+    let same : it.asked ≡ asked_of d = c.if-is_of.ensures refl in
     let found : Asked → Contents = λ a. record { datatype = a.datatype; values = values_of looks request a } in
     let over : Basis g.row.L.Denot → Contents = λ b. record { datatype = d.datatype; values = designated_values (g.L.LookUps.looks b.held) b.request d } in
-    c.in_ok-copy.ensures ∙ all_at (IsLent looks request) c.deref-lent-items.result.now c.loop-lent.lent-index lent all at ∙ ap found same ∙ ap over c.self.view_is
+    c.in_ok-copy.ensures ∙ all_at (IsFound looks request) c.deref-found-items.result.now c.loop-found.found-index it all at ∙ ap found same ∙ ap over c.self.view_is

@@ -118,7 +118,7 @@ application-is_any-requires g t c =
     let d = c.in-Some-any_of.designator.now in
     let all : Contents = record { datatype = d.datatype; values = designated_values (g.L.LookUps.looks c.args.self.now.lender.held) c.args.self.now.lender.request d } in
     let lent : c.in-Some-3.bag ≡ all = subst (λ o. IfSome o (λ b. b ≡ all)) c.in-Some-3.is c.in_ok-bag.ensures in
-    subst (Tests c.in-Some-any_of.test c.in-Some-any_of.literal.now) (sym (ap (λ b. b.datatype) (c.get.ensures ∙ lent)))
+    subst (Tests c.in-Some-any_of.test c.in-Some-any_of.literal.now) (sym (ap (λ b. b.datatype) lent))
     (c.in-Some-any_of.ensures.tests c.args.definitions.now c.args.references c.requires.typed)
 
 pub application-returns-in-Some-3-clause-comes : goal.application-returns-in-Some-3-clause-comes
@@ -129,7 +129,7 @@ application-returns-in-Some-3-clause-comes g t c =
     let told = any c.in-Some-any_of.test c.in-Some-any_of.literal.now d in
     let all : Contents = record { datatype = d.datatype; values = designated_values looks request d } in
     let lent : c.in-Some-3.bag ≡ all = subst (λ o. IfSome o (λ b. b ≡ all)) c.in-Some-3.is c.in_ok-bag.ensures in
-    let values : c.get.result.now.values ≡ designated_values looks request d = ap (λ b. b.values) (c.get.ensures ∙ lent) in
+    let values : c.in-Some-3.bag.values ≡ designated_values looks request d = ap (λ b. b.values) lent in
     comes_equal (λ v. v) c.is_any.result c.args.self.now c.is_any.new.self _ _ (sym (c.in-Some-any_of.ensures.value looks request c.args.definitions.now c.args.references))
     (comes (λ v. v) c.is_any.result (mapped told (demanded looks request d)) c.args.self.now c.is_any.new.self (IfOk-weaker c.is_any.result _ _ (λ v is. is ∙ ap told values) c.is_any.ensures.value)
     (subst (λ vs. OnOk c.is_any.result (Adds (asks (Of (asked_of d)) ∷ missing d vs) c.args.self.now c.is_any.new.self)) values c.is_any.ensures.notes))
