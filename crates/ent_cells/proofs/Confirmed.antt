@@ -101,11 +101,7 @@ module _ (q : List Question) (g : Groups) (s : Slab Cell) (is : IsStore q g s) (
       by None e = refl
       by (Some cell) e = are cell.who.person cell.who.action cell.who.resource (numbers_of g cell.said.group) (is c cell e).said.within
 
-  -- one that reads what is wanted is touched
-  pub one_touched : ((c : ℕ) × (wanted_at g wanted (get s c) ≡ true)) → (c : ℕ) × (touched_at keys (get (seen q g s) c) ≡ true)
-  one_touched one = (one.0, sym (wanted_touched one.0) ∙ one.1)
-
-  -- and then it is a candidate
+  -- one that reads what is wanted is a candidate
   covered : (cells : List ℕ) → Covers g wanted cells → (c : ℕ) → wanted_at g wanted (get s c) ≡ true → is_member cells c ≡ true
   covered cells covers c h = by (get s c) refl h
     where

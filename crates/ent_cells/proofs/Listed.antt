@@ -1,7 +1,7 @@
 -- The cells of a slab, in the order of a list of their keys.
-use Rattle.std.proofs.Common.{◌≡◌, inl, inr, ℕ, zero, suc, ◌+◌, ◌<◌, ◌≤◌, Bool, true, false, ◌&&◌, ◌||◌, nat_eq, List, [], ◌∷◌, ◌++◌, map, length, take, drop, Option, Some, None, is_some, option_map, slice_get, slice_index_or as get_or, refl, sym, ap, subst, ◌∙◌, arith, le_refl}
+use Rattle.std.proofs.Common.{◌≡◌, inl, inr, ℕ, zero, suc, ◌+◌, ◌<◌, ◌≤◌, Bool, true, false, ◌||◌, nat_eq, List, [], ◌∷◌, ◌++◌, map, length, take, drop, Option, Some, None, is_some, option_map, slice_get, slice_index_or as get_or, refl, sym, ap, subst, ◌∙◌, arith, le_refl}
 use Rattle.std.specs.List.{AllByRecursion, cons_option, filter}
-use Rattle.std.proofs.lemmas.Bool.{and_from, and_parts, false≢true, or_parts, true_from_ne_false}
+use Rattle.std.proofs.lemmas.Bool.{false≢true}
 use Rattle.std.proofs.lemmas.Bool.Decides.{eqb_tells}
 use Rattle.std.proofs.Math.Seq.{take-append_seam}
 use Rattle.std.proofs.lemmas.List.{length-map, map-append, take-map, drop-map}
@@ -10,11 +10,10 @@ use Rattle.std.proofs.lemmas.Simd.{map-map}
 use Rattle.slab.specs.Slab.{Slab, get}
 use Rattle.ent_request.specs.declared.key.ReadKey.{ReadKey}
 use Rattle.ent_request.specs.Noted.{has_key}
-use Rattle.ent_index.proofs.RowsAsked.{alike}
-use Rattle.ent_cells.specs.Cell.{AreReadKeys, Kept, is_read}
+use Rattle.ent_cells.specs.Cell.{HasReadKeys, Kept, is_read}
 use Rattle.ent_cells.specs.Entries.{Entry, IsLive, kept_of}
 use Rattle.ent_cells.specs.proofs_only.Entries.{Inserts}
-use Rattle.ent_cells.specs.proofs_only.Asked.{AreKeysOf, reads_at}
+use Rattle.ent_cells.specs.proofs_only.Asked.{HasKeysOf, reads_at}
 use Rattle.ent_cells.specs.Grid.{IsGrid, entries_of, times, values}
 use Rattle.ent_cells.specs.Shape.{left_after, left_of, taken_out, without, woven}
 use Rattle.ent_cells.proofs.Among.{bit}
@@ -76,18 +75,6 @@ each P s ks grid all c e h =
     each_by P s ks all c e h (omega (arith, once))
 
 -- ---- the keys that cells read
-none_read : (k : ReadKey) (es : List Kept) → is_read es k ≡ false → AllByRecursion (λ e. has_key e.said.reads k ≡ false) es
-none_read k [] h = tt
-none_read k (e ∷ es) h = let parts = or_parts (has_key e.said.reads k) (is_read es k) h in (parts.0, none_read k es parts.1)
-
--- a key that a cell reads is read by one of the list
-reads_read : (s : Slab Entry) (ks : List ℕ) → IsGrid s ks → (k : ReadKey) (c : ℕ) → reads_at (get s c) k ≡ true → is_read (kept_of s ks) k ≡ true
-reads_read s ks grid k c h = true_from_ne_false (is_read (kept_of s ks) k) (λ none. by none (get s c) refl h)
-  where
-    by : is_read (kept_of s ks) k ≡ false → (o : Option Entry) → get s c ≡ o → reads_at o k ≡ true → ⊥
-    by none None at reads = false≢true reads
-    by none (Some e) at reads = false≢true (sym (each (λ x. has_key x.said.reads k ≡ false) s ks grid (none_read k (kept_of s ks) none) c e at) ∙ reads)
-
 -- a key that one of the list reads is one that a cell reads
 read_reads : (s : Slab Entry) (ks : List ℕ) (k : ReadKey) → is_read (kept_of s ks) k ≡ true → (c : ℕ) × (reads_at (get s c) k ≡ true)
 read_reads s [] k h = absurd (false≢true h)
@@ -103,15 +90,8 @@ read_reads s (c ∷ ks) k h = by (get s c) refl (read_reads s ks k) (ap (λ es. 
     by None at others h = others h
     by (Some e) at others h = own e at others (has_key e.kept.said.reads k) refl h
 
-pub are_listed : (asks : ReadKey → Bool) (s : Slab Entry) (ks : List ℕ) (keys : List ReadKey) → IsLive s ks → AreKeysOf asks s keys
-    → AreReadKeys asks (kept_of s ks) keys
-are_listed asks s ks keys live are k =
-    alike (has_key keys k) (asks k && is_read (kept_of s ks) k)
-    (λ there. let r = are.read k there in and_from (asks k) (is_read (kept_of s ks) k) (are.asked k there) (reads_read s ks live.grid k r.0 r.1))
-    (λ h.
-    let parts = and_parts (asks k) (is_read (kept_of s ks) k) h in
-    let r = read_reads s ks k parts.1 in
-    are.all k r.0 parts.0 r.1)
+pub are_listed : (asks : ReadKey → Bool) (s : Slab Entry) (ks : List ℕ) (keys : List ReadKey) → HasKeysOf asks s keys → HasReadKeys asks (kept_of s ks) keys
+are_listed asks s ks keys has k asked read = let r = read_reads s ks k read in has k r.0 asked r.1
 
 -- ---- places
 pub kept_long : (s : Slab Entry) (ks : List ℕ) → IsGrid s ks → length (kept_of s ks) ≡ length ks

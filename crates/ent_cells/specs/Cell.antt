@@ -1,5 +1,5 @@
 -- The cells of a table: of each listed request the answer to it, and the look-ups that the answer rests on.
-use Rattle.std.specs.Prelude.{◌≡◌, ℕ, ◌+◌, List, [], ◌∷◌, Bool, false, ◌&&◌, if◌then◌else◌, map}
+use Rattle.std.specs.Prelude.{◌≡◌, ℕ, ◌+◌, List, [], ◌∷◌, Bool, true, false, if◌then◌else◌, map}
 use Rattle.std.specs.List.{list_any}
 use Rattle.ent_request.specs.declared.answer.Answer.{Answer}
 use Rattle.ent_request.specs.declared.key.ReadKey.{ReadKey}
@@ -55,9 +55,9 @@ IsRightBut keys looks e = reads_any keys e ≡ false → e ≡ renewed looks e
 abbrev pub is_read : List Kept → ReadKey → Bool
 is_read cells key = list_any (λ e. has_key e.said.reads key) cells
 
--- these are the keys that pass a test and that a cell reads, and no others
-abbrev pub AreReadKeys : (ReadKey → Bool) → List Kept → List ReadKey → Type 0
-AreReadKeys asks cells keys = (k : ReadKey) → has_key keys k ≡ (asks k && is_read cells k)
+-- each key that passes a test and that a cell reads is among these
+abbrev pub HasReadKeys : (ReadKey → Bool) → List Kept → List ReadKey → Type 0
+HasReadKeys asks cells keys = (k : ReadKey) → asks k ≡ true → is_read cells k ≡ true → has_key keys k ≡ true
 
 -- at how many places two lists have different answers
 abbrev pub unlike_count : List Answer → List Answer → ℕ

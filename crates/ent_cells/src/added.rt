@@ -34,13 +34,13 @@ fn push<A: Attributes, P: Policies>(
     who: Shared<Who>,
 ) -> Result<(), AllocError>
     requires live { IsLive store.old.cells keys.old.items }
-    requires remembers { Remembers (looks_of A.sources P.slots pdp.old) store.old.questions memory.old }
+    requires remembers { Remembers (looks_of pdp.old) store.old.questions memory.old }
     ensures live { IsLive store.new.cells keys.new.items }
     ensures ok { OnOk result (kept_of store.new.cells keys.new.items
-        ≡ kept_of store.old.cells keys.old.items ++ cell_of (looks_of A.sources P.slots pdp.old) who ∷ []) }
+        ≡ kept_of store.old.cells keys.old.items ++ cell_of (looks_of pdp.old) who ∷ []) }
     ensures err { OnErr result
         (kept_of store.new.cells keys.new.items ≡ kept_of store.old.cells keys.old.items) }
-    ensures remembers { Remembers (looks_of A.sources P.slots pdp.old) store.new.questions memory.new }
+    ensures remembers { Remembers (looks_of pdp.old) store.new.questions memory.new }
     ensures counted { OnOk result (Counts pdp.old.evaluations pdp.new.evaluations 1) }
     ensures bound { CountsAtMost pdp.old.evaluations pdp.new.evaluations 1 }
     ensures rest { pdp.new ≡ record pdp.old { evaluations = pdp.new.evaluations } }
@@ -65,7 +65,7 @@ pub(crate) fn push_all<A: Attributes, P: Policies>(
     requires { IsLive store.old.cells keys.old.items }
     ensures live { IsLive store.new.cells keys.new.items }
     ensures ok { OnOk result (kept_of store.new.cells keys.new.items
-        ≡ kept_of store.old.cells keys.old.items ++ map (cell_of (looks_of A.sources P.slots pdp.old)) requests) }
+        ≡ kept_of store.old.cells keys.old.items ++ map (cell_of (looks_of pdp.old)) requests) }
     ensures err { OnErr result (take (length keys.old.items) (kept_of store.new.cells keys.new.items)
         ≡ kept_of store.old.cells keys.old.items) }
     ensures counted { OnOk result (Counts pdp.old.evaluations pdp.new.evaluations (length requests)) }

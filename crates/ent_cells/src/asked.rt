@@ -27,7 +27,11 @@ fn key_of_row(alloc: Global, row: &RowKey, issuer: Option<Text>) -> Result<ReadK
 }
 
 /// The keys whose values a row may change: those without an issuer and those with the row's.
-pub(crate) fn row_keys(alloc: Global, row: &RowKey) -> Result<Items<ReadKey>, AllocError>
+///
+/// # Errors
+///
+/// `AllocError` if memory runs out.
+pub fn keys_of_row(alloc: Global, row: &RowKey) -> Result<Items<ReadKey>, AllocError>
     ensures { IfOk result (λ keys. (k : Key) → has_key keys k ≡ asks_row row.now k) }
 {
     let mut keys = Items::new(alloc);

@@ -1,6 +1,6 @@
 //! Which cells read what is wanted: the groups say where to look, and a cell's own group and names decide.
 
-ghost use Rattle.std.specs.Prelude.{◌≡◌, ℕ, IfOk, IsTrue, true};
+ghost use Rattle.std.specs.Prelude.{◌≡◌, IfOk};
 ghost use Rattle.std.specs.List.{filter};
 ghost use Rattle.slab.specs.Slab.{get};
 ghost use Rattle.ent_cells.specs.proofs_only.Grouping.{wanted_at};
@@ -30,19 +30,6 @@ pub(crate) fn is_touched(
                 wanted,
             )
         }
-        None => false,
-    }
-}
-
-/// Whether a cell that likely reads what is wanted does.
-pub(crate) fn is_one_touched(cells: &Slab<Cell>, groups: &Groups, wanted: &[Wanted<'_>]) -> bool
-    ensures { IsTrue result → (c : ℕ) × (wanted_at groups.now wanted.now (get cells.now c) ≡ true) }
-{
-    let Some(one) = wanted.first() else {
-        return false;
-    };
-    match groups.likely(one) {
-        Some(key) => is_touched(cells, groups, key, wanted),
         None => false,
     }
 }

@@ -21,12 +21,12 @@ pub(crate) fn evaluate<A: Attributes, P: Policies>(
     questions: &mut Questions,
     who: &Who,
 ) -> Result<ListedEvaluation, AllocError>
-    requires { Remembers (looks_of A.sources P.slots pdp.old) questions.old memory.old }
+    requires { Remembers (looks_of pdp.old) questions.old memory.old }
     ensures said { IfOk result
-        (λ e. said_in questions.new who.now e ≡ says (looks_of A.sources P.slots pdp.old) who.now) }
+        (λ e. said_in questions.new who.now e ≡ says (looks_of pdp.old) who.now) }
     ensures within { IfOk result (λ e. AreNumbers questions.new e.asked) }
     ensures begins { BeginsWith questions.new questions.old }
-    ensures remembers { Remembers (looks_of A.sources P.slots pdp.old) questions.new memory.new }
+    ensures remembers { Remembers (looks_of pdp.old) questions.new memory.new }
     ensures counted { OnOk result (Counts pdp.old.evaluations pdp.new.evaluations 1) }
     ensures bound { CountsAtMost pdp.old.evaluations pdp.new.evaluations 1 }
     ensures rest { pdp.new ≡ record pdp.old { evaluations = pdp.new.evaluations } }

@@ -4,9 +4,9 @@ ghost use Rattle.std.specs.Prelude.{◌≡◌, ◌<◌, ◌≤◌, ◌+◌, ◌+
 ghost use Rattle.std.specs.Prelude.{IfOk, IfSome, MatchOption, OnErr, OnOk, option_copied, option_map, vec_capacity};
 ghost use Rattle.std.specs.List.{AllByRecursion};
 ghost use Rattle.ent_eval.specs.LooksOf.{looks_of};
-ghost use Rattle.ent_index.specs.Asked.{asks_policy, asks_row};
+ghost use Rattle.ent_index.specs.Asked.{asks_policy};
 ghost use Rattle.ent_log.specs.Tables.{IsSameLog, room_of};
-ghost use Rattle.ent_cells.specs.Cell.{AreReadKeys, IsRightBut, answers_in, cell_of, failures_in, reads_any, renewed};
+ghost use Rattle.ent_cells.specs.Cell.{HasReadKeys, IsRightBut, answers_in, cell_of, failures_in, reads_any, renewed};
 ghost use Rattle.ent_cells.specs.Cell.{unlike_count};
 ghost use Rattle.ent_cells.specs.Count.{Counts, CountsAtMost};
 ghost use Rattle.ent_cells.specs.Old.{AreOld, IsLogged};
@@ -20,7 +20,7 @@ use crate::phases::{commit_all, give_up_all, prepare};
 use crate::store::Store;
 use crate::who::Who;
 use ent_eval::{Answer, Pdp, ReadKey};
-use ent_finder::{Attributes, Policies, RowKey};
+use ent_finder::{Attributes, Policies};
 use ent_log::{Log, OldAnswer};
 use ent_policy::Kind;
 use ent_values::{Items, Shared};
@@ -131,8 +131,8 @@ impl Live {
         log: &mut Log<Who, Answer>,
         changed: &[ReadKey],
     ) -> Result<Items<OldAnswer<Who, Answer>>, AllocError>
-        requires { AllByRecursion (IsRightBut changed.now (looks_of A.sources P.slots pdp.old)) self.old }
-        ensures ok { OnOk result (self.new ≡ map (renewed (looks_of A.sources P.slots pdp.old)) self.old) }
+        requires { AllByRecursion (IsRightBut changed.now (looks_of pdp.old)) self.old }
+        ensures ok { OnOk result (self.new ≡ map (renewed (looks_of pdp.old)) self.old) }
         ensures olds { IfOk result (λ olds. AreOld olds self.old self.new) }
         ensures changes { IfOk result
             (λ olds. length olds ≡ unlike_count (answers_in self.old) (answers_in self.new)) }
@@ -169,7 +169,7 @@ impl Live {
         requests: Items<Shared<Who>>,
     ) -> Result<(), AllocError>
         ensures ok { OnOk result (self.new ≡ woven blocks.count blocks.width blocks.each self.old
-            (map (cell_of (looks_of A.sources P.slots pdp.old)) requests)) }
+            (map (cell_of (looks_of pdp.old)) requests)) }
         ensures err { OnErr result (self.new ≡ self.old) }
         ensures counted { OnOk result (Counts pdp.old.evaluations pdp.new.evaluations (length requests)) }
         ensures bound { CountsAtMost pdp.old.evaluations pdp.new.evaluations (length requests) }
@@ -206,16 +206,9 @@ impl Live {
         keep_present(&mut self.keys, &self.store);
     }
 
-    /// The keys that a cell reads and whose values the row may change, and no others.
-    pub fn keys_of_row(&self, row: &RowKey) -> Result<Items<ReadKey>, AllocError>
-        ensures { IfOk result (AreReadKeys (asks_row row.now) self.now) }
-    {
-        self.store.keys_of_row(row)
-    }
-
-    /// The keys that a cell reads and that are references of a kind and an id, and no others.
+    /// References of a kind and an id, among them each on which an answer rests.
     pub fn keys_of_policy(&self, kind: Kind, id: &str) -> Result<Items<ReadKey>, AllocError>
-        ensures { IfOk result (AreReadKeys (asks_policy kind id.now) self.now) }
+        ensures { IfOk result (HasReadKeys (asks_policy kind id.now) self.now) }
     {
         self.store.keys_of_policy(kind, id)
     }
@@ -255,7 +248,7 @@ impl Live {
         apart: usize,
         requests: Items<Shared<Who>>,
     ) -> Result<(), AllocError>
-        ensures ok { OnOk result (self.new ≡ self.old ++ map (cell_of (looks_of A.sources P.slots pdp.old)) requests) }
+        ensures ok { OnOk result (self.new ≡ self.old ++ map (cell_of (looks_of pdp.old)) requests) }
         ensures err { OnErr result (self.new ≡ self.old) }
         ensures counted { OnOk result (Counts pdp.old.evaluations pdp.new.evaluations (length requests)) }
         ensures bound { CountsAtMost pdp.old.evaluations pdp.new.evaluations (length requests) }

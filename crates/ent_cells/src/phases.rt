@@ -34,7 +34,7 @@ fn prepare_all<A: Attributes, P: Policies>(
     requires there { All (λ c. IsSome (get store.old.cells c)) keys.now }
     requires once { (c : ℕ) → times c keys.now ≤ 1 }
     ensures ok { OnOk result
-        (IsPrepared (looks_of A.sources P.slots pdp.old) keys.now store.old.cells store.new.cells) }
+        (IsPrepared (looks_of pdp.old) keys.now store.old.cells store.new.cells) }
     ensures err { OnErr result (KeepsCells keys.now store.old.cells store.new.cells) }
     ensures counted { OnOk result (Counts pdp.old.evaluations pdp.new.evaluations (length keys.now)) }
     ensures bound { CountsAtMost pdp.old.evaluations pdp.new.evaluations (length keys.now) }
@@ -81,7 +81,7 @@ pub(crate) fn prepare<A: Attributes, P: Policies>(
     requires once { (c : ℕ) → times c keys.now ≤ 1 }
     requires fits { length keys.now + others < 2 ^ 64 }
     ensures ok { OnOk result
-        (IsPrepared (looks_of A.sources P.slots pdp.old) keys.now store.old.cells store.new.cells) }
+        (IsPrepared (looks_of pdp.old) keys.now store.old.cells store.new.cells) }
     ensures olds { IfOk result (λ olds. olds ≡ olds_in store.new.cells keys.now) }
     ensures room { IfOk result (λ olds. length olds + others ≤ room_of log.new) }
     ensures err { OnErr result (KeepsCells keys.now store.old.cells store.new.cells) }

@@ -1,32 +1,31 @@
 //! Cells under keys that last, and the groups in which they are.
 
-ghost use Rattle.std.specs.Prelude.{◌≡◌, ◌++◌, ◌∷◌, [], ℕ, List, cond, IfOk, IsSome, None, OnErr, OnOk};
+ghost use Rattle.std.specs.Prelude.{◌≡◌, ℕ, cond, IfOk, IsSome, None, OnErr, OnOk};
 ghost use Rattle.std.specs.Prelude.{option_and_then, option_copied, option_map};
 ghost use Rattle.slab.specs.Slab.{Updates, get};
-ghost use Rattle.ent_request.specs.declared.key.ReadKey.{ReadKey as Key};
 ghost use Rattle.ent_eval.specs.LooksOf.{looks_of};
 ghost use Rattle.ent_eval.specs.Memory.{Remembers};
-ghost use Rattle.ent_index.specs.Asked.{asks_policy, asks_row};
+ghost use Rattle.ent_index.specs.Asked.{asks_policy};
 ghost use Rattle.ent_cells.specs.Cell.{says};
 ghost use Rattle.ent_cells.specs.Count.{Counts, CountsAtMost};
 ghost use Rattle.ent_cells.specs.Grid.{times};
-ghost use Rattle.ent_cells.specs.proofs_only.Asked.{AreKeysOf, AreReadOf, IsReadBy};
+ghost use Rattle.ent_cells.specs.proofs_only.Asked.{HasKeysOf};
 ghost use Rattle.ent_cells.specs.proofs_only.Entries.{Becomes, Inserts, IsFree, entry_of_cell, given_up};
 ghost use Rattle.ent_cells.specs.proofs_only.Entries.{no_entries, settled, touched_at};
 ghost use Rattle.ent_cells.specs.proofs_only.Grouping.{shown, shown_entry};
 ghost use Rattle.ent_cells.specs.proofs_only.Logging.{old_at, old_of};
 ghost use Rattle.ent_cells.specs.proofs_only.Phases.{made_ready};
 
-use crate::asked::{references, row_keys};
+use crate::asked::references;
 use crate::cell::{Cell, Grouped};
-use crate::confirm::{is_one_touched, keep_touched};
+use crate::confirm::keep_touched;
 use crate::evaluate::evaluate;
 use crate::old::{gone_answer, old_answer_under};
 use crate::sharing::{group_of_first, shared_answer};
 use crate::steps::{drop_next, enter, leave, make_ready, regroup, say_next};
 use crate::who::Who;
 use ent_eval::{Answer, Memory, Pdp, Questions, ReadKey};
-use ent_finder::{Attributes, Policies, RowKey};
+use ent_finder::{Attributes, Policies};
 use ent_index::{Groups, Wanted};
 use ent_log::OldAnswer;
 use ent_policy::Kind;
@@ -34,7 +33,6 @@ use ent_values::{Items, Shared};
 use slab::Slab;
 use std::alloc::{AllocError, Global};
 use std::marker::Model;
-use std::slice;
 
 /// Cells under keys, the questions that are asked for their answers, by number, and the groups of the cells for whose
 /// answers the same is asked: a cell is in its group, and in that of what is ready of it.
@@ -95,11 +93,11 @@ impl Store {
         beside: &[usize],
     ) -> Result<(), AllocError>
         requires free { IsFree (get self.old.cells key) }
-        requires remembers { Remembers (looks_of A.sources P.slots pdp.old) self.old.questions memory.old }
+        requires remembers { Remembers (looks_of pdp.old) self.old.questions memory.old }
         ensures ok { OnOk result
-            (Becomes (made_ready (looks_of A.sources P.slots pdp.old)) key self.old.cells self.new.cells) }
+            (Becomes (made_ready (looks_of pdp.old)) key self.old.cells self.new.cells) }
         ensures err { OnErr result (self.new.cells ≡ self.old.cells) }
-        ensures remembers { Remembers (looks_of A.sources P.slots pdp.old) self.new.questions memory.new }
+        ensures remembers { Remembers (looks_of pdp.old) self.new.questions memory.new }
         ensures counted { OnOk result (Counts pdp.old.evaluations pdp.new.evaluations 1) }
         ensures bound { CountsAtMost pdp.old.evaluations pdp.new.evaluations 1 }
         ensures rest { pdp.new ≡ record pdp.old { evaluations = pdp.new.evaluations } }
@@ -160,12 +158,12 @@ impl Store {
         who: Shared<Who>,
         beside: &[usize],
     ) -> Result<usize, AllocError>
-        requires { Remembers (looks_of A.sources P.slots pdp.old) self.old.questions memory.old }
+        requires { Remembers (looks_of pdp.old) self.old.questions memory.old }
         ensures ok { IfOk result
-            (Inserts (entry_of_cell who (says (looks_of A.sources P.slots pdp.old) who))
+            (Inserts (entry_of_cell who (says (looks_of pdp.old) who))
             self.old.cells self.new.cells) }
         ensures err { OnErr result (self.new.cells ≡ self.old.cells) }
-        ensures remembers { Remembers (looks_of A.sources P.slots pdp.old) self.new.questions memory.new }
+        ensures remembers { Remembers (looks_of pdp.old) self.new.questions memory.new }
         ensures counted { OnOk result (Counts pdp.old.evaluations pdp.new.evaluations 1) }
         ensures bound { CountsAtMost pdp.old.evaluations pdp.new.evaluations 1 }
         ensures rest { pdp.new ≡ record pdp.old { evaluations = pdp.new.evaluations } }
@@ -209,55 +207,10 @@ impl Store {
         keep_touched(self.alloc, &self.slab, &self.groups, &cells, &wanted)
     }
 
-    /// Whether a cell reads a key.
-    fn is_read(&self, key: &ReadKey) -> Result<bool, AllocError>
-        ensures { IfOk result (IsReadBy self.now.cells key.now) }
-    {
-        let keys = slice::from_ref(key);
-        let wanted = Wanted::of(self.alloc, &self.questions, keys)?;
-        if is_one_touched(&self.slab, &self.groups, &wanted) {
-            return Ok(true);
-        }
-        let touched = self.touched(keys)?;
-        Ok(!touched.as_slice().is_empty())
-    }
-
-    /// Puts a key last, if a cell reads it.
-    fn keep_one(&self, kept: &mut Items<ReadKey>, key: &ReadKey) -> Result<(), AllocError>
-        ensures { OnOk result ((keys : List Key) → AreReadOf keys self.now.cells kept.old
-            → AreReadOf (keys ++ key.now ∷ []) self.now.cells kept.new) }
-    {
-        let is_read = self.is_read(key)?;
-        if is_read {
-            return kept.push(key.copy(self.alloc)?);
-        }
-        Ok(())
-    }
-
-    /// Those of some keys that a cell reads.
-    fn keep_read(&self, keys: &[ReadKey]) -> Result<Items<ReadKey>, AllocError>
-        ensures { IfOk result (AreReadOf keys.now self.now.cells) }
-    {
-        let mut kept = Items::new(self.alloc);
-        for key in keys {
-            self.keep_one(&mut kept, key)?;
-        }
-        Ok(kept)
-    }
-
-    /// The keys that a cell reads and whose values the row may change.
-    pub(crate) fn keys_of_row(&self, row: &RowKey) -> Result<Items<ReadKey>, AllocError>
-        ensures { IfOk result (AreKeysOf (asks_row row.now) self.now.cells) }
-    {
-        let keys = row_keys(self.alloc, row)?;
-        self.keep_read(keys.as_slice())
-    }
-
-    /// The keys that a cell reads and that are references of a kind and an id.
+    /// The references of a kind and an id on which an answer has rested.
     pub(crate) fn keys_of_policy(&self, kind: Kind, id: &str) -> Result<Items<ReadKey>, AllocError>
-        ensures { IfOk result (AreKeysOf (asks_policy kind id.now) self.now.cells) }
+        ensures { IfOk result (HasKeysOf (asks_policy kind id.now) self.now.cells) }
     {
-        let keys = references(self.alloc, self.questions.as_slice(), kind, id)?;
-        self.keep_read(keys.as_slice())
+        references(self.alloc, self.questions.as_slice(), kind, id)
     }
 }

@@ -34,9 +34,10 @@ use Rattle.ent_walk.specs.Answer.{answer, most_hops, root_part}
 use Rattle.ent_walk.specs.Given.{advice_after, assignment_part, effect_of, finished, given_in_turn, given_of}
 use Rattle.ent_walk.specs.Given.{given_part, given_with, givens_part, goes_with, with_own}
 use Rattle.ent_request.specs.Looks.{Looks}
+use Rattle.ent_walk.specs.Judged.{has_failed}
 use Rattle.ent_walk.specs.Node.{Node, child_step, children_part, followed, found_node}
 use Rattle.ent_walk.specs.Node.{node_with, policy_key, policy_part, policy_rules, refer, set_key, set_step}
-use Rattle.ent_request.specs.Part.{mapped, without_look}
+use Rattle.ent_request.specs.Part.{mapped, settled, without_look}
 use Rattle.ent_walk.specs.Rule.{condition_part, decided, rule_part}
 use Rattle.ent_request.specs.declared.answer.Answer.{Answer}
 use Rattle.ent_request.specs.declared.answer.Status.{Status}
@@ -149,7 +150,7 @@ module _ (looks : Looks) (request : Request) (held : AreGoodLooks looks) (own : 
       let here = path ++ policy_key policy ∷ [] in
       let on = longer path (policy_key policy) h v.id in
       (target_good looks request policy.target).children (finished looks request policy.variables policy.given)
-      (policy_rules looks request path policy)
+      (settled has_failed (policy_rules looks request path policy))
       (λ a g. finished_good policy.variables v.variables policy.given a v.given g)
       (combined_good here policy.algorithm _ on (rules_good policy.variables v.variables here policy.rules on
       v.rules))
@@ -219,11 +220,16 @@ module _ (looks : Looks) (request : Request) (held : AreGoodLooks looks) (own : 
     all_come here (c ∷ cs) h small utf8 = let both = small_parts (child_values c.0) (flat_map child_values (all cs))
         small in (c.1 both.0 utf8.0 here h, all_come here cs h both.1 utf8.1)
 
+    settled_come : (here : List DocKey) (ns : List Node) → ComeGood (map (λ (n : Node). n.answer here) ns)
+        → ComeGood (map (λ (n : Node). settled has_failed (n.answer here)) ns)
+    settled_come here [] h = tt
+    settled_come here (n ∷ ns) h = (h.0, settled_come here ns h.1)
+
     children_come : (algorithm : PolicyAlg) (here : List DocKey) (cs : List GoodChild) → IsToldPath here
         → AreSmall (flat_map child_values (all cs)) → AllByRecursion IsUtf8Data (map child_written (all cs))
         → IsGoodAnswer (children_part algorithm (map node (all cs)) here).value
     children_come (Shared algorithm) here cs h small utf8 =
-        combined_good here algorithm _ h (all_come here cs h small utf8)
+        combined_good here algorithm _ h (settled_come here (map node (all cs)) (all_come here cs h small utf8))
     children_come OnlyOne here cs h small utf8 =
         choice_good (map (λ (n : Node). n.answer here) (map node (all cs))) _ _ (all_come here cs h small utf8)
 
@@ -250,7 +256,7 @@ module _ (looks : Looks) (request : Request) (held : AreGoodLooks looks) (own : 
         (sym (fold-roll-PolicySet Node Node (child_step looks request refers) (set_step looks request) x))
         (λ path h. let on = longer path (set_key y.id y.version) h id in
         (target_good looks request y.target).children (finished looks request [] y.given)
-        (children_part y.algorithm (map node cs) (path ++ set_key y.id y.version ∷ []))
+        (settled has_failed (children_part y.algorithm (map node cs) (path ++ set_key y.id y.version ∷ [])))
         (λ a g. finished_good [] tt y.given a given g)
         (children_come y.algorithm (path ++ set_key y.id y.version ∷ []) y.children on inside
         (filled_all (map child_written cs) children.0)))

@@ -41,7 +41,8 @@ pub record IsTableOf (limits : Limits) (lines : List (List ℕ)) (reply : List �
 abbrev pub TablesAreReplies : Type 0
 TablesAreReplies = (limits : Limits) (steps : List Step) (reply : List ℕ) → AreLines steps → IsTableBehind limits steps reply → IsTableOf limits (lines_in steps) reply
 
--- what was written is the difference of the tables of two services, which have come to their worlds by these lines and by those
+-- what was written is the difference of the tables of two services, which have come to their worlds by these lines and
+-- by those
 pub record IsWrittenOf (limits : Limits) (form : Form) (first second : List (List ℕ)) (before after : Option (List ℕ)) (ended : Ending) : Type 0 where
   pub one : World
   pub other : World

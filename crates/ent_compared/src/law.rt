@@ -22,8 +22,9 @@ pub fn tables_are_replies()
     ensures { TablesAreReplies }
 {}
 
-/// A law, with nothing to run: what `compare_from` writes where no line is refused is the difference of the tables of two
-/// services, of which one has come to its world by the lines of the state, and the other by those that are sent to it.
+/// A law, with nothing to run: what `compare_from` writes where no line is refused is the difference of the tables of
+/// two services, of which one has come to its world by the lines of the state, and the other by those that are sent to
+/// it.
 pub fn comparisons_tell_tables()
     ensures { ComparisonsTellTables }
 {}

@@ -140,7 +140,7 @@ fn write_held<A: Attributes, P: Policies>(
     out: &mut JsonText,
     pdp: &Pdp<A, P>,
 ) -> Result<(), AllocError>
-    ensures { OnOk result (out.new ≡ out.old ++ line_tokens (held_edits (held_by A.sources P.slots pdp.now))) }
+    ensures { OnOk result (out.new ≡ out.old ++ line_tokens (held_edits (held_by pdp.now))) }
 {
     write_policies(alloc, out, pdp.policies())?;
     write_attributes(alloc, out, pdp.attributes())?;

@@ -1,8 +1,8 @@
 //! The decision point.
 
-ghost use Rattle.std.specs.Prelude.{◌≡◌, ◌+◌, ◌-◌, ◌^◌, min, [], None, IfNone, IfOk, IfSome, OnOk};
+ghost use Rattle.std.specs.Prelude.{◌≡◌, ◌+◌, ◌-◌, ◌^◌, min, [], IfNone, IfOk, IfSome, OnOk};
 ghost use Rattle.std.specs.Borrow.{sem};
-ghost use Rattle.ent_walk.specs.Answer.{answer, answer_part, asked, causes, has_cause, recorded};
+ghost use Rattle.ent_walk.specs.Answer.{answer, answer_part, asked, causes_told, has_cause, recorded};
 ghost use Rattle.ent_eval.specs.Lending.{LendsAttributes, LendsPolicies};
 ghost use Rattle.ent_request.specs.Listed.{listed};
 ghost use Rattle.ent_eval.specs.LooksOf.{looks_of};
@@ -10,7 +10,7 @@ ghost use Rattle.ent_eval.specs.Memory.{Gives, HasCase, IsKnown, Remembers, case
 ghost use Rattle.ent_request.specs.Questions.{AreNumbers, BeginsWith, asked_once, at_numbers, keys_at};
 ghost use Rattle.ent_notes.specs.proofs_only.Noted.{noting};
 ghost use Rattle.ent_eval.specs.proofs_only.Remembered.{IsEvaluated, NoneFits};
-ghost use Rattle.ent_request.specs.declared.environment.Environment.TheVariants.{Empty};
+ghost use Rattle.ent_eval.specs.Point.{point_of};
 
 use crate::memory::Memory;
 use crate::scene::Scene;
@@ -18,15 +18,16 @@ use ent_finder::{AttrKey, AttributeFinder, Attributes, Policies, PolicyFinder};
 use ent_notes::{Notebook, Notes};
 use ent_policy::{Document, Reference};
 use ent_request::{Answer, Cause, Environment, LookUps, Questions, Reads, Request};
-use ent_values::{Bag, Date, DateTime, Items, Shared, Text, Time};
+use ent_values::{Bag, Date, DateTime, Items, Shared, Text, Time, Value};
 use ent_walk::Walk;
 use std::alloc::{AllocError, Global};
+use std::marker::Model;
 use std::mem;
 
 /// Answers requests by the documents that its policies hold, from the root on, by the values that its attributes hold,
 /// and by what is known of the time, and counts the evaluations.
 #[derive(Drop)]
-pub struct Pdp<A = AttributeFinder, P = PolicyFinder> {
+pub struct Pdp<A: Attributes = AttributeFinder, P: Policies = PolicyFinder> {
     alloc: Global,
     attributes: A,
     policies: P,
@@ -60,8 +61,25 @@ pub struct Explained {
     pub causes: Items<Cause>,
 }
 
+impl<A: Attributes, P: Policies> Model for Pdp<A, P> {
+    ghost use Rattle.ent_eval.specs.Point.{Point};
+    ghost use Rattle.ent_eval.specs.proofs_only.Codes.{point_code};
+
+    ghost Value = { Point };
+
+    ghost coded = { point_code };
+
+    ghost view = { λ p. record {
+      sources = A.sources p.attributes;
+      slots = P.slots p.policies;
+      root = p.root;
+      environment = p.environment;
+      evaluations = p.evaluations;
+    } };
+}
+
 impl<A: Attributes, P: Policies> LookUps for Pdp<A, P> {
-    ghost looks = { λ pdp. looks_of A.sources P.slots pdp };
+    ghost looks = { looks_of };
 
     fn root(&self) -> &Option<Reference> {
         &self.root
@@ -74,6 +92,10 @@ impl<A: Attributes, P: Policies> LookUps for Pdp<A, P> {
 
     fn values(&self, key: &AttrKey, bag: &mut Bag) -> Result<(), AllocError> {
         self.attributes.look(key, bag)
+    }
+
+    fn sole(&self, key: &AttrKey) -> Option<&[Value]> {
+        self.attributes.sole(key)
     }
 
     fn date(&self) -> Option<Date> {
@@ -93,11 +115,7 @@ impl<A: Attributes, P: Policies> Pdp<A, P> {
     /// A decision point over these values of attributes and the documents of these policies, without a root, where
     /// nothing is known of the time. Nothing is allocated.
     pub fn new(alloc: Global, attributes: A, policies: P) -> Pdp<A, P>
-        ensures attributes { result.attributes ≡ attributes }
-        ensures policies { result.policies ≡ policies }
-        ensures root { result.root ≡ None }
-        ensures environment { result.environment ≡ Empty }
-        ensures evaluations { result.evaluations ≡ 0 }
+        ensures { result ≡ point_of (A.sources attributes) (P.slots policies) }
     {
         Pdp {
             alloc,
@@ -117,8 +135,8 @@ impl<A: Attributes, P: Policies> Pdp<A, P> {
     ///
     /// Each call counts, also one that is refused for want of memory. It changes nothing but the count.
     pub fn evaluate(&mut self, request: &Request) -> Result<Evaluation, AllocError>
-        ensures answer { IfOk result (λ e. e.answer ≡ answer (looks_of A.sources P.slots self.old) request.now) }
-        ensures reads { IfOk result (λ e. e.reads ≡ recorded (looks_of A.sources P.slots self.old) request.now) }
+        ensures answer { IfOk result (λ e. e.answer ≡ answer (looks_of self.old) request.now) }
+        ensures reads { IfOk result (λ e. e.reads ≡ recorded (looks_of self.old) request.now) }
         ensures counted { self.new.evaluations ≡ min (self.old.evaluations + 1) (2 ^ 128 - 1) }
         ensures rest { self.new ≡ record self.old { evaluations = self.new.evaluations } }
     {
@@ -129,13 +147,13 @@ impl<A: Attributes, P: Policies> Pdp<A, P> {
         Ok(Evaluation { answer, reads })
     }
 
-    /// The same, and the causes: the parts that came to Indeterminate by themselves, in the order of evaluation, each
-    /// once (section 5.55). A part that isn't evaluated has none, and that of a child is told whatever its parent
-    /// decides.
+    /// The same, and the causes: the parts that came to Indeterminate by themselves, each once. That of an
+    /// Indeterminate answer stands first, whose status it is (section 5.55), and the others in the order of evaluation.
+    /// A part that isn't evaluated has none, and that of a child is told whatever its parent decides.
     pub fn explain(&mut self, request: &Request) -> Result<Explained, AllocError>
-        ensures answer { IfOk result (λ e. e.answer ≡ answer (looks_of A.sources P.slots self.old) request.now) }
-        ensures reads { IfOk result (λ e. e.reads ≡ recorded (looks_of A.sources P.slots self.old) request.now) }
-        ensures causes { IfOk result (λ e. e.causes ≡ causes (looks_of A.sources P.slots self.old) request.now) }
+        ensures answer { IfOk result (λ e. e.answer ≡ answer (looks_of self.old) request.now) }
+        ensures reads { IfOk result (λ e. e.reads ≡ recorded (looks_of self.old) request.now) }
+        ensures causes { IfOk result (λ e. e.causes ≡ causes_told (looks_of self.old) request.now) }
         ensures counted { self.new.evaluations ≡ min (self.old.evaluations + 1) (2 ^ 128 - 1) }
         ensures rest { self.new ≡ record self.old { evaluations = self.new.evaluations } }
     {
@@ -163,22 +181,22 @@ impl<A: Attributes, P: Policies> Pdp<A, P> {
         action: &Text,
         resource: &Text,
     ) -> Result<ListedEvaluation, AllocError>
-        requires remembers { Remembers (looks_of A.sources P.slots self.old) questions.old memory.old }
+        requires remembers { Remembers (looks_of self.old) questions.old memory.old }
         ensures answer { IfOk result (λ e. e.answer
-            ≡ answer (looks_of A.sources P.slots self.old) (listed person.now action.now resource.now)) }
+            ≡ answer (looks_of self.old) (listed person.now action.now resource.now)) }
         ensures asked { IfOk result (λ e. at_numbers questions.new e.asked
-            ≡ asked_once [] (asked (looks_of A.sources P.slots self.old) (listed person.now action.now resource.now))) }
+            ≡ asked_once [] (asked (looks_of self.old) (listed person.now action.now resource.now))) }
         ensures within { IfOk result (λ e. AreNumbers questions.new e.asked) }
         ensures reads { IfOk result (λ e.
             keys_at (listed person.now action.now resource.now) (at_numbers questions.new e.asked)
-            ≡ recorded (looks_of A.sources P.slots self.old) (listed person.now action.now resource.now)) }
+            ≡ recorded (looks_of self.old) (listed person.now action.now resource.now)) }
         ensures failed { IfOk result (λ e. e.failed
-            ≡ has_cause (looks_of A.sources P.slots self.old) (listed person.now action.now resource.now)) }
+            ≡ has_cause (looks_of self.old) (listed person.now action.now resource.now)) }
         ensures numbers { BeginsWith questions.new questions.old }
-        ensures remembers { Remembers (looks_of A.sources P.slots self.old) questions.new memory.new }
-        ensures kept { IfOk result (λ e. HasCase (looks_of A.sources P.slots self.old) questions.new memory.new
+        ensures remembers { Remembers (looks_of self.old) questions.new memory.new }
+        ensures kept { IfOk result (λ e. HasCase (looks_of self.old) questions.new memory.new
             (listed person.now action.now resource.now) (Gives e)) }
-        ensures again { IsKnown (looks_of A.sources P.slots self.old) questions.old memory.old
+        ensures again { IsKnown (looks_of self.old) questions.old memory.old
             (listed person.now action.now resource.now)
             → (cases_in memory.new.cases ≡ cases_in memory.old.cases) × (questions.new ≡ questions.old) }
         ensures counted { self.new.evaluations ≡ min (self.old.evaluations + 1) (2 ^ 128 - 1) }
@@ -214,13 +232,13 @@ impl<A: Attributes, P: Policies> Pdp<A, P> {
         action: &Text,
         resource: &Text,
     ) -> Result<Option<ListedEvaluation>, AllocError>
-        requires { Remembers (looks_of A.sources P.slots self.now) questions.now memory.old }
+        requires { Remembers (looks_of self.now) questions.now memory.old }
         ensures some { IfOk result (λ o. IfSome o (λ e.
-            HasCase (looks_of A.sources P.slots self.now) questions.now memory.new
+            HasCase (looks_of self.now) questions.now memory.new
             (listed person.now action.now resource.now) (Gives e))) }
-        ensures none { IfOk result (λ o. IfNone o (NoneFits (looks_of A.sources P.slots self.now) questions.now
+        ensures none { IfOk result (λ o. IfNone o (NoneFits (looks_of self.now) questions.now
             memory.old.findings.bags (listed person.now action.now resource.now) (cases_in memory.old.cases))) }
-        ensures remembers { Remembers (looks_of A.sources P.slots self.now) questions.now memory.new }
+        ensures remembers { Remembers (looks_of self.now) questions.now memory.new }
         ensures cases { cases_in memory.new.cases ≡ cases_in memory.old.cases }
     {
         memory.recall(&Scene {
@@ -242,12 +260,12 @@ impl<A: Attributes, P: Policies> Pdp<A, P> {
         action: &Text,
         resource: &Text,
     ) -> Result<ListedEvaluation, AllocError>
-        requires remembers { Remembers (looks_of A.sources P.slots self.old) questions.old memory.old }
-        ensures evaluated { IfOk result (IsEvaluated (looks_of A.sources P.slots self.old) questions.new
+        requires remembers { Remembers (looks_of self.old) questions.old memory.old }
+        ensures evaluated { IfOk result (IsEvaluated (looks_of self.old) questions.new
             (listed person.now action.now resource.now)) }
         ensures numbers { BeginsWith questions.new questions.old }
-        ensures remembers { Remembers (looks_of A.sources P.slots self.old) questions.new memory.new }
-        ensures kept { IfOk result (λ e. HasCase (looks_of A.sources P.slots self.old) questions.new memory.new
+        ensures remembers { Remembers (looks_of self.old) questions.new memory.new }
+        ensures kept { IfOk result (λ e. HasCase (looks_of self.old) questions.new memory.new
             (listed person.now action.now resource.now) (Gives e)) }
         ensures counted { self.new.evaluations ≡ min (self.old.evaluations + 1) (2 ^ 128 - 1) }
         ensures rest { self.new ≡ record self.old { evaluations = self.new.evaluations } }
@@ -275,7 +293,7 @@ impl<A: Attributes, P: Policies> Pdp<A, P> {
         action: &Text,
         resource: &Text,
     ) -> Result<ListedEvaluation, AllocError>
-        ensures evaluated { IfOk result (IsEvaluated (looks_of A.sources P.slots self.old) questions.new
+        ensures evaluated { IfOk result (IsEvaluated (looks_of self.old) questions.new
             (listed person.now action.now resource.now)) }
         ensures numbers { BeginsWith questions.new questions.old }
         ensures counted { self.new.evaluations ≡ min (self.old.evaluations + 1) (2 ^ 128 - 1) }
@@ -303,7 +321,7 @@ impl<A: Attributes, P: Policies> Pdp<A, P> {
         request: &Request,
     ) -> Result<ListedEvaluation, AllocError>
         ensures evaluated { IfOk result
-            (IsEvaluated (looks_of A.sources P.slots self.old) questions.new request.now) }
+            (IsEvaluated (looks_of self.old) questions.new request.now) }
         ensures numbers { BeginsWith questions.new questions.old }
         ensures counted { self.new.evaluations ≡ min (self.old.evaluations + 1) (2 ^ 128 - 1) }
         ensures rest { self.new ≡ record self.old { evaluations = self.new.evaluations } }
@@ -324,7 +342,7 @@ impl<A: Attributes, P: Policies> Pdp<A, P> {
 
     /// The answer alone, for which no look-up is recorded. For the rest it is as `evaluate`.
     pub fn answer(&mut self, request: &Request) -> Result<Answer, AllocError>
-        ensures answer { IfOk result (λ a. a ≡ answer (looks_of A.sources P.slots self.old) request.now) }
+        ensures answer { IfOk result (λ a. a ≡ answer (looks_of self.old) request.now) }
         ensures counted { self.new.evaluations ≡ min (self.old.evaluations + 1) (2 ^ 128 - 1) }
         ensures rest { self.new ≡ record self.old { evaluations = self.new.evaluations } }
     {
@@ -334,15 +352,22 @@ impl<A: Attributes, P: Policies> Pdp<A, P> {
         Ok(answer)
     }
 
+    // Counts an evaluation.
+    fn count(&mut self)
+        ensures { self.new ≡ record self.old { evaluations = min (self.old.evaluations + 1) (2 ^ 128 - 1) } }
+    {
+        self.evaluations = raised(self.evaluations);
+    }
+
     // The answer, which is counted, and its questions, which are noted where they are asked for.
     fn answered(&mut self, notes: &mut Notes, request: &Request) -> Result<Answer, AllocError>
-        ensures answer { IfOk result (λ a. a ≡ answer (looks_of A.sources P.slots self.old) request.now) }
+        ensures answer { IfOk result (λ a. a ≡ answer (looks_of self.old) request.now) }
         ensures notes { OnOk result (notes.new
-            ≡ noting notes.old (answer_part (looks_of A.sources P.slots self.old) request.now).notes) }
+            ≡ noting notes.old (answer_part (looks_of self.old) request.now).notes) }
         ensures counted { self.new.evaluations ≡ min (self.old.evaluations + 1) (2 ^ 128 - 1) }
         ensures rest { self.new ≡ record self.old { evaluations = self.new.evaluations } }
     {
-        self.evaluations = raised(self.evaluations);
+        self.count();
         let noted = mem::replace(notes, Notes::unasked(self.alloc));
         let mut walk = Walk::over(self.alloc, self, request, noted);
         let came = walk.answer();
@@ -374,30 +399,30 @@ impl<A: Attributes, P: Policies> Pdp<A, P> {
 
     /// Where the values of attributes are held.
     pub fn attributes(&self) -> &A
-        ensures { result.now ≡ self.now.attributes }
+        ensures { A.sources result.now ≡ self.now.sources }
     {
         &self.attributes
     }
 
     /// Where the documents are held.
     pub fn policies(&self) -> &P
-        ensures { result.now ≡ self.now.policies }
+        ensures { P.slots result.now ≡ self.now.slots }
     {
         &self.policies
     }
 
     /// Lends where the values of attributes are held. Nothing else is changed through it.
     pub fn attributes_mut(&mut self) -> &mut A
-        ensures* lends { sem 𝓛 (LendsAttributes A.row P.row self.entry result) }
-        ensures value { result.now ≡ self.old.attributes }
+        ensures* lends { sem 𝓛 (LendsAttributes A.row P.row ⟦<A as Attributes>⟧ ⟦<P as Policies>⟧ self.entry result) }
+        ensures value { A.sources result.now ≡ self.old.sources }
     {
         &mut self.attributes
     }
 
     /// Lends where the documents are held. Nothing else is changed through it.
     pub fn policies_mut(&mut self) -> &mut P
-        ensures* lends { sem 𝓛 (LendsPolicies A.row P.row self.entry result) }
-        ensures value { result.now ≡ self.old.policies }
+        ensures* lends { sem 𝓛 (LendsPolicies A.row P.row ⟦<A as Attributes>⟧ ⟦<P as Policies>⟧ self.entry result) }
+        ensures value { P.slots result.now ≡ self.old.slots }
     {
         &mut self.policies
     }

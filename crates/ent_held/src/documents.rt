@@ -149,7 +149,7 @@ fn write_documents<A: Attributes, P: Policies>(
     id: Option<&str>,
 ) -> Result<(), AllocError>
     ensures { OnOk result (out.new ≡ out.old
-        ++ tokens_of (documents_data (held_by A.sources P.slots pdp.now) (option_copied id.entry))) }
+        ++ tokens_of (documents_data (held_by pdp.now) (option_copied id.entry))) }
 {
     let reached = reached_places(alloc, pdp.policies(), pdp.root())?;
     begin_list(out, "documents")?;
@@ -170,7 +170,7 @@ pub fn documents_text<A: Attributes, P: Policies>(
     id: Option<&str>,
 ) -> Result<String, AllocError>
     ensures { IfOk result (λ s. string_bytes s
-        ≡ documents_text (held_by A.sources P.slots pdp.now) (option_copied id.entry)) }
+        ≡ documents_text (held_by pdp.now) (option_copied id.entry)) }
 {
     let mut out = JsonText::with_room(alloc)?;
     write_documents(alloc, &mut out, pdp, id)?;

@@ -181,7 +181,7 @@ fn write_fact<A: Attributes, P: Policies>(
     key: &ReadKey,
 ) -> Result<(), AllocError>
     ensures { OnOk result (out.new ≡ out.old
-        ++ tokens_of (fact_data whole (held_by A.sources P.slots pdp.now) key.now)) }
+        ++ tokens_of (fact_data whole (held_by pdp.now) key.now)) }
 {
     let environment = pdp.environment();
     match key {
@@ -210,7 +210,7 @@ fn write_each_fact<A: Attributes, P: Policies>(
     keys: &[ReadKey],
 ) -> Result<(), AllocError>
     ensures { OnOk result (out.new ≡ out.old
-        ++ items_tokens_of (map (fact_data whole (held_by A.sources P.slots pdp.now)) keys.now)) }
+        ++ items_tokens_of (map (fact_data whole (held_by pdp.now)) keys.now)) }
 {
     for key in keys {
         write_fact(alloc, out, pdp, whole, key)?;
@@ -233,7 +233,7 @@ pub fn write_facts<A: Attributes, P: Policies>(
     reads: Reads,
 ) -> Result<(), AllocError>
     ensures { OnOk result (out.new ≡ out.old
-        ++ tokens_of (facts_data whole (held_by A.sources P.slots pdp.now) reads)) }
+        ++ tokens_of (facts_data whole (held_by pdp.now) reads)) }
 {
     let keys = reads.into_items(alloc)?;
     out.begin_array()?;

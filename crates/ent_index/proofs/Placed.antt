@@ -1,29 +1,29 @@
 -- Words in the order of their places, and where the word of a place stands.
-use Rattle.std.proofs.Common.{◌≡◌, ℕ, zero, suc, ◌+◌, ◌^◌, ◌<◌, ◌≤◌, true, false, List, [], ◌∷◌, length, get_or, ltb, set, refl, sym, ap, subst, ◌∙◌, arith, inl, inr}
-use Rattle.std.specs.List.{insert, remove}
+use Rattle.std.proofs.Common.{◌≡◌, ℕ, zero, suc, ◌+◌, ◌^◌, ◌<◌, ◌≤◌, Bool, true, false, List, [], ◌∷◌, length, get_or, ltb, set, refl, sym, ap, subst, ◌∙◌, arith, inl, inr}
+use Rattle.std.specs.List.{filter, insert}
 use Rattle.std.specs.List.Sorted.{IsNonDecreasingBy, IsPartitionPoint}
 use Rattle.std.proofs.lemmas.Bool.{cases_eq, cases_lt, cases_order}
 use Rattle.std.proofs.lemmas.Bool.Decides.{Decides-ltb}
 use Rattle.std.proofs.lemmas.List.{get_or_default}
-use Rattle.ent_index.specs.proofs_only.Rolls.{AreWords, IsSeat, IsWord}
+use Rattle.ent_index.specs.proofs_only.Rolls.{AreWords, IsSeat, IsWord, has_cells}
 use Rattle.ent_index.specs.declared.words.Word.{Word}
 
 -- ---- the words in their order
 
 pub words_end : (least : ℕ) (ws : List Word) → AreWords least ws → least ≤ 67108864
 words_end least [] a = a
-words_end least (w ∷ ws) a = omega (arith, a.0, words_end (w.place + 1) ws a.3)
+words_end least (w ∷ ws) a = omega (arith, a.0, words_end (w.place + 1) ws a.2)
 
 pub least_at : (least : ℕ) (ws : List Word) → AreWords least ws → (k : ℕ) (d : Word) → k < length ws → least ≤ (get_or ws k d).place
 least_at least [] a k d lt = absurd (omega arith)
 least_at least (w ∷ ws) a zero d lt = a.0
-least_at least (w ∷ ws) a (suc k) d lt = omega (arith, a.0, least_at (w.place + 1) ws a.3 k d (omega arith))
+least_at least (w ∷ ws) a (suc k) d lt = omega (arith, a.0, least_at (w.place + 1) ws a.2 k d (omega arith))
 
 pub rise_at : (least : ℕ) (ws : List Word) → AreWords least ws → (i j : ℕ) (d : Word) → i < j → j < length ws → (get_or ws i d).place < (get_or ws j d).place
 rise_at least [] a i j d less lt = absurd (omega arith)
 rise_at least (w ∷ ws) a i zero d less lt = absurd (omega arith)
-rise_at least (w ∷ ws) a zero (suc j) d less lt = omega (arith, least_at (w.place + 1) ws a.3 j d (omega arith))
-rise_at least (w ∷ ws) a (suc i) (suc j) d less lt = rise_at (w.place + 1) ws a.3 i j d (omega arith) (omega arith)
+rise_at least (w ∷ ws) a zero (suc j) d less lt = omega (arith, least_at (w.place + 1) ws a.2 j d (omega arith))
+rise_at least (w ∷ ws) a (suc i) (suc j) d less lt = rise_at (w.place + 1) ws a.2 i j d (omega arith) (omega arith)
 
 pub places_rise : (ws : List Word) → AreWords 0 ws → IsNonDecreasingBy (λ w. w.place) ws
 places_rise ws a i j d le lt = elim (cases_eq i j) [
@@ -33,38 +33,37 @@ places_rise ws a i j d le lt = elim (cases_eq i j) [
 
 pub word_at : (least : ℕ) (ws : List Word) → AreWords least ws → (k : ℕ) (d : Word) → k < length ws → IsWord (get_or ws k d)
 word_at least [] a k d lt = absurd (omega arith)
-word_at least (w ∷ ws) a zero d lt = record { place = omega (arith, words_end (w.place + 1) ws a.3); some = a.1; fits = a.2 }
-word_at least (w ∷ ws) a (suc k) d lt = word_at (w.place + 1) ws a.3 k d (omega arith)
+word_at least (w ∷ ws) a zero d lt = record { place = omega (arith, words_end (w.place + 1) ws a.2); fits = a.1 }
+word_at least (w ∷ ws) a (suc k) d lt = word_at (w.place + 1) ws a.2 k d (omega arith)
 
 lower : (m n : ℕ) (ws : List Word) → n ≤ m → AreWords m ws → AreWords n ws
 lower m n [] le a = omega (arith, a)
-lower m n (w ∷ ws) le a = (omega (arith, a.0), a.1, a.2, a.3)
+lower m n (w ∷ ws) le a = (omega (arith, a.0), a.1, a.2)
 
-pub set_words : (least : ℕ) (ws : List Word) (i : ℕ) (v d : Word) → AreWords least ws → i < length ws → v.place ≡ (get_or ws i d).place → 0 < v.bits → v.bits < 2 ^ 64 → AreWords least (set ws i v)
-set_words least [] i v d a lt here some fits = absurd (omega arith)
-set_words least (w ∷ ws) zero v d a lt here some fits = (omega (arith, a.0, here), some, fits, subst (λ n. AreWords (n + 1) ws) (sym here) a.3)
-set_words least (w ∷ ws) (suc i) v d a lt here some fits = (a.0, a.1, a.2, set_words (w.place + 1) ws i v d a.3 (omega arith) here some fits)
+pub set_words : (least : ℕ) (ws : List Word) (i : ℕ) (v d : Word) → AreWords least ws → i < length ws → v.place ≡ (get_or ws i d).place → v.bits < 2 ^ 64 → AreWords least (set ws i v)
+set_words least [] i v d a lt here fits = absurd (omega arith)
+set_words least (w ∷ ws) zero v d a lt here fits = (omega (arith, a.0, here), fits, subst (λ n. AreWords (n + 1) ws) (sym here) a.2)
+set_words least (w ∷ ws) (suc i) v d a lt here fits = (a.0, a.1, set_words (w.place + 1) ws i v d a.2 (omega arith) here fits)
 
 pub insert_words : (least : ℕ) (ws : List Word) (i : ℕ) (v : Word) → AreWords least ws → i ≤ length ws → IsWord v → least ≤ v.place → ((k : ℕ) (d : Word) → k < i → (get_or ws k d).place < v.place)
     → ((k : ℕ) (d : Word) → i ≤ k → k < length ws → v.place < (get_or ws k d).place) → AreWords least (insert ws i v)
-insert_words least [] zero v a within is le before behind = (le, is.some, is.fits, omega (arith, is.place))
+insert_words least [] zero v a within is le before behind = (le, is.fits, omega (arith, is.place))
 insert_words least [] (suc i) v a within is le before behind = absurd (omega arith)
-insert_words least (w ∷ ws) zero v a within is le before behind = (le, is.some, is.fits, (omega (arith, behind 0 w (omega arith) (omega arith)), a.1, a.2, a.3))
+insert_words least (w ∷ ws) zero v a within is le before behind = (le, is.fits, (omega (arith, behind 0 w (omega arith) (omega arith)), a.1, a.2))
 insert_words least (w ∷ ws) (suc i) v a within is le before behind = (
   a.0,
   a.1,
-  a.2,
-  insert_words (w.place + 1) ws i v a.3 (omega arith) is (omega (arith, before 0 w (omega arith)))
+  insert_words (w.place + 1) ws i v a.2 (omega arith) is (omega (arith, before 0 w (omega arith)))
       (λ k d lt. before (suc k) d (omega arith)) (λ k d le lt. behind (suc k) d (omega arith) (omega arith)),
 )
 
-pub remove_words : (least : ℕ) (ws : List Word) (i : ℕ) → AreWords least ws → AreWords least (remove ws i)
-remove_words least [] i a = subst (AreWords least) (sym (none i)) a where
-  none : (i : ℕ) → remove {X = Word} [] i ≡ []
-  none zero = refl
-  none (suc i) = refl
-remove_words least (w ∷ ws) zero a = lower (w.place + 1) least ws (omega (arith, a.0)) a.3
-remove_words least (w ∷ ws) (suc i) a = (a.0, a.1, a.2, remove_words (w.place + 1) ws i a.3)
+-- without those that are empty
+pub filled_words : (least : ℕ) (ws : List Word) → AreWords least ws → AreWords least (filter has_cells ws)
+filled_words least [] a = a
+filled_words least (w ∷ ws) a = by (has_cells w) refl (filled_words (w.place + 1) ws a.2) where
+  by : (b : Bool) → has_cells w ≡ b → AreWords (w.place + 1) (filter has_cells ws) → AreWords least (filter has_cells (w ∷ ws))
+  by true e later = rw e (a.0, a.1, later)
+  by false e later = rw e (lower (w.place + 1) least (filter has_cells ws) (omega (arith, a.0)) later)
 
 -- ---- seats
 

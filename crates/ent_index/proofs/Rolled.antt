@@ -1,5 +1,5 @@
 -- Cells that are put into words or taken out of them.
-use Rattle.std.proofs.Common.{◌≡◌, ℕ, ◌+◌, ◌-◌, ◌*◌, ◌/◌, ◌%◌, ◌^◌, ◌<◌, ◌≤◌, Bool, true, false, List, [], ◌∷◌, ◌++◌, length, get_or, take, set, nat_eq, refl, sym, ap, subst, ◌∙◌, arith, inl, inr, mod-lt, zero-lt-suc}
+use Rattle.std.proofs.Common.{◌≡◌, ℕ, ◌+◌, ◌-◌, ◌*◌, ◌/◌, ◌%◌, ◌^◌, ◌<◌, ◌≤◌, Bool, true, false, List, [], ◌∷◌, ◌++◌, ◌⊎◌, length, get_or, take, set, nat_eq, refl, sym, ap, subst, ◌∙◌, arith, inl, inr, mod-lt, zero-lt-suc}
 use Rattle.std.specs.Prelude.{◌||◌, bit_and, bit_or}
 use Rattle.std.specs.Int.{bit_at, bit_not, w64}
 use Rattle.std.specs.List.{insert, remove}
@@ -10,15 +10,15 @@ use Rattle.std.proofs.lemmas.List.{append-nil, append_assoc, get_or-set_same, le
 use Rattle.std.proofs.lemmas.List.Concat.{flat_map-append}
 use Rattle.std.proofs.lemmas.List.Folds.{list_any-append}
 use Rattle.std.proofs.lemmas.Nat.{and_le_l, le_or_l, pow_pos, one_shl, or_lt}
-use Rattle.std.proofs.lemmas.Nat.Bits.{bit_at-pow_other, bit_at-pow_same, bit_at_and, bit_at_clear_other, bit_at_clear_same, bit_at_or, bit_at-trailing_zeros}
+use Rattle.std.proofs.lemmas.Nat.Bits.{bit_at-pow_other, bit_at-pow_same, bit_at_and, bit_at_clear_other, bit_at_clear_same, bit_at_or}
 use lib.Count.{count_trailing_zeros, ones}
 use Rattle.ent_index.proofs.Bits.{ones_within, set_lowest}
 use Rattle.ent_index.specs.Groups.{is_member}
 use Rattle.ent_index.specs.Rolls.{cells_in, cells_of, set_from}
-use Rattle.ent_index.specs.proofs_only.Rolls.{AreWords, IsSeat, IsWord}
+use Rattle.ent_index.specs.proofs_only.Rolls.{AreWords, IsSeat, IsWord, has_cells}
 use Rattle.ent_index.specs.declared.words.Word.{Word}
 use Rattle.ent_index.proofs.Placed.{insert_words, no_word, set_words, word_at}
-use Rattle.ent_index.proofs.WordCells.{both_ways, in_word, insert_count, kept_members, length-cells_in, member_removed, member_there, no_cells, of_word, or_assoc, or_none, or_right, remove_count, remove_members, set_count, set_members, unequal, word_joined, word_kept}
+use Rattle.ent_index.proofs.WordCells.{both_ways, in_word, insert_count, kept_members, length-cells_in, member_there, no_cells, of_word, or_assoc, or_none, or_right, set_count, set_members, unequal, word_joined, word_kept}
 
 -- ---- bits that are put in or taken out
 
@@ -49,7 +49,7 @@ module _ (ws : List Word) (i : ℕ) (w : Word) (a : AreWords 0 ws) (lt : i < len
     joined_fits = or_lt 64 w.bits v.bits is.fits word.fits
 
     pub put_words : AreWords 0 (set ws i (with_bits w (bit_or w.bits v.bits)))
-    put_words = set_words 0 ws i (with_bits w (bit_or w.bits v.bits)) w a lt place_here (omega (arith, le_or_l w.bits v.bits, is.some)) joined_fits
+    put_words = set_words 0 ws i (with_bits w (bit_or w.bits v.bits)) w a lt place_here joined_fits
 
     pub put_cells : (c : ℕ) → is_member (cells_of (set ws i (with_bits w (bit_or w.bits v.bits)))) c ≡ (is_member (cells_of ws) c || is_member (cells_in v) c)
     put_cells c =
@@ -72,8 +72,8 @@ module _ (ws : List Word) (i : ℕ) (w : Word) (a : AreWords 0 ws) (lt : i < len
         word_kept w (with_bits w (bits_left w (cell % 64))) (cell % 64) refl (λ k k_low apart. bit_at_clear_other w64 w.bits (cell % 64) low k k_low apart) c
         (λ e. unequal c cell other (omega (arith, e, at)))
 
-    pub take_words : (bits_left w (cell % 64) ≡ 0 → ⊥) → AreWords 0 (set ws i (with_bits w (bits_left w (cell % 64))))
-    take_words some = set_words 0 ws i (with_bits w (bits_left w (cell % 64))) w a lt place_here (omega (arith, some)) (left_fits w (cell % 64) is)
+    pub take_words : AreWords 0 (set ws i (with_bits w (bits_left w (cell % 64))))
+    take_words = set_words 0 ws i (with_bits w (bits_left w (cell % 64))) w a lt place_here (left_fits w (cell % 64) is)
 
     pub take_cells : (c : ℕ) → nat_eq c cell ≡ false → is_member (cells_of (set ws i (with_bits w (bits_left w (cell % 64))))) c ≡ is_member (cells_of ws) c
     take_cells c other = kept_members c ws i (with_bits w (bits_left w (cell % 64))) w lt (take_kept c other ∙ ap (λ x. is_member (cells_in x) c) read)
@@ -84,15 +84,12 @@ module _ (ws : List Word) (i : ℕ) (w : Word) (a : AreWords 0 ws) (lt : i < len
       by true e = absurd (omega (arith, (in_word (with_bits w (bits_left w (cell % 64))) cell e).1, bit_at_clear_same w64 w.bits (cell % 64) low))
       by false e = e
 
-    pub take_gone : (bits_left w (cell % 64) ≡ 0 → ⊥) → is_member (cells_of (set ws i (with_bits w (bits_left w (cell % 64))))) cell ≡ false
-    take_gone some =
+    pub take_gone : is_member (cells_of (set ws i (with_bits w (bits_left w (cell % 64))))) cell ≡ false
+    take_gone =
         let left = with_bits w (bits_left w (cell % 64)) in
         let here : get_or (set ws i left) i w ≡ left = get_or-set_same ws i left w lt in
-        member_there 0 (set ws i left) i cell w (take_words some) (omega (arith, lt, length-set ws i left)) (sym at ∙ sym (ap (λ (x : Word). x.place) here))
+        member_there 0 (set ws i left) i cell w take_words (omega (arith, lt, length-set ws i left)) (sym at ∙ sym (ap (λ (x : Word). x.place) here))
         ∙ ap (λ x. is_member (cells_in x) cell) here ∙ taken_out
-
-    pub last_gone : is_member (cells_of (remove ws i)) cell ≡ false
-    last_gone = member_removed 0 ws i cell w a lt (sym at ∙ place_here)
 
     pub take_count : length (cells_of ws) ≡ length (cells_of (set ws i (with_bits w (bits_left w (cell % 64))))) + (ones w.bits - ones (bits_left w (cell % 64)))
     take_count =
@@ -104,14 +101,6 @@ module _ (ws : List Word) (i : ℕ) (w : Word) (a : AreWords 0 ws) (lt : i < len
           take_fewer,
         )
 
-    pub last_cells : bits_left w (cell % 64) ≡ 0 → (c : ℕ) → nat_eq c cell ≡ false → is_member (cells_of (remove ws i)) c ≡ is_member (cells_of ws) c
-    last_cells none c other =
-        remove_members c ws i w lt
-        (ap (λ x. is_member (cells_in x) c) (sym read) ∙ sym (take_kept c other) ∙ ap (λ ys. is_member ys c) (no_cells (with_bits w (bits_left w (cell % 64))) none))
-
-  pub last_count : length (cells_of ws) ≡ length (cells_of (remove ws i)) + ones w.bits
-  last_count = omega (arith, remove_count ws i w lt, count_here)
-
 -- ---- one bit
 
 pub put_there : (before : Bool) (cell : ℕ) → (before || nat_eq cell cell) ≡ true
@@ -120,7 +109,6 @@ put_there before cell = or_right before (nat_eq cell cell) ((Decides-eqb cell ce
 pub one_word : (cell : ℕ) → cell < 2 ^ 32 → IsWord (record { place = cell / 64; bits = 1 * 2 ^ (cell % 64) % 2 ^ 64 })
 one_word cell fits = record {
   place = omega arith;
-  some = omega (arith, one_shl (cell % 64) 64 (omega arith), pow_pos (cell % 64));
   fits = omega arith;
 }
 
@@ -144,17 +132,6 @@ one_cell cell c = both_ways _ _ there back where
   back h =
       let same : c ≡ cell = (Decides-eqb c cell).0 h in
       of_word w c (ap (λ n. n / 64) same) (ap (λ n. bit_at (1 * 2 ^ (cell % 64) % 2 ^ 64) (n % 64)) same ∙ ap (λ n. bit_at n (cell % 64)) shifted ∙ bit_at-pow_same (cell % 64))
-
--- the lowest bit of the first word is a cell
-pub first_there : (ws : List Word) (w : Word) → AreWords 0 ws → 0 < length ws → w ≡ get_or ws 0 w → is_member (cells_of ws) (w.place * 64 + count_trailing_zeros 64 w.bits) ≡ true
-first_there ws w a lt read =
-    let is : IsWord w = subst IsWord (sym read) (word_at 0 ws a 0 w lt) in
-    let low = bit_at-trailing_zeros w64 w.bits is.some is.fits in
-    let cell : ℕ = w.place * 64 + count_trailing_zeros 64 w.bits in
-    let at : cell / 64 ≡ w.place = omega (arith, low.0) in
-    let bit : cell % 64 ≡ count_trailing_zeros 64 w.bits = omega (arith, low.0) in
-    member_there 0 ws 0 cell w a lt (at ∙ ap (λ (x : Word). x.place) read) ∙ ap (λ x. is_member (cells_in x) cell) (sym read)
-    ∙ of_word w cell at (ap (bit_at w.bits) bit ∙ low.1)
 
 -- ---- a new word
 

@@ -2,7 +2,7 @@
 use Rattle.std.proofs.Common.{◌≡◌, ℕ, zero, suc, ◌+◌, ◌*◌, ◌/◌, ◌%◌, ◌^◌, ◌<◌, ◌≤◌, max, Bool, true, false, List, [], ◌∷◌, ◌++◌, length, get_or, take, drop, set, nat_eq, refl, sym, ap, ◌∙◌, arith, ◌⊎◌, inl, inr, mod-lt, zero-lt-suc, add-one}
 use Rattle.std.specs.Prelude.{◌||◌, bit_and}
 use Rattle.std.specs.Int.{bit_at}
-use Rattle.std.specs.List.{AllByRecursion, insert, remove, sum_by}
+use Rattle.std.specs.List.{AllByRecursion, filter, insert, sum_by}
 use Rattle.std.specs.List.Sorted.{IsStrictlySortedBy}
 use Rattle.std.specs.Ordering.{is_eq, nat_cmp}
 use Rattle.std.specs.declared.cmp.Ordering.TheVariants.{Less}
@@ -18,7 +18,7 @@ use Rattle.ent_index.proofs.Views.{not_cell}
 use Rattle.ent_index.proofs.Bits.{all_below, all_from, from_member, length-set_from, less, set_sorted, set_zero, to_member}
 use Rattle.ent_index.specs.Groups.{is_member}
 use Rattle.ent_index.specs.Rolls.{cells_in, cells_of, set_from}
-use Rattle.ent_index.specs.proofs_only.Rolls.{AreWords, IsSeat}
+use Rattle.ent_index.specs.proofs_only.Rolls.{AreWords, IsSeat, has_cells}
 use Rattle.ent_index.specs.declared.words.Word.{Word}
 use Rattle.ent_index.proofs.Placed.{least_at, no_word}
 
@@ -171,11 +171,13 @@ insert_members c (w ∷ ws) (suc i) v le =
     first_more c w (insert ws i v) ∙ ap (λ b. is_member (cells_in w) c || b) (insert_members c ws i v (omega arith))
     ∙ or_assoc (is_member (cells_in w) c) (is_member (cells_of ws) c) (is_member (cells_in v) c) ∙ ap (λ b. b || is_member (cells_in v) c) (sym (first_more c w ws))
 
-pub remove_members : (c : ℕ) (ws : List Word) (i : ℕ) (d : Word) → i < length ws → is_member (cells_in (get_or ws i d)) c ≡ false → is_member (cells_of (remove ws i)) c ≡ is_member (cells_of ws) c
-remove_members c [] i d lt h = absurd (omega arith)
-remove_members c (w ∷ ws) zero d lt h = sym (first_more c w ws ∙ ap (λ b. b || is_member (cells_of ws) c) h)
-remove_members c (w ∷ ws) (suc i) d lt h =
-    first_more c w (remove ws i) ∙ ap (λ b. is_member (cells_in w) c || b) (remove_members c ws i d (omega arith) h) ∙ sym (first_more c w ws)
+-- without the words that are empty the cells are the same
+pub filled_cells : (ws : List Word) → cells_of (filter has_cells ws) ≡ cells_of ws
+filled_cells [] = refl
+filled_cells (w ∷ ws) = by (nat_eq w.bits 0) refl (filled_cells ws) where
+  by : (b : Bool) → nat_eq w.bits 0 ≡ b → cells_of (filter has_cells ws) ≡ cells_of ws → cells_of (filter has_cells (w ∷ ws)) ≡ cells_of (w ∷ ws)
+  by true e later = rw e (later ∙ ap (λ xs. xs ++ cells_of ws) (sym (no_cells w ((Decides-eqb w.bits 0).0 e))))
+  by false e later = rw e (ap (λ xs. cells_in w ++ xs) later)
 
 -- ---- how many after a change
 
@@ -190,16 +192,10 @@ insert_count ws i v =
     let f : Word → ℕ = λ w. length (cells_in w) in
     omega (arith, counted ws, counted (insert ws i v), sum_by-append f (take i ws) (v ∷ drop i ws), sum_by-cons f v (drop i ws), sum_by-take-drop f ws i)
 
-pub remove_count : (ws : List Word) (i : ℕ) (d : Word) → i < length ws → length (cells_of (remove ws i)) + length (cells_in (get_or ws i d)) ≡ length (cells_of ws)
-remove_count ws i d lt =
-    let f : Word → ℕ = λ w. length (cells_in w) in
-    let next : i + 1 ≡ suc i = add-one i in
-    omega (arith, counted ws, counted (remove ws i), sum_by-append f (take i ws) (drop (suc i) ws), sum_by-take-drop f ws i, sum_by-drop_more f ws i d lt, ap (λ k. sum_by f (drop k ws)) next)
-
 pub few : (least : ℕ) (ws : List Word) → AreWords least ws → length (cells_of ws) + 64 * least ≤ 4294967296
 few least [] a = omega (arith, a)
 few least (w ∷ ws) a =
-    omega (arith, a.0, length-append (cells_in w) (cells_of ws), length-cells_in w a.2, ones-le 64 w.bits a.2, few (w.place + 1) ws a.3)
+    omega (arith, a.0, length-append (cells_in w) (cells_of ws), length-cells_in w a.1, ones-le 64 w.bits a.1, few (w.place + 1) ws a.2)
 
 -- ---- in rising order
 
@@ -224,7 +220,7 @@ pub words_from : (least : ℕ) (ws : List Word) → AreWords least ws → AllByR
 words_from least [] a = tt
 words_from least (w ∷ ws) a =
     all_both (λ y. 64 * least ≤ y) (cells_in w) (cells_of ws) (all_least (64 * w.place) (64 * least) (cells_in w) (omega (arith, a.0)) (cells_from w))
-    (all_least (64 * (w.place + 1)) (64 * least) (cells_of ws) (omega (arith, a.0)) (words_from (w.place + 1) ws a.3))
+    (all_least (64 * (w.place + 1)) (64 * least) (cells_of ws) (omega (arith, a.0)) (words_from (w.place + 1) ws a.2))
 
 sorted_none : IsStrictlySortedBy nat_cmp []
 unfolding IsStrictlySortedBy
@@ -232,7 +228,7 @@ sorted_none = tt
 
 pub words_sorted : (least : ℕ) (ws : List Word) → AreWords least ws → IsStrictlySortedBy nat_cmp (cells_of ws)
 words_sorted least [] a = sorted_none
-words_sorted least (w ∷ ws) a = sorted_both (64 * (w.place + 1)) (cells_in w) (cells_of ws) (cells_sorted w) (cells_below w) (words_sorted (w.place + 1) ws a.3) (words_from (w.place + 1) ws a.3)
+words_sorted least (w ∷ ws) a = sorted_both (64 * (w.place + 1)) (cells_in w) (cells_of ws) (cells_sorted w) (cells_below w) (words_sorted (w.place + 1) ws a.2) (words_from (w.place + 1) ws a.2)
 
 -- ---- one word's part
 
@@ -250,24 +246,16 @@ not_in w c other = by (is_member (cells_in w) c) refl where
 pub member_there : (least : ℕ) (ws : List Word) (i : ℕ) (c : ℕ) (d : Word) → AreWords least ws → i < length ws → c / 64 ≡ (get_or ws i d).place → is_member (cells_of ws) c ≡ is_member (cells_in (get_or ws i d)) c
 member_there least [] i c d a lt at = absurd (omega arith)
 member_there least (w ∷ ws) zero c d a lt at =
-    first_more c w ws ∙ ap (λ b. is_member (cells_in w) c || b) (not_behind (64 * (w.place + 1)) c (cells_of ws) (omega (arith, at)) (words_from (w.place + 1) ws a.3)) ∙ or_none _
+    first_more c w ws ∙ ap (λ b. is_member (cells_in w) c || b) (not_behind (64 * (w.place + 1)) c (cells_of ws) (omega (arith, at)) (words_from (w.place + 1) ws a.2)) ∙ or_none _
 member_there least (w ∷ ws) (suc i) c d a lt at =
-    first_more c w ws ∙ ap (λ b. b || is_member (cells_of ws) c) (not_in w c (λ e. omega (arith, e, at, least_at (w.place + 1) ws a.3 i d (omega arith))))
-    ∙ member_there (w.place + 1) ws i c d a.3 (omega arith) at
+    first_more c w ws ∙ ap (λ b. b || is_member (cells_of ws) c) (not_in w c (λ e. omega (arith, e, at, least_at (w.place + 1) ws a.2 i d (omega arith))))
+    ∙ member_there (w.place + 1) ws i c d a.2 (omega arith) at
 
 -- and isn't if no word has its place
 pub member_absent : (ws : List Word) (c : ℕ) → ((k : ℕ) (d : Word) → k < length ws → c / 64 ≡ (get_or ws k d).place → ⊥) → is_member (cells_of ws) c ≡ false
 member_absent [] c none = refl
 member_absent (w ∷ ws) c none =
     first_more c w ws ∙ ap (λ b. b || is_member (cells_of ws) c) (not_in w c (none 0 w (omega arith))) ∙ member_absent ws c (λ k d lt. none (suc k) d (omega arith))
-
--- nor if the word of its place goes
-pub member_removed : (least : ℕ) (ws : List Word) (i : ℕ) (c : ℕ) (d : Word) → AreWords least ws → i < length ws → c / 64 ≡ (get_or ws i d).place → is_member (cells_of (remove ws i)) c ≡ false
-member_removed least [] i c d a lt at = absurd (omega arith)
-member_removed least (w ∷ ws) zero c d a lt at = not_behind (64 * (w.place + 1)) c (cells_of ws) (omega (arith, at)) (words_from (w.place + 1) ws a.3)
-member_removed least (w ∷ ws) (suc i) c d a lt at =
-    first_more c w (remove ws i) ∙ ap (λ b. b || is_member (cells_of (remove ws i)) c) (not_in w c (λ e. omega (arith, e, at, least_at (w.place + 1) ws a.3 i d (omega arith))))
-    ∙ member_removed (w.place + 1) ws i c d a.3 (omega arith) at
 
 pub bit_told : (w : Word) (c : ℕ) → c / 64 ≡ w.place → nat_eq (bit_and (w.bits / 2 ^ (c % 64)) 1) 1 ≡ is_member (cells_in w) c
 bit_told w c at = both_ways _ _ there back where

@@ -1,5 +1,5 @@
 -- Groups of cells: those of a group read by the same questions, each by its own names.
-use Rattle.std.specs.Prelude.{◌≡◌, ◌⊎◌, ◌<◌, ◌^◌, ℕ, List, [], Bool, true, false, ◌&&◌, nat_eq}
+use Rattle.std.specs.Prelude.{◌≡◌, ◌<◌, ◌^◌, ℕ, List, [], Bool, true, false, ◌&&◌, nat_eq}
 use Rattle.std.specs.BTreeMap as tree
 use Rattle.std.specs.Cmp.Lexicographic.{slice_cmp}
 use Rattle.std.specs.List.{list_any}
@@ -36,10 +36,6 @@ holds_in groups g c = option_map_or (λ x. is_member x.cells c) (get groups g) f
 
 abbrev pub holds : Groups → ℕ → ℕ → Bool
 holds groups g c = holds_in groups.groups g c
-
--- a cell stands in a group that has the question of a number
-abbrev pub IsAsking : Groups → ℕ → ℕ → Type 0
-IsAsking groups n c = (g : ℕ) × (holds groups g c ≡ true) × (is_among (numbers_of groups g) n ≡ true)
 
 -- a cell stands under a name
 abbrev pub is_under : Names → List ℕ → ℕ → Bool
@@ -126,10 +122,6 @@ is_named_by (Named Person) groups name c = is_under groups.persons name c
 is_named_by (Named Action) groups name c = is_under groups.actions name c
 is_named_by (Named Resource) groups name c = is_under groups.resources name c
 is_named_by other groups name c = false
-
--- a cell stands under the name of what is wanted, or in a group that has its question
-abbrev pub IsLikely : Groups → Wanted → ℕ → Type 0
-IsLikely groups w c = (is_named_by w.readers groups (entity_in w.key.now) c ≡ true) ⊎ IsAsking groups w.number c
 
 -- among these is each cell that stands in a group and under its names, and reads what is wanted
 abbrev pub Covers : Groups → List Wanted → List ℕ → Type 0

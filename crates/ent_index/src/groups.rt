@@ -5,11 +5,11 @@ ghost use Rattle.std.specs.List.{list_any};
 ghost use Rattle.std.specs.List.Sorted.{IsStrictlySortedBy};
 ghost use Rattle.std.specs.Ordering.{nat_cmp};
 ghost use Rattle.ent_request.specs.declared.readers.Readers.TheVariants.{Named};
-ghost use Rattle.ent_index.specs.Groups.{Covers, HasLeft, HasNoCells, HasSameNames, IsAsking, IsLikely};
+ghost use Rattle.ent_index.specs.Groups.{Covers, HasLeft, HasNoCells, HasSameNames};
 ghost use Rattle.ent_index.specs.Groups.{IsNamed, IsUnnamed, KeepsGroups, KeepsGroupsBut, KeepsNamesBut};
 ghost use Rattle.ent_index.specs.Groups.{holds, is_among, is_wanted, numbers_of};
 ghost use Rattle.ent_index.specs.proofs_only.Grouped.{IsGroupOf, roll_under};
-ghost use Rattle.ent_index.specs.proofs_only.Groups.{CoversOne, HasAll, HasAllOf, HasAsking, HasMore, IsIn, names_at};
+ghost use Rattle.ent_index.specs.proofs_only.Groups.{CoversOne, HasAll, HasAllOf, HasAsking, HasMore, names_at};
 
 use crate::group::{Group, is_group_of, make_group, mixed, put_cell, take_cell};
 use crate::names::Names;
@@ -277,29 +277,6 @@ impl Groups {
         }
     }
 
-    /// A cell that likely reads what is wanted, if there is one.
-    pub fn likely(&self, one: &Wanted<'_>) -> Option<usize>
-        ensures { IfSome result (λ c. IsLikely self.now one.now c) }
-    {
-        match (one.readers, one.key) {
-            (Readers::Nobody, _) => None,
-            (Readers::Named(place), ReadKey::Attr(key)) => first_of(self.named(place, &key.entity)),
-            _ => self.first_asking(one.number),
-        }
-    }
-
-    // A cell of the first group that has the question of a number.
-    fn first_asking(&self, number: u32) -> Option<usize>
-        ensures { IfSome result (λ c. IsAsking self.now number c) }
-    {
-        for (_, group) in self.groups.iter() {
-            if group.numbers.contains(number) {
-                return first_of(Some(&group.cells));
-            }
-        }
-        None
-    }
-
     // Puts the cells into a roll whose groups have the question of a number.
     fn add_asking(&self, number: u32, cells: &mut Roll) -> Result<(), AllocError>
         ensures asking { OnOk result (HasAsking self.now number cells.new) }
@@ -348,12 +325,4 @@ fn add_roll(more: Option<&Roll>, cells: &mut Roll) -> Result<(), AllocError>
         }
         None => Ok(()),
     }
-}
-
-// One of the cells under a name, if there is one.
-fn first_of(roll: Option<&Roll>) -> Option<usize>
-    ensures { IfSome result (λ c. IsIn (option_copied roll.entry) c) }
-{
-    let cell = roll?.first()?;
-    Some(cell as usize)
 }

@@ -1,21 +1,23 @@
 //! Sets of cells that join and leave.
 
-ghost use Rattle.std.specs.Prelude.{◌≡◌, ◌<◌, ◌||◌, [], ℕ, IfOk, IfSome, IsTrue, OnErr, OnOk};
+ghost use Rattle.std.specs.Prelude.{◌≡◌, ◌||◌, [], ℕ, IfOk, IsTrue, OnErr, OnOk};
 ghost use Rattle.std.specs.Prelude.{false, length, nat_eq, true};
 ghost use Rattle.std.specs.List.Sorted.{IsStrictlySortedBy};
 ghost use Rattle.std.specs.Ordering.{nat_cmp};
 ghost use Rattle.ent_index.specs.Rolls.{cells_in, cells_of, is_member};
 ghost use Rattle.ent_index.specs.proofs_only.Rolls.{AreWords, IsWord};
 
-use crate::words::{BITS, Word, has, push_all, put_in, take_out};
+use crate::words::{BITS, Word, are_sparse, has, keep_filled, push_all, put_in, take_out};
 use std::alloc::{AllocError, Global};
 use std::marker::Model;
 
-/// Some cells, each once: as words of bits, in the order of their places, and how many there are.
+/// Some cells, each once: as words of bits, in the order of their places, how many there are, and how many were taken
+/// out since words without a cell were last looked for.
 #[derive(Drop)]
 pub(crate) struct Roll {
     words: Vec<Word>,
     count: usize,
+    taken: usize,
 }
 
 impl Model for Roll {
@@ -38,6 +40,7 @@ impl Roll {
         Roll {
             words: Vec::new(alloc),
             count: 0,
+            taken: 0,
         }
     }
 
@@ -53,17 +56,6 @@ impl Roll {
         ensures { result ≡ length self.now }
     {
         self.count
-    }
-
-    /// The first of the cells, if there is one.
-    pub(crate) fn first(&self) -> Option<u32>
-        ensures { IfSome result (λ c. is_member self.now c ≡ true) }
-    {
-        if self.words.is_empty() {
-            return None;
-        }
-        let word = self.words[0];
-        Some(word.place * BITS + word.bits.trailing_zeros())
     }
 
     /// Whether a cell is there.
@@ -118,6 +110,22 @@ impl Roll {
     {
         let taken = take_out(&mut self.words, cell);
         self.count -= taken as usize;
+        self.tidy();
+    }
+
+    // Takes out the words without a cell, where most are: it looks for them after as many cells were taken out as half
+    // of the words.
+    fn tidy(&mut self)
+        ensures { self.new ≡ self.old }
+    {
+        self.taken = self.taken.saturating_add(1);
+        if self.taken <= self.words.len() / 2 {
+            return;
+        }
+        self.taken = 0;
+        if are_sparse(&self.words) {
+            keep_filled(&mut self.words);
+        }
     }
 
     /// Puts the cells into another roll.

@@ -1,10 +1,11 @@
 //! Cells as bits of words.
 
 ghost use Rattle.std.specs.Prelude.{◌≡◌, ◌≢◌, ◌<◌, ◌+◌, ◌++◌, ◌*◌, ◌/◌, ◌||◌, ℕ, IfOk, OnErr, OnOk, false, length, nat_eq};
-ghost use Rattle.std.specs.Prelude.{slice_index_or};
+ghost use Rattle.std.specs.Prelude.{slice_index_or, true};
+ghost use Rattle.std.specs.List.{filter};
 ghost use Rattle.std.specs.Bool.{OnFalse, OnTrue};
 ghost use Rattle.ent_index.specs.Rolls.{cells_in, cells_of, is_member};
-ghost use Rattle.ent_index.specs.proofs_only.Rolls.{AreWords, IsOf, IsSeat, IsWord};
+ghost use Rattle.ent_index.specs.proofs_only.Rolls.{AreWords, IsOf, IsSeat, IsWord, has_cells};
 ghost use Rattle.ent_index.specs.declared.words.Word.{Word};
 
 use std::alloc::AllocError;
@@ -12,7 +13,8 @@ use std::alloc::AllocError;
 /// So many cells have one word.
 pub(crate) const BITS: u32 = 64;
 
-/// Of the cells from 64 times a place on, those whose bits are set.
+/// Of the cells from 64 times a place on, those whose bits are set. It may have none: a word from which all were taken
+/// stays where it is, since those behind it would have to move.
 #[derive(Clone, Copy)]
 pub(crate) struct Word {
     pub(crate) place: u32,
@@ -90,35 +92,30 @@ pub(crate) fn put_in(words: &mut Vec<Word>, word: Word) -> Result<u32, AllocErro
     Ok(word.bits.count_ones())
 }
 
-/// Takes a cell out of the word of its place, which is at that seat, and tells how many it took. The word goes if
-/// it has none any more.
-fn take_at(words: &mut Vec<Word>, seat: usize, cell: u32) -> u32
-    requires words { AreWords 0 words.old.items }
-    requires seat { IsOf (cell / 64) words.old.items seat }
-    ensures words { AreWords 0 words.new.items }
+/// Takes a cell out of the word of its place, which is at that seat, and tells how many it took.
+fn take_at(words: &mut [Word], seat: usize, cell: u32) -> u32
+    requires words { AreWords 0 words.old }
+    requires seat { IsOf (cell / 64) words.old seat }
+    ensures words { AreWords 0 words.new }
     ensures cells { (c : ℕ) → nat_eq c cell ≡ false
-        → is_member (cells_of words.new.items) c ≡ is_member (cells_of words.old.items) c }
-    ensures gone { is_member (cells_of words.new.items) cell ≡ false }
-    ensures count { length (cells_of words.old.items) ≡ length (cells_of words.new.items) + result }
+        → is_member (cells_of words.new) c ≡ is_member (cells_of words.old) c }
+    ensures gone { is_member (cells_of words.new) cell ≡ false }
+    ensures count { length (cells_of words.old) ≡ length (cells_of words.new) + result }
 {
     let before = words[seat];
     let bits = before.bits & !(1u64 << (cell % BITS));
-    if bits == 0 {
-        words.remove(seat);
-        return before.bits.count_ones();
-    }
     words[seat] = Word { bits, ..before };
     before.bits.count_ones() - bits.count_ones()
 }
 
-/// Takes a cell out of words, and tells how many were taken out: none where it isn't there. It takes no memory.
-pub(crate) fn take_out(words: &mut Vec<Word>, cell: u32) -> u32
-    requires { AreWords 0 words.old.items }
-    ensures words { AreWords 0 words.new.items }
+/// Takes a cell out of words, and tells how many were taken out: none where it isn't there.
+pub(crate) fn take_out(words: &mut [Word], cell: u32) -> u32
+    requires { AreWords 0 words.old }
+    ensures words { AreWords 0 words.new }
     ensures cells { (c : ℕ) → nat_eq c cell ≡ false
-        → is_member (cells_of words.new.items) c ≡ is_member (cells_of words.old.items) c }
-    ensures gone { is_member (cells_of words.new.items) cell ≡ false }
-    ensures count { length (cells_of words.old.items) ≡ length (cells_of words.new.items) + result }
+        → is_member (cells_of words.new) c ≡ is_member (cells_of words.old) c }
+    ensures gone { is_member (cells_of words.new) cell ≡ false }
+    ensures count { length (cells_of words.old) ≡ length (cells_of words.new) + result }
 {
     let place = cell / BITS;
     let seat = seat(words, place);
@@ -127,6 +124,31 @@ pub(crate) fn take_out(words: &mut Vec<Word>, cell: u32) -> u32
     } else {
         0
     }
+}
+
+/// Whether a word has a cell.
+fn has_cells(word: &Word) -> bool
+    ensures { result ≡ has_cells word.now }
+{
+    word.bits != 0
+}
+
+/// Whether most of some words have no cell.
+pub(crate) fn are_sparse(words: &[Word]) -> bool {
+    let mut empty = 0usize;
+    for word in words {
+        if !has_cells(word) {
+            empty = empty.saturating_add(1);
+        }
+    }
+    empty > words.len() / 2
+}
+
+/// Takes out the words that have no cell. It takes no memory.
+pub(crate) fn keep_filled(words: &mut Vec<Word>)
+    ensures { words.new.items ≡ filter has_cells words.old.items }
+{
+    words.retain(|word| has_cells(word));
 }
 
 /// Puts the cells of a word last, in their order.

@@ -3,10 +3,8 @@ use Rattle.std.proofs.Common.{◌≡◌, ◌==◌, ◌∙◌, ◌++◌, ℕ, zer
 use Rattle.std.specs.Prelude.{filter, filter_map, option_map, slice_get, slice_index_or}
 use Rattle.std.proofs.lemmas.Bool.Decides.{Decides-eqb}
 use Rattle.std.proofs.lemmas.List.Sums.{sum_by-cons}
-use Rattle.std.specs.Borrow.{Bor}
 use Rattle.std.specs.FinMap.{entries, len, len-entries}
 use Rattle.std.specs.List.{enumerate_from}
-use Rattle.std.specs.Option.{option_copied}
 use Rattle.json.specs.Token as token
 use Rattle.json.specs.Token.{Token}
 use Rattle.ent_values.specs.declared.value.Value.{Value}
@@ -31,6 +29,11 @@ at_place [] i x h = cc
 at_place (y ∷ xs) zero x h = let same : y ≡ x = cc in ap (λ z. z ∷ xs) same
 at_place (y ∷ xs) (suc i) x h = let next : suc i + 1 ≡ suc (i + 1) = omega arith in at_place xs i x h ∙ ap (λ n. x ∷ drop n (y ∷ xs)) (sym next)
 
+pub below : {A : Type 0} (xs : List A) (i : ℕ) (x : A) → slice_get xs i ≡ Some x → i < length xs
+below [] i x h = cc
+below (y ∷ xs) zero x h = omega arith
+below (y ∷ xs) (suc i) x h = let rest = below xs i x h in omega (arith, rest)
+
 past : {A : Type 0} (xs : List A) (i : ℕ) → slice_get xs i ≡ None → drop i xs ≡ []
 past [] zero h = refl
 past [] (suc i) h = refl
@@ -48,12 +51,6 @@ next_module [] i d h = absurd (omega (arith, h))
 next_module (y ∷ xs) zero d h = refl
 next_module (y ∷ xs) (suc i) d h =
     let next : suc i + 1 ≡ suc (i + 1) = omega arith in next_module xs i d (omega (arith, h)) ∙ ap (λ n. slice_index_or xs i d ∷ drop n (y ∷ xs)) (sym next)
-
-pub found : {A E : Type 0} (f : A → E) (r : Option (Bor A)) (b : Bor A) (o : Option E) → r ≡ Some b → option_map f (option_copied r) ≡ o → o ≡ Some (f b.now)
-found f r b o here is = sym is ∙ ap (λ q. option_map f (option_copied q)) here
-
-pub not_found : {A E : Type 0} (f : A → E) (r : Option (Bor A)) (o : Option E) → r ≡ None → option_map f (option_copied r) ≡ o → o ≡ None
-not_found f r o none is = sym is ∙ ap (λ q. option_map f (option_copied q)) none
 
 -- ---- rows
 
@@ -105,10 +102,6 @@ module _ {A : Type 0} (p : A → Bool) where
   pub count_none : (xs : List A) (i c total : ℕ) → slice_get xs i ≡ None → c + length (filter p (drop i xs)) ≡ total → c ≡ total
   count_none xs i c total none so_far =
       let left : length (filter p (drop i xs)) ≡ 0 = ap (λ ys. length (filter p ys)) (past xs i none) in omega (arith, left, so_far)
-
-  pub count_all : (xs : List A) (i c total : ℕ) → length xs ≤ i → c + length (filter p (drop i xs)) ≡ total → c ≡ total
-  count_all xs i c total most so_far =
-      let left : length (filter p (drop i xs)) ≡ 0 = ap (λ ys. length (filter p ys)) (all_past xs i most) in omega (arith, left, so_far)
 
 -- the rows of a module that have values
 pub filled_len : (source : Source) → length (filter (λ e. is_filled e.1) (entries source.rows)) ≡ len (filled_source source).rows

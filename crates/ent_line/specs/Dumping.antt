@@ -15,7 +15,8 @@ abbrev pub is_moment : Environment → Bool
 is_moment (Moment moment) = true
 is_moment other = false
 
--- lines of that version can tell what is known of the time: those of version 2 can always, those of version 1 where it is no moment
+-- lines of that version can tell what is known of the time: those of version 2 can always, those of version 1 where it
+-- is no moment
 abbrev pub can_tell : ℕ → Environment → Bool
 can_tell version environment = (version == 2) || ((version == 1) && not (is_moment environment))
 

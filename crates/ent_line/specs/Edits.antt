@@ -60,7 +60,8 @@ abbrev pub if_read : {A : Type 0} → (A → Edit) → EditFault → Option A �
 if_read edit fault (Some x) = Ok (edit x)
 if_read edit fault None = Err (Unreadable fault)
 
--- the refusal of a row whose type or a value can't be read: a bad value, before which too many values and a reserved attribute are told
+-- the refusal of a row whose type or a value can't be read: a bad value, before which too many values and a reserved
+-- attribute are told
 abbrev pub row_fault : AskedRow → EditFault
 row_fault row = if nat_lt 256 (items_len row.values) then Limit else (if table.is_reserved row.category row.attribute then Reserved else BadValue)
 

@@ -1,11 +1,9 @@
 -- The JSON of an explanation: an answer, why parts of it are Indeterminate, and what it rests on.
-use Rattle.std.specs.Prelude.{Bool, List, ◌++◌, codes, filter, not}
+use Rattle.std.specs.Prelude.{Bool, List, codes}
 use Rattle.serde_json.specs.Data as json
 use Rattle.serde_json.specs.Data.{Data}
-use Rattle.ent_walk.specs.Answer.{answer, causes}
-use Rattle.ent_request.specs.contracts.answer.StatusPartialEq.TheImpl as statuses
+use Rattle.ent_walk.specs.Answer.{causes_told}
 use Rattle.ent_request.specs.declared.answer.Answer.{Answer}
-use Rattle.ent_request.specs.declared.answer.Status.{Status}
 use Rattle.ent_request.specs.declared.cause.Cause.{Cause}
 use Rattle.ent_request.specs.declared.request.Request.{Request}
 use Rattle.ent_request.specs.Held.{Held, looks_in}
@@ -27,19 +25,10 @@ answer_data answer = json.object (
     (json.member (codes "status") (json.string (status_text answer.status))
     (json.member (codes "why") (list_data entry_data answer.why) json.no_members)))))
 
--- whether a cause has a status
-abbrev pub has_status : Status → Cause → Bool
-has_status status cause = (statuses.ghosts).eq cause.status status
-
--- causes, those of a status before the others, both in their order
-abbrev pub those_first : Status → List Cause → List Cause
-those_first status causes =
-    filter (has_status status) causes ++ filter (λ cause. not (has_status status cause)) causes
-
--- why parts of the answer to a request are Indeterminate, in the order of a fresh evaluation: those of its status first,
--- of which one gave it
+-- why parts of the answer to a request are Indeterminate: that which gave its status first, if it is, the others in the
+-- order of a fresh evaluation
 abbrev pub causes_in : Held → Request → List Cause
-causes_in held request = those_first (answer (looks_in held) request).status (causes (looks_in held) request)
+causes_in held request = causes_told (looks_in held) request
 
 -- why parts of the answer to a request of the table are
 abbrev pub causes_of : Held → Triple → List Cause

@@ -1,4 +1,5 @@
--- The history of some lines: their accepted edits, whoever asked for them, and of a session its own accepted marks among them.
+-- The history of some lines: their accepted edits, whoever asked for them, and of a session its own accepted marks
+-- among them.
 use Rattle.std.specs.Prelude.{◌≡◌, ℕ, List, [], ◌∷◌, nat_eq, if◌then◌else◌, Option, Some, None, option_and_then, option_map, filter_map, zip, Ok}
 use Rattle.std.specs.Result.{result_ok, result_unwrap_or}
 use Rattle.ent_json.specs.Line.{data_of}
@@ -70,7 +71,8 @@ pub record Seen : Type 0 where
 abbrev pub seen_by : World → ℕ → Seen
 seen_by w session = record { state = w.state; mark = mark_of w session }
 
--- what it sees next: after an edit, which was accepted, the state that this leads to; after a mark of its own the fresh table of that moment as its mark
+-- what it sees next: after an edit, which was accepted, the state that this leads to; after a mark of its own the fresh
+-- table of that moment as its mark
 abbrev pub next : Seen → Matter → Seen
 next s (edit e) = record s { state = result_unwrap_or (table.step s.state e) s.state }
 next s own_mark = record s { mark = Some (mark_in s.state) }

@@ -62,7 +62,8 @@ null_or_text_at key d = option_and_then text_or_null (get key d)
 
 -- ---- rows
 
--- a row as a line has it: its category's URI, its entity, its attribute, the name of its type, its issuer, if it has one, and its values
+-- a row as a line has it: its category's URI, its entity, its attribute, the name of its type, its issuer, if it has
+-- one, and its values
 pub record AskedRow : Type 0 where
   pub category : List ℕ
   pub entity : List ℕ

@@ -22,8 +22,8 @@ present_alone w n = if nat_eq n w.state.serial then Some (answers_of w.state) el
 abbrev pub added : World → (ℕ → Option AnswerMap) → ℕ → Option AnswerMap
 added w known n = if nat_eq n w.state.serial then Some (answers_of w.state) else left_of w known n
 
--- after an answer that leads to a world: an accepted edit adds the table that it leaves; it and a mark forget those from
--- before the oldest mark; by any other answer they stay
+-- after an answer that leads to a world: an accepted edit adds the table that it leaves; it and a mark forget those
+-- from before the oldest mark; by any other answer they stay
 abbrev pub known_after : World → Answer → (ℕ → Option AnswerMap) → ℕ → Option AnswerMap
 known_after w (replies.accepted changes serial) known = added w known
 known_after w (replies.marked serial) known = left_of w known

@@ -7,7 +7,7 @@ use Rattle.ent_request.specs.declared.answer.Answer.{Answer}
 use Rattle.ent_table.specs.Names.{Triple}
 use Rattle.ent_line.specs.Cells.{decision_text, list_data, reply_data}
 use Rattle.ent_report.specs.declared.counts.Counts.{Counts}
-use Rattle.ent_report.specs.declared.notices.Notice.{Notice}
+use Rattle.ent_table.specs.declared.since.Change.{Change}
 
 -- ---- values
 
@@ -42,7 +42,7 @@ decision_data None = json.null
 decision_data (Some decision) = json.string (decision_text decision)
 
 -- a request with its decisions after and before
-abbrev pub notice_data : Notice → Data
+abbrev pub notice_data : Change Outcome → Data
 notice_data n = json.object (
     json.member (codes "action") (json.string n.action)
     (json.member (codes "after") (decision_data n.after)
@@ -77,11 +77,11 @@ unfoldable pub by_rule_reply : List (List ℕ × List ℕ × List ℕ) → Data
 by_rule_reply found = reply_data (codes "by_rule") (list_data triple_data found)
 
 -- the reply to `notices`
-unfoldable pub notices_reply : List Notice → Data
+unfoldable pub notices_reply : List (Change Outcome) → Data
 notices_reply notices = reply_data (codes "notices") (list_data notice_data notices)
 
 -- the reply to `changes`: notices beside the serial of the present table
-unfoldable pub changes_reply : List Notice → ℕ → Data
+unfoldable pub changes_reply : List (Change Outcome) → ℕ → Data
 changes_reply notices serial = json.object (
     json.member (codes "changes") (list_data notice_data notices)
     (json.member (codes "serial") (count_data serial) json.no_members))

@@ -13,7 +13,8 @@ abbrev pub with_last : List (List ℕ) → List ℕ → List (List ℕ)
 with_last lines [] = lines
 with_last lines (b ∷ bs) = lines ++ (b ∷ bs) ∷ []
 
--- where a call begins and where it leads: the world, the bytes that the reader still has, and those that the writer holds
+-- where a call begins and where it leads: the world, the bytes that the reader still has, and those that the writer
+-- holds
 pub record Ends (W : Type 0) : Type 0 where
   pub start : W
   pub end : W
@@ -30,8 +31,8 @@ pub record Serves {W : Type 0} (Answers : Handling W) (e : Ends W) (lines : List
   pub run : Run Answers e.start handled answers e.end
   pub written : Appends e.wrote e.holds (flat_map line_of answers)
 
--- a text of these lines and this rest was read, and all of them were handled, but of the last one's reply only a front was written;
--- what stands after the last newline was handled only where nothing was left to read
+-- a text of these lines and this rest was read, and all of them were handled, but of the last one's reply only a front
+-- was written; what stands after the last newline was handled only where nothing was left to read
 pub record Breaks {W : Type 0} (Answers : Handling W) (e : Ends W) (lines : List (List ℕ)) (rest : List ℕ) : Type 0 where
   pub text : List ℕ
   pub splits : Splits text lines rest

@@ -22,14 +22,15 @@ pub record AsksNotices (session : ℕ) (line : List ℕ) : Type 0 where
   pub short : length line ≤ line_limit
   pub command : asked_by line ≡ Some (session, asked.question asked.notices)
 
--- two worlds tell a session the same notices: two lines that ask for them have the same reply, unless one of them is refused for want of memory
+-- two worlds tell a session the same notices: two lines that ask for them have the same reply, unless one of them is
+-- refused for want of memory
 pub record TellAlike (session : ℕ) (w v : World) : Type 0 where
   pub notices : changes_told w session ≡ changes_told v session
   pub replies : (line other : List ℕ) (a b : Answer) (x y : World) → AsksNotices session line → AsksNotices session other
       → Answers w line a x → Answers v other b y → (a ≡ b) ⊎ ((a ≡ refused Memory) ⊎ (b ≡ refused Memory))
 
--- two runs from the same state and the same mark of a session, with the same accepted edits and the session's own marks at the same places
--- among them, give it the same notices, whatever other sessions mark or ask
+-- two runs from the same state and the same mark of a session, with the same accepted edits and the session's own marks
+-- at the same places among them, give it the same notices, whatever other sessions mark or ask
 abbrev pub SessionsAreSeparate : Type 0
 SessionsAreSeparate = (session : ℕ) (w other v end : World) (lines others : List (List ℕ)) (answers other_answers : List Answer)
     → AreAlikeTo session w other → Run Answers w lines answers v → Run Answers other others other_answers end

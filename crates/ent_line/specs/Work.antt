@@ -47,8 +47,8 @@ line_work s line = if nat_lt line_limit (length line) then None else asked_work 
 
 -- ---- what becomes of the count
 
--- the count before and after an answer: it stays; or it rose by what is asked for, and by that at most where that is refused, which is for want
--- of memory alone. It rises to the greatest count and stays there
+-- the count before and after an answer: it stays; or it rose by what is asked for, and by that at most where that is
+-- refused, which is for want of memory alone. It rises to the greatest count and stays there
 abbrev pub IsWorked : Option ℕ → ℕ → ℕ → Answer → Type 0
 IsWorked None before after a = after ≡ before
 IsWorked (Some n) before after (replies.refused refusal) = (before ≤ after) × (after ≤ raised before n)

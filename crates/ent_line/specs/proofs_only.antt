@@ -7,3 +7,4 @@ pub mod Refusing
 pub mod Replying
 pub mod Selecting
 pub mod Standing
+pub mod Writing

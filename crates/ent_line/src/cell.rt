@@ -1,16 +1,15 @@
 //! The JSON of cells.
 
-ghost use Rattle.std.specs.Prelude.{◌≡◌, [], ◌∷◌, ◌++◌, IfOk, OnOk, codes, map, string_bytes};
+ghost use Rattle.std.specs.Prelude.{◌≡◌, [], ◌∷◌, ◌++◌, codes};
 ghost use Rattle.json.specs.Token as token;
-ghost use Rattle.serde_json.specs.Written.{compact_text};
 ghost use Rattle.ent_json.specs.Text.{tokens_of};
-ghost use Rattle.ent_json.specs.proofs_only.Text.{items_tokens_of};
 ghost use Rattle.ent_profile.specs.Response.{given_written, response};
 ghost use Rattle.ent_table.specs.Left.{cells_left};
 ghost use Rattle.ent_table.specs.Names.{triple_of};
 ghost use Rattle.ent_held.specs.Paths.{status_text};
 ghost use Rattle.ent_line.specs.Cells.{cell_data, entry_data, list_data, reply_data};
 ghost use Rattle.ent_line.specs.Cells.{cell_reply, decision_text, table_reply};
+ghost use Rattle.ent_line.specs.proofs_only.Writing.{Adds, Spells, Writes, WritesEach};
 
 use ent_combine::{IndKind, Outcome};
 use ent_eval::{Answer, Given, Request, Status, WhyEntry};
@@ -36,7 +35,7 @@ pub(crate) fn decision_text(decision: Outcome) -> &'static str
 
 /// Writes a rule with the path to it.
 fn write_entry(out: &mut JsonText, entry: &WhyEntry) -> Result<(), AllocError>
-    ensures { OnOk result (out.new ≡ out.old ++ tokens_of (entry_data entry.now)) }
+    ensures { Writes (entry_data entry.now) out.old out.new result }
 {
     out.raw("{\"path\":")?;
     write_path(out, entry.path.get().as_slice())?;
@@ -47,7 +46,7 @@ fn write_entry(out: &mut JsonText, entry: &WhyEntry) -> Result<(), AllocError>
 
 /// Writes the rules that gave a decision, to the end of their list.
 fn write_entries(out: &mut JsonText, entries: &[WhyEntry]) -> Result<(), AllocError>
-    ensures { OnOk result (out.new ≡ out.old ++ items_tokens_of (map entry_data entries.now)) }
+    ensures { WritesEach entry_data entries.now out.old out.new result }
 {
     for entry in entries {
         write_entry(out, entry)?;
@@ -57,7 +56,7 @@ fn write_entries(out: &mut JsonText, entries: &[WhyEntry]) -> Result<(), AllocEr
 
 /// Writes the list of the rules that gave a decision.
 fn write_why(out: &mut JsonText, why: &[WhyEntry]) -> Result<(), AllocError>
-    ensures { OnOk result (out.new ≡ out.old ++ tokens_of (list_data entry_data why.now)) }
+    ensures { Writes (list_data entry_data why.now) out.old out.new result }
 {
     out.begin_array()?;
     write_entries(out, why)
@@ -65,8 +64,8 @@ fn write_why(out: &mut JsonText, why: &[WhyEntry]) -> Result<(), AllocError>
 
 /// Writes a decision at its key.
 pub(crate) fn write_decision(out: &mut JsonText, decision: Outcome) -> Result<(), AllocError>
-    ensures { OnOk result (out.new ≡ out.old
-        ++ token.key (codes "decision") ∷ token.string (decision_text decision) ∷ []) }
+    ensures { Adds (token.key (codes "decision") ∷ token.string (decision_text decision) ∷ [])
+        out.old out.new result }
 {
     out.raw("\"decision\":")?;
     out.string(decision_text(decision))
@@ -74,8 +73,8 @@ pub(crate) fn write_decision(out: &mut JsonText, decision: Outcome) -> Result<()
 
 /// Writes a status at its key.
 fn write_status(out: &mut JsonText, status: Status) -> Result<(), AllocError>
-    ensures { OnOk result (out.new ≡ out.old
-        ++ token.key (codes "status") ∷ token.string (status_text status) ∷ []) }
+    ensures { Adds (token.key (codes "status") ∷ token.string (status_text status) ∷ [])
+        out.old out.new result }
 {
     out.raw("\"status\":")?;
     out.string(status_text(status))
@@ -88,9 +87,11 @@ fn write_action(
     action: &str,
     advice: &[Given],
 ) -> Result<(), AllocError>
-    ensures { OnOk result (out.new ≡ out.old ++ token.begin_object
+    ensures { Adds
+        (token.begin_object
         ∷ token.key (codes "action") ∷ token.string action.now
-        ∷ token.key (codes "advice") ∷ tokens_of (list_data given_written advice.now)) }
+        ∷ token.key (codes "advice") ∷ tokens_of (list_data given_written advice.now))
+        out.old out.new result }
 {
     out.raw("{\"action\":")?;
     out.string(action)?;
@@ -105,9 +106,10 @@ pub(crate) fn write_decided(
     decision: Outcome,
     obligations: &[Given],
 ) -> Result<(), AllocError>
-    ensures { OnOk result (out.new ≡ out.old
-        ++ token.key (codes "decision") ∷ token.string (decision_text decision)
-        ∷ token.key (codes "obligations") ∷ tokens_of (list_data given_written obligations.now)) }
+    ensures { Adds
+        (token.key (codes "decision") ∷ token.string (decision_text decision)
+        ∷ token.key (codes "obligations") ∷ tokens_of (list_data given_written obligations.now))
+        out.old out.new result }
 {
     write_decision(out, decision)?;
     out.raw("\"obligations\":")?;
@@ -120,9 +122,10 @@ pub(crate) fn write_names(
     person: &str,
     resource: &str,
 ) -> Result<(), AllocError>
-    ensures { OnOk result (out.new ≡ out.old
-        ++ token.key (codes "person") ∷ token.string person.now
-        ∷ token.key (codes "resource") ∷ token.string resource.now ∷ []) }
+    ensures { Adds
+        (token.key (codes "person") ∷ token.string person.now
+        ∷ token.key (codes "resource") ∷ token.string resource.now ∷ [])
+        out.old out.new result }
 {
     out.raw("\"person\":")?;
     out.string(person)?;
@@ -136,9 +139,11 @@ pub(crate) fn write_reason(
     status: Status,
     why: &[WhyEntry],
 ) -> Result<(), AllocError>
-    ensures { OnOk result (out.new ≡ out.old
-        ++ token.key (codes "status") ∷ token.string (status_text status)
-        ∷ token.key (codes "why") ∷ (tokens_of (list_data entry_data why.now) ++ token.end_object ∷ [])) }
+    ensures { Adds
+        (token.key (codes "status") ∷ token.string (status_text status)
+        ∷ token.key (codes "why") ∷ (tokens_of (list_data entry_data why.now)
+        ++ token.end_object ∷ []))
+        out.old out.new result }
 {
     write_status(out, status)?;
     out.raw("\"why\":")?;
@@ -155,8 +160,8 @@ pub(crate) fn write_cell(
     resource: &str,
     answer: &Answer,
 ) -> Result<(), AllocError>
-    ensures { OnOk result (out.new ≡ out.old
-        ++ tokens_of (cell_data (triple_of person.now action.now resource.now, answer.now))) }
+    ensures { Writes (cell_data (triple_of person.now action.now resource.now, answer.now))
+        out.old out.new result }
 {
     write_action(alloc, out, action, answer.advice.as_slice())?;
     write_decided(alloc, out, answer.decision, answer.obligations.as_slice())?;
@@ -166,7 +171,7 @@ pub(crate) fn write_cell(
 
 /// Writes the cells that are left, to the end of their list.
 fn write_cells(alloc: Global, out: &mut JsonText, cells: Cells<'_>) -> Result<(), AllocError>
-    ensures { OnOk result (out.new ≡ out.old ++ items_tokens_of (map cell_data (cells_left cells.entry))) }
+    ensures { WritesEach cell_data (cells_left cells.entry) out.old out.new result }
 {
     for (person, action, resource, answer) in cells {
         write_cell(alloc, out, person, action, resource, answer)?;
@@ -176,7 +181,7 @@ fn write_cells(alloc: Global, out: &mut JsonText, cells: Cells<'_>) -> Result<()
 
 /// Writes the list of the cells that are left.
 fn write_list(alloc: Global, out: &mut JsonText, cells: Cells<'_>) -> Result<(), AllocError>
-    ensures { OnOk result (out.new ≡ out.old ++ tokens_of (list_data cell_data (cells_left cells.entry))) }
+    ensures { Writes (list_data cell_data (cells_left cells.entry)) out.old out.new result }
 {
     out.begin_array()?;
     write_cells(alloc, out, cells)
@@ -184,8 +189,8 @@ fn write_list(alloc: Global, out: &mut JsonText, cells: Cells<'_>) -> Result<(),
 
 /// Writes the reply to `table`.
 fn write_table(alloc: Global, out: &mut JsonText, cells: Cells<'_>) -> Result<(), AllocError>
-    ensures { OnOk result (out.new ≡ out.old
-        ++ tokens_of (reply_data (codes "table") (list_data cell_data (cells_left cells.entry)))) }
+    ensures { Writes (reply_data (codes "table") (list_data cell_data (cells_left cells.entry)))
+        out.old out.new result }
 {
     out.raw("{\"table\":")?;
     write_list(alloc, out, cells)?;
@@ -201,9 +206,10 @@ fn write_one_cell(
     resource: &str,
     answer: &Answer,
 ) -> Result<(), AllocError>
-    ensures { OnOk result (out.new ≡ out.old
-        ++ tokens_of (reply_data (codes "cell")
-        (cell_data (triple_of person.now action.now resource.now, answer.now)))) }
+    ensures { Writes
+        (reply_data (codes "cell")
+        (cell_data (triple_of person.now action.now resource.now, answer.now)))
+        out.old out.new result }
 {
     out.raw("{\"cell\":")?;
     write_cell(alloc, out, person, action, resource, answer)?;
@@ -212,7 +218,7 @@ fn write_one_cell(
 
 /// The text of the reply to `table`.
 pub(crate) fn table_text(alloc: Global, cells: Cells<'_>) -> Result<String, AllocError>
-    ensures { IfOk result (λ s. string_bytes s ≡ compact_text (table_reply (cells_left cells.entry))) }
+    ensures { Spells (table_reply (cells_left cells.entry)) result }
 {
     let mut out = JsonText::with_room(alloc)?;
     write_table(alloc, &mut out, cells)?;
@@ -227,8 +233,8 @@ pub(crate) fn one_cell_text(
     resource: &str,
     answer: &Answer,
 ) -> Result<String, AllocError>
-    ensures { IfOk result (λ s. string_bytes s
-        ≡ compact_text (cell_reply (triple_of person.now action.now resource.now, answer.now))) }
+    ensures { Spells (cell_reply
+        (triple_of person.now action.now resource.now, answer.now)) result }
 {
     let mut out = JsonText::with_room(alloc)?;
     write_one_cell(alloc, &mut out, person, action, resource, answer)?;
@@ -241,7 +247,7 @@ pub(crate) fn response_text(
     answer: &Answer,
     request: &Request,
 ) -> Result<String, AllocError>
-    ensures { IfOk result (λ s. string_bytes s ≡ compact_text (response answer.now request.now)) }
+    ensures { Spells (response answer.now request.now) result }
 {
     write_response_text(alloc, answer, request)
 }

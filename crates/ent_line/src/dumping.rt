@@ -1,12 +1,10 @@
 //! What the service answers of the lines that make its state anew.
 
-ghost use Rattle.std.specs.Prelude.{◌≡◌, IfOk, string_bytes};
-ghost use Rattle.serde_json.specs.Written.{compact_text};
-ghost use Rattle.ent_line.specs.Answering.{reply_view};
+ghost use Rattle.std.specs.Prelude.{◌≡◌};
 ghost use Rattle.ent_line.specs.Commands.{dump_told, format_told};
 ghost use Rattle.ent_line.specs.Dumping.{can_tell, format_reply, is_moment, is_version};
-ghost use Rattle.ent_line.specs.proofs_only.Replying.{Tells};
-ghost use Rattle.ent_line.specs.Replies.{answered};
+ghost use Rattle.ent_line.specs.proofs_only.Replying.{Tells, TellsThat};
+ghost use Rattle.ent_line.specs.proofs_only.Writing.{Spells};
 
 use crate::refusal::Refusal;
 use crate::reply::Reply;
@@ -41,7 +39,7 @@ fn can_tell(version: u64, environment: Environment) -> bool
 /// The text of the reply to `format`: the version.
 #[tactic(auto, unfolding(crate::specs::Dumping::format_reply))]
 fn format_text(alloc: Global, version: u64) -> Result<String, AllocError>
-    ensures { IfOk result (λ s. string_bytes s ≡ compact_text (format_reply version)) }
+    ensures { Spells (format_reply version) result }
 {
     let mut number = Buffer::new();
     let mut text = String::from_str(alloc, "{\"format\":")?;
@@ -54,7 +52,7 @@ impl<A: Attributes, P: Policies> Service<A, P> {
     /// `format`.
     #[tactic(auto, unfolding(crate::specs::Commands::format_told))]
     pub(crate) fn format(&self, version: Option<u64>) -> Result<Reply, AllocError>
-        ensures { IfOk result (λ reply. reply_view reply ≡ answered (format_told version)) }
+        ensures { TellsThat (format_told version) result }
     {
         let Some(version) = version else {
             return Ok(Reply::Refused(Refusal::BadValue));

@@ -1,8 +1,7 @@
 //! Explanations: an answer beside why parts of it are Indeterminate, and the look-ups that it rests on.
 
-ghost use Rattle.std.specs.Prelude.{◌≡◌, [], ◌∷◌, ◌++◌, IfOk, OnOk, codes, decimal, string_bytes};
+ghost use Rattle.std.specs.Prelude.{[], ◌∷◌, ◌++◌, codes, decimal};
 ghost use Rattle.json.specs.Token as token;
-ghost use Rattle.serde_json.specs.Written.{compact_text};
 ghost use Rattle.ent_eval.specs.LooksOf.{held_by};
 ghost use Rattle.ent_held.specs.Causes.{causes_data, untold};
 ghost use Rattle.ent_held.specs.Facts.{facts_data};
@@ -11,26 +10,24 @@ ghost use Rattle.ent_table.specs.Names.{triple_of};
 ghost use Rattle.ent_line.specs.Asked as asked;
 ghost use Rattle.ent_line.specs.Cells.{cell_data};
 ghost use Rattle.ent_line.specs.Commands.{cell_explained, request_explained};
-ghost use Rattle.ent_line.specs.Explained.{answer_data, explained_reply, those_first};
-ghost use Rattle.ent_line.specs.Replies.{answered};
-ghost use Rattle.ent_line.specs.Work.{command_work};
-ghost use Rattle.ent_line.specs.proofs_only.Replying.{Keeps, Replies, Works};
+ghost use Rattle.ent_line.specs.Explained.{answer_data, explained_reply};
+ghost use Rattle.ent_line.specs.proofs_only.Replying.{Answers, Keeps, WorksFor};
+ghost use Rattle.ent_line.specs.proofs_only.Writing.{Adds, Spells, Writes};
 
 use crate::cell::{write_cell, write_decided, write_reason};
 use crate::refusal::Refusal;
 use crate::reply::Reply;
 use crate::service::Service;
-use ent_eval::{Answer, Cause, Explained, Pdp, Reads, Request, Status};
+use ent_eval::{Answer, Cause, Explained, Pdp, Reads, Request};
 use ent_finder::{Attributes, Policies};
 use ent_held::{untold, write_causes, write_facts};
 use ent_json::{JsonText, JsonTree, write_count};
 use ent_profile::{RequestFault, read_request, write_given_text};
-use ent_values::Items;
 use std::alloc::{AllocError, Global};
 
 /// Writes the answer to a request as a cell has it, without names.
 fn write_answer(alloc: Global, out: &mut JsonText, answer: &Answer) -> Result<(), AllocError>
-    ensures { OnOk result (out.new ≡ out.old ++ tokens_of (answer_data answer.now)) }
+    ensures { Writes (answer_data answer.now) out.old out.new result }
 {
     out.begin_object()?;
     out.key("advice")?;
@@ -41,8 +38,10 @@ fn write_answer(alloc: Global, out: &mut JsonText, answer: &Answer) -> Result<()
 
 /// Begins the reply, to where its answer stands.
 fn begin_reply(out: &mut JsonText) -> Result<(), AllocError>
-    ensures { OnOk result (out.new ≡ out.old ++ token.begin_object ∷ token.key (codes "explain")
-        ∷ token.begin_object ∷ token.key (codes "answer") ∷ []) }
+    ensures { Adds
+        (token.begin_object ∷ token.key (codes "explain")
+        ∷ token.begin_object ∷ token.key (codes "answer") ∷ [])
+        out.old out.new result }
 {
     out.begin_object()?;
     out.key("explain")?;
@@ -59,10 +58,12 @@ fn end_reply<A: Attributes, P: Policies>(
     causes: &[Cause],
     reads: Reads,
 ) -> Result<(), AllocError>
-    ensures { OnOk result (out.new ≡ out.old ++ token.key (codes "causes") ∷ (tokens_of (causes_data causes.now)
-        ++ token.key (codes "facts") ∷ (tokens_of (facts_data whole (held_by A.sources P.slots pdp.now) reads)
+    ensures { Adds
+        (token.key (codes "causes") ∷ (tokens_of (causes_data causes.now)
+        ++ token.key (codes "facts") ∷ (tokens_of (facts_data whole (held_by pdp.now) reads)
         ++ token.key (codes "more") ∷ token.number (decimal (untold causes.now))
-        ∷ token.end_object ∷ token.end_object ∷ []))) }
+        ∷ token.end_object ∷ token.end_object ∷ [])))
+        out.old out.new result }
 {
     out.key("causes")?;
     write_causes(alloc, out, causes)?;
@@ -73,27 +74,6 @@ fn end_reply<A: Attributes, P: Policies>(
     out.end_object()
 }
 
-/// Causes, those of a status before the others, both in their order.
-fn those_first(
-    alloc: Global,
-    status: Status,
-    causes: Items<Cause>,
-) -> Result<Items<Cause>, AllocError>
-    ensures { IfOk result (λ told. told ≡ those_first status causes) }
-{
-    let mut first = Items::new(alloc);
-    let mut others = Items::new(alloc);
-    for cause in causes.into_vec() {
-        if cause.status == status {
-            first.push(cause)?;
-        } else {
-            others.push(cause)?;
-        }
-    }
-    first.append(others)?;
-    Ok(first)
-}
-
 /// The text of the reply to `explain` of a cell.
 fn cell_explained_text<A: Attributes, P: Policies>(
     alloc: Global,
@@ -102,11 +82,10 @@ fn cell_explained_text<A: Attributes, P: Policies>(
     who: (&str, &str, &str),
     explained: Explained,
 ) -> Result<String, AllocError>
-    ensures { IfOk result (λ s. string_bytes s
-        ≡ compact_text (explained_reply
+    ensures { Spells (explained_reply
         (cell_data (triple_of who.entry.0.now who.entry.1.now who.entry.2.now, explained.answer))
-        (those_first explained.answer.status explained.causes)
-        (facts_data whole (held_by A.sources P.slots pdp.now) explained.reads))) }
+        explained.causes
+        (facts_data whole (held_by pdp.now) explained.reads)) result }
 {
     let (person, action, resource) = who;
     let Explained {
@@ -114,7 +93,6 @@ fn cell_explained_text<A: Attributes, P: Policies>(
         reads,
         causes,
     } = explained;
-    let causes = those_first(alloc, answer.status, causes)?;
     let mut out = JsonText::with_room(alloc)?;
     begin_reply(&mut out)?;
     write_cell(alloc, &mut out, person, action, resource, &answer)?;
@@ -129,17 +107,16 @@ fn answer_explained_text<A: Attributes, P: Policies>(
     whole: bool,
     explained: Explained,
 ) -> Result<String, AllocError>
-    ensures { IfOk result (λ s. string_bytes s
-        ≡ compact_text (explained_reply (answer_data explained.answer)
-        (those_first explained.answer.status explained.causes)
-        (facts_data whole (held_by A.sources P.slots pdp.now) explained.reads))) }
+    ensures { Spells (explained_reply
+        (answer_data explained.answer)
+        explained.causes
+        (facts_data whole (held_by pdp.now) explained.reads)) result }
 {
     let Explained {
         answer,
         reads,
         causes,
     } = explained;
-    let causes = those_first(alloc, answer.status, causes)?;
     let mut out = JsonText::with_room(alloc)?;
     begin_reply(&mut out)?;
     write_answer(alloc, &mut out, &answer)?;
@@ -157,11 +134,11 @@ impl<A: Attributes, P: Policies> Service<A, P> {
         action: &str,
         resource: &str,
     ) -> Result<Reply, AllocError>
-        ensures reply { Replies
-            (λ w. (answered (cell_explained whole w.state (triple_of person.now action.now resource.now)), w))
+        ensures reply { Answers
+            (λ w. cell_explained whole w.state (triple_of person.now action.now resource.now))
             self.old self.new result }
-        ensures work { Works (λ s. command_work s
-            (asked.question (asked.explain_cell whole (triple_of person.now action.now resource.now))))
+        ensures work { WorksFor
+            (asked.explain_cell whole (triple_of person.now action.now resource.now))
             self.old self.new result }
         ensures kept { Keeps self.old self.new }
     {
@@ -183,10 +160,10 @@ impl<A: Attributes, P: Policies> Service<A, P> {
         whole: bool,
         json: &J,
     ) -> Result<Reply, AllocError>
-        ensures reply { Replies (λ w. (answered (request_explained whole w.state (J.content json.now)), w))
+        ensures reply { Answers (λ w. request_explained whole w.state (J.content json.now))
             self.old self.new result }
-        ensures work { Works
-            (λ s. command_work s (asked.question (asked.explain whole (J.content json.now)))) self.old self.new result }
+        ensures work { WorksFor (asked.explain whole (J.content json.now))
+            self.old self.new result }
         ensures kept { Keeps self.old self.new }
     {
         match read_request(self.alloc, json) {

@@ -1,9 +1,6 @@
 //! The cells of which a part failed: the reply to `faults`.
 
-ghost use Rattle.std.specs.Prelude.{◌≡◌, ◌++◌, IfOk, OnOk, codes, map, string_bytes};
-ghost use Rattle.serde_json.specs.Written.{compact_text};
-ghost use Rattle.ent_json.specs.Text.{tokens_of};
-ghost use Rattle.ent_json.specs.proofs_only.Text.{items_tokens_of};
+ghost use Rattle.std.specs.Prelude.{codes};
 ghost use Rattle.ent_table.specs.Left.{judged_left};
 ghost use Rattle.ent_table.specs.Names.{triple_of};
 ghost use Rattle.ent_line.specs.Cells.{list_data, reply_data};
@@ -11,6 +8,7 @@ ghost use Rattle.ent_line.specs.Commands.{faults_told};
 ghost use Rattle.ent_line.specs.Reports.{fault_data, faults_reply};
 ghost use Rattle.ent_line.specs.proofs_only.Failing.{failed_in};
 ghost use Rattle.ent_line.specs.proofs_only.Replying.{Tells};
+ghost use Rattle.ent_line.specs.proofs_only.Writing.{Spells, Writes, WritesEach};
 
 use crate::cell::{write_decision, write_names};
 use crate::reply::Reply;
@@ -30,8 +28,8 @@ fn write_fault(
     resource: &str,
     answer: &Answer,
 ) -> Result<(), AllocError>
-    ensures { OnOk result (out.new ≡ out.old
-        ++ tokens_of (fault_data (triple_of person.now action.now resource.now, answer.now))) }
+    ensures { Writes (fault_data (triple_of person.now action.now resource.now, answer.now))
+        out.old out.new result }
 {
     out.begin_object()?;
     write_text(out, "action", action)?;
@@ -42,8 +40,7 @@ fn write_fault(
 
 /// Writes those of the cells that are left of which a part failed, to the end of their list.
 fn write_failed(out: &mut JsonText, cells: Judged<'_>) -> Result<(), AllocError>
-    ensures { OnOk result (out.new ≡ out.old
-        ++ items_tokens_of (map fault_data (failed_in (judged_left cells.entry)))) }
+    ensures { WritesEach fault_data (failed_in (judged_left cells.entry)) out.old out.new result }
 {
     for (person, action, resource, answer, failed) in cells {
         if failed {
@@ -55,8 +52,9 @@ fn write_failed(out: &mut JsonText, cells: Judged<'_>) -> Result<(), AllocError>
 
 /// Writes the reply to `faults`.
 fn write_reply(out: &mut JsonText, cells: Judged<'_>) -> Result<(), AllocError>
-    ensures { OnOk result (out.new ≡ out.old ++ tokens_of (reply_data (codes "faults")
-        (list_data fault_data (failed_in (judged_left cells.entry))))) }
+    ensures { Writes
+        (reply_data (codes "faults") (list_data fault_data (failed_in (judged_left cells.entry))))
+        out.old out.new result }
 {
     begin_list(out, "faults")?;
     write_failed(out, cells)?;
@@ -65,7 +63,7 @@ fn write_reply(out: &mut JsonText, cells: Judged<'_>) -> Result<(), AllocError>
 
 /// The text of the reply to `faults`.
 fn faults_text(alloc: Global, cells: Judged<'_>) -> Result<String, AllocError>
-    ensures { IfOk result (λ s. string_bytes s ≡ compact_text (faults_reply (failed_in (judged_left cells.entry)))) }
+    ensures { Spells (faults_reply (failed_in (judged_left cells.entry))) result }
 {
     let mut out = JsonText::with_room(alloc)?;
     write_reply(&mut out, cells)?;

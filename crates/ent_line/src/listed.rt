@@ -1,14 +1,14 @@
 //! What the service answers of its lists and its limits.
 
-ghost use Rattle.std.specs.Prelude.{◌≡◌, ◌++◌, ◌∷◌, IfOk, OnOk, codes, drop, string_bytes, take};
+ghost use Rattle.std.specs.Prelude.{◌≡◌, ◌∷◌, codes, drop, take};
 ghost use Rattle.json.specs.Token as token;
 ghost use Rattle.serde_json.specs.Data as json;
-ghost use Rattle.serde_json.specs.Written.{compact_text};
 ghost use Rattle.ent_json.specs.Text.{tokens_of};
 ghost use Rattle.ent_line.specs.Cells.{list_data, reply_data};
 ghost use Rattle.ent_line.specs.Commands.{limits_told, names_told};
 ghost use Rattle.ent_line.specs.Listed.{limit_data, limits_data, limits_reply, names_reply};
 ghost use Rattle.ent_line.specs.proofs_only.Replying.{Tells};
+ghost use Rattle.ent_line.specs.proofs_only.Writing.{Adds, Spells, Writes};
 
 use crate::refusal::Refusal;
 use crate::reply::Reply;
@@ -23,7 +23,8 @@ use std::alloc::{AllocError, Global};
 
 /// Writes a limit at a key, and how much of it is taken.
 fn write_limit(out: &mut JsonText, key: &str, most: usize, taken: u64) -> Result<(), AllocError>
-    ensures { OnOk result (out.new ≡ out.old ++ token.key key.now ∷ tokens_of (limit_data most taken)) }
+    ensures { Adds (token.key key.now ∷ tokens_of (limit_data most taken))
+        out.old out.new result }
 {
     out.key(key)?;
     out.begin_object()?;
@@ -37,7 +38,7 @@ fn write_limits<A: Attributes, P: Policies>(
     out: &mut JsonText,
     review: &Review<A, P>,
 ) -> Result<(), AllocError>
-    ensures { OnOk result (out.new ≡ out.old ++ tokens_of (limits_data review.now.state)) }
+    ensures { Writes (limits_data review.now.state) out.old out.new result }
 {
     let limits = review.limits();
     let documents = document_count(review.pdp().policies())?;
@@ -58,8 +59,8 @@ fn write_limits_reply<A: Attributes, P: Policies>(
     out: &mut JsonText,
     review: &Review<A, P>,
 ) -> Result<(), AllocError>
-    ensures { OnOk result (out.new
-        ≡ out.old ++ tokens_of (reply_data (codes "limits") (limits_data review.now.state))) }
+    ensures { Writes (reply_data (codes "limits") (limits_data review.now.state))
+        out.old out.new result }
 {
     out.begin_object()?;
     out.key("limits")?;
@@ -72,7 +73,7 @@ fn limits_text<A: Attributes, P: Policies>(
     alloc: Global,
     review: &Review<A, P>,
 ) -> Result<String, AllocError>
-    ensures { IfOk result (λ s. string_bytes s ≡ compact_text (limits_reply review.now.state)) }
+    ensures { Spells (limits_reply review.now.state) result }
 {
     let mut out = JsonText::with_room(alloc)?;
     write_limits_reply(&mut out, review)?;
@@ -81,8 +82,8 @@ fn limits_text<A: Attributes, P: Policies>(
 
 /// Writes the reply to `names`.
 fn write_names_reply(out: &mut JsonText, names: &[Text]) -> Result<(), AllocError>
-    ensures { OnOk result (out.new
-        ≡ out.old ++ tokens_of (reply_data (codes "names") (list_data json.string names.now))) }
+    ensures { Writes (reply_data (codes "names") (list_data json.string names.now))
+        out.old out.new result }
 {
     begin_list(out, "names")?;
     write_people(out, names)?;
@@ -91,7 +92,7 @@ fn write_names_reply(out: &mut JsonText, names: &[Text]) -> Result<(), AllocErro
 
 /// The text of the reply to `names`.
 fn names_text(alloc: Global, names: &[Text]) -> Result<String, AllocError>
-    ensures { IfOk result (λ s. string_bytes s ≡ compact_text (names_reply names.now)) }
+    ensures { Spells (names_reply names.now) result }
 {
     let mut out = JsonText::with_room(alloc)?;
     write_names_reply(&mut out, names)?;

@@ -2,14 +2,14 @@
 
 ghost use Rattle.std.specs.Prelude.{◌≡◌, Result};
 ghost use Rattle.std.specs.List.{flat_map};
-ghost use Rattle.ent_line.specs.Pieces.{Sends};
+ghost use Rattle.ent_line.specs.proofs_only.Writing.{SendsTo};
 
 use crate::fault::ServeFault;
 use std::io::{ErrorKind, Write};
 
 /// Writes all of the bytes, or a front of them.
 pub(crate) fn send<W: Write>(writer: &mut W, bytes: &[u8]) -> Result<(), ServeFault>
-    ensures { Sends (W.contents writer.old) (W.contents writer.new) bytes.now result }
+    ensures { SendsTo W.contents writer.old writer.new bytes.now result }
 {
     let mut sent = 0;
     for _ in 0..u64::MAX {
@@ -35,7 +35,7 @@ pub(crate) fn send<W: Write>(writer: &mut W, bytes: &[u8]) -> Result<(), ServeFa
 
 /// Writes the parts one after the other, or a front of them where the writer fails. Takes no memory.
 pub fn send_all<W: Write>(writer: &mut W, parts: &[&[u8]]) -> Result<(), ServeFault>
-    ensures { Sends (W.contents writer.old) (W.contents writer.new) (flat_map (λ p. p.now) parts.now) result }
+    ensures { SendsTo W.contents writer.old writer.new (flat_map (λ p. p.now) parts.now) result }
 {
     for part in parts {
         send(writer, part)?;

@@ -2,8 +2,8 @@
 
 ghost use Rattle.std.specs.Prelude.{◌≡◌, Result, Some, None};
 ghost use Rattle.ent_line.specs.Answering.{reply_view};
-ghost use Rattle.ent_line.specs.Pieces.{Sends};
 ghost use Rattle.ent_line.specs.Replies.{accepted, marked, refusal_line, line_of};
+ghost use Rattle.ent_line.specs.proofs_only.Writing.{SendsTo};
 
 use crate::fault::ServeFault;
 use crate::output::send_all;
@@ -27,7 +27,7 @@ pub enum Reply {
 
 /// Writes the line of an accepted edit.
 fn send_accepted<W: Write>(writer: &mut W, changes: u64, serial: u64) -> Result<(), ServeFault>
-    ensures { Sends (W.contents writer.old) (W.contents writer.new) (line_of (accepted changes serial)) result }
+    ensures { SendsTo W.contents writer.old writer.new (line_of (accepted changes serial)) result }
 {
     let mut first = Buffer::new();
     let mut second = Buffer::new();
@@ -41,7 +41,7 @@ fn send_accepted<W: Write>(writer: &mut W, changes: u64, serial: u64) -> Result<
 
 /// Writes the line of a refusal that has no sub-code.
 fn send_refused<W: Write>(writer: &mut W, code: u8) -> Result<(), ServeFault>
-    ensures { Sends (W.contents writer.old) (W.contents writer.new) (refusal_line code None) result }
+    ensures { SendsTo W.contents writer.old writer.new (refusal_line code None) result }
 {
     let mut first = Buffer::new();
     let start = "{\"refused\":".as_bytes();
@@ -52,7 +52,7 @@ fn send_refused<W: Write>(writer: &mut W, code: u8) -> Result<(), ServeFault>
 
 /// Writes the line of a refused document.
 fn send_sub<W: Write>(writer: &mut W, code: u8, sub: u8) -> Result<(), ServeFault>
-    ensures { Sends (W.contents writer.old) (W.contents writer.new) (refusal_line code (Some sub)) result }
+    ensures { SendsTo W.contents writer.old writer.new (refusal_line code (Some sub)) result }
 {
     let mut first = Buffer::new();
     let mut second = Buffer::new();
@@ -66,7 +66,7 @@ fn send_sub<W: Write>(writer: &mut W, code: u8, sub: u8) -> Result<(), ServeFaul
 
 /// Writes the line of a mark.
 fn send_marked<W: Write>(writer: &mut W, serial: u64) -> Result<(), ServeFault>
-    ensures { Sends (W.contents writer.old) (W.contents writer.new) (line_of (marked serial)) result }
+    ensures { SendsTo W.contents writer.old writer.new (line_of (marked serial)) result }
 {
     let mut first = Buffer::new();
     let start = "{\"mark\":".as_bytes();
@@ -77,7 +77,7 @@ fn send_marked<W: Write>(writer: &mut W, serial: u64) -> Result<(), ServeFault>
 
 /// Writes the reply's line with its newline, or a front of it where the writer fails. Takes no memory.
 pub(crate) fn send_reply<W: Write>(writer: &mut W, reply: &Reply) -> Result<(), ServeFault>
-    ensures { Sends (W.contents writer.old) (W.contents writer.new) (line_of (reply_view reply.now)) result }
+    ensures { SendsTo W.contents writer.old writer.new (line_of (reply_view reply.now)) result }
 {
     match reply {
         Reply::Accepted(accepted) => send_accepted(writer, accepted.changes, accepted.serial),

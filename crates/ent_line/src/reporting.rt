@@ -1,12 +1,10 @@
 //! What the service answers by reports of decisions, and by the marks of sessions.
 
-ghost use Rattle.std.specs.Prelude.{◌≡◌, ◌<◌, IfOk};
+ghost use Rattle.std.specs.Prelude.{◌≡◌, ◌<◌};
 ghost use Rattle.std.specs.Option.{option_copied};
-ghost use Rattle.ent_line.specs.Answering.{reply_view};
-ghost use Rattle.ent_line.specs.proofs_only.Replying.{Keeps, RemembersBy, Replies, Tells};
+ghost use Rattle.ent_line.specs.proofs_only.Replying.{Answers, Keeps, RemembersBy, Replies, Tells, TellsThat};
 ghost use Rattle.ent_line.specs.Commands.{by_rule_told, can_told, changes_told, counts_told};
 ghost use Rattle.ent_line.specs.Commands.{since_told, table_marked, who_told, work_told};
-ghost use Rattle.ent_line.specs.Replies.{answered};
 ghost use Rattle.ent_report.specs.Known.{known_of};
 
 use crate::refusal::Refusal;
@@ -23,7 +21,7 @@ impl<A: Attributes, P: Policies> Service<A, P> {
     /// `counts`. They are kept until the next edit.
     #[tactic(auto, unfolding(crate::specs::Commands::counts_told))]
     pub(crate) fn counts(&mut self) -> Result<Reply, AllocError>
-        ensures reply { Replies (λ w. (answered (counts_told w.state), w)) self.old self.new result }
+        ensures reply { Answers (λ w. counts_told w.state) self.old self.new result }
         ensures work { self.new.evaluations ≡ self.old.evaluations }
         ensures kept { Keeps self.old self.new }
     {
@@ -129,7 +127,7 @@ impl<A: Attributes, P: Policies> Service<A, P> {
     /// `work`.
     #[tactic(auto, unfolding(crate::specs::Commands::work_told))]
     pub(crate) fn work(&self) -> Result<Reply, AllocError>
-        ensures { IfOk result (λ reply. reply_view reply ≡ answered (work_told self.now.evaluations)) }
+        ensures { TellsThat (work_told self.now.evaluations) result }
     {
         let text = work_text(self.alloc, self.desk.review().evaluations())?;
         Ok(Reply::Text(text))

@@ -1,15 +1,14 @@
 //! The JSON of reports and notices.
 
-ghost use Rattle.std.specs.Prelude.{◌≡◌, [], ◌∷◌, ◌++◌, IfOk, OnOk, codes, map, string_bytes};
+ghost use Rattle.std.specs.Prelude.{[], ◌∷◌, ◌++◌, codes};
 ghost use Rattle.json.specs.Token as token;
 ghost use Rattle.serde_json.specs.Data as json;
-ghost use Rattle.serde_json.specs.Written.{compact_text};
 ghost use Rattle.ent_json.specs.Text.{tokens_of};
-ghost use Rattle.ent_json.specs.proofs_only.Text.{items_tokens_of};
 ghost use Rattle.ent_line.specs.Cells.{list_data, reply_data};
 ghost use Rattle.ent_line.specs.Reports.{counts_data, decision_data, notice_data, pair_data, triple_data};
 ghost use Rattle.ent_line.specs.Reports.{by_rule_reply, can_reply, changes_reply, counts_reply, notices_reply};
 ghost use Rattle.ent_line.specs.Reports.{who_reply, work_reply};
+ghost use Rattle.ent_line.specs.proofs_only.Writing.{Adds, Spells, Writes, WritesEach};
 
 use crate::cell::decision_text;
 use ent_combine::Outcome;
@@ -21,7 +20,7 @@ use std::alloc::{AllocError, Global};
 
 /// Writes how many cells have each decision.
 fn write_counts(out: &mut JsonText, counts: Counts) -> Result<(), AllocError>
-    ensures { OnOk result (out.new ≡ out.old ++ tokens_of (counts_data counts)) }
+    ensures { Writes (counts_data counts) out.old out.new result }
 {
     out.begin_object()?;
     write_count(out, "Deny", counts.deny)?;
@@ -33,7 +32,7 @@ fn write_counts(out: &mut JsonText, counts: Counts) -> Result<(), AllocError>
 
 /// Writes an action and a resource.
 fn write_pair(out: &mut JsonText, action: &str, resource: &str) -> Result<(), AllocError>
-    ensures { OnOk result (out.new ≡ out.old ++ tokens_of (pair_data (action.now, resource.now))) }
+    ensures { Writes (pair_data (action.now, resource.now)) out.old out.new result }
 {
     out.begin_object()?;
     write_text(out, "action", action)?;
@@ -48,7 +47,7 @@ fn write_triple(
     action: &str,
     resource: &str,
 ) -> Result<(), AllocError>
-    ensures { OnOk result (out.new ≡ out.old ++ tokens_of (triple_data (person.now, action.now, resource.now))) }
+    ensures { Writes (triple_data (person.now, action.now, resource.now)) out.old out.new result }
 {
     out.begin_object()?;
     write_text(out, "action", action)?;
@@ -59,7 +58,7 @@ fn write_triple(
 
 /// Writes a decision, null for a request that isn't listed.
 fn write_decision(out: &mut JsonText, decision: Option<Outcome>) -> Result<(), AllocError>
-    ensures { OnOk result (out.new ≡ out.old ++ tokens_of (decision_data decision)) }
+    ensures { Writes (decision_data decision) out.old out.new result }
 {
     match decision {
         None => out.null(),
@@ -69,10 +68,12 @@ fn write_decision(out: &mut JsonText, decision: Option<Outcome>) -> Result<(), A
 
 /// Begins a notice: its action and its decisions.
 fn write_decisions(out: &mut JsonText, notice: &Notice) -> Result<(), AllocError>
-    ensures { OnOk result (out.new ≡ out.old ++ token.begin_object
+    ensures { Adds
+        (token.begin_object
         ∷ token.key (codes "action") ∷ token.string notice.now.action
         ∷ token.key (codes "after") ∷ (tokens_of (decision_data notice.now.after)
-        ++ token.key (codes "before") ∷ tokens_of (decision_data notice.now.before))) }
+        ++ token.key (codes "before") ∷ tokens_of (decision_data notice.now.before)))
+        out.old out.new result }
 {
     out.raw("{\"action\":")?;
     out.string(notice.action.as_str())?;
@@ -84,7 +85,7 @@ fn write_decisions(out: &mut JsonText, notice: &Notice) -> Result<(), AllocError
 
 /// Writes a notice.
 fn write_notice(out: &mut JsonText, notice: &Notice) -> Result<(), AllocError>
-    ensures { OnOk result (out.new ≡ out.old ++ tokens_of (notice_data notice.now)) }
+    ensures { Writes (notice_data notice.now) out.old out.new result }
 {
     write_decisions(out, notice)?;
     out.raw("\"person\":")?;
@@ -96,7 +97,7 @@ fn write_notice(out: &mut JsonText, notice: &Notice) -> Result<(), AllocError>
 
 /// Writes actions and resources, to the end of their list.
 fn write_pairs(out: &mut JsonText, found: &[(Text, Text)]) -> Result<(), AllocError>
-    ensures { OnOk result (out.new ≡ out.old ++ items_tokens_of (map pair_data found.now)) }
+    ensures { WritesEach pair_data found.now out.old out.new result }
 {
     for (action, resource) in found {
         write_pair(out, action.as_str(), resource.as_str())?;
@@ -106,7 +107,7 @@ fn write_pairs(out: &mut JsonText, found: &[(Text, Text)]) -> Result<(), AllocEr
 
 /// Writes names, to the end of their list.
 pub(crate) fn write_people(out: &mut JsonText, people: &[Text]) -> Result<(), AllocError>
-    ensures { OnOk result (out.new ≡ out.old ++ items_tokens_of (map json.string people.now)) }
+    ensures { WritesEach json.string people.now out.old out.new result }
 {
     for person in people {
         out.string(person.as_str())?;
@@ -116,7 +117,7 @@ pub(crate) fn write_people(out: &mut JsonText, people: &[Text]) -> Result<(), Al
 
 /// Writes requests, to the end of their list.
 fn write_triples(out: &mut JsonText, found: &[(Text, Text, Text)]) -> Result<(), AllocError>
-    ensures { OnOk result (out.new ≡ out.old ++ items_tokens_of (map triple_data found.now)) }
+    ensures { WritesEach triple_data found.now out.old out.new result }
 {
     for (person, action, resource) in found {
         write_triple(out, person.as_str(), action.as_str(), resource.as_str())?;
@@ -126,7 +127,7 @@ fn write_triples(out: &mut JsonText, found: &[(Text, Text, Text)]) -> Result<(),
 
 /// Writes notices, to the end of their list.
 fn write_notices(out: &mut JsonText, notices: &[Notice]) -> Result<(), AllocError>
-    ensures { OnOk result (out.new ≡ out.old ++ items_tokens_of (map notice_data notices.now)) }
+    ensures { WritesEach notice_data notices.now out.old out.new result }
 {
     for notice in notices {
         write_notice(out, notice)?;
@@ -136,7 +137,7 @@ fn write_notices(out: &mut JsonText, notices: &[Notice]) -> Result<(), AllocErro
 
 /// Writes the reply to `counts`.
 fn write_counts_reply(out: &mut JsonText, counts: Counts) -> Result<(), AllocError>
-    ensures { OnOk result (out.new ≡ out.old ++ tokens_of (reply_data (codes "counts") (counts_data counts))) }
+    ensures { Writes (reply_data (codes "counts") (counts_data counts)) out.old out.new result }
 {
     out.begin_object()?;
     out.key("counts")?;
@@ -146,7 +147,8 @@ fn write_counts_reply(out: &mut JsonText, counts: Counts) -> Result<(), AllocErr
 
 /// Begins a reply with a list.
 pub(crate) fn begin_list(out: &mut JsonText, name: &str) -> Result<(), AllocError>
-    ensures { OnOk result (out.new ≡ out.old ++ token.begin_object ∷ token.key name.now ∷ token.begin_array ∷ []) }
+    ensures { Adds (token.begin_object ∷ token.key name.now ∷ token.begin_array ∷ [])
+        out.old out.new result }
 {
     out.begin_object()?;
     out.key(name)?;
@@ -155,8 +157,8 @@ pub(crate) fn begin_list(out: &mut JsonText, name: &str) -> Result<(), AllocErro
 
 /// Writes the reply to `can`.
 fn write_can_reply(out: &mut JsonText, found: &[(Text, Text)]) -> Result<(), AllocError>
-    ensures { OnOk result (out.new ≡ out.old
-        ++ tokens_of (reply_data (codes "can") (list_data pair_data found.now))) }
+    ensures { Writes (reply_data (codes "can") (list_data pair_data found.now))
+        out.old out.new result }
 {
     begin_list(out, "can")?;
     write_pairs(out, found)?;
@@ -165,8 +167,8 @@ fn write_can_reply(out: &mut JsonText, found: &[(Text, Text)]) -> Result<(), All
 
 /// Writes the reply to `who`.
 fn write_who_reply(out: &mut JsonText, people: &[Text]) -> Result<(), AllocError>
-    ensures { OnOk result (out.new ≡ out.old
-        ++ tokens_of (reply_data (codes "who") (list_data json.string people.now))) }
+    ensures { Writes (reply_data (codes "who") (list_data json.string people.now))
+        out.old out.new result }
 {
     begin_list(out, "who")?;
     write_people(out, people)?;
@@ -175,8 +177,8 @@ fn write_who_reply(out: &mut JsonText, people: &[Text]) -> Result<(), AllocError
 
 /// Writes the reply to `by_rule`.
 fn write_by_rule_reply(out: &mut JsonText, found: &[(Text, Text, Text)]) -> Result<(), AllocError>
-    ensures { OnOk result (out.new ≡ out.old
-        ++ tokens_of (reply_data (codes "by_rule") (list_data triple_data found.now))) }
+    ensures { Writes (reply_data (codes "by_rule") (list_data triple_data found.now))
+        out.old out.new result }
 {
     begin_list(out, "by_rule")?;
     write_triples(out, found)?;
@@ -185,8 +187,8 @@ fn write_by_rule_reply(out: &mut JsonText, found: &[(Text, Text, Text)]) -> Resu
 
 /// Writes the reply to `notices`.
 fn write_notices_reply(out: &mut JsonText, notices: &[Notice]) -> Result<(), AllocError>
-    ensures { OnOk result (out.new ≡ out.old
-        ++ tokens_of (reply_data (codes "notices") (list_data notice_data notices.now))) }
+    ensures { Writes (reply_data (codes "notices") (list_data notice_data notices.now))
+        out.old out.new result }
 {
     begin_list(out, "notices")?;
     write_notices(out, notices)?;
@@ -199,7 +201,7 @@ fn write_changes_reply(
     notices: &[Notice],
     serial: u64,
 ) -> Result<(), AllocError>
-    ensures { OnOk result (out.new ≡ out.old ++ tokens_of (changes_reply notices.now serial)) }
+    ensures { Writes (changes_reply notices.now serial) out.old out.new result }
 {
     begin_list(out, "changes")?;
     write_notices(out, notices)?;
@@ -209,7 +211,7 @@ fn write_changes_reply(
 
 /// The text of the reply to `counts`.
 pub(crate) fn counts_text(alloc: Global, counts: Counts) -> Result<String, AllocError>
-    ensures { IfOk result (λ s. string_bytes s ≡ compact_text (counts_reply counts)) }
+    ensures { Spells (counts_reply counts) result }
 {
     let mut out = JsonText::with_room(alloc)?;
     write_counts_reply(&mut out, counts)?;
@@ -218,7 +220,7 @@ pub(crate) fn counts_text(alloc: Global, counts: Counts) -> Result<String, Alloc
 
 /// The text of the reply to `can`.
 pub(crate) fn can_text(alloc: Global, found: &[(Text, Text)]) -> Result<String, AllocError>
-    ensures { IfOk result (λ s. string_bytes s ≡ compact_text (can_reply found.now)) }
+    ensures { Spells (can_reply found.now) result }
 {
     let mut out = JsonText::with_room(alloc)?;
     write_can_reply(&mut out, found)?;
@@ -227,7 +229,7 @@ pub(crate) fn can_text(alloc: Global, found: &[(Text, Text)]) -> Result<String, 
 
 /// The text of the reply to `who`.
 pub(crate) fn who_text(alloc: Global, people: &[Text]) -> Result<String, AllocError>
-    ensures { IfOk result (λ s. string_bytes s ≡ compact_text (who_reply people.now)) }
+    ensures { Spells (who_reply people.now) result }
 {
     let mut out = JsonText::with_room(alloc)?;
     write_who_reply(&mut out, people)?;
@@ -239,7 +241,7 @@ pub(crate) fn by_rule_text(
     alloc: Global,
     found: &[(Text, Text, Text)],
 ) -> Result<String, AllocError>
-    ensures { IfOk result (λ s. string_bytes s ≡ compact_text (by_rule_reply found.now)) }
+    ensures { Spells (by_rule_reply found.now) result }
 {
     let mut out = JsonText::with_room(alloc)?;
     write_by_rule_reply(&mut out, found)?;
@@ -248,7 +250,7 @@ pub(crate) fn by_rule_text(
 
 /// The text of the reply to `notices`.
 pub(crate) fn notices_text(alloc: Global, notices: &[Notice]) -> Result<String, AllocError>
-    ensures { IfOk result (λ s. string_bytes s ≡ compact_text (notices_reply notices.now)) }
+    ensures { Spells (notices_reply notices.now) result }
 {
     let mut out = JsonText::with_room(alloc)?;
     write_notices_reply(&mut out, notices)?;
@@ -261,7 +263,7 @@ pub(crate) fn changes_text(
     notices: &[Notice],
     serial: u64,
 ) -> Result<String, AllocError>
-    ensures { IfOk result (λ s. string_bytes s ≡ compact_text (changes_reply notices.now serial)) }
+    ensures { Spells (changes_reply notices.now serial) result }
 {
     let mut out = JsonText::with_room(alloc)?;
     write_changes_reply(&mut out, notices, serial)?;
@@ -271,7 +273,7 @@ pub(crate) fn changes_text(
 /// The text of the reply to `work`: how many times a request was evaluated.
 #[tactic(auto, unfolding(crate::specs::Reports::work_reply))]
 pub(crate) fn work_text(alloc: Global, evaluations: u128) -> Result<String, AllocError>
-    ensures { IfOk result (λ s. string_bytes s ≡ compact_text (work_reply evaluations)) }
+    ensures { Spells (work_reply evaluations) result }
 {
     let mut number = Buffer::new();
     let mut text = String::from_str(alloc, "{\"evaluations\":")?;

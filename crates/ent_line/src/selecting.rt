@@ -1,16 +1,13 @@
 //! The cells that are asked for: the reply to `cells`.
 
-ghost use Rattle.std.specs.Prelude.{◌≡◌, ◌++◌, true, IfOk, OnOk, bytes_eq, codes, filter, map};
-ghost use Rattle.std.specs.Prelude.{option_copied, option_map, string_bytes};
+ghost use Rattle.std.specs.Prelude.{◌≡◌, true, bytes_eq, codes, filter, map};
+ghost use Rattle.std.specs.Prelude.{option_copied, option_map};
 ghost use Rattle.std.specs.List.{list_any};
 ghost use Rattle.std.specs.Option.{option_map_or};
 ghost use Rattle.serde_json.specs.View.{items_of};
-ghost use Rattle.serde_json.specs.Written.{compact_text};
 ghost use Rattle.ent_combine.specs.declared.outcome.Outcome.{Outcome};
 ghost use Rattle.ent_request.specs.declared.answer.Answer.{Answer};
 ghost use Rattle.ent_json.specs.Members.{only_member};
-ghost use Rattle.ent_json.specs.Text.{tokens_of};
-ghost use Rattle.ent_json.specs.proofs_only.Text.{items_tokens_of};
 ghost use Rattle.ent_table.specs.Left.{cells_left};
 ghost use Rattle.ent_table.specs.Names.{Triple, has_name, list_of, triple_of};
 ghost use Rattle.ent_line.specs.Cells.{cell_data, cells_reply, list_data};
@@ -19,6 +16,7 @@ ghost use Rattle.ent_line.specs.Wanted.{has_decision, is_asked, is_word_of};
 ghost use Rattle.ent_line.specs.proofs_only.CommandView.{wanted_view};
 ghost use Rattle.ent_line.specs.proofs_only.Replying.{Tells};
 ghost use Rattle.ent_line.specs.proofs_only.Selecting.{holds, names_listed, selects};
+ghost use Rattle.ent_line.specs.proofs_only.Writing.{Spells, Writes, WritesEach};
 
 use crate::cell::write_cell;
 use crate::refusal::Refusal;
@@ -142,8 +140,8 @@ fn write_selected(
     selection: Selection<'_>,
     cells: Cells<'_>,
 ) -> Result<(), AllocError>
-    ensures { OnOk result (out.new
-        ≡ out.old ++ items_tokens_of (map cell_data (filter (selects selection.entry) (cells_left cells.entry)))) }
+    ensures { WritesEach cell_data (filter (selects selection.entry) (cells_left cells.entry))
+        out.old out.new result }
 {
     for (person, action, resource, answer) in cells {
         if selection.has(person, action, resource, answer) {
@@ -160,9 +158,10 @@ fn write_reply(
     selection: Selection<'_>,
     cells: Cells<'_>,
 ) -> Result<(), AllocError>
-    ensures { OnOk result (out.new
-        ≡ out.old ++ tokens_of (only_member (codes "cells")
-        (list_data cell_data (filter (selects selection.entry) (cells_left cells.entry))))) }
+    ensures { Writes
+        (only_member (codes "cells")
+        (list_data cell_data (filter (selects selection.entry) (cells_left cells.entry))))
+        out.old out.new result }
 {
     out.begin_object()?;
     out.key("cells")?;
@@ -177,8 +176,8 @@ fn cells_text(
     selection: Selection<'_>,
     cells: Cells<'_>,
 ) -> Result<String, AllocError>
-    ensures { IfOk result (λ s. string_bytes s
-        ≡ compact_text (cells_reply (filter (selects selection.entry) (cells_left cells.entry)))) }
+    ensures { Spells (cells_reply
+        (filter (selects selection.entry) (cells_left cells.entry))) result }
 {
     let mut out = JsonText::with_room(alloc)?;
     write_reply(alloc, &mut out, selection, cells)?;

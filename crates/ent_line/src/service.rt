@@ -6,12 +6,11 @@ ghost use Rattle.ent_table.specs.Names.{triple_of};
 ghost use Rattle.ent_line.specs.Asked as asked;
 ghost use Rattle.ent_line.specs.Asked.{command_in};
 ghost use Rattle.ent_line.specs.proofs_only.CommandView.{change_view, command_view, question_view};
-ghost use Rattle.ent_line.specs.proofs_only.Replying.{Keeps, RemembersBy, Replies, Tells, Works};
+ghost use Rattle.ent_line.specs.proofs_only.Replying.{Answers, Keeps, RemembersBy, Replies, Tells, Works, WorksFor};
 ghost use Rattle.ent_line.specs.History.{asked_by};
 ghost use Rattle.ent_line.specs.Commands.{cell_told, edited, heard, made, request_answered, requested, run};
 ghost use Rattle.ent_line.specs.Commands.{table_told, told};
 ghost use Rattle.ent_line.specs.Edits.{edit_of, unread};
-ghost use Rattle.ent_line.specs.Replies.{answered};
 ghost use Rattle.ent_line.specs.Step.{data_of};
 ghost use Rattle.ent_line.specs.Work.{asked_work, command_work, edit_work};
 ghost use Rattle.ent_line.specs.World.{beside_of, counted_of};
@@ -149,10 +148,9 @@ impl<A: Attributes, P: Policies> Service<A, P> {
     /// `ask`.
     #[tactic(auto, using(crate::proofs::KeptLemmas::ask_keeps), unfolding(crate::specs::Commands::request_answered))]
     fn ask<J: JsonTree>(&mut self, json: &J) -> Result<Reply, AllocError>
-        ensures reply { Replies (λ w. (answered (request_answered w.state (J.content json.now)), w))
+        ensures reply { Answers (λ w. request_answered w.state (J.content json.now))
             self.old self.new result }
-        ensures work { Works (λ s. command_work s (asked.question (asked.ask (J.content json.now))))
-            self.old self.new result }
+        ensures work { WorksFor (asked.ask (J.content json.now)) self.old self.new result }
         ensures kept { Keeps self.old self.new }
     {
         match read_request(self.alloc, json) {
@@ -174,13 +172,10 @@ impl<A: Attributes, P: Policies> Service<A, P> {
         question: Question<'_, J>,
     ) -> Result<Reply, AllocError>
         requires { session < 16 }
-        ensures reply { Replies (λ w. (
-          answered (told (beside_of self.old) w session (question_view J.content question.entry)),
-          w,
-        ))
+        ensures reply { Answers
+            (λ w. told (beside_of self.old) w session (question_view J.content question.entry))
             self.old self.new result }
-        ensures work { Works
-            (λ s. command_work s (asked.question (question_view J.content question.entry))) self.old self.new result }
+        ensures work { WorksFor (question_view J.content question.entry) self.old self.new result }
         ensures kept { Keeps self.old self.new }
     {
         match question {

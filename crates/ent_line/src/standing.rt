@@ -1,23 +1,21 @@
 //! What stands, in numbers: the reply to `state`.
 
-ghost use Rattle.std.specs.Prelude.{◌≡◌, ◌<◌, ◌++◌, [], ◌∷◌, IfOk, OnOk, codes, decimal, filter, length, map};
-ghost use Rattle.std.specs.Prelude.{string_bytes};
+ghost use Rattle.std.specs.Prelude.{◌≡◌, ◌<◌, [], ◌∷◌, IfOk, codes, decimal, filter, length, map};
 ghost use Rattle.std.specs.FinMap.{len};
 ghost use Rattle.json.specs.Token as token;
 ghost use Rattle.serde_json.specs.Data as json;
-ghost use Rattle.serde_json.specs.Written.{compact_text};
 ghost use Rattle.ent_finder.specs.RowEntry.{row_entry};
 ghost use Rattle.ent_finder.specs.Rows.{filled_source, is_filled, source_at};
 ghost use Rattle.ent_finder.specs.Slots.{document_count, held};
 ghost use Rattle.ent_json.specs.Members.{only_member};
 ghost use Rattle.ent_json.specs.Text.{tokens_of};
-ghost use Rattle.ent_json.specs.proofs_only.Text.{items_tokens_of};
 ghost use Rattle.ent_dump.specs.Edits.{written_root};
 ghost use Rattle.ent_line.specs.Commands.{state_told};
 ghost use Rattle.ent_line.specs.Cells.{reply_data};
 ghost use Rattle.ent_line.specs.Standing.{environment_data, mark_data, state_data, state_reply};
 ghost use Rattle.ent_line.specs.proofs_only.Standing.{marked_from, row_count};
 ghost use Rattle.ent_line.specs.proofs_only.Replying.{Tells};
+ghost use Rattle.ent_line.specs.proofs_only.Writing.{Adds, Spells, Writes, WritesEach};
 
 use crate::reply::Reply;
 use crate::service::Service;
@@ -58,13 +56,10 @@ fn rows_in<A: Attributes>(attributes: &A, number: usize) -> usize
     requires { number < length (A.sources attributes.now) }
     ensures { result ≡ len (filled_source (source_at (A.sources attributes.now) number)).rows }
 {
-    // Each row has an index.
-    let _ = attributes.row_at(number, 0);
     let mut count = 0;
-    for index in 0..usize::MAX {
-        let Some(row) = attributes.row_at(number, index) else {
-            return count;
-        };
+    let mut index = 0;
+    while let Some(row) = attributes.row_at(number, index) {
+        index += 1;
         count += filled(row);
     }
     count
@@ -87,7 +82,7 @@ fn row_count<A: Attributes>(attributes: &A) -> Result<u64, AllocError>
 
 /// Writes an object with one text.
 fn write_only(out: &mut JsonText, key: &str, text: &str) -> Result<(), AllocError>
-    ensures { OnOk result (out.new ≡ out.old ++ tokens_of (only_member key.now (json.string text.now))) }
+    ensures { Writes (only_member key.now (json.string text.now)) out.old out.new result }
 {
     out.begin_object()?;
     write_text(out, key, text)?;
@@ -101,7 +96,7 @@ fn write_environment(
     out: &mut JsonText,
     environment: Environment,
 ) -> Result<(), AllocError>
-    ensures { OnOk result (out.new ≡ out.old ++ tokens_of (environment_data environment)) }
+    ensures { Writes (environment_data environment) out.old out.new result }
 {
     match environment {
         Environment::Empty => out.null(),
@@ -118,7 +113,7 @@ fn write_environment(
 
 /// Writes the root, null for none.
 fn write_root(alloc: Global, out: &mut JsonText, root: &Option<Reference>) -> Result<(), AllocError>
-    ensures { OnOk result (out.new ≡ out.old ++ tokens_of (written_root root.now)) }
+    ensures { Writes (written_root root.now) out.old out.new result }
 {
     match root {
         None => out.null(),
@@ -128,7 +123,7 @@ fn write_root(alloc: Global, out: &mut JsonText, root: &Option<Reference>) -> Re
 
 /// Writes the mark of a session.
 fn write_mark(out: &mut JsonText, session: u64, serial: u64) -> Result<(), AllocError>
-    ensures { OnOk result (out.new ≡ out.old ++ tokens_of (mark_data (session, serial))) }
+    ensures { Writes (mark_data (session, serial)) out.old out.new result }
 {
     out.begin_object()?;
     write_count(out, "serial", serial)?;
@@ -138,7 +133,7 @@ fn write_mark(out: &mut JsonText, session: u64, serial: u64) -> Result<(), Alloc
 
 /// Writes the marks of the sessions that have one, to the end of their list.
 fn write_marks(out: &mut JsonText, serials: &[Option<u64>]) -> Result<(), AllocError>
-    ensures { OnOk result (out.new ≡ out.old ++ items_tokens_of (map mark_data (marked_from 0 serials.now))) }
+    ensures { WritesEach mark_data (marked_from 0 serials.now) out.old out.new result }
 {
     for (session, serial) in serials.iter().enumerate() {
         if let Some(serial) = serial {
@@ -155,10 +150,12 @@ fn write_front(
     cells: usize,
     documents: u64,
 ) -> Result<(), AllocError>
-    ensures { OnOk result (out.new ≡ out.old ++ token.begin_object
+    ensures { Adds
+        (token.begin_object
         ∷ token.key (codes "actions") ∷ token.number (decimal actions)
         ∷ token.key (codes "cells") ∷ token.number (decimal cells)
-        ∷ token.key (codes "documents") ∷ token.number (decimal documents) ∷ []) }
+        ∷ token.key (codes "documents") ∷ token.number (decimal documents) ∷ [])
+        out.old out.new result }
 {
     out.begin_object()?;
     write_count(out, "actions", actions as u64)?;
@@ -174,10 +171,11 @@ fn write_listed(
     resources: usize,
     root: &Option<Reference>,
 ) -> Result<(), AllocError>
-    ensures { OnOk result (out.new ≡ out.old
-        ++ token.key (codes "people") ∷ token.number (decimal people)
+    ensures { Adds
+        (token.key (codes "people") ∷ token.number (decimal people)
         ∷ token.key (codes "resources") ∷ token.number (decimal resources)
-        ∷ token.key (codes "root") ∷ tokens_of (written_root root.now)) }
+        ∷ token.key (codes "root") ∷ tokens_of (written_root root.now))
+        out.old out.new result }
 {
     write_count(out, "people", people as u64)?;
     write_count(out, "resources", resources as u64)?;
@@ -187,9 +185,10 @@ fn write_listed(
 
 /// Ends with how many rows there are and how many edits were accepted.
 fn write_end(out: &mut JsonText, rows: u64, serial: u64) -> Result<(), AllocError>
-    ensures { OnOk result (out.new ≡ out.old
-        ++ token.key (codes "rows") ∷ token.number (decimal rows)
-        ∷ token.key (codes "serial") ∷ token.number (decimal serial) ∷ token.end_object ∷ []) }
+    ensures { Adds
+        (token.key (codes "rows") ∷ token.number (decimal rows)
+        ∷ token.key (codes "serial") ∷ token.number (decimal serial) ∷ token.end_object ∷ [])
+        out.old out.new result }
 {
     write_count(out, "rows", rows)?;
     write_count(out, "serial", serial)?;
@@ -202,7 +201,7 @@ fn write_state<A: Attributes, P: Policies>(
     out: &mut JsonText,
     desk: &Desk<A, P>,
 ) -> Result<(), AllocError>
-    ensures { OnOk result (out.new ≡ out.old ++ tokens_of (state_data desk.now.world)) }
+    ensures { Writes (state_data desk.now.world) out.old out.new result }
 {
     let review = desk.review();
     let pdp = review.pdp();
@@ -227,8 +226,8 @@ fn write_state_reply<A: Attributes, P: Policies>(
     out: &mut JsonText,
     desk: &Desk<A, P>,
 ) -> Result<(), AllocError>
-    ensures { OnOk result (out.new
-        ≡ out.old ++ tokens_of (reply_data (codes "state") (state_data desk.now.world))) }
+    ensures { Writes (reply_data (codes "state") (state_data desk.now.world))
+        out.old out.new result }
 {
     out.begin_object()?;
     out.key("state")?;
@@ -241,7 +240,7 @@ fn state_text<A: Attributes, P: Policies>(
     alloc: Global,
     desk: &Desk<A, P>,
 ) -> Result<String, AllocError>
-    ensures { IfOk result (λ s. string_bytes s ≡ compact_text (state_reply desk.now.world)) }
+    ensures { Spells (state_reply desk.now.world) result }
 {
     let mut out = JsonText::with_room(alloc)?;
     write_state_reply(alloc, &mut out, desk)?;

@@ -24,13 +24,14 @@ use Rattle.ent_table.proofs.AnswerMaps.{get-answers_of}
 use Rattle.ent_table.proofs.Listed.{same_request, same_triple}
 use Rattle.ent_report.specs.Differing.{NoticesAreTheDifference, request_of}
 use Rattle.ent_report.specs.Notices.{decision_in, notices}
-use Rattle.ent_report.specs.declared.notices.Notice.{Notice}
 use Rattle.ent_report.proofs.Differing.{ascend, contained_listed, difference_told, listed_at, listed_contained}
 use Rattle.ent_report.proofs.Differing.{same_none, same_triple_equiv, tells_difference, unlisted_at}
 use Rattle.ent_table.proofs.ToldChanges.{not_true}
 use Rattle.ent_table.proofs.Members.{from_mapped, mapped, passed, passes}
 use Rattle.ent_report.proofs.Pairs.{WithLater, all_in_each, all_mapped, all_passed, all_weaker, distinct, from_ascending, from_distinct}
 use Rattle.ent_report.proofs.Pairs.{later_flat, later_joined, later_mapped, later_passed, later_weaker}
+use Rattle.ent_table.specs.declared.since.Change.{Change}
+use Rattle.ent_combine.specs.declared.outcome.Outcome.{Outcome}
 
 -- ---- no request is listed twice
 
@@ -128,7 +129,7 @@ module _ (s t : State) where
 
   counted_told : (x : Triple) → Contains (difference s t) x → Contains told x
   counted_told x h =
-      let n : Notice = record {
+      let n : Change Outcome = record {
         person = x.person;
         action = x.action;
         resource = x.resource;

@@ -21,7 +21,7 @@ use Rattle.ent_table.proofs.Members.{from_mapped, mapped}
 use Rattle.ent_table.proofs.ToldChanges.{change_tells, change_told, changes-ascending}
 use Rattle.ent_report.specs.Differing.{AscendInBytes, TellsDifference, request_of}
 use Rattle.ent_report.specs.Notices.{decision_in, notice_of, notices}
-use Rattle.ent_report.specs.declared.notices.Notice.{Notice}
+use Rattle.ent_combine.specs.declared.outcome.Outcome.{Outcome}
 
 -- ---- listed requests
 
@@ -48,21 +48,21 @@ same_none a b e g = λ i. same_optional (e i) (g i)
 
 -- ---- the notices are the difference
 
-told_requests : (cs : List Change) → map request_of (map notice_of cs) ≡ map changed_request cs
+told_requests : (cs : List (Change Answer)) → map request_of (map notice_of cs) ≡ map changed_request cs
 told_requests [] = refl
 told_requests (c ∷ cs) = ap (λ l. changed_request c ∷ l) (told_requests cs)
 
 module _ (m : AnswerMap) (s : State) where
-  pub tells_difference : (n : Notice) → Contains (notices m s) n → TellsDifference m s n
+  pub tells_difference : (n : Change Outcome) → Contains (notices m s) n → TellsDifference m s n
   tells_difference n h =
       let c = from_mapped notice_of (changes_from m s) n h in
       let t = change_tells m s c.0 c.1.0 in
       subst (TellsDifference m s) c.1.1 (record { differ = t.differ; before = ap decision_in t.before; after = ap decision_in t.after })
 
-  pub difference_told : (n : Notice) → TellsDifference m s n → Contains (notices m s) n
+  pub difference_told : (n : Change Outcome) → TellsDifference m s n → Contains (notices m s) n
   difference_told n t =
       let x : Triple = request_of n in
-      let c : Change = record { person = n.person; action = n.action; resource = n.resource; before = get m x; after = answer_at s x } in
+      let c : Change Answer = record { person = n.person; action = n.action; resource = n.resource; before = get m x; after = answer_at s x } in
       let there : Contains (changes_from m s) c = change_told m s c (record { differ = t.differ; before = refl; after = refl }) in
       let is : notice_of c ≡ n =
       λ i. record { person = n.person; action = n.action; resource = n.resource; before = sym t.before i; after = sym t.after i } in

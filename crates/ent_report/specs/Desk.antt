@@ -13,7 +13,8 @@ use Rattle.ent_report.specs.declared.fault.NoticeFault.{NoticeFault}
 use Rattle.ent_report.specs.declared.fault.NoticeFault.TheVariants as notice_fault
 use Rattle.ent_report.specs.declared.fault.ReportFault.{ReportFault}
 use Rattle.ent_report.specs.declared.fault.ReportFault.TheVariants as report_fault
-use Rattle.ent_report.specs.declared.notices.Notice.{Notice}
+use Rattle.ent_table.specs.declared.since.Change.{Change}
+use Rattle.ent_combine.specs.declared.outcome.Outcome.{Outcome}
 
 -- a world, what is known of the tables before it, how many times a request was evaluated, and counts that are kept
 pub record Desked : Type 0 where
@@ -61,11 +62,11 @@ IsReported report (Err report_fault.NotThere) = report ≡ Err report_fault.NotT
 IsReported report (Err report_fault.Memory) = Unit {0}
 
 -- what a session that has this mark is told
-abbrev pub IsNoticed : Option AnswerMap → State → Result (List Notice) NoticeFault → Type 0
+abbrev pub IsNoticed : Option AnswerMap → State → Result (List (Change Outcome)) NoticeFault → Type 0
 IsNoticed None s result = result ≡ Err notice_fault.NoMark
 IsNoticed (Some m) s (Ok ns) = ns ≡ notices m s
 IsNoticed (Some m) s (Err fault) = fault ≡ notice_fault.Memory
 
 -- a session is told what changed since its mark
-abbrev pub IsNoticedIn : World → ℕ → Result (List Notice) NoticeFault → Type 0
+abbrev pub IsNoticedIn : World → ℕ → Result (List (Change Outcome)) NoticeFault → Type 0
 IsNoticedIn w session result = IsNoticed (marked_table w session) w.state result

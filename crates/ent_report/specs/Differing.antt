@@ -1,4 +1,5 @@
--- The law of the notices: they are the difference of a table that was marked and the present one, and as many as an edit from the one to the other tells.
+-- The law of the notices: they are the difference of a table that was marked and the present one, and as many as an
+-- edit from the one to the other tells.
 use Rattle.std.specs.Prelude.{◌≡◌, ◌↔◌, length, map, false}
 use Rattle.std.specs.FinMap.{get}
 use Rattle.std.specs.List.{Contains}
@@ -10,21 +11,23 @@ use Rattle.ent_table.specs.Doubles.{HasNoDoubles}
 use Rattle.ent_table.specs.Names.{Triple, triple_of}
 use Rattle.ent_table.specs.State.{State, answer_at}
 use Rattle.ent_report.specs.Notices.{decision_in, notices}
-use Rattle.ent_report.specs.declared.notices.Notice.{Notice}
+use Rattle.ent_table.specs.declared.since.Change.{Change}
+use Rattle.ent_combine.specs.declared.outcome.Outcome.{Outcome}
 
 -- the request of a notice
-abbrev pub request_of : Notice → Triple
+abbrev pub request_of : Change Outcome → Triple
 request_of n = triple_of n.person n.action n.resource
 
--- a table and that of a state have different optional answers to the request of a notice, and its decisions are those of the two answers
-pub record TellsDifference (m : AnswerMap) (s : State) (n : Notice) : Type 0 where
+-- a table and that of a state have different optional answers to the request of a notice, and its decisions are those
+-- of the two answers
+pub record TellsDifference (m : AnswerMap) (s : State) (n : Change Outcome) : Type 0 where
   pub differ : same_optional (get m (request_of n)) (answer_at s (request_of n)) ≡ false
   pub before : n.before ≡ decision_in (get m (request_of n))
   pub after : n.after ≡ decision_in (answer_at s (request_of n))
 
 -- the notices that tell a difference are there, and no others
 abbrev pub TellAllDifferences : AnswerMap → State → Type 0
-TellAllDifferences m s = (n : Notice) → Contains (notices m s) n ↔ TellsDifference m s n
+TellAllDifferences m s = (n : Change Outcome) → Contains (notices m s) n ↔ TellsDifference m s n
 
 -- their requests ascend strictly in byte order, so each is there once
 abbrev pub AscendInBytes : AnswerMap → State → Type 0

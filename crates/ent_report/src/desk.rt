@@ -1,9 +1,9 @@
 //! The desk: a review, and the marks of its sessions.
 
-ghost use Rattle.std.specs.Prelude.{◌≡◌, ◌+◌, ◌-◌, ◌<◌, ◌≤◌, ◌^◌, min, IfOk, None, Some, option_copied};
-ghost use Rattle.ent_walk.specs.Answer.{causes, recorded};
-ghost use Rattle.ent_request.specs.Held.{looks_in};
+ghost use Rattle.std.specs.Prelude.{◌≡◌, ◌<◌, ◌≤◌, IfOk, None, Some, option_copied};
+ghost use Rattle.ent_cells.specs.Count.{raised};
 ghost use Rattle.ent_table.specs.Ask.{answer_in};
+ghost use Rattle.ent_table.specs.Rests.{causes_in, recorded_in};
 ghost use Rattle.ent_table.specs.Change.{Edits, IsIdle, IsSure};
 ghost use Rattle.ent_table.specs.Counted.{IsCounted};
 ghost use Rattle.ent_table.specs.Step.{step};
@@ -143,30 +143,30 @@ impl<A: Attributes, P: Policies> Desk<A, P> {
     /// `AllocError` if memory runs out.
     pub fn ask(&mut self, request: &Request) -> Result<Answer, AllocError>
         ensures answer { IfOk result (λ a. a ≡ answer_in self.old.world.state request.now) }
-        ensures rest { self.new ≡ record self.old { evaluations = min (self.old.evaluations + 1) (2 ^ 128 - 1) } }
+        ensures rest { self.new ≡ record self.old { evaluations = raised self.old.evaluations 1 } }
     {
         self.review.ask(request)
     }
 
     /// The answer to any request, listed or not, with the look-ups that it rests on, each once, and its causes: the
-    /// parts that came to Indeterminate by themselves, in the order of evaluation. The answer is that of `ask`, and the
-    /// call counts as that does.
+    /// parts that came to Indeterminate by themselves, that of the answer first, the others in the order of evaluation.
+    /// The answer is that of `ask`, and the call counts as that does.
     ///
     /// # Errors
     ///
     /// `AllocError` if memory runs out.
     pub fn explain(&mut self, request: &Request) -> Result<Explained, AllocError>
         ensures answer { IfOk result (λ e. e.answer ≡ answer_in self.old.world.state request.now) }
-        ensures reads { IfOk result (λ e. e.reads ≡ recorded (looks_in self.old.world.state.held) request.now) }
-        ensures causes { IfOk result (λ e. e.causes ≡ causes (looks_in self.old.world.state.held) request.now) }
-        ensures rest { self.new ≡ record self.old { evaluations = min (self.old.evaluations + 1) (2 ^ 128 - 1) } }
+        ensures reads { IfOk result (λ e. e.reads ≡ recorded_in self.old.world.state request.now) }
+        ensures causes { IfOk result (λ e. e.causes ≡ causes_in self.old.world.state request.now) }
+        ensures rest { self.new ≡ record self.old { evaluations = raised self.old.evaluations 1 } }
     {
         self.review.explain(request)
     }
 
     /// Marks the present table for a session in place of its last mark, and gives the number of edits so far. It takes
-    /// no memory, so there is always a serial. Nothing is evaluated, and nothing is kept of what changed before the mark
-    /// that is now the oldest.
+    /// no memory, so there is always a serial. Nothing is evaluated, and nothing is kept of what changed before the
+    /// mark that is now the oldest.
     pub fn mark(&mut self, session: u8) -> Result<u64, AllocError>
         requires { session < 16 }
         ensures serial { result ≡ Ok self.old.world.state.serial }

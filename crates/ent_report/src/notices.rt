@@ -6,24 +6,12 @@ ghost use Rattle.ent_report.specs.Notices.{decision_in, notice_of};
 use ent_combine::Outcome;
 use ent_eval::Answer;
 use ent_table::Change;
-use ent_values::{Items, Shared, Text};
+use ent_values::{Items, Shared};
 use std::alloc::{AllocError, Global};
 
 /// A request to which two tables give different answers, with their decisions. These may be the same where only a rule,
 /// an obligation, an advice or a status differs.
-#[derive(Drop)]
-pub struct Notice {
-    /// The person of the request.
-    pub person: Text,
-    /// Its action.
-    pub action: Text,
-    /// Its resource.
-    pub resource: Text,
-    /// The decision at the mark, `None` where the request wasn't listed.
-    pub before: Option<Outcome>,
-    /// The present decision, `None` where the request isn't listed.
-    pub after: Option<Outcome>,
-}
+pub type Notice = Change<Outcome>;
 
 /// The decision of an answer.
 fn decision(answer: Option<Shared<Answer>>) -> Option<Outcome>
@@ -43,7 +31,7 @@ pub(crate) fn notices_of(alloc: Global, changes: Items<Change>) -> Result<Items<
     for change in changes.into_vec() {
         let before = decision(change.before);
         let after = decision(change.after);
-        notices.push(Notice {
+        notices.push(Change {
             person: change.person,
             action: change.action,
             resource: change.resource,

@@ -20,7 +20,8 @@ pub record IsReadRow (key : RowKey) (values : List Value) : Type 0 where
   pub typed : AllByRecursion (λ v. datatype_of v ≡ key.datatype) values
   pub real : AllByRecursion IsReal values
 
--- what an edit carries is what a line can say: a checked document, a version, a row, a reference, a day of the calendar or a moment of one
+-- what an edit carries is what a line can say: a checked document, a version, a row, a reference, a day of the calendar
+-- or a moment of one
 abbrev pub IsRead : Edit → Type 0
 IsRead (AddPolicy number document) = IsChecked document
 IsRead (ReplacePolicy number document) = IsChecked document

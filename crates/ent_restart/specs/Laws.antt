@@ -13,6 +13,7 @@ use Rattle.ent_restart.specs.Carried.{IsRead, values_of}
 abbrev pub Asks : Data → Edit → Type 0
 Asks d e = (c : Change) × ((command_in d ≡ Ok (0, change c)) × (edit_of c ≡ Ok e))
 
--- what is written of an edit asks for that edit, if it carries what a line can say and none of its durations has more than 999,999,999 whole years
+-- what is written of an edit asks for that edit, if it carries what a line can say and none of its durations has more
+-- than 999,999,999 whole years
 abbrev pub EditsReadBack : Type 0
 EditsReadBack = (e : Edit) → IsRead e → AllByRecursion HasFewYears (values_of e) → Asks (edit_data e) e

@@ -44,8 +44,8 @@ abbrev pub AreTaken : ℕ → List Answer → Type 0
 AreTaken version [] = ⊥
 AreTaken version (a ∷ answers) = (a ≡ answered (Ok (format_reply version))) × AllByRecursion IsAccepted answers
 
--- a service was made anew: it took each line, and its state is the other's, with so many accepted edits as the state needs. So its table is the
--- other's, and so are the lines that it tells
+-- a service was made anew: it took each line, and its state is the other's, with so many accepted edits as the state
+-- needs. So its table is the other's, and so are the lines that it tells
 pub record IsRestarted (version : ℕ) (start w v : World) (answers : List Answer) : Type 0 where
   pub taken : AreTaken version answers
   pub state : v.state ≡ record w.state { serial = length (rebuilding w.state) }
@@ -53,9 +53,9 @@ pub record IsRestarted (version : ℕ) (start w v : World) (answers : List Answe
   pub again : (n : ℕ) → dumped n v.state ≡ dumped n w.state
   pub marks : v.marks ≡ start.marks
 
--- whatever was asked of a service that held nothing at its start, some lines refused: a service with the same start that is told the dump of its
--- state, in a version that can tell it, is made anew, where memory isn't wanting, no line is too long and no duration in the state is longer than can
--- be read
+-- whatever was asked of a service that held nothing at its start, some lines refused: a service with the same start
+-- that is told the dump of its state, in a version that can tell it, is made anew, where memory isn't wanting, no line
+-- is too long and no duration in the state is longer than can be read
 abbrev pub DumpsRestart : Type 0
 DumpsRestart =
     (version : ℕ) (start w v : World) (lines : List (List ℕ)) (answers others : List Answer)
@@ -64,8 +64,9 @@ DumpsRestart =
     → Run Answers start (dumped version w.state) others v → AllByRecursion IsNoWant others
     → IsRestarted version start w v others
 
--- the law by what is seen of a service alone: whatever was asked of a service that held nothing at its start, a service with the same start that is told the
--- dump of its state, answers the first line by its version and accepts each other, is made anew
+-- the law by what is seen of a service alone: whatever was asked of a service that held nothing at its start, a service
+-- with the same start that is told the dump of its state, answers the first line by its version and accepts each other,
+-- is made anew
 abbrev pub TakenDumpsRestart : Type 0
 TakenDumpsRestart =
     (version : ℕ) (start w v : World) (lines : List (List ℕ)) (answers others : List Answer)
@@ -80,8 +81,8 @@ RepliesReadBack =
     → start.state ≡ emptied start.state → HasFewModules start.state → Run Answers start lines answers w → is_version version ≡ true
     → AllByRecursion NoNewline (dumped version w.state) × (texts_of (dump_text version w.state) ≡ Some (dumped version w.state))
 
--- whatever was asked of a service that held nothing at its start, some lines refused: a service with the same start that is told the lines of what
--- `dump` is answered then is made anew, under the same premises
+-- whatever was asked of a service that held nothing at its start, some lines refused: a service with the same start
+-- that is told the lines of what `dump` is answered then is made anew, under the same premises
 abbrev pub RepliesRestart : Type 0
 RepliesRestart =
     (version : ℕ) (start w v : World) (lines told : List (List ℕ)) (answers others : List Answer) (reply : List ℕ)
@@ -99,7 +100,8 @@ TakenRepliesRestart =
     → Run Answers start told others v → AreTaken version others
     → IsRestarted version start w v others
 
--- a state in which nothing was ever held, listed or set is as one that is emptied, if the numbers of its modules can be written
+-- a state in which nothing was ever held, listed or set is as one that is emptied, if the numbers of its modules can be
+-- written
 abbrev pub NewServicesAreEmpty : Type 0
 NewServicesAreEmpty = (policies attributes : ℕ) (categories : List (List ℕ)) (limits : Limits) → policies ≤ 2 ^ 64 → attributes ≤ 2 ^ 64
     → let start = new_state policies attributes categories limits in (start ≡ emptied start) × HasFewModules start

@@ -5,8 +5,8 @@ ghost use Rattle.ent_restart.specs.Plain.{TextsAreLines, TextsReadBack};
 ghost use Rattle.ent_restart.specs.Restart.{DumpsRestart, NewServicesAreEmpty, RepliesReadBack, RepliesRestart};
 ghost use Rattle.ent_restart.specs.Restart.{TakenDumpsRestart, TakenRepliesRestart};
 
-/// A law, with nothing to run: the JSON object of an edit is read as a command, of the session that no line names, which
-/// makes that edit, if what the edit carries can be said in a line.
+/// A law, with nothing to run: the JSON object of an edit is read as a command, of the session that no line names,
+/// which makes that edit, if what the edit carries can be said in a line.
 pub fn edits_read_back()
     ensures { EditsReadBack }
 {}
@@ -42,8 +42,8 @@ pub fn replies_read_back()
     ensures { RepliesReadBack }
 {}
 
-/// A law, with nothing to run: whatever was asked of a service that held nothing at its start, the lines of the reply to
-/// `dump` bring a service with the same start to the same state, as [`dumps_restart`] says.
+/// A law, with nothing to run: whatever was asked of a service that held nothing at its start, the lines of the reply
+/// to `dump` bring a service with the same start to the same state, as [`dumps_restart`] says.
 pub fn replies_restart()
     ensures { RepliesRestart }
 {}

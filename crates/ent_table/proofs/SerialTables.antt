@@ -18,8 +18,6 @@ use Rattle.ent_request.specs.Held.{looks_in}
 use Rattle.ent_request.specs.Same.{same_answer}
 use Rattle.ent_request.specs.contracts.answer.AnswerEq.TheImpl.Laws.{laws-law}
 use Rattle.ent_request.specs.declared.answer.Answer.{Answer}
-use Rattle.ent_finder.specs.Rows.{Source}
-use Rattle.ent_finder.specs.Slots.{Slots}
 use Rattle.ent_log.specs.Difference.{IsDifference}
 use Rattle.ent_log.specs.Entries.{answers_of as logged_answers, entries_since, first_answer_or, table_before}
 use Rattle.ent_log.specs.Maps.{map_before, map_difference}
@@ -163,13 +161,13 @@ undone_more s list name none =
 
 -- ---- tables as maps
 
-module _ {A P : Type 0} (sources : A → List Source) (slots : P → List Slots) where
+module _ {A P : Type 0} where
   -- over an edit whose old answers undo it
   pub kept_over : (old new : Parts A P) (between : Log Who Answer) (olds : List (OldAnswer Who Answer)) → IsSameLog old.log between → Logs olds between new.log
-      → Undoes request_order olds (answer_at (state_of sources slots old)) (answer_at (state_of sources slots new)) → Keeps sources slots old new
+      → Undoes request_order olds (answer_at (state_of old)) (answer_at (state_of new)) → Keeps old new
   kept_over old new between olds same logs undoes =
-      let s : State = state_of sources slots old in
-      let t : State = state_of sources slots new in
+      let s : State = state_of old in
+      let t : State = state_of new in
       record {
         from = logs.from ∙ same.from;
         each = λ n le.
@@ -180,21 +178,21 @@ module _ {A P : Type 0} (sources : A → List Source) (slots : P → List Slots)
       }
 
   -- where the log and the state are as before
-  pub kept_stays : (old new : Parts A P) → IsSameLog old.log new.log → Stays sources slots old new → Keeps sources slots old new
+  pub kept_stays : (old new : Parts A P) → IsSameLog old.log new.log → Stays old new → Keeps old new
   kept_stays old new same stays = record {
     from = same.from;
     each = λ n le i. map_before request_order (logged_answers (entries_since n (same.entries i))) (answers_of (stays i));
   }
 
-  pub kept_itself : (v : Parts A P) → Keeps sources slots v v
+  pub kept_itself : (v : Parts A P) → Keeps v v
   kept_itself v = record { from = refl; each = λ n le. refl }
 
   -- the difference of a table at a serial and the present one, as that of their maps
   pub difference_told : (v : Parts A P) (n : ℕ) (changes : List (Change Who Answer))
-      → IsDifference request_order same_answer (table_at request_order v.log (answer_at (state_of sources slots v)) n) (answer_at (state_of sources slots v)) changes
-      → changes ≡ map_difference same_answer (table_at_serial (reviewed sources slots v) n) (answers_of (state_of sources slots v))
+      → IsDifference request_order same_answer (table_at request_order v.log (answer_at (state_of v)) n) (answer_at (state_of v)) changes
+      → changes ≡ map_difference same_answer (table_at_serial (reviewed v) n) (answers_of (state_of v))
   difference_told v n changes d =
-      let s : State = state_of sources slots v in
+      let s : State = state_of v in
       let olds : List (OldAnswer Who Answer) = logged_answers (entries_since n v.log.entries.items) in
       difference-of_maps requests-total same_answer_equiv requests-exact (map_before request_order olds (answers_of s)) (answers_of s) changes
       (difference-same request_order same_answer (table_before request_order olds (answer_at s)) (answer_at s) (get (map_before request_order olds (answers_of s))) (get (answers_of s)) changes
@@ -203,5 +201,5 @@ module _ {A P : Type 0} (sources : A → List Source) (slots : P → List Slots)
       d)
 
   -- the present table is the one at the present serial
-  pub table_now : (v : Parts A P) → IsFresh sources slots v → IsFreshAtSerial (reviewed sources slots v)
-  table_now v fresh = ap (λ es. map_before request_order (logged_answers es) (answers_of (state_of sources slots v))) fresh.closed
+  pub table_now : (v : Parts A P) → IsFresh v → IsFreshAtSerial (reviewed v)
+  table_now v fresh = ap (λ es. map_before request_order (logged_answers es) (answers_of (state_of v))) fresh.closed

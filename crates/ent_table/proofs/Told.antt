@@ -26,13 +26,13 @@ use Rattle.ent_request.specs.declared.key.ReadKey.TheVariants as keys
 use Rattle.ent_request.proofs.Changes.{document-leaves, environment-leaves, root-leaves, values-leave}
 use Rattle.ent_request.proofs.SameLooks.{same_look-Decides}
 use Rattle.ent_index.specs.Asked.{asks_policy}
-use Rattle.ent_cells.specs.Cell.{Kept}
+use Rattle.ent_cells.specs.Cell.{HasReadKeys, Kept}
 use Rattle.ent_table.specs.declared.change.Exchange.{Exchange}
 use Rattle.ent_table.specs.declared.change.Exchange.TheVariants.{Document, Row, Root, Environment}
-use Rattle.ent_table.specs.declared.look.Look.TheVariants as look
+use Rattle.ent_table.specs.declared.look.OfTwo.TheVariants.{Former, Next, Neither}
 use Rattle.ent_table.specs.declared.look.Seen.{Seen}
 use Rattle.ent_table.specs.proofs_only.Exchange.{IsWithin, document_in, taken, with_exchange}
-use Rattle.ent_table.specs.proofs_only.Look.{AreChanged, HasReadKeys, IsSeen, asks, finds_another, gives_another, gives_other, is_another, keys_in, look_of, which}
+use Rattle.ent_table.specs.proofs_only.Look.{AreChanged, IsSeen, asks, finds_another, gives_another, gives_other, is_another, keys_in, look_of, which}
 use Rattle.ent_table.specs.State.{State}
 use Rattle.ent_table.proofs.Bits.{same_test}
 use Rattle.ent_table.proofs.ReadKeys.{has_filter}
@@ -65,7 +65,7 @@ document_told former next before now stays = by (same former before) (same next 
       absurd (cc)
 
   by : (b c : Bool) → same former before ≡ b → same next before ≡ c
-      → finds_another former next (if b then look.Former else (if c then look.Next else look.Neither)) now ≡ not (same before now)
+      → finds_another former next (if b then Former else (if c then Next else Neither)) now ≡ not (same before now)
   by true c is js = ap (λ d. not (same d now)) ((decides former before).0 is)
   by false true is js = ap (λ d. not (same d now)) ((decides next before).0 js)
   by false false is js = last (same next now) (same before now) js is refl refl
@@ -109,7 +109,7 @@ module _ (s : State) (x : Exchange) (within : IsWithin s x) where
   key_told : (k : ReadKey) → gives_other t (taken s x) (look_of s x k) k ≡ gives_another s t k
   key_told keys.Root = refl
   key_told (keys.Ref r) =
-      ap (λ next. finds_another (document_in (taken s x)) next (look_of s x (keys.Ref r)) ((looks_in t.held).document r)) standing
+      ap (λ next. finds_another (document_in (taken s x)) next (which (document_in (taken s x)) (document_in x) ((looks_in s.held).document r)) ((looks_in t.held).document r)) standing
       ∙ document_told (document_in (taken s x)) (document_in x) ((looks_in s.held).document r) ((looks_in t.held).document r) (found_elsewhere r)
   key_told (keys.Attr key) = refl
   key_told keys.CurrentDate = ap not (same_known same_date values.Date (λ a b. refl) (date_in s.held.environment) (date_in t.held.environment))

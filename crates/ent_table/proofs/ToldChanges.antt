@@ -82,12 +82,12 @@ module _ (m : AnswerMap) (s : State) where
         after = has.1 ∙ get-answers_of s c.key;
       }
 
-  pub change_tells : (c : Change) → Contains (changes_from m s) c → IsChange m s c
+  pub change_tells : (c : Change Answer) → Contains (changes_from m s) c → IsChange m s c
   change_tells c h =
       let d = from_mapped change_of logged c h in
       subst (IsChange m s) d.1.1 (logged_tells d.0 d.1.0)
 
-  pub change_told : (c : Change) → IsChange m s c → Contains (changes_from m s) c
+  pub change_told : (c : Change Answer) → IsChange m s c → Contains (changes_from m s) c
   change_told c t =
       let x : Triple = changed_request c in
       let there : Contains (map key_of logged) x = Contains-from_any requests.same_request x (map key_of logged) (any_logged x ∙ ap not t.differ) in
@@ -102,7 +102,7 @@ module _ (m : AnswerMap) (s : State) where
   pub changes-ascending : IsStrictlySortedBy request_order (map changed_request (changes_from m s))
   changes-ascending = subst (IsStrictlySortedBy request_order) (sym (told_keys logged)) is_difference.ascending
 
-  pub are_the_difference : (cs : List Change) → cs ≡ changes_from m s → AreTheDifference m s cs
+  pub are_the_difference : (cs : List (Change Answer)) → cs ≡ changes_from m s → AreTheDifference m s cs
   are_the_difference cs told =
       subst (AreTheDifference m s) (sym told)
       (record { exact = λ c. (change_tells c, change_told c); ascending = changes-ascending })

@@ -1,7 +1,6 @@
 -- An exchange that is taken back.
 use Rattle.std.proofs.Common.{◌≡◌, ◌<◌, List, length, refl, ap, subst, ◌∙◌}
 use Rattle.ent_finder.specs.Rows.{Source}
-use Rattle.ent_finder.specs.Slots.{Slots}
 use Rattle.ent_table.specs.declared.change.Exchange.{Exchange}
 use Rattle.ent_table.specs.declared.change.Exchange.TheVariants.{Document, Row, Root, Environment}
 use Rattle.ent_table.specs.declared.review_parts.Parts.{Parts}
@@ -26,20 +25,20 @@ module _ {A P : Type 0} where
       two
       ∙ ap (λ (v : Parts A P). record v {
         pdp = record v.pdp {
-          attributes = new.pdp.attributes;
-          policies = new.pdp.policies;
+          sources = new.pdp.sources;
+          slots = new.pdp.slots;
           root = new.pdp.root;
           environment = new.pdp.environment;
         };
       }) one
 
-module _ {A P : Type 0} (sources : A → List Source) (slots : P → List Slots) where
+module _ {A P : Type 0} where
   -- where what was exchanged is exchanged with what stood there, the state is as before both
-  pub taken_back : (old between new : Parts A P) (x back : Exchange) → IsWithin (state_of sources slots old) x → state_of sources slots between ≡ with_exchange (state_of sources slots old) x → back ≡ taken (state_of sources slots old) x
-      → state_of sources slots new ≡ with_exchange (state_of sources slots between) back → state_of sources slots new ≡ state_of sources slots old
+  pub taken_back : (old between new : Parts A P) (x back : Exchange) → IsWithin (state_of old) x → state_of between ≡ with_exchange (state_of old) x → back ≡ taken (state_of old) x
+      → state_of new ≡ with_exchange (state_of between) back → state_of new ≡ state_of old
   taken_back old between new x back h there is again =
-      again ∙ (λ i. with_exchange (there i) (is i)) ∙ exchange-undone (state_of sources slots old) (sources old.pdp.attributes) x refl h
+      again ∙ (λ i. with_exchange (there i) (is i)) ∙ exchange-undone (state_of old) old.pdp.sources x refl h
 
-  pub made_back : (before now new : Parts A P) (back : Exchange) → IsMade sources slots before now back → state_of sources slots new ≡ with_exchange (state_of sources slots now) back
-      → state_of sources slots new ≡ state_of sources slots before
+  pub made_back : (before now new : Parts A P) (back : Exchange) → IsMade before now back → state_of new ≡ with_exchange (state_of now) back
+      → state_of new ≡ state_of before
   made_back before now new back made again = taken_back before now new made.0 back made.1 made.2 made.3 again

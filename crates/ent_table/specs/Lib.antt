@@ -10,6 +10,7 @@ pub mod Left
 pub mod Limits
 pub mod Names
 pub mod Parts
+pub mod Rests
 pub mod Reviewed
 pub mod State
 pub mod Step

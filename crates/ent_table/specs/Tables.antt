@@ -42,7 +42,7 @@ IsFreshAtSerial r = table_at_serial r r.state.serial ≡ answers_of r.state
 -- ---- what changed
 
 -- a change of an answer, with the three names of its request
-abbrev pub change_of : Logged Who Answer → Change
+abbrev pub change_of : Logged Who Answer → Change Answer
 change_of c = record {
   person = c.key.person;
   action = c.key.action;
@@ -53,23 +53,23 @@ change_of c = record {
 
 -- the difference of a table and that of a state: each request to which they give different answers, once, in byte
 -- order, with both
-abbrev pub changes_from : AnswerMap → State → List Change
+abbrev pub changes_from : AnswerMap → State → List (Change Answer)
 changes_from m s = map change_of (map_difference same_answer m (answers_of s))
 
 -- the request of a change
-abbrev pub changed_request : Change → Triple
+abbrev pub changed_request : Change Answer → Triple
 changed_request c = triple_of c.person c.action c.resource
 
 -- a table and that of a state have different optional answers to the request of a change, and its answers are these two
-pub record IsChange (m : AnswerMap) (s : State) (c : Change) : Type 0 where
+pub record IsChange (m : AnswerMap) (s : State) (c : Change Answer) : Type 0 where
   pub differ : same_optional (get m (changed_request c)) (answer_at s (changed_request c)) ≡ false
   pub before : c.before ≡ get m (changed_request c)
   pub after : c.after ≡ answer_at s (changed_request c)
 
 -- a list is the difference of a table and that of a state: the changes that they have, and no others; their requests
 -- ascend strictly in byte order, so each is there once
-pub record AreTheDifference (m : AnswerMap) (s : State) (changes : List Change) : Type 0 where
-  pub exact : (c : Change) → Contains changes c ↔ IsChange m s c
+pub record AreTheDifference (m : AnswerMap) (s : State) (changes : List (Change Answer)) : Type 0 where
+  pub exact : (c : Change Answer) → Contains changes c ↔ IsChange m s c
   pub ascending : IsStrictlySortedBy request_order (map changed_request changes)
 
 -- ---- what is logged

@@ -1,6 +1,7 @@
 //! Requests that are asked beside the table.
 
-ghost use Rattle.std.specs.Prelude.{◌≡◌, ◌+◌, ◌-◌, ◌^◌, min, IfOk};
+ghost use Rattle.std.specs.Prelude.{◌≡◌, IfOk};
+ghost use Rattle.ent_cells.specs.Count.{raised};
 ghost use Rattle.ent_table.specs.Ask.{answer_in};
 
 use crate::review::Review;
@@ -19,7 +20,7 @@ impl<A: Attributes, P: Policies> Review<A, P> {
     /// `AllocError` if memory runs out.
     pub fn ask(&mut self, request: &Request) -> Result<Answer, AllocError>
         ensures answer { IfOk result (λ a. a ≡ answer_in self.old.state request.now) }
-        ensures rest { self.new ≡ record self.old { evaluations = min (self.old.evaluations + 1) (2 ^ 128 - 1) } }
+        ensures rest { self.new ≡ record self.old { evaluations = raised self.old.evaluations 1 } }
     {
         self.parts.pdp.answer(request)
     }

@@ -1,17 +1,15 @@
 //! Edits of values of attributes.
 
-ghost use Rattle.std.specs.Prelude.{◌≡◌, ◌<◌, false, IfOk, IsSome, None, OnErr, OnOk, length};
-ghost use Rattle.std.specs.FinMap as finmap;
+ghost use Rattle.std.specs.Prelude.{◌≡◌, ◌<◌, false, IsSome, None, OnErr, OnOk, length};
 ghost use Rattle.std.specs.List.{list_all};
 ghost use Rattle.std.specs.Option.{option_map_or};
 ghost use Rattle.ent_values.specs.Bags.{AllOfType};
 ghost use Rattle.ent_values.specs.Same.{same_type};
 ghost use Rattle.ent_values.specs.Types.{datatype_of};
 ghost use Rattle.ent_policy.specs.Names.{is_bad_name};
-ghost use Rattle.ent_finder.specs.Rows.{source_at};
 ghost use Rattle.ent_table.specs.proofs_only.Change.{Becomes, Counted, Keeps, Makes, Stays, Tries};
 ghost use Rattle.ent_table.specs.Fresh.{IsFresh, state_of};
-ghost use Rattle.ent_table.specs.proofs_only.Exchange.{row_at};
+ghost use Rattle.ent_table.specs.proofs_only.Exchange.{OnlySources, row_at, row_in};
 ghost use Rattle.ent_table.specs.Step.{attribute_set, is_bad_row, is_reserved, is_source, with_values};
 
 use crate::change::Exchange;
@@ -70,11 +68,11 @@ impl<A: Attributes, P: Policies> Parts<A, P> {
         key: RowKey,
         values: Items<Value>,
     ) -> Result<Accepted, EditFault>
-        requires { IsFresh A.sources P.slots self.old }
-        ensures fresh { IsFresh A.sources P.slots self.new }
-        ensures step { Makes A.sources P.slots (λ s. attribute_set s number key values) self.old self.new result }
-        ensures counted { Counted A.sources P.slots (λ s. attribute_set s number key values) self.old self.new result }
-        ensures tables { Keeps A.sources P.slots self.old self.new }
+        requires { IsFresh self.old }
+        ensures fresh { IsFresh self.new }
+        ensures step { Makes (λ s. attribute_set s number key values) self.old self.new result }
+        ensures counted { Counted (λ s. attribute_set s number key values) self.old self.new result }
+        ensures tables { Keeps self.old self.new }
     {
         self.row_fault(number, &key, values.as_slice())?;
         let documents = self.documents;
@@ -83,8 +81,8 @@ impl<A: Attributes, P: Policies> Parts<A, P> {
 
     /// Why values can't be set in the row of a key, if they can't.
     fn row_fault(&self, number: usize, key: &RowKey, values: &[Value]) -> Result<(), EditFault>
-        ensures tested { Tries A.sources P.slots (λ s. attribute_set s number key.now values.now) self.now result }
-        ensures number { OnOk result (number < length (state_of A.sources P.slots self.now).held.sources) }
+        ensures tested { Tries (λ s. attribute_set s number key.now values.now) self.now result }
+        ensures number { OnOk result (number < length (state_of self.now).held.sources) }
         ensures types { OnOk result (AllOfType key.now.datatype values.now) }
     {
         if self.is_last() || values.len() > MOST_VALUES {
@@ -104,7 +102,7 @@ impl<A: Attributes, P: Policies> Parts<A, P> {
 
     /// Whether there is a module of attributes of that number that supports the category.
     fn is_source(&self, number: usize, category: &str) -> bool
-        ensures { result ≡ is_source (state_of A.sources P.slots self.now) number category.now }
+        ensures { result ≡ is_source (state_of self.now) number category.now }
     {
         let attributes = self.pdp.attributes();
         number < attributes.len() && attributes.supports(number, category)
@@ -118,21 +116,18 @@ impl<A: Attributes, P: Policies> Parts<A, P> {
         key: &RowKey,
         values: &mut Items<Value>,
     ) -> Result<(), AllocError>
-        requires number { number < length (state_of A.sources P.slots self.old).held.sources }
+        requires number { number < length (state_of self.old).held.sources }
         requires types { AllOfType key.now.datatype values.old }
         ensures swapped { OnOk result
-            (Becomes A.sources P.slots (λ s. with_values s number key.now values.old) self.old self.new) }
-        ensures taken { OnOk result (values.new ≡ row_at (state_of A.sources P.slots self.old) number key.now) }
+            (Becomes (λ s. with_values s number key.now values.old) self.old self.new) }
+        ensures taken { OnOk result (values.new ≡ row_at (state_of self.old) number key.now) }
         ensures own { AllOfType key.now.datatype values.new }
-        ensures there { OnOk result
-            (IsSome (finmap.get (source_at (A.sources self.new.pdp.attributes) number).rows key.now)) }
-        ensures absent { OnErr result
-            (finmap.get (source_at (A.sources self.old.pdp.attributes) number).rows key.now ≡ None) }
-        ensures kept { OnErr result (Stays A.sources P.slots self.old self.new) }
-        ensures modules { length (state_of A.sources P.slots self.new).held.sources
-            ≡ length (state_of A.sources P.slots self.old).held.sources }
-        ensures rest { self.new
-            ≡ record self.old { pdp = record self.old.pdp { attributes = self.new.pdp.attributes } } }
+        ensures there { OnOk result (IsSome (row_in self.new.pdp number key.now)) }
+        ensures absent { OnErr result (row_in self.old.pdp number key.now ≡ None) }
+        ensures kept { OnErr result (Stays self.old self.new) }
+        ensures modules { length (state_of self.new).held.sources
+            ≡ length (state_of self.old).held.sources }
+        ensures rest { OnlySources self.old self.new }
     {
         self.pdp.attributes_mut().swap_row(number, key, values)?;
         Ok(())

@@ -29,13 +29,13 @@ impl<A: Attributes, P: Policies> Parts<A, P> {
     /// Exchanges one thing of what is held. Once this is done, it can be done again without memory, and then all is as
     /// before. It evaluates nothing.
     pub(crate) fn exchange(&mut self, exchange: &mut Exchange) -> Result<(), AllocError>
-        requires { IsWithin (state_of A.sources P.slots self.old) exchange.old }
-        ensures made { OnOk result (Becomes A.sources P.slots (λ s. with_exchange s exchange.old) self.old self.new) }
-        ensures taken { OnOk result (exchange.new ≡ taken (state_of A.sources P.slots self.old) exchange.old) }
-        ensures again { OnOk result (IsWithin (state_of A.sources P.slots self.new) exchange.new) }
-        ensures there { OnOk result (IsThere A.sources P.slots self.new exchange.new) }
-        ensures absent { OnErr result (¬ IsThere A.sources P.slots self.old exchange.old) }
-        ensures kept { OnErr result (Stays A.sources P.slots self.old self.new) }
+        requires { IsWithin (state_of self.old) exchange.old }
+        ensures made { OnOk result (Becomes (λ s. with_exchange s exchange.old) self.old self.new) }
+        ensures taken { OnOk result (exchange.new ≡ taken (state_of self.old) exchange.old) }
+        ensures again { OnOk result (IsWithin (state_of self.new) exchange.new) }
+        ensures there { OnOk result (IsThere self.new exchange.new) }
+        ensures absent { OnErr result (¬ IsThere self.old exchange.old) }
+        ensures kept { OnErr result (Stays self.old self.new) }
         ensures rest { OnlyHeld self.old self.new }
     {
         match exchange {
@@ -59,10 +59,10 @@ impl<A: Attributes, P: Policies> Parts<A, P> {
     /// Takes an exchange back that was made: the state is the one before it. It takes no memory.
     #[tactic(auto, using(crate::proofs::Undone::made_back))]
     pub(crate) fn take_back(&mut self, exchange: &mut Exchange)
-        requires within { IsWithin (state_of A.sources P.slots self.old) exchange.old }
-        requires there { IsThere A.sources P.slots self.old exchange.old }
-        ensures before { (before : Parts A P) → IsMade A.sources P.slots before self.old exchange.old
-            → Stays A.sources P.slots before self.new }
+        requires within { IsWithin (state_of self.old) exchange.old }
+        requires there { IsThere self.old exchange.old }
+        ensures before { (before : Parts A P) → IsMade before self.old exchange.old
+            → Stays before self.new }
         ensures rest { OnlyHeld self.old self.new }
     {
         match self.exchange(exchange) {

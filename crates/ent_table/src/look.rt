@@ -4,32 +4,40 @@ ghost use Rattle.std.specs.Prelude.{◌≡◌, IfOk, OnErr, OnOk, filter};
 ghost use Rattle.std.specs.List.{AllByRecursion};
 ghost use Rattle.std.specs.Option.{option_copied, option_eq};
 ghost use Rattle.ent_policy.specs.Same.{same_document};
+ghost use Rattle.ent_cells.specs.Cell.{HasReadKeys};
 ghost use Rattle.ent_request.specs.Held.{looks_in};
 ghost use Rattle.ent_table.specs.proofs_only.Change.{Becomes, Stays};
 ghost use Rattle.ent_table.specs.proofs_only.Exchange.{IsThere, IsWithin, OnlyHeld, document_in, taken, with_exchange};
-ghost use Rattle.ent_table.specs.proofs_only.Look.{AreChanged, HasReadKeys, IsSeen, asks, environment_keys};
-ghost use Rattle.ent_table.specs.proofs_only.Look.{finds_another, is_another, keys_in, look_of, which};
+ghost use Rattle.ent_table.specs.proofs_only.Look.{AreChanged, IsSeen, asks, environment_keys};
+ghost use Rattle.ent_table.specs.proofs_only.Look.{finds_another, found_by, is_another, keys_in, look_of, which};
 ghost use Rattle.ent_table.specs.Fresh.{state_of};
 
 use crate::change::Exchange;
 use crate::review_parts::Parts;
+use ent_cells::keys_of_row;
 use ent_eval::ReadKey;
 use ent_finder::{AttrKey, Attributes, Policies};
 use ent_policy::{Document, Reference};
 use ent_values::{Bag, Date, DateTime, Items, Time, Value};
 use std::alloc::{AllocError, Global};
 
-/// What a key gives, kept over an exchange. A document isn't kept: of what a reference finds it is told which of the
-/// two it is that are exchanged.
-#[derive(PartialEq, Eq, Drop)]
-pub(crate) enum Look {
-    Root(Option<Reference>),
-    /// The document that stands there, or none as there.
+/// Which of the two documents that are exchanged is found.
+#[derive(Clone, Copy, PartialEq, Eq)]
+pub(crate) enum OfTwo {
+    /// The one that stands there, or none as there.
     Former,
     /// Not that, but the one that is to stand there, or none as there.
     Next,
     /// Neither of them.
     Neither,
+}
+
+/// What a key gives, kept over an exchange. A document isn't kept: of what a reference finds it is told which of the
+/// two it is that are exchanged.
+#[derive(PartialEq, Eq, Drop)]
+pub(crate) enum Look {
+    Root(Option<Reference>),
+    Document(OfTwo),
     Values(Items<Value>),
     Date(Option<Date>),
     Time(Option<Time>),
@@ -76,16 +84,16 @@ fn is_same(first: Option<&Document>, second: Option<&Document>) -> bool
 }
 
 /// Which of two documents is found, or that neither is.
-fn which(former: Option<&Document>, next: Option<&Document>, found: Option<&Document>) -> Look
+fn which(former: Option<&Document>, next: Option<&Document>, found: Option<&Document>) -> OfTwo
     ensures { result
         ≡ which (option_copied former.entry) (option_copied next.entry) (option_copied found.entry) }
 {
     if is_same(former, found) {
-        Look::Former
+        OfTwo::Former
     } else if is_same(next, found) {
-        Look::Next
+        OfTwo::Next
     } else {
-        Look::Neither
+        OfTwo::Neither
     }
 }
 
@@ -108,14 +116,14 @@ impl<A: Attributes, P: Policies> Parts<A, P> {
         &mut self,
         exchange: &mut Exchange,
     ) -> Result<Items<ReadKey>, AllocError>
-        requires { IsWithin (state_of A.sources P.slots self.old) exchange.old }
-        ensures made { OnOk result (Becomes A.sources P.slots (λ s. with_exchange s exchange.old) self.old self.new) }
-        ensures taken { OnOk result (exchange.new ≡ taken (state_of A.sources P.slots self.old) exchange.old) }
-        ensures again { OnOk result (IsWithin (state_of A.sources P.slots self.new) exchange.new) }
-        ensures there { OnOk result (IsThere A.sources P.slots self.new exchange.new) }
+        requires { IsWithin (state_of self.old) exchange.old }
+        ensures made { OnOk result (Becomes (λ s. with_exchange s exchange.old) self.old self.new) }
+        ensures taken { OnOk result (exchange.new ≡ taken (state_of self.old) exchange.old) }
+        ensures again { OnOk result (IsWithin (state_of self.new) exchange.new) }
+        ensures there { OnOk result (IsThere self.new exchange.new) }
         ensures changed { IfOk result
-            (AreChanged (state_of A.sources P.slots self.old) exchange.old self.new.table.cells) }
-        ensures kept { OnErr result (Stays A.sources P.slots self.old self.new) }
+            (AreChanged (state_of self.old) exchange.old self.new.table.cells) }
+        ensures kept { OnErr result (Stays self.old self.new) }
         ensures rest { OnlyHeld self.old self.new }
     {
         let seen = self.seen(exchange)?;
@@ -129,13 +137,13 @@ impl<A: Attributes, P: Policies> Parts<A, P> {
         }
     }
 
-    /// Of the keys that cells read and that an exchange may change, what they give.
+    /// Of the keys that an exchange may change, what they give.
     fn seen(&self, exchange: &Exchange) -> Result<Vec<Seen>, AllocError>
-        requires { IsWithin (state_of A.sources P.slots self.now) exchange.now }
+        requires { IsWithin (state_of self.now) exchange.now }
         ensures keys { IfOk result
             (λ seen. HasReadKeys (asks exchange.now) self.now.table.cells (keys_in seen.items)) }
         ensures looks { IfOk result
-            (λ seen. AllByRecursion (IsSeen (state_of A.sources P.slots self.now) exchange.now) seen.items) }
+            (λ seen. AllByRecursion (IsSeen (state_of self.now) exchange.now) seen.items) }
     {
         let mut seen = Vec::new(self.alloc);
         for key in self.keys_asked(exchange)?.into_vec() {
@@ -145,7 +153,7 @@ impl<A: Attributes, P: Policies> Parts<A, P> {
         Ok(seen)
     }
 
-    /// The keys that cells read and that an exchange may change.
+    /// The keys that an exchange may change, each that a cell reads among them.
     fn keys_asked(&self, exchange: &Exchange) -> Result<Items<ReadKey>, AllocError>
         ensures { IfOk result (HasReadKeys (asks exchange.now) self.now.table.cells) }
     {
@@ -153,7 +161,7 @@ impl<A: Attributes, P: Policies> Parts<A, P> {
             Exchange::Document(_, key, _) => {
                 self.table.cells.keys_of_policy(key.kind, key.id.as_str())
             }
-            Exchange::Row(_, key, _) => self.table.cells.keys_of_row(key),
+            Exchange::Row(_, key, _) => keys_of_row(self.alloc, key),
             Exchange::Root(_) => Items::of_one(self.alloc, ReadKey::Root),
             Exchange::Environment(_) => environment_keys(self.alloc),
         }
@@ -161,16 +169,16 @@ impl<A: Attributes, P: Policies> Parts<A, P> {
 
     /// What a key gives before an exchange.
     fn look(&self, exchange: &Exchange, key: &ReadKey) -> Result<Look, AllocError>
-        requires { IsWithin (state_of A.sources P.slots self.now) exchange.now }
-        ensures { IfOk result
-            (λ look. look ≡ look_of (state_of A.sources P.slots self.now) exchange.now key.now) }
+        requires { IsWithin (state_of self.now) exchange.now }
+        ensures { IfOk result (λ look. look ≡ look_of (state_of self.now) exchange.now key.now) }
     {
         let environment = self.pdp.environment();
         match key {
             ReadKey::Root => Ok(Look::Root(copied(self.alloc, self.pdp.root())?)),
             ReadKey::Ref(reference) => {
                 let former = self.standing(exchange);
-                Ok(which(former, exchange.document(), self.found(reference)))
+                let of_two = which(former, exchange.document(), self.found(reference));
+                Ok(Look::Document(of_two))
             }
             ReadKey::Attr(key) => Ok(Look::Values(self.given(key)?)),
             ReadKey::CurrentDate => Ok(Look::Date(environment.date())),
@@ -182,7 +190,7 @@ impl<A: Attributes, P: Policies> Parts<A, P> {
     /// The document that a reference finds.
     fn found(&self, reference: &Reference) -> Option<&Document>
         ensures { option_copied result
-            ≡ (looks_in (state_of A.sources P.slots self.now).held).document reference.now }
+            ≡ (looks_in (state_of self.now).held).document reference.now }
     {
         let (_, document) = self.pdp.policies().resolve(reference)?;
         Some(document)
@@ -190,9 +198,8 @@ impl<A: Attributes, P: Policies> Parts<A, P> {
 
     /// The document that stands where one is to be exchanged.
     fn standing(&self, exchange: &Exchange) -> Option<&Document>
-        requires { IsWithin (state_of A.sources P.slots self.now) exchange.now }
-        ensures { option_copied result
-            ≡ document_in (taken (state_of A.sources P.slots self.now) exchange.now) }
+        requires { IsWithin (state_of self.now) exchange.now }
+        ensures { option_copied result ≡ document_in (taken (state_of self.now) exchange.now) }
     {
         match exchange {
             Exchange::Document(number, key, _) => self.pdp.policies().document_at(*number, key),
@@ -203,7 +210,7 @@ impl<A: Attributes, P: Policies> Parts<A, P> {
     /// The values that a key gives.
     fn given(&self, key: &AttrKey) -> Result<Items<Value>, AllocError>
         ensures { IfOk result
-            (λ values. values ≡ (looks_in (state_of A.sources P.slots self.now).held).values key.now) }
+            (λ values. values ≡ (looks_in (state_of self.now).held).values key.now) }
     {
         let mut bag = Bag::new(self.alloc, key.datatype);
         self.pdp.attributes().look(key, &mut bag)?;
@@ -212,9 +219,9 @@ impl<A: Attributes, P: Policies> Parts<A, P> {
 
     /// The keys that give another after an exchange than before it, which has what was there before.
     fn changed(&self, seen: Vec<Seen>, exchange: &Exchange) -> Result<Items<ReadKey>, AllocError>
-        requires { IsWithin (state_of A.sources P.slots self.now) exchange.now }
+        requires { IsWithin (state_of self.now) exchange.now }
         ensures { IfOk result (λ keys. keys
-            ≡ keys_in (filter (is_another (state_of A.sources P.slots self.now) exchange.now) seen.items)) }
+            ≡ keys_in (filter (is_another (state_of self.now) exchange.now) seen.items)) }
     {
         let mut changed = Items::new(self.alloc);
         for seen in seen {
@@ -227,32 +234,43 @@ impl<A: Attributes, P: Policies> Parts<A, P> {
 
     /// Whether a key gives another after an exchange than before it, which has what was there before.
     fn is_another(&self, seen: &Seen, exchange: &Exchange) -> Result<bool, AllocError>
-        requires { IsWithin (state_of A.sources P.slots self.now) exchange.now }
+        requires { IsWithin (state_of self.now) exchange.now }
         ensures { IfOk result
-            (λ another. another ≡ is_another (state_of A.sources P.slots self.now) exchange.now seen.now) }
+            (λ another. another ≡ is_another (state_of self.now) exchange.now seen.now) }
     {
-        match &seen.key {
-            ReadKey::Ref(reference) => Ok(self.finds_another(reference, &seen.look, exchange)),
+        match &seen.look {
+            Look::Document(of_two) => Ok(self.finds_another(&seen.key, *of_two, exchange)),
+            Look::Root(_) | Look::Values(_) | Look::Date(_) | Look::Time(_) | Look::DateTime(_) =>
+                Ok(seen.look != self.look(exchange, &seen.key)?),
+        }
+    }
+
+    /// The document that a key finds, if it is a reference that finds one.
+    fn found_by(&self, key: &ReadKey) -> Option<&Document>
+        ensures { option_copied result ≡ found_by (state_of self.now) key.now }
+    {
+        match key {
+            ReadKey::Ref(reference) => self.found(reference),
             ReadKey::Root
             | ReadKey::Attr(_)
             | ReadKey::CurrentDate
             | ReadKey::CurrentTime
-            | ReadKey::CurrentDateTime => Ok(seen.look != self.look(exchange, &seen.key)?),
+            | ReadKey::CurrentDateTime => None,
         }
     }
 
-    /// Whether a reference finds another after an exchange, by one comparison.
-    fn finds_another(&self, reference: &Reference, look: &Look, exchange: &Exchange) -> bool
-        requires { IsWithin (state_of A.sources P.slots self.now) exchange.now }
+    /// Whether a key finds another document after an exchange, by one comparison.
+    fn finds_another(&self, key: &ReadKey, of_two: OfTwo, exchange: &Exchange) -> bool
+        requires { IsWithin (state_of self.now) exchange.now }
         ensures { result ≡ finds_another (document_in exchange.now)
-            (document_in (taken (state_of A.sources P.slots self.now) exchange.now)) look.now
-            ((looks_in (state_of A.sources P.slots self.now).held).document reference.now) }
+            (document_in (taken (state_of self.now) exchange.now)) of_two
+            (found_by (state_of self.now) key.now) }
     {
-        let found = self.found(reference);
-        match look {
-            Look::Former => !is_same(exchange.document(), found),
-            Look::Next => !is_same(self.standing(exchange), found),
-            _ => is_same(self.standing(exchange), found),
+        let found = self.found_by(key);
+        match of_two {
+            OfTwo::Former => !is_same(exchange.document(), found),
+            OfTwo::Next => !is_same(self.standing(exchange), found),
+            OfTwo::Neither => is_same(self.standing(exchange), found),
         }
     }
 }

@@ -110,8 +110,8 @@ impl NameList {
     pub(crate) fn undo_push(&mut self)
         ensures { TakesLastName self.old self.new }
     {
-        let _ = self.names.pop();
-        let _ = self.shared.pop();
+        self.names.pop();
+        self.shared.pop();
     }
 
     /// Takes a name out, and tells where it stood. Those behind it move up. It takes no memory.

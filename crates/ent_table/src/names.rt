@@ -15,11 +15,11 @@ use ent_values::Text;
 impl<A: Attributes, P: Policies> Parts<A, P> {
     /// Puts a name last in its list. The other answers stay, so only the requests of the name are evaluated.
     pub(crate) fn add_name(&mut self, list: List, name: Text) -> Result<Accepted, EditFault>
-        requires { IsFresh A.sources P.slots self.old }
-        ensures fresh { IsFresh A.sources P.slots self.new }
-        ensures step { Makes A.sources P.slots (λ s. name_added s list name) self.old self.new result }
-        ensures counted { Counted A.sources P.slots (λ s. name_added s list name) self.old self.new result }
-        ensures tables { Keeps A.sources P.slots self.old self.new }
+        requires { IsFresh self.old }
+        ensures fresh { IsFresh self.new }
+        ensures step { Makes (λ s. name_added s list name) self.old self.new result }
+        ensures counted { Counted (λ s. name_added s list name) self.old self.new result }
+        ensures tables { Keeps self.old self.new }
     {
         self.name_fault(list, &name)?;
         let table = &mut self.table;
@@ -31,13 +31,13 @@ impl<A: Attributes, P: Policies> Parts<A, P> {
 
     /// Takes a name out of its list, and drops the cells of its requests. Nothing is evaluated, and no memory is taken.
     pub(crate) fn drop_name(&mut self, list: List, name: &Text) -> Result<Accepted, EditFault>
-        requires { IsFresh A.sources P.slots self.old }
-        ensures fresh { IsFresh A.sources P.slots self.new }
-        ensures step { Makes A.sources P.slots (λ s. name_dropped s list name.now) self.old self.new result }
+        requires { IsFresh self.old }
+        ensures fresh { IsFresh self.new }
+        ensures step { Makes (λ s. name_dropped s list name.now) self.old self.new result }
         ensures sure { IfErr result
-            (λ fault. name_dropped (state_of A.sources P.slots self.old) list name.now ≡ Err fault) }
-        ensures counted { Counted A.sources P.slots (λ s. name_dropped s list name.now) self.old self.new result }
-        ensures tables { Keeps A.sources P.slots self.old self.new }
+            (λ fault. name_dropped (state_of self.old) list name.now ≡ Err fault) }
+        ensures counted { Counted (λ s. name_dropped s list name.now) self.old self.new result }
+        ensures tables { Keeps self.old self.new }
         ensures idle { self.new.pdp ≡ self.old.pdp }
     {
         if !self.table.names.has(list, name.as_str()) {
@@ -55,7 +55,7 @@ impl<A: Attributes, P: Policies> Parts<A, P> {
 
     /// Why a name can't be added, if it can't.
     fn name_fault(&self, list: List, name: &Text) -> Result<(), EditFault>
-        ensures { Tries A.sources P.slots (λ s. name_added s list name.now) self.now result }
+        ensures { Tries (λ s. name_added s list name.now) self.now result }
     {
         if self.table.names.has(list, name.as_str()) {
             return Err(EditFault::AlreadyThere);
@@ -71,7 +71,7 @@ impl<A: Attributes, P: Policies> Parts<A, P> {
 
     /// Whether a name more would exceed a limit.
     fn exceeds(&self, list: List) -> bool
-        ensures { Exceeds (state_of A.sources P.slots self.now) list result }
+        ensures { Exceeds (state_of self.now) list result }
     {
         let most = match list {
             List::People => self.limits.people,

@@ -1,13 +1,11 @@
 //! Edits of documents.
 
 ghost use Rattle.std.specs.Prelude.{◌≡◌, ◌<◌, IfOk, IsSome, None, OnErr, OnOk, length};
-ghost use Rattle.std.specs.FinMap as finmap;
 ghost use Rattle.std.specs.Option.{ForSome};
 ghost use Rattle.ent_policy.specs.Key.{key_of};
-ghost use Rattle.ent_finder.specs.Slots.{module_at};
 ghost use Rattle.ent_table.specs.proofs_only.Change.{Becomes, Counted, Keeps, Makes, Stays, Tries};
 ghost use Rattle.ent_table.specs.Fresh.{IsFresh, state_of};
-ghost use Rattle.ent_table.specs.proofs_only.Exchange.{policy_at};
+ghost use Rattle.ent_table.specs.proofs_only.Exchange.{OnlySlots, policy_at, slot_in};
 ghost use Rattle.ent_table.specs.Step.{is_module, module_holds, module_lacks, policy_added};
 ghost use Rattle.ent_table.specs.Step.{policy_replaced, policy_withdrawn, with_policy};
 
@@ -24,11 +22,11 @@ impl<A: Attributes, P: Policies> Parts<A, P> {
         number: usize,
         document: Document,
     ) -> Result<Accepted, EditFault>
-        requires { IsFresh A.sources P.slots self.old }
-        ensures fresh { IsFresh A.sources P.slots self.new }
-        ensures step { Makes A.sources P.slots (λ s. policy_added s number document) self.old self.new result }
-        ensures counted { Counted A.sources P.slots (λ s. policy_added s number document) self.old self.new result }
-        ensures tables { Keeps A.sources P.slots self.old self.new }
+        requires { IsFresh self.old }
+        ensures fresh { IsFresh self.new }
+        ensures step { Makes (λ s. policy_added s number document) self.old self.new result }
+        ensures counted { Counted (λ s. policy_added s number document) self.old self.new result }
+        ensures tables { Keeps self.old self.new }
     {
         let key = self.key_to_add(number, &document)?;
         let documents = self.documents + 1;
@@ -40,11 +38,11 @@ impl<A: Attributes, P: Policies> Parts<A, P> {
         number: usize,
         document: Document,
     ) -> Result<Accepted, EditFault>
-        requires { IsFresh A.sources P.slots self.old }
-        ensures fresh { IsFresh A.sources P.slots self.new }
-        ensures step { Makes A.sources P.slots (λ s. policy_replaced s number document) self.old self.new result }
-        ensures counted { Counted A.sources P.slots (λ s. policy_replaced s number document) self.old self.new result }
-        ensures tables { Keeps A.sources P.slots self.old self.new }
+        requires { IsFresh self.old }
+        ensures fresh { IsFresh self.new }
+        ensures step { Makes (λ s. policy_replaced s number document) self.old self.new result }
+        ensures counted { Counted (λ s. policy_replaced s number document) self.old self.new result }
+        ensures tables { Keeps self.old self.new }
     {
         let key = self.key_to_replace(number, &document)?;
         let documents = self.documents;
@@ -56,11 +54,11 @@ impl<A: Attributes, P: Policies> Parts<A, P> {
         number: usize,
         key: DocKey,
     ) -> Result<Accepted, EditFault>
-        requires { IsFresh A.sources P.slots self.old }
-        ensures fresh { IsFresh A.sources P.slots self.new }
-        ensures step { Makes A.sources P.slots (λ s. policy_withdrawn s number key) self.old self.new result }
-        ensures counted { Counted A.sources P.slots (λ s. policy_withdrawn s number key) self.old self.new result }
-        ensures tables { Keeps A.sources P.slots self.old self.new }
+        requires { IsFresh self.old }
+        ensures fresh { IsFresh self.new }
+        ensures step { Makes (λ s. policy_withdrawn s number key) self.old self.new result }
+        ensures counted { Counted (λ s. policy_withdrawn s number key) self.old self.new result }
+        ensures tables { Keeps self.old self.new }
     {
         self.withdrawal_fault(number, &key)?;
         let documents = self.documents - 1;
@@ -69,9 +67,9 @@ impl<A: Attributes, P: Policies> Parts<A, P> {
 
     /// The key under which a document is added, or why it can't be.
     fn key_to_add(&self, number: usize, document: &Document) -> Result<DocKey, EditFault>
-        requires { IsFresh A.sources P.slots self.now }
+        requires { IsFresh self.now }
         ensures key { IfOk result (λ k. k ≡ key_of document.now) }
-        ensures tested { Tries A.sources P.slots (λ s. policy_added s number document.now) self.now result }
+        ensures tested { Tries (λ s. policy_added s number document.now) self.now result }
     {
         let Ok(key) = document.key(self.alloc) else {
             return Err(EditFault::Memory);
@@ -91,7 +89,7 @@ impl<A: Attributes, P: Policies> Parts<A, P> {
     /// The key under which a document is replaced by this one, or why it can't be.
     fn key_to_replace(&self, number: usize, document: &Document) -> Result<DocKey, EditFault>
         ensures key { IfOk result (λ k. k ≡ key_of document.now) }
-        ensures tested { Tries A.sources P.slots (λ s. policy_replaced s number document.now) self.now result }
+        ensures tested { Tries (λ s. policy_replaced s number document.now) self.now result }
     {
         let Ok(key) = document.key(self.alloc) else {
             return Err(EditFault::Memory);
@@ -110,7 +108,7 @@ impl<A: Attributes, P: Policies> Parts<A, P> {
 
     /// Why the document with a key can't be withdrawn, if it can't.
     fn withdrawal_fault(&self, number: usize, key: &DocKey) -> Result<(), EditFault>
-        ensures { Tries A.sources P.slots (λ s. policy_withdrawn s number key.now) self.now result }
+        ensures { Tries (λ s. policy_withdrawn s number key.now) self.now result }
     {
         if self.lacks(number, key) {
             return Err(EditFault::NotThere);
@@ -129,21 +127,21 @@ impl<A: Attributes, P: Policies> Parts<A, P> {
 
     /// Whether there is a module of that number.
     fn is_module(&self, number: usize) -> bool
-        ensures { result ≡ is_module (state_of A.sources P.slots self.now) number }
+        ensures { result ≡ is_module (state_of self.now) number }
     {
         number < self.pdp.policies().len()
     }
 
     /// Whether there is a module of that number that holds a document with that key.
     fn holds(&self, number: usize, key: &DocKey) -> bool
-        ensures { result ≡ module_holds (state_of A.sources P.slots self.now) number key.now }
+        ensures { result ≡ module_holds (state_of self.now) number key.now }
     {
         self.is_module(number) && self.pdp.policies().holds(number, key)
     }
 
     /// Whether there is a module of that number that holds no document with that key.
     fn lacks(&self, number: usize, key: &DocKey) -> bool
-        ensures { result ≡ module_lacks (state_of A.sources P.slots self.now) number key.now }
+        ensures { result ≡ module_lacks (state_of self.now) number key.now }
     {
         self.is_module(number) && !self.pdp.policies().holds(number, key)
     }
@@ -156,18 +154,18 @@ impl<A: Attributes, P: Policies> Parts<A, P> {
         key: &DocKey,
         document: &mut Option<Document>,
     ) -> Result<(), AllocError>
-        requires number { number < length (state_of A.sources P.slots self.old).held.modules }
+        requires number { number < length (state_of self.old).held.modules }
         requires key { ForSome document.old (λ d. key_of d ≡ key.now) }
         ensures swapped { OnOk result
-            (Becomes A.sources P.slots (λ s. with_policy s number key.now document.old) self.old self.new) }
-        ensures taken { OnOk result (document.new ≡ policy_at (state_of A.sources P.slots self.old) number key.now) }
+            (Becomes (λ s. with_policy s number key.now document.old) self.old self.new) }
+        ensures taken { OnOk result (document.new ≡ policy_at (state_of self.old) number key.now) }
         ensures own { ForSome document.new (λ d. key_of d ≡ key.now) }
-        ensures there { OnOk result (IsSome (finmap.get (module_at (P.slots self.new.pdp.policies) number) key.now)) }
-        ensures absent { OnErr result (finmap.get (module_at (P.slots self.old.pdp.policies) number) key.now ≡ None) }
-        ensures kept { OnErr result (Stays A.sources P.slots self.old self.new) }
-        ensures modules { length (state_of A.sources P.slots self.new).held.modules
-            ≡ length (state_of A.sources P.slots self.old).held.modules }
-        ensures rest { self.new ≡ record self.old { pdp = record self.old.pdp { policies = self.new.pdp.policies } } }
+        ensures there { OnOk result (IsSome (slot_in self.new.pdp number key.now)) }
+        ensures absent { OnErr result (slot_in self.old.pdp number key.now ≡ None) }
+        ensures kept { OnErr result (Stays self.old self.new) }
+        ensures modules { length (state_of self.new).held.modules
+            ≡ length (state_of self.old).held.modules }
+        ensures rest { OnlySlots self.old self.new }
     {
         self.pdp
             .policies_mut()

@@ -14,7 +14,7 @@ use ent_values::Text;
 impl<A: Attributes, P: Policies> Review<A, P> {
     /// The decision point of which the table tells.
     pub fn pdp(&self) -> &Pdp<A, P>
-        ensures held { held_by A.sources P.slots result.now ≡ self.now.state.held }
+        ensures held { held_by result.now ≡ self.now.state.held }
         ensures counted { result.now.evaluations ≡ self.now.evaluations }
     {
         &self.parts.pdp

@@ -47,16 +47,16 @@ impl<A: Attributes, P: Policies> Model for Review<A, P> {
 
     ghost use Rattle.ent_table.specs.Fresh.{IsFresh, reviewed};
 
-    ghost view = { λ r. reviewed A.sources P.slots r.parts };
+    ghost view = { λ r. reviewed r.parts };
 
-    ghost invariant = { λ r. IsFresh A.sources P.slots r.parts };
+    ghost invariant = { λ r. IsFresh r.parts };
 }
 
 impl<A: Attributes, P: Policies> Review<A, P> {
     /// A review of what a decision point holds, with no names listed. No limit may be above the greatest one.
     pub fn new(alloc: Global, pdp: Pdp<A, P>, limits: Limits) -> Review<A, P>
         requires { IsWithinGreatest limits }
-        ensures state { result.state ≡ initial (held_by A.sources P.slots pdp) limits }
+        ensures state { result.state ≡ initial (held_by pdp) limits }
         ensures counted { result.evaluations ≡ pdp.evaluations }
         ensures from { result.past.from ≡ 0 }
         ensures now { IsFreshAtSerial result }

@@ -22,7 +22,7 @@ use std::alloc::Global;
 
 /// The parts of a review. Between the phases of an edit they don't fit each other, so they are no review then.
 #[derive(Drop)]
-pub(crate) struct Parts<A, P> {
+pub(crate) struct Parts<A: Attributes, P: Policies> {
     pub(crate) alloc: Global,
     pub(crate) pdp: Pdp<A, P>,
     pub(crate) limits: Limits,
@@ -36,13 +36,13 @@ pub(crate) struct Parts<A, P> {
 impl<A: Attributes, P: Policies> Parts<A, P> {
     /// Makes an exchange that is refused at the last serial alone, and leaves how many documents are held.
     pub(crate) fn set(&mut self, exchange: Exchange) -> Result<Accepted, EditFault>
-        requires fresh { IsFresh A.sources P.slots self.old }
-        requires within { IsWithin (state_of A.sources P.slots self.old) exchange }
-        requires documents { self.old.documents ≡ count_with (state_of A.sources P.slots self.old) exchange }
-        ensures fresh { IsFresh A.sources P.slots self.new }
-        ensures step { Makes A.sources P.slots (λ s. exchanged_unless_last s exchange) self.old self.new result }
-        ensures counted { Counted A.sources P.slots (λ s. exchanged_unless_last s exchange) self.old self.new result }
-        ensures tables { Keeps A.sources P.slots self.old self.new }
+        requires fresh { IsFresh self.old }
+        requires within { IsWithin (state_of self.old) exchange }
+        requires documents { self.old.documents ≡ count_with (state_of self.old) exchange }
+        ensures fresh { IsFresh self.new }
+        ensures step { Makes (λ s. exchanged_unless_last s exchange) self.old self.new result }
+        ensures counted { Counted (λ s. exchanged_unless_last s exchange) self.old self.new result }
+        ensures tables { Keeps self.old self.new }
     {
         if self.is_last() {
             return Err(EditFault::Limit);
@@ -58,14 +58,14 @@ impl<A: Attributes, P: Policies> Parts<A, P> {
         mut exchange: Exchange,
         documents: u128,
     ) -> Result<Accepted, EditFault>
-        requires fresh { IsFresh A.sources P.slots self.old }
+        requires fresh { IsFresh self.old }
         requires serial { self.old.log.serial < 2 ^ 63 }
-        requires within { IsWithin (state_of A.sources P.slots self.old) exchange }
-        requires documents { documents ≡ count_with (state_of A.sources P.slots self.old) exchange }
-        ensures fresh { IsFresh A.sources P.slots self.new }
-        ensures step { Makes A.sources P.slots (λ s. exchanged s exchange) self.old self.new result }
-        ensures counted { Counted A.sources P.slots (λ s. exchanged s exchange) self.old self.new result }
-        ensures tables { Keeps A.sources P.slots self.old self.new }
+        requires within { IsWithin (state_of self.old) exchange }
+        requires documents { documents ≡ count_with (state_of self.old) exchange }
+        ensures fresh { IsFresh self.new }
+        ensures step { Makes (λ s. exchanged s exchange) self.old self.new result }
+        ensures counted { Counted (λ s. exchanged s exchange) self.old self.new result }
+        ensures tables { Keeps self.old self.new }
     {
         let Ok(changed) = self.exchange_and_tell(&mut exchange) else {
             return Err(EditFault::Memory);
@@ -85,7 +85,7 @@ impl<A: Attributes, P: Policies> Parts<A, P> {
 
     /// Whether no edit is accepted any more.
     pub(crate) fn is_last(&self) -> bool
-        ensures { result ≡ is_last (state_of A.sources P.slots self.now) }
+        ensures { result ≡ is_last (state_of self.now) }
     {
         self.log.serial() >= LAST_SERIAL
     }

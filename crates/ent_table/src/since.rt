@@ -11,14 +11,20 @@ use ent_log::{Change as Logged, Present};
 use ent_values::{Items, Shared, Text};
 use std::alloc::{AllocError, Global};
 
-/// A request to which two tables give different answers, or only one of them gives an answer, with both.
+/// A request to which two tables give different answers, or only one of them gives an answer, with both, or with a part
+/// of each.
 #[derive(Drop)]
-pub struct Change {
+pub struct Change<T = Shared<Answer>> {
+    /// The person of the request.
     pub person: Text,
+    /// Its action.
     pub action: Text,
+    /// Its resource.
     pub resource: Text,
-    pub before: Option<Shared<Answer>>,
-    pub after: Option<Shared<Answer>>,
+    /// What the earlier table has, `None` where the request wasn't listed.
+    pub before: Option<T>,
+    /// What the later one has, `None` where the request isn't listed.
+    pub after: Option<T>,
 }
 
 /// A logged change, with the three names of its request.

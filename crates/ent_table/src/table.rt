@@ -91,7 +91,7 @@ impl Table {
     ) -> Result<Items<OldAnswer<Who, Answer>>, AllocError>
         requires room { length (list_of list self.old.names) < 65536 }
         requires absent { has_name name (list_of list self.old.names) ≡ false }
-        ensures ok { OnOk result (IsAdded (cell_of (looks_of A.sources P.slots pdp.old)) list name self.old self.new) }
+        ensures ok { OnOk result (IsAdded (cell_of (looks_of pdp.old)) list name self.old self.new) }
         ensures olds { IfOk result (λ olds. olds ≡ unanswered (requests_with list name self.old.names)) }
         ensures room { IfOk result (λ olds. length olds + length self.new.cells ≤ room_of log.new) }
         ensures same { IsSameLog log.old log.new }

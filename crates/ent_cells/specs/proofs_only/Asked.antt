@@ -25,19 +25,7 @@ abbrev pub reads_at : Option Entry → ReadKey → Bool
 reads_at None k = false
 reads_at (Some e) k = has_key e.kept.said.reads k
 
--- whether a cell reads a key
-pub record IsReadBy (entries : Slab Entry) (k : ReadKey) (is_read : Bool) : Type 0 where
-  pub some : is_read ≡ true → (c : ℕ) × (reads_at (get entries c) k ≡ true)
-  pub none : is_read ≡ false → (c : ℕ) → reads_at (get entries c) k ≡ false
-
--- these are those of some keys that a cell reads, and no others
-pub record AreReadOf (keys : List ReadKey) (entries : Slab Entry) (kept : List ReadKey) : Type 0 where
-  pub all : (k : ReadKey) (c : ℕ) → has_key keys k ≡ true → reads_at (get entries c) k ≡ true → has_key kept k ≡ true
-  pub of : (k : ReadKey) → has_key kept k ≡ true → has_key keys k ≡ true
-  pub read : (k : ReadKey) → has_key kept k ≡ true → (c : ℕ) × (reads_at (get entries c) k ≡ true)
-
--- these are the keys that pass a test and that a cell reads, and no others
-pub record AreKeysOf (asks : ReadKey → Bool) (entries : Slab Entry) (keys : List ReadKey) : Type 0 where
-  pub all : (k : ReadKey) (c : ℕ) → asks k ≡ true → reads_at (get entries c) k ≡ true → has_key keys k ≡ true
-  pub asked : (k : ReadKey) → has_key keys k ≡ true → asks k ≡ true
-  pub read : (k : ReadKey) → has_key keys k ≡ true → (c : ℕ) × (reads_at (get entries c) k ≡ true)
+-- each key that passes a test and that a cell reads is among these
+abbrev pub HasKeysOf : (ReadKey → Bool) → Slab Entry → List ReadKey → Type 0
+HasKeysOf asks entries keys =
+    (k : ReadKey) (c : ℕ) → asks k ≡ true → reads_at (get entries c) k ≡ true → has_key keys k ≡ true

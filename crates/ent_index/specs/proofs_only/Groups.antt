@@ -25,11 +25,6 @@ abbrev pub HasAllOf : Option (List ℕ) → List ℕ → Type 0
 HasAllOf None all = Unit {0}
 HasAllOf (Some cells) all = HasAll cells all
 
--- a cell is one of those that there may be
-abbrev pub IsIn : Option (List ℕ) → ℕ → Type 0
-IsIn None c = ⊥
-IsIn (Some cells) c = is_member cells c ≡ true
-
 -- there are the cells whose groups have the question of a number
 abbrev pub HasAsking : Groups → ℕ → List ℕ → Type 0
 HasAsking groups n all = (g c : ℕ) → holds groups g c ≡ true → is_among (numbers_of groups g) n ≡ true → is_member all c ≡ true

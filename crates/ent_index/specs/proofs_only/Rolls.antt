@@ -1,16 +1,19 @@
 -- How the words of a roll are kept.
-use Rattle.std.specs.Prelude.{◌≡◌, ℕ, ◌+◌, ◌^◌, ◌<◌, ◌≤◌, List, [], ◌∷◌, length, slice_index_or}
+use Rattle.std.specs.Prelude.{◌≡◌, ℕ, ◌+◌, ◌^◌, ◌<◌, ◌≤◌, Bool, List, [], ◌∷◌, length, nat_eq, not, slice_index_or}
 use Rattle.ent_index.specs.declared.words.Word.{Word}
 
--- their places strictly rise, from a least one on, none is beyond the cells below 2 ^ 32, and no word is empty
+-- their places strictly rise, from a least one on, and none is beyond the cells below 2 ^ 32; a word may be empty
 abbrev pub AreWords : ℕ → List Word → Type 0
 AreWords least [] = least ≤ 67108864
-AreWords least (w ∷ ws) = (least ≤ w.place) × (0 < w.bits) × (w.bits < 2 ^ 64) × AreWords (w.place + 1) ws
+AreWords least (w ∷ ws) = (least ≤ w.place) × (w.bits < 2 ^ 64) × AreWords (w.place + 1) ws
+
+-- a word isn't empty
+abbrev pub has_cells : Word → Bool
+has_cells w = not (nat_eq w.bits 0)
 
 -- a word that may stand among them
 pub record IsWord (w : Word) : Type 0 where
   pub place : w.place < 67108864
-  pub some : 0 < w.bits
   pub fits : w.bits < 2 ^ 64
 
 -- the words in front of a seat have places before this one, and the others none before it

@@ -1,8 +1,6 @@
 -- What the phases of an edit do to the parts of a review.
-use Rattle.std.specs.Prelude.{Result, Ok, Err, IsOk, ◌≡◌, ◌≤◌, List}
+use Rattle.std.specs.Prelude.{Result, Ok, Err, IsOk, ◌≡◌, ◌≤◌}
 use Rattle.ent_cells.specs.Count.{most}
-use Rattle.ent_finder.specs.Rows.{Source}
-use Rattle.ent_finder.specs.Slots.{Slots}
 use Rattle.ent_table.specs.declared.edit.EditFault.{EditFault}
 use Rattle.ent_table.specs.State.{State}
 use Rattle.ent_table.specs.Step.{IsRefusal}
@@ -19,33 +17,29 @@ IsTested r (Ok done) = IsOk r
 IsTested r (Err fault) = IsRefusal r fault
 
 -- a step is tried on the state: it has no fault but want of memory, or the one that is told
-abbrev pub Tries : {A P B : Type 0} → (A → List Source) → (P → List Slots) → (State → Result State EditFault)
-    → Parts A P → Result B EditFault → Type 0
-Tries sources slots step v result = IsTested (step (state_of sources slots v)) result
+abbrev pub Tries : {A P B : Type 0} → (State → Result State EditFault) → Parts A P → Result B EditFault → Type 0
+Tries step v result = IsTested (step (state_of v)) result
 
 -- the state becomes what a change makes of it
-abbrev pub Becomes : {A P : Type 0} → (A → List Source) → (P → List Slots) → (State → State)
-    → Parts A P → Parts A P → Type 0
-Becomes sources slots change old new = state_of sources slots new ≡ change (state_of sources slots old)
+abbrev pub Becomes : {A P : Type 0} → (State → State) → Parts A P → Parts A P → Type 0
+Becomes change old new = state_of new ≡ change (state_of old)
 
 -- the state stays
-abbrev pub Stays : {A P : Type 0} → (A → List Source) → (P → List Slots) → Parts A P → Parts A P → Type 0
-Stays sources slots old new = state_of sources slots new ≡ state_of sources slots old
+abbrev pub Stays : {A P : Type 0} → Parts A P → Parts A P → Type 0
+Stays old new = state_of new ≡ state_of old
 
 -- the state becomes another by a step, and it is answered as that step is
-abbrev pub Makes : {A P : Type 0} → (A → List Source) → (P → List Slots) → (State → Result State EditFault)
+abbrev pub Makes : {A P : Type 0} → (State → Result State EditFault)
     → Parts A P → Parts A P → Result Accepted EditFault → Type 0
-Makes sources slots step old new result =
-    Edits step (state_of sources slots old) (state_of sources slots new) result
+Makes step old new result = Edits step (state_of old) (state_of new) result
 
 -- the table at each serial so far stays what it was
-abbrev pub Keeps : {A P : Type 0} → (A → List Source) → (P → List Slots) → Parts A P → Parts A P → Type 0
-Keeps sources slots old new = KeepsTables (reviewed sources slots old) (reviewed sources slots new)
+abbrev pub Keeps : {A P : Type 0} → Parts A P → Parts A P → Type 0
+Keeps old new = KeepsTables (reviewed old) (reviewed new)
 
 -- the count of evaluations rises with an edit as its step says
-abbrev pub Counted : {A P : Type 0} → (A → List Source) → (P → List Slots) → (State → Result State EditFault)
+abbrev pub Counted : {A P : Type 0} → (State → Result State EditFault)
     → Parts A P → Parts A P → Result Accepted EditFault → Type 0
-Counted sources slots step old new result =
+Counted step old new result =
     old.pdp.evaluations ≤ most
-    → IsCounted (step (state_of sources slots old)) (state_of sources slots old)
-    old.pdp.evaluations new.pdp.evaluations result
+    → IsCounted (step (state_of old)) (state_of old) old.pdp.evaluations new.pdp.evaluations result

@@ -4,11 +4,12 @@ use Rattle.std.specs.FinMap.{get}
 use Rattle.std.specs.Option.{ForSome}
 use Rattle.ent_values.specs.Bags.{AllOfType}
 use Rattle.ent_policy.specs.Key.{key_of}
-use Rattle.ent_finder.specs.Rows.{Source, source_at, values_at}
-use Rattle.ent_finder.specs.Slots.{Slots, document_count, module_at}
+use Rattle.ent_finder.specs.Rows.{source_at, values_at}
+use Rattle.ent_finder.specs.Slots.{document_count, module_at}
 use Rattle.ent_policy.specs.declared.document.Tree.{Tree}
 use Rattle.ent_policy.specs.declared.key.DocKey.{DocKey}
 use Rattle.ent_values.specs.declared.value.Value.{Value}
+use Rattle.ent_eval.specs.Point.{Point}
 use Rattle.ent_finder.specs.declared.row.RowKey.{RowKey}
 use Rattle.ent_table.specs.declared.change.Exchange.{Exchange}
 use Rattle.ent_table.specs.declared.change.Exchange.TheVariants.{Document, Row, Root, Environment}
@@ -61,31 +62,47 @@ IsWithin s (Row number key values) = (number < length s.held.sources) × AllOfTy
 IsWithin s (Root root) = Unit {0}
 IsWithin s (Environment environment) = Unit {0}
 
+-- what is in the slot of a key in the module of that number, if the slot is there
+abbrev pub slot_in : Point → ℕ → DocKey → Option (Option Tree)
+slot_in pdp number key = get (module_at pdp.slots number) key
+
+-- what is in the row of a key in the module of that number, if the row is there
+abbrev pub row_in : Point → ℕ → RowKey → Option (List Value)
+row_in pdp number key = get (source_at pdp.sources number).rows key
+
 -- there is a place for it, so that it takes no memory
-abbrev pub IsThere : {A P : Type 0} → (A → List Source) → (P → List Slots) → Parts A P → Exchange → Type 0
-IsThere sources slots v (Document number key document) = IsSome (get (module_at (slots v.pdp.policies) number) key)
-IsThere sources slots v (Row number key values) = IsSome (get (source_at (sources v.pdp.attributes) number).rows key)
-IsThere sources slots v (Root root) = Unit {0}
-IsThere sources slots v (Environment environment) = Unit {0}
+abbrev pub IsThere : {A P : Type 0} → Parts A P → Exchange → Type 0
+IsThere v (Document number key document) = IsSome (slot_in v.pdp number key)
+IsThere v (Row number key values) = IsSome (row_in v.pdp number key)
+IsThere v (Root root) = Unit {0}
+IsThere v (Environment environment) = Unit {0}
 
 -- how many documents are held after it
 abbrev pub count_with : State → Exchange → ℕ
 count_with s x = document_count (with_exchange s x).held.modules
 
+-- only what modules of documents have changed
+abbrev pub OnlySlots : {A P : Type 0} → Parts A P → Parts A P → Type 0
+OnlySlots old new = new ≡ record old { pdp = record old.pdp { slots = new.pdp.slots } }
+
+-- only what modules of attributes have changed
+abbrev pub OnlySources : {A P : Type 0} → Parts A P → Parts A P → Type 0
+OnlySources old new = new ≡ record old { pdp = record old.pdp { sources = new.pdp.sources } }
+
 -- only what is held changed
 abbrev pub OnlyHeld : {A P : Type 0} → Parts A P → Parts A P → Type 0
 OnlyHeld old new = new ≡ record old {
   pdp = record old.pdp {
-    attributes = new.pdp.attributes;
-    policies = new.pdp.policies;
+    sources = new.pdp.sources;
+    slots = new.pdp.slots;
     root = new.pdp.root;
     environment = new.pdp.environment;
   };
 }
 
 -- a review became another by an exchange, of which this stood there
-abbrev pub IsMade : {A P : Type 0} → (A → List Source) → (P → List Slots) → Parts A P → Parts A P → Exchange → Type 0
-IsMade sources slots before now back =
-    (x : Exchange) × IsWithin (state_of sources slots before) x
-    × (state_of sources slots now ≡ with_exchange (state_of sources slots before) x)
-    × (back ≡ taken (state_of sources slots before) x)
+abbrev pub IsMade : {A P : Type 0} → Parts A P → Parts A P → Exchange → Type 0
+IsMade before now back =
+    (x : Exchange) × IsWithin (state_of before) x
+    × (state_of now ≡ with_exchange (state_of before) x)
+    × (back ≡ taken (state_of before) x)

@@ -1,5 +1,5 @@
 -- What keys give before an exchange, and which of them give another after it.
-use Rattle.std.specs.Prelude.{◌≡◌, List, [], ◌∷◌, Bool, true, not, if◌then◌else◌, map, Option}
+use Rattle.std.specs.Prelude.{◌≡◌, List, [], ◌∷◌, Bool, true, not, if◌then◌else◌, map, Option, None}
 use Rattle.std.specs.Option.{option_eq}
 use Rattle.ent_policy.specs.Same.{same_document}
 use Rattle.ent_policy.specs.declared.document.Tree.{Tree}
@@ -17,6 +17,8 @@ use Rattle.ent_table.specs.declared.change.Exchange.{Exchange}
 use Rattle.ent_table.specs.declared.change.Exchange.TheVariants.{Document, Row, Root, Environment}
 use Rattle.ent_table.specs.declared.look.Look.{Look}
 use Rattle.ent_table.specs.declared.look.Look.TheVariants as look
+use Rattle.ent_table.specs.declared.look.OfTwo.{OfTwo}
+use Rattle.ent_table.specs.declared.look.OfTwo.TheVariants.{Former, Next, Neither}
 use Rattle.ent_table.specs.declared.look.Seen.{Seen}
 use Rattle.ent_table.specs.proofs_only.Exchange.{document_in, taken, with_exchange}
 use Rattle.ent_table.specs.State.{State}
@@ -28,10 +30,6 @@ asks (Row number row values) k = asks_row row k
 asks (Root root) k = asks_root k
 asks (Environment environment) k = asks_environment k
 
--- each key that a cell reads, and that passes a test, is among these
-abbrev pub HasReadKeys : (ReadKey → Bool) → List Kept → List ReadKey → Type 0
-HasReadKeys passes cells keys = (k : ReadKey) → passes k ≡ true → is_read cells k ≡ true → has_key keys k ≡ true
-
 -- the keys of the environment
 abbrev pub environment_keys : List ReadKey
 environment_keys = keys.CurrentDate ∷ keys.CurrentTime ∷ keys.CurrentDateTime ∷ []
@@ -39,16 +37,16 @@ environment_keys = keys.CurrentDate ∷ keys.CurrentTime ∷ keys.CurrentDateTim
 -- ---- what a key gives before an exchange
 
 -- which of two documents is found
-abbrev pub which : Option Tree → Option Tree → Option Tree → Look
+abbrev pub which : Option Tree → Option Tree → Option Tree → OfTwo
 which former next found =
-    if option_eq same_document former found then look.Former
-    else (if option_eq same_document next found then look.Next else look.Neither)
+    if option_eq same_document former found then Former
+    else (if option_eq same_document next found then Next else Neither)
 
 -- of a reference, which of the two that are exchanged
 abbrev pub look_of : State → Exchange → ReadKey → Look
 look_of s x keys.Root = look.Root s.held.root
 look_of s x (keys.Ref reference) =
-    which (document_in (taken s x)) (document_in x) ((looks_in s.held).document reference)
+    look.Document (which (document_in (taken s x)) (document_in x) ((looks_in s.held).document reference))
 look_of s x (keys.Attr key) = look.Values ((looks_in s.held).values key)
 look_of s x keys.CurrentDate = look.Date (date_in s.held.environment)
 look_of s x keys.CurrentTime = look.Time (time_in s.held.environment)
@@ -64,16 +62,21 @@ keys_in es = map (λ e. e.key) es
 
 -- ---- whether it gives another after it
 
--- a reference, of which is told which of two documents it found
-abbrev pub finds_another : Option Tree → Option Tree → Look → Option Tree → Bool
-finds_another former next look.Former found = not (option_eq same_document former found)
-finds_another former next look.Next found = not (option_eq same_document next found)
-finds_another former next _ found = option_eq same_document next found
+-- the document that a key finds, if it is a reference that finds one
+abbrev pub found_by : State → ReadKey → Option Tree
+found_by s (keys.Ref reference) = (looks_in s.held).document reference
+found_by s _ = None
+
+-- a key of which is told which of two documents it found
+abbrev pub finds_another : Option Tree → Option Tree → OfTwo → Option Tree → Bool
+finds_another former next Former found = not (option_eq same_document former found)
+finds_another former next Next found = not (option_eq same_document next found)
+finds_another former next Neither found = option_eq same_document next found
 
 -- a key that gave this, in the state behind the exchange, which has now what stood there
 abbrev pub gives_other : State → Exchange → Look → ReadKey → Bool
-gives_other t back before (keys.Ref reference) =
-    finds_another (document_in back) (document_in (taken t back)) before ((looks_in t.held).document reference)
+gives_other t back (look.Document of_two) key =
+    finds_another (document_in back) (document_in (taken t back)) of_two (found_by t key)
 gives_other t back before key = not ((looks.ghosts).eq before (look_of t back key))
 
 -- a key of which it is kept

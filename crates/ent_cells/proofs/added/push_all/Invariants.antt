@@ -10,8 +10,8 @@ abbrev pub invariant-loop-who : goal.invariant-loop-who
 invariant-loop-who g l = record {
   live : IsLive l.store.cells l.keys.items;
   cells : kept_of l.store.cells l.keys.items
-      ≡ kept_of l.initial.store.cells l.initial.keys.items ++ map (cell_of (looks_of g.A.Attributes.sources g.P.Policies.slots l.fn.pdp)) l.yielded;
-  remembers : Remembers (looks_of g.A.Attributes.sources g.P.Policies.slots l.fn.pdp) l.store.questions l.memory;
+      ≡ kept_of l.initial.store.cells l.initial.keys.items ++ map (cell_of (looks_of l.fn.pdp)) l.yielded;
+  remembers : Remembers (looks_of l.fn.pdp) l.store.questions l.memory;
   counted : Counts l.fn.pdp.evaluations l.pdp.evaluations (length l.yielded);
   rest : l.pdp ≡ record l.fn.pdp { evaluations = l.pdp.evaluations };
 }

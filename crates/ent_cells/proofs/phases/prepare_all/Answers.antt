@@ -12,26 +12,26 @@ use Rattle.ent_cells.proofs.phases.prepare_all.Goals as goal
 
 pub prepare-requires-clause-free : goal.prepare-requires-clause-free
 prepare-requires-clause-free g c =
-    let looks : Looks = looks_of g.A.Attributes.sources g.P.Policies.slots c.args.pdp.now in
+    let looks : Looks = looks_of c.args.pdp.now in
     let i : ℕ = c.loop-key.key-index in
     free_here (made_ready looks) c.args.store.now.cells c.loop-key.store.cells c.args.keys.now i c.loop-key-test.true (c.requires.once (slice_index_or c.args.keys.now i 0)) c.loop-key.invariant.ready c.requires.free (c.requires.there i 0 c.loop-key-test.true)
 
 pub prepare-requires-clause-remembers : goal.prepare-requires-clause-remembers
 prepare-requires-clause-remembers g c =
-    let looks : Looks = looks_of g.A.Attributes.sources g.P.Policies.slots c.args.pdp.now in
-    let same : looks_of g.A.Attributes.sources g.P.Policies.slots c.loop-key.pdp ≡ looks = ap (looks_of g.A.Attributes.sources g.P.Policies.slots) {y = record c.args.pdp.now { evaluations = c.loop-key.pdp.evaluations }} c.loop-key.invariant.rest in
+    let looks : Looks = looks_of c.args.pdp.now in
+    let same : looks_of c.loop-key.pdp ≡ looks = ap looks_of {y = record c.args.pdp.now { evaluations = c.loop-key.pdp.evaluations }} c.loop-key.invariant.rest in
     subst (λ (l : Looks). Remembers l c.loop-key.store.questions c.loop-key.memory) (sym same) c.loop-key.invariant.remembers
 
 pub returns-in_err-prepare-clause-err : goal.returns-in_err-prepare-clause-err
 returns-in_err-prepare-clause-err g c =
-    let looks : Looks = looks_of g.A.Attributes.sources g.P.Policies.slots c.args.pdp.now in
+    let looks : Looks = looks_of c.args.pdp.now in
     let kept : KeepsCells c.args.keys.now c.args.store.now.cells c.prepare.new.self.cells =
     subst (KeepsCells c.args.keys.now c.args.store.now.cells) (sym c.in_err-prepare.ensures.err) (keeps_cells looks c.args.store.now.cells c.loop-key.store.cells c.args.keys.now c.loop-key.key-index c.requires.free c.loop-key.invariant.ready) in
     refused c.from_residual.result kept
 
 pub loop-key-init : goal.loop-key-init
 loop-key-init g c =
-    let looks : Looks = looks_of g.A.Attributes.sources g.P.Policies.slots c.args.pdp.now in
+    let looks : Looks = looks_of c.args.pdp.now in
     record {
       ready = λ k. refl;
       remembers = c.new-memory.ensures looks c.args.store.now.questions;
@@ -41,9 +41,9 @@ loop-key-init g c =
 
 pub loop-key-preserved : goal.loop-key-preserved
 loop-key-preserved g c =
-    let looks : Looks = looks_of g.A.Attributes.sources g.P.Policies.slots c.args.pdp.now in
+    let looks : Looks = looks_of c.args.pdp.now in
     let i : ℕ = c.loop-key.key-index in
-    let same : looks_of g.A.Attributes.sources g.P.Policies.slots c.loop-key.pdp ≡ looks = ap (looks_of g.A.Attributes.sources g.P.Policies.slots) {y = record c.args.pdp.now { evaluations = c.loop-key.pdp.evaluations }} c.loop-key.invariant.rest in
+    let same : looks_of c.loop-key.pdp ≡ looks = ap looks_of {y = record c.args.pdp.now { evaluations = c.loop-key.pdp.evaluations }} c.loop-key.invariant.rest in
     let k : ℕ = slice_index_or c.args.keys.now i 0 in
     let ready : Becomes (made_ready looks) k c.loop-key.store.cells c.prepare.new.self.cells =
     subst (λ (l : Looks). Becomes (made_ready l) k c.loop-key.store.cells c.prepare.new.self.cells) same c.in_ok-prepare.ensures.ok in
@@ -56,6 +56,6 @@ loop-key-preserved g c =
 
 pub returns-clause-ok : goal.returns-clause-ok
 returns-clause-ok g c =
-    let looks : Looks = looks_of g.A.Attributes.sources g.P.Policies.slots c.args.pdp.now in
+    let looks : Looks = looks_of c.args.pdp.now in
     let all : take c.loop-key.key-index c.args.keys.now ≡ c.args.keys.now = take_all c.loop-key.key-index c.args.keys.now (omega (arith, c.loop-key-test.false)) in
     subst (λ ks. IsPrepared looks ks c.args.store.now.cells c.loop-key.store.cells) all c.loop-key.invariant.ready

@@ -7,8 +7,8 @@ use Rattle.ent_cells.proofs.phases.prepare_all.Given as goal
 
 abbrev pub invariant-loop-key : goal.invariant-loop-key
 invariant-loop-key g l = record {
-  ready : IsPrepared (looks_of g.A.Attributes.sources g.P.Policies.slots l.fn.pdp) (take l.key-index l.keys) l.fn.store.cells l.store.cells;
-  remembers : Remembers (looks_of g.A.Attributes.sources g.P.Policies.slots l.fn.pdp) l.store.questions l.memory;
+  ready : IsPrepared (looks_of l.fn.pdp) (take l.key-index l.keys) l.fn.store.cells l.store.cells;
+  remembers : Remembers (looks_of l.fn.pdp) l.store.questions l.memory;
   counted : Counts l.fn.pdp.evaluations l.pdp.evaluations l.key-index;
   rest : l.pdp ≡ record l.fn.pdp { evaluations = l.pdp.evaluations };
 }

@@ -8,8 +8,8 @@ use Rattle.ent_dump.proofs.dump.write_held.Goals as goal
 pub returns : goal.returns
 returns g c =
     let pdp = c.args.pdp.now in
-    let documents = all_documents (map held (g.P.Policies.slots pdp.policies)) in
-    let rows = all_rows (map filled_source (g.A.Attributes.sources pdp.attributes)) in
+    let documents = all_documents (map held pdp.slots) in
+    let rows = all_rows (map filled_source pdp.sources) in
     let environment = environment_edits pdp.environment in
     let root = root_edits pdp.root in
     lines_end _ _ _ _ documents _ (rw c.policies.ensures at c.in_ok-write_policies.ensures)

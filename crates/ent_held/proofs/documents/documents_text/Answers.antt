@@ -8,5 +8,5 @@ use Rattle.ent_held.proofs.documents.documents_text.Goals as goal
 pub returns : goal.returns
 unfolding documents_text
 returns g c =
-    let held = held_by g.A.Attributes.sources g.P.Policies.slots c.args.pdp.now in
+    let held = held_by c.args.pdp.now in
     c.into_string.ensures ∙ text_written (documents_data held (option_copied c.args.id)) _ _ c.in_ok-out.ensures c.in_ok-write_documents.ensures

@@ -15,12 +15,11 @@ use Rattle.ent_held.proofs.documents.write_documents.Goals as goal
 
 pub returns : goal.returns
 returns g c =
-    let slots = g.P.Policies.slots in
-    let all = held_by g.A.Attributes.sources slots c.args.pdp.now in
+    let all = held_by c.args.pdp.now in
     let id = option_copied c.args.id in
     let places = c.in_ok-reached.reached in
     let same : (place : Place) → has_place place places ≡ is_reached all.modules all.root place =
-    λ place. c.in_ok-reached.ensures place ∙ (λ i. is_reached (map held (slots (c.policies.ensures i))) (c.root.ensures i) place) in
+    λ place. c.in_ok-reached.ensures place ∙ (λ i. is_reached (map held (c.policies.ensures i)) (c.root.ensures i) place) in
     let told = map (document_data (λ p. has_place p places) (is_some id)) (documents id all.modules) in
     let whole : (token.begin_object ∷ token.key (codes "documents") ∷ token.begin_array ∷ []) ++ (each_tokens told ++ token.end_array ∷ token.end_object ∷ [])
     ≡ tokens_of (documents_data all id) =

@@ -6,5 +6,5 @@ use Rattle.ent_held.proofs.facts.write_each_fact.Given as goal
 
 abbrev pub invariant-loop-key : goal.invariant-loop-key
 invariant-loop-key g l =
-    let told = fact_data l.whole (held_by g.A.Attributes.sources g.P.Policies.slots l.pdp) in
+    let told = fact_data l.whole (held_by l.pdp) in
     l.out ++ items_tokens_of (map told (drop l.key-index l.keys)) ≡ l.fn.out ++ items_tokens_of (map told l.keys)

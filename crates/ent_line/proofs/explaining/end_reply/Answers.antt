@@ -10,7 +10,7 @@ use Rattle.ent_line.proofs.explaining.end_reply.Goals as goal
 pub returns : goal.returns
 returns g c =
     let causes = c.args.causes.now in
-    let told = facts_data c.args.whole (held_by g.A.Attributes.sources g.P.Policies.slots c.args.pdp.now) c.args.reads in
+    let told = facts_data c.args.whole (held_by c.args.pdp.now) c.args.reads in
     rw (← c.untold.ensures)
     (ends _ _ _ _ (token.key (codes "causes") ∷ []) _ c.in_ok-key.ensures.ok
     (ends _ _ _ _ (tokens_of (causes_data causes)) _ c.in_ok-write_causes.ensures

@@ -1,6 +1,5 @@
 use Rattle.std.proofs.Common.{◌≡◌, ◌∙◌, [], ◌∷◌, ap, codes, length, map}
 use Rattle.json.specs.Token as token
-use Rattle.ent_eval.specs.LooksOf.{held_by}
 use Rattle.ent_request.specs.Held.{Held}
 use Rattle.ent_finder.specs.Slots.{document_count, held as held_in}
 use Rattle.ent_json.specs.Text.{tokens_of}
@@ -13,14 +12,13 @@ use Rattle.ent_line.proofs.listed.write_limits.Goals as goal
 
 pub returns : goal.returns
 returns g c =
-    let slots = g.P.Policies.slots in
     let s = c.args.review.now.state in
     let limits = c.limits-limits.result in
     let actions : length c.names-actions.result.now ≡ length s.names.actions = ap length c.names-actions.ensures in
     let people : length c.names-people.result.now ≡ length s.names.people = ap length c.names-people.ensures in
     let resources : length c.names-resources.result.now ≡ length s.names.resources = ap length c.names-resources.ensures in
     let documents : c.in_ok-documents.documents ≡ document_count s.held.modules =
-    c.in_ok-documents.ensures ∙ ap (λ p. document_count (map held_in (slots p))) c.policies.ensures
+    c.in_ok-documents.ensures ∙ ap (λ p. document_count (map held_in p)) c.policies.ensures
     ∙ ap (λ (h : Held). document_count h.modules) c.pdp.ensures.held in
     let whole : limits_tokens limits (length c.names-actions.result.now) c.cell_count.result c.in_ok-documents.documents
     (length c.names-people.result.now) (length c.names-resources.result.now) ≡ tokens_of (limits_data s) =

@@ -17,12 +17,10 @@ use Rattle.ent_line.proofs.standing.write_state.Goals as goal
 
 pub returns : goal.returns
 returns g c =
-    let sources = g.A.Attributes.sources in
-    let slots = g.P.Policies.slots in
     let world = c.args.desk.now.world in
     let s = world.state in
     let review : c.review-review.result.now ≡ review_of c.args.desk.now = c.review-review.ensures in
-    let held : held_by sources slots c.pdp-pdp.result.now ≡ s.held =
+    let held : held_by c.pdp-pdp.result.now ≡ s.held =
     c.pdp-pdp.ensures.held ∙ ap (λ v. v.state.held) review in
     let actions : length c.names-actions.result.now ≡ length s.names.actions =
     ap length c.names-actions.ensures ∙ ap (λ v. length v.state.names.actions) review in
@@ -33,10 +31,10 @@ returns g c =
     let cells : c.cell_count.result ≡ length (table_of s) =
     c.cell_count.ensures ∙ ap (λ v. length (table_of v.state)) review in
     let documents : c.in_ok-documents.documents ≡ document_count s.held.modules =
-    c.in_ok-documents.ensures ∙ ap (λ p. document_count (map held_in (slots p))) c.policies.ensures
+    c.in_ok-documents.ensures ∙ ap (λ p. document_count (map held_in p)) c.policies.ensures
     ∙ ap (λ (h : Held). document_count h.modules) held in
     let rows : c.in_ok-rows.rows ≡ row_count s.held.sources =
-    c.in_ok-rows.ensures ∙ ap (λ a. row_count (map filled_source (sources a))) c.attributes.ensures
+    c.in_ok-rows.ensures ∙ ap (λ a. row_count (map filled_source a)) c.attributes.ensures
     ∙ ap (λ (h : Held). row_count h.sources) held in
     let environment : c.environment.result ≡ s.held.environment =
     c.environment.ensures ∙ ap (λ (h : Held). h.environment) held in

@@ -1,9 +1,9 @@
 use Rattle.std.proofs.Common.{IfOk, List, subst}
 use Rattle.std.proofs.lemmas.Result.{IfOk-weaker}
 use Rattle.ent_index.specs.Asked.{asks_policy}
-use Rattle.ent_cells.specs.Cell.{AreReadKeys, Kept}
+use Rattle.ent_cells.specs.Cell.{HasReadKeys, Kept}
 use Rattle.ent_cells.specs.Entries.{kept_of}
-use Rattle.ent_cells.specs.proofs_only.Asked.{AreKeysOf}
+use Rattle.ent_cells.specs.proofs_only.Asked.{HasKeysOf}
 use Rattle.ent_cells.proofs.Listed.{are_listed}
 use Rattle.ent_cells.proofs.live.Live.keys_of_policy.Goals as goal
 
@@ -12,5 +12,5 @@ returns c =
     let asks = asks_policy c.args.kind c.args.id.now in
     let s = c.self.inside.store.cells in
     let ks = c.self.inside.keys.items in
-    subst (λ (es : List Kept). IfOk c.keys_of_policy.result (AreReadKeys asks es)) c.self.view_is
-    (IfOk-weaker c.keys_of_policy.result (AreKeysOf asks s) (AreReadKeys asks (kept_of s ks)) (λ keys has. are_listed asks s ks keys c.self.invariant has) c.keys_of_policy.ensures)
+    subst (λ (es : List Kept). IfOk c.keys_of_policy.result (HasReadKeys asks es)) c.self.view_is
+    (IfOk-weaker c.keys_of_policy.result (HasKeysOf asks s) (HasReadKeys asks (kept_of s ks)) (are_listed asks s ks) c.keys_of_policy.ensures)

@@ -32,13 +32,13 @@ give_up_all-requires-clause-there g c =
 
 pub commit_all-requires-clause-there : goal.commit_all-requires-clause-there
 commit_all-requires-clause-there g c =
-    let looks : Looks = looks_of g.A.Attributes.sources g.P.Policies.slots c.args.pdp.now in
+    let looks : Looks = looks_of c.args.pdp.now in
     let touched : AreTouched c.args.changed.now c.self.inside.store.cells c.as_slice-keys.result.now = subst (AreTouched c.args.changed.now c.self.inside.store.cells) (sym c.as_slice-keys.ensures.value) c.in_ok-touched.ensures in
     prepared_there (made_ready looks) c.self.inside.store.cells c.prepare.new.store.cells c.as_slice-keys.result.now c.in-Ok.ensures.ok (touched_there c.args.changed.now c.self.inside.store.cells c.as_slice-keys.result.now touched)
 
 pub returns-in-Ok-clause-ok : goal.returns-in-Ok-clause-ok
 returns-in-Ok-clause-ok g c =
-    let looks : Looks = looks_of g.A.Attributes.sources g.P.Policies.slots c.args.pdp.now in
+    let looks : Looks = looks_of c.args.pdp.now in
     let touched : AreTouched c.args.changed.now c.self.inside.store.cells c.as_slice-keys.result.now = subst (AreTouched c.args.changed.now c.self.inside.store.cells) (sym c.as_slice-keys.ensures.value) c.in_ok-touched.ensures in
     let all : AllByRecursion (IsRightBut c.args.changed.now looks) (kept_of c.self.inside.store.cells c.self.inside.keys.items) = subst (AllByRecursion (IsRightBut c.args.changed.now looks)) (sym c.self.view_is) c.requires in
     settled_kept looks c.args.changed.now c.self.inside.store.cells c.prepare.new.store.cells c.as_slice-keys.result.now c.self.inside.keys.items touched c.in-Ok.ensures.ok c.self.invariant all c.commit_all.new.store.cells c.commit_all.ensures
@@ -70,21 +70,21 @@ module _ (looks : Looks) (changed : List ReadKey) (s0 s1 s2 : Slab Entry) (ks gr
 
 pub returns-in-Ok-clause-olds : goal.returns-in-Ok-clause-olds
 returns-in-Ok-clause-olds g c =
-    let looks : Looks = looks_of g.A.Attributes.sources g.P.Policies.slots c.args.pdp.now in
+    let looks : Looks = looks_of c.args.pdp.now in
     let touched : AreTouched c.args.changed.now c.self.inside.store.cells c.as_slice-keys.result.now = subst (AreTouched c.args.changed.now c.self.inside.store.cells) (sym c.as_slice-keys.ensures.value) c.in_ok-touched.ensures in
     told_old looks c.args.changed.now c.self.inside.store.cells c.prepare.new.store.cells c.commit_all.new.store.cells c.as_slice-keys.result.now c.self.inside.keys.items touched c.in-Ok.ensures.ok c.self.invariant c.commit_all.ensures
     c.args.self.now c.self.view_is c.requires c.in-Ok.olds c.in-Ok.ensures.olds
 
 pub returns-in-Ok-clause-changes : goal.returns-in-Ok-clause-changes
 returns-in-Ok-clause-changes g c =
-    let looks : Looks = looks_of g.A.Attributes.sources g.P.Policies.slots c.args.pdp.now in
+    let looks : Looks = looks_of c.args.pdp.now in
     let touched : AreTouched c.args.changed.now c.self.inside.store.cells c.as_slice-keys.result.now = subst (AreTouched c.args.changed.now c.self.inside.store.cells) (sym c.as_slice-keys.ensures.value) c.in_ok-touched.ensures in
     told_count looks c.args.changed.now c.self.inside.store.cells c.prepare.new.store.cells c.commit_all.new.store.cells c.as_slice-keys.result.now c.self.inside.keys.items touched c.in-Ok.ensures.ok c.self.invariant c.commit_all.ensures
     c.args.self.now c.self.view_is c.requires c.in-Ok.olds c.in-Ok.ensures.olds
 
 pub returns-in-Ok-clause-room : goal.returns-in-Ok-clause-room
 returns-in-Ok-clause-room g c =
-    let looks : Looks = looks_of g.A.Attributes.sources g.P.Policies.slots c.args.pdp.now in
+    let looks : Looks = looks_of c.args.pdp.now in
     let touched : AreTouched c.args.changed.now c.self.inside.store.cells c.as_slice-keys.result.now = subst (AreTouched c.args.changed.now c.self.inside.store.cells) (sym c.as_slice-keys.ensures.value) c.in_ok-touched.ensures in
     let long = new_long looks c.args.changed.now c.self.inside.store.cells c.prepare.new.store.cells c.commit_all.new.store.cells c.as_slice-keys.result.now c.self.inside.keys.items touched c.in-Ok.ensures.ok c.self.invariant c.commit_all.ensures
     c.args.self.now c.self.view_is c.requires in

@@ -54,7 +54,7 @@ invariant_of-self-2 g c =
 
 pub returns-clause-ok : goal.returns-clause-ok
 returns-clause-ok g c =
-    let looks : Looks = looks_of g.A.Attributes.sources g.P.Policies.slots c.args.pdp.now in
+    let looks : Looks = looks_of c.args.pdp.now in
     let gs = c.self.inside.groups in
     let joined = c.regroup.new.groups in
     let q = c.evaluate.new.questions in

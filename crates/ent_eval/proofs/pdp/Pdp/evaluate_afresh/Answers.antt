@@ -7,6 +7,6 @@ use Rattle.ent_eval.proofs.pdp.Pdp.evaluate_afresh.Goals as goal
 
 pub returns-in-Ok-clause-evaluated : goal.returns-in-Ok-clause-evaluated
 returns-in-Ok-clause-evaluated g c =
-    let looks = looks_of (g.A.Attributes.sources) (g.P.Policies.slots) c.args.self.now in
+    let looks = looks_of c.args.self.now in
     let is : c.in-Ok.request ≡ listed c.args.person.now c.args.action.now c.args.resource.now = cc (c.in-Ok.ensures, c.as_str.ensures, c.as_str-2.ensures, c.as_str-3.ensures) in
     subst (λ q. IfOk c.evaluate_numbered.result (IsEvaluated looks c.evaluate_numbered.new.questions q)) is c.evaluate_numbered.ensures.evaluated

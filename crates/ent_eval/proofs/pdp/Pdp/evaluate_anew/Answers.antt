@@ -9,18 +9,18 @@ use Rattle.ent_eval.proofs.pdp.Pdp.evaluate_anew.Goals as goal
 
 pub returns-in_err-evaluation-clause-remembers : goal.returns-in_err-evaluation-clause-remembers
 returns-in_err-evaluation-clause-remembers g c =
-    remembers_more (looks_of (g.A.Attributes.sources) (g.P.Policies.slots) c.args.self.now) c.args.questions.now c.evaluate_afresh.new.questions c.args.memory.now c.in_err-evaluation.ensures.numbers c.requires.remembers
+    remembers_more (looks_of c.args.self.now) c.args.questions.now c.evaluate_afresh.new.questions c.args.memory.now c.in_err-evaluation.ensures.numbers c.requires.remembers
 
 pub keep-requires-clause-remembers : goal.keep-requires-clause-remembers
 keep-requires-clause-remembers g c =
-    let before : Looks = looks_of (g.A.Attributes.sources) (g.P.Policies.slots) c.args.self.now in
-    let same : looks_of (g.A.Attributes.sources) (g.P.Policies.slots) c.evaluate_afresh.new.self ≡ before = ap (looks_of (g.A.Attributes.sources) (g.P.Policies.slots)) c.in_ok-evaluation.ensures.rest in
+    let before : Looks = looks_of c.args.self.now in
+    let same : looks_of c.evaluate_afresh.new.self ≡ before = ap looks_of c.in_ok-evaluation.ensures.rest in
     subst (λ (l : Looks). Remembers l c.evaluate_afresh.new.questions c.args.memory.now) (sym same)
     (remembers_more before c.args.questions.now c.evaluate_afresh.new.questions c.args.memory.now c.in_ok-evaluation.ensures.numbers c.requires.remembers)
 
 pub keep-requires-clause-evaluated : goal.keep-requires-clause-evaluated
 keep-requires-clause-evaluated g c =
-    let before : Looks = looks_of (g.A.Attributes.sources) (g.P.Policies.slots) c.args.self.now in
-    let same : looks_of (g.A.Attributes.sources) (g.P.Policies.slots) c.evaluate_afresh.new.self ≡ before = ap (looks_of (g.A.Attributes.sources) (g.P.Policies.slots)) c.in_ok-evaluation.ensures.rest in
+    let before : Looks = looks_of c.args.self.now in
+    let same : looks_of c.evaluate_afresh.new.self ≡ before = ap looks_of c.in_ok-evaluation.ensures.rest in
     subst (λ (l : Looks). IsEvaluated l c.evaluate_afresh.new.questions (listed c.args.person.now c.args.action.now c.args.resource.now) c.in_ok-evaluation.evaluation) (sym same)
     c.in_ok-evaluation.ensures.evaluated

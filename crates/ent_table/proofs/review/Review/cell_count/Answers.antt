@@ -11,7 +11,7 @@ use Rattle.ent_table.proofs.review.Review.cell_count.Goals as goal
 
 pub returns : goal.returns
 returns g c =
-    let s : State = state_of g.A.Attributes.sources g.P.Policies.slots c.self.inside.parts in
+    let s : State = state_of c.self.inside.parts in
     let counted : c.len.result ≡ length (triples s.names) = c.len.ensures ∙ ap length c.self.invariant.cells ∙ length-map (triples s.names) (cell_of (looks_in s.held)) in
     let long : c.len.result ≡ length (table_of s) = omega (arith, counted, length-zip (triples s.names) (fresh s), length-map (triples s.names) (answer_to s)) in
     long ∙ ap (λ (r : Reviewed). length (table_of r.state)) c.self.view_is

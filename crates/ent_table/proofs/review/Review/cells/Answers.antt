@@ -10,7 +10,7 @@ use Rattle.ent_table.proofs.review.Review.cells.Goals as goal
 pub returns : goal.returns
 returns g c =
     let parts = c.self.inside.parts in
-    let s = state_of g.A.Attributes.sources g.P.Policies.slots parts in
+    let s = state_of parts in
     c.new.ensures
     ∙ (λ i. zip (all_triples (c.names.ensures.names i) (c.names-2.ensures.names i) (c.names-3.ensures.names i)) (drop 0 (fresh_answers s parts.table.cells c.self.invariant.cells i)))
     ∙ ap (λ (r : Reviewed). table_of r.state) c.self.view_is

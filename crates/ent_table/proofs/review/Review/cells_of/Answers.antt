@@ -13,14 +13,14 @@ use Rattle.ent_table.proofs.review.Review.cells_of.Goals as goal
 pub returns-in-None : goal.returns-in-None
 returns-in-None g c =
     let names = c.self.inside.parts.table.names in
-    let f = answer_to (state_of g.A.Attributes.sources g.P.Policies.slots c.self.inside.parts) in
+    let f = answer_to (state_of c.self.inside.parts) in
     c.new.ensures ∙ no_cells f names.people names.actions names.resources c.args.person.now c.in-None.ensures.at
     ∙ ap (λ (r : Reviewed). cells_of c.args.person.now (table_of r.state)) c.self.view_is
 
 pub returns-in-Some : goal.returns-in-Some
 returns-in-Some g c =
     let parts = c.self.inside.parts in
-    let s = state_of g.A.Attributes.sources g.P.Policies.slots parts in
+    let s = state_of parts in
     let names = parts.table.names in
     let f = answer_to s in
     let people : texts c.names-people.result.now ≡ names.people = c.names-people.ensures.names in

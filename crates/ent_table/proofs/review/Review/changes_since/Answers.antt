@@ -22,8 +22,6 @@ changes_since-requires-clause-respects g c = requests-respected (answer_at c.arg
 
 pub returns-clause-told : goal.returns-clause-told
 returns-clause-told g c =
-    let sources = g.A.Attributes.sources in
-    let slots = g.P.Policies.slots in
     let parts = c.self.inside.parts in
     let serial = c.args.serial in
     let logged = c.in_ok-logged.logged in
@@ -33,7 +31,7 @@ returns-clause-told g c =
     if_ok c.all_named.result (λ changes. changes ≡ map change_of logged)
     (λ changes. changes ≡ changes_from (table_at_serial c.args.self.now serial) c.args.self.now.state)
     (λ changes told. told
-    ∙ ap (map change_of) (difference_told sources slots parts serial logged is)
+    ∙ ap (map change_of) (difference_told parts serial logged is)
     ∙ ap (λ (r : Reviewed). changes_from (table_at_serial r serial) r.state) c.self.view_is)
     c.all_named.ensures
 

@@ -10,7 +10,7 @@ use Rattle.ent_table.proofs.review.Review.forget_before.Goals as goal
 pub returns-clause-tables : goal.returns-clause-tables
 returns-clause-tables g c =
     let parts = c.self.inside.parts in
-    let s = state_of g.A.Attributes.sources g.P.Policies.slots parts in
+    let s = state_of parts in
     λ n from le.
     maps-are_left requests-total requests-exact parts.log c.forget_before.new.self c.forget_before.ensures.kept
     (answers_of s) n from

@@ -11,7 +11,7 @@ use Rattle.ent_table.proofs.review.Review.judged.Goals as goal
 pub returns : goal.returns
 returns g c =
     let parts = c.self.inside.parts in
-    let s = state_of g.A.Attributes.sources g.P.Policies.slots parts in
+    let s = state_of parts in
     c.new.ensures
     ∙ (λ i. zip ((c.cells.ensures ∙ ap (λ (r : Reviewed). table_of r.state) (sym c.self.view_is)) i) (drop 0 (failures_fresh s parts.table.cells c.self.invariant.cells i)))
     ∙ judged_so (answer_to s) (has_failed s) (triples s.names)

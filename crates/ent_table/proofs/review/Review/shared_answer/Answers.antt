@@ -13,7 +13,7 @@ use Rattle.ent_table.proofs.review.Review.shared_answer.Goals as goal
 pub returns : goal.returns
 returns g c =
     let parts = c.self.inside.parts in
-    let s = state_of g.A.Attributes.sources g.P.Policies.slots parts in
+    let s = state_of parts in
     let x = triple_of c.args.person.now c.args.action.now c.args.resource.now in
     let place = c.in_ok-place.place in
     let at = c.in_ok-place.ensures in

@@ -19,20 +19,18 @@ use Rattle.ent_table.proofs.review_parts.Parts.add_name.Goals as goal
 
 pub returns-in-Ok-clause-step : goal.returns-in-Ok-clause-step
 returns-in-Ok-clause-step g c =
-    let sources = g.A.Attributes.sources in
-    let slots = g.P.Policies.slots in
     let old = c.args.self.now in
-    let s = state_of sources slots old in
+    let s = state_of old in
     let list = c.args.list in
     let name = c.args.name in
     let shows : Shows s old.table = record { names = refl; cells = c.requires.cells } in
     let is = shows_more s list name old.table c.add.new.self shows c.in-Ok.ensures.ok in
     let counted = c.log_edit.ensures in
     let up : c.log_edit.new.self.log.serial ≡ old.log.serial + 1 = counted.logs.serial ∙ ap (λ n. n + 1) c.add.ensures.same.serial in
-    let after : state_of sources slots c.log_edit.new.self ≡ more_names s list name =
-    ap (state_of sources slots) counted.rest
-    ∙ ap (λ n. record s { held = held_by sources slots c.add.new.pdp; names = c.add.new.self.names; serial = n }) up
-    ∙ ap (λ p. record (next s) { held = held_by sources slots p; names = c.add.new.self.names }) c.in-Ok.ensures.rest
+    let after : state_of c.log_edit.new.self ≡ more_names s list name =
+    ap state_of counted.rest
+    ∙ ap (λ n. record s { held = held_by c.add.new.pdp; names = c.add.new.self.names; serial = n }) up
+    ∙ ap (λ p. record (next s) { held = held_by p; names = c.add.new.self.names }) c.in-Ok.ensures.rest
     ∙ ap (λ (n : Names). record (next s) { names = n }) is.names in
     let passes = name_passes s list name c.in_ok-name_fault.ensures in (
       passes.1 ∙ ap Ok (sym after),
@@ -42,23 +40,21 @@ returns-in-Ok-clause-step g c =
 
 pub returns-in-Ok-clause-tables : goal.returns-in-Ok-clause-tables
 returns-in-Ok-clause-tables g c =
-    let sources = g.A.Attributes.sources in
-    let slots = g.P.Policies.slots in
-    let s = state_of sources slots c.args.self.now in
+    let s = state_of c.args.self.now in
     let list = c.args.list in
     let name = c.args.name in
     let new = c.log_edit.new.self in
     let passes = name_passes s list name c.in_ok-name_fault.ensures in
-    let ok : Ok (more_names s list name) ≡ Ok (state_of sources slots new) = sym passes.1 ∙ (returns-in-Ok-clause-step g c).0 in
-    let after : more_names s list name ≡ state_of sources slots new = cc in
+    let ok : Ok (more_names s list name) ≡ Ok (state_of new) = sym passes.1 ∙ (returns-in-Ok-clause-step g c).0 in
+    let after : more_names s list name ≡ state_of new = cc in
     let olds : unanswered (requests_with list name s.names) ≡ c.in-Ok.olds = sym c.in-Ok.ensures.olds in
-    kept_over sources slots c.args.self.now new c.add.new.log c.in-Ok.olds c.add.ensures.same c.log_edit.ensures.logs
+    kept_over c.args.self.now new c.add.new.log c.in-Ok.olds c.add.ensures.same c.log_edit.ensures.logs
     (subst (λ t. Undoes request_order c.in-Ok.olds (answer_at s) (answer_at t)) after
     (subst (λ os. Undoes request_order os (answer_at s) (answer_at (more_names s list name))) olds (undone_more s list name passes.0)))
 
 pub returns-in-Ok-clause-counted : goal.returns-in-Ok-clause-counted
 returns-in-Ok-clause-counted g c =
-    let s = state_of g.A.Attributes.sources g.P.Policies.slots c.args.self.now in
+    let s = state_of c.args.self.now in
     let list = c.args.list in
     let name = c.args.name in
     let passes = name_passes s list name c.in_ok-name_fault.ensures in
@@ -67,7 +63,7 @@ returns-in-Ok-clause-counted g c =
 
 pub returns-in-Err-clause-counted : goal.returns-in-Err-clause-counted
 returns-in-Err-clause-counted g c =
-    let s = state_of g.A.Attributes.sources g.P.Policies.slots c.args.self.now in
+    let s = state_of c.args.self.now in
     let list = c.args.list in
     let name = c.args.name in
     let passes = name_passes s list name c.in_ok-name_fault.ensures in

@@ -5,4 +5,4 @@ use Rattle.ent_table.proofs.review_parts.Parts.changed.Given as goal
 
 abbrev pub invariant-loop-seen : goal.invariant-loop-seen
 invariant-loop-seen g l =
-    l.changed ≡ keys_in (filter (is_another (state_of g.A.Attributes.sources g.P.Policies.slots l.self) l.exchange) l.yielded)
+    l.changed ≡ keys_in (filter (is_another (state_of l.self) l.exchange) l.yielded)

@@ -17,10 +17,8 @@ use Rattle.ent_table.proofs.review_parts.Parts.drop_name.Goals as goal
 
 pub returns-clause-step : goal.returns-clause-step
 returns-clause-step g c =
-    let sources = g.A.Attributes.sources in
-    let slots = g.P.Policies.slots in
     let old = c.args.self.now in
-    let s = state_of sources slots old in
+    let s = state_of old in
     let list = c.args.list in
     let name = c.args.name.now in
     let new = c.remove.new.self in
@@ -29,7 +27,7 @@ returns-clause-step g c =
     let dropped : IsDropped list name old.table new count = subst (λ (k : List ℕ). IsDropped list k old.table new count) c.as_str-2.ensures c.in-Some.ensures.dropped in
     let is = shows_less s list name old.table new count shows dropped in
     let up : c.close.new.self.serial ≡ old.log.serial + 1 = c.close.ensures.serial ∙ ap (λ n. n + 1) c.remove.ensures.serial in
-    let after : state_of sources slots (record old { table = new; log = c.close.new.self }) ≡ less_names s list name = (λ i. record (next s) { names = is.names i; serial = up i }) in
+    let after : state_of (record old { table = new; log = c.close.new.self }) ≡ less_names s list name = (λ i. record (next s) { names = is.names i; serial = up i }) in
     let open_ : is_last s ≡ false = sym c.is_last.ensures ∙ c.if-is_last.false in (
       name_leaves s list name dropped.there open_ ∙ ap Ok (sym after),
       ap (λ a. a.serial) c.accepted.ensures,
@@ -38,7 +36,7 @@ returns-clause-step g c =
 
 pub returns-clause-counted : goal.returns-clause-counted
 returns-clause-counted g c =
-    let s = state_of g.A.Attributes.sources g.P.Policies.slots c.args.self.now in
+    let s = state_of c.args.self.now in
     let old = c.args.self.now in
     let list = c.args.list in
     let name = c.args.name.now in
@@ -48,11 +46,9 @@ returns-clause-counted g c =
 
 pub returns-clause-tables : goal.returns-clause-tables
 returns-clause-tables g c =
-    let sources = g.A.Attributes.sources in
-    let slots = g.P.Policies.slots in
     let old = c.args.self.now in
     let new = record old { table = c.remove.new.self; log = c.close.new.self } in
-    let s = state_of sources slots old in
+    let s = state_of old in
     let list = c.args.list in
     let name = c.args.name.now in
     let shows : Shows s old.table = record { names = refl; cells = c.requires.cells } in
@@ -65,8 +61,8 @@ returns-clause-tables g c =
       kept = λ before after undoes n le k.
           c.close.ensures.kept after after (λ _. refl) n (subst (λ m. n ≤ m) (sym c.remove.ensures.serial) le) k ∙ logged.2 before after undoes n le k;
     } in
-    let left : Ok (less_names s list name) ≡ Ok (state_of sources slots new) =
+    let left : Ok (less_names s list name) ≡ Ok (state_of new) =
     sym (name_leaves s list name dropped.there (sym c.is_last.ensures ∙ c.if-is_last.false)) ∙ (returns-clause-step g c).0 in
-    let after : less_names s list name ≡ state_of sources slots new = cc in
+    let after : less_names s list name ≡ state_of new = cc in
     let is = (shows_less s list name old.table c.remove.new.self c.in-Some.changes shows dropped).cells ∙ ap (λ (u : State). fresh_cells u) after in
-    kept_over sources slots old new old.log logged.0 (same_log old.log old.log refl) logs (undone s (state_of sources slots new) old.table.cells c.remove.new.self.cells logged.0 c.requires.cells is logged.1)
+    kept_over old new old.log logged.0 (same_log old.log old.log refl) logs (undone s (state_of new) old.table.cells c.remove.new.self.cells logged.0 c.requires.cells is logged.1)

@@ -1,6 +1,6 @@
 use Rattle.std.proofs.Common.{List, sym, ap, subst}
-use Rattle.ent_cells.specs.Cell.{Kept}
-use Rattle.ent_table.specs.proofs_only.Look.{AreChanged, HasReadKeys, asks, keys_in}
+use Rattle.ent_cells.specs.Cell.{HasReadKeys, Kept}
+use Rattle.ent_table.specs.proofs_only.Look.{AreChanged, asks, keys_in}
 use Rattle.ent_table.specs.Fresh.{state_of}
 use Rattle.ent_table.proofs.Told.{are_changed}
 use Rattle.ent_table.proofs.Undone.{held_twice}
@@ -8,16 +8,14 @@ use Rattle.ent_table.proofs.review_parts.Parts.exchange_and_tell.Goals as goal
 
 pub returns-in-Ok-clause-changed : goal.returns-in-Ok-clause-changed
 returns-in-Ok-clause-changed g c =
-    let sources = g.A.Attributes.sources in
-    let slots = g.P.Policies.slots in
-    let s = state_of sources slots c.args.self.now in
+    let s = state_of c.args.self.now in
     let x = c.args.exchange.now in
     let seen = c.in_ok-seen.seen.items in
     let one = c.in_ok-exchange.ensures in
     let cells = c.exchange.new.self.table.cells in
     let has = subst (λ (es : List Kept). HasReadKeys (asks x) es (keys_in seen)) (sym (ap (λ v. v.table.cells) one.rest)) c.in_ok-seen.ensures.keys in
     subst (AreChanged s x cells) (sym c.in-Ok.ensures)
-    (are_changed s (state_of sources slots c.exchange.new.self) x _ seen cells c.requires one.made one.taken has c.in_ok-seen.ensures.looks)
+    (are_changed s (state_of c.exchange.new.self) x _ seen cells c.requires one.made one.taken has c.in_ok-seen.ensures.looks)
 
 pub returns-in-Err-clause-kept : goal.returns-in-Err-clause-kept
 returns-in-Err-clause-kept g c =

@@ -7,36 +7,30 @@ use Rattle.ent_table.proofs.review_parts.Parts.exchange_document.Goals as goal
 
 pub returns-clause-swapped : goal.returns-clause-swapped
 returns-clause-swapped g c =
-    let sources = g.A.Attributes.sources in
-    let slots = g.P.Policies.slots in
-    let s = state_of sources slots c.args.self.now in
-    let ms = slots c.args.self.now.pdp.policies in
+    let s = state_of c.args.self.now in
+    let ms = c.args.self.now.pdp.slots in
     let n = c.args.number in
     let k = c.args.key.now in
     let o = c.args.document.now in
     let within = held_within ms n c.requires.number in
-    let lent = ap slots c.policies_mut.ensures.value in
-    let swapped : slots c.swap_document.new.self ≡ set ms n (insert (module_at ms n) k o) = c.in_ok-swap_document.ensures.swapped ∙ (λ t. set (lent t) n (insert (module_at (lent t) n) k o)) in
+    let lent = c.policies_mut.ensures.value in
+    let swapped : g.P.Policies.slots c.swap_document.new.self ≡ set ms n (insert (module_at ms n) k o) = c.in_ok-swap_document.ensures.swapped ∙ (λ t. set (lent t) n (insert (module_at (lent t) n) k o)) in
     let modules = ap (λ (l : List Slots). map held l) swapped ∙ held-swapped ms n k o within in
     λ t. record s { held = record s.held { modules = modules t } }
 
 pub returns-clause-taken : goal.returns-clause-taken
 returns-clause-taken g c =
-    let sources = g.A.Attributes.sources in
-    let slots = g.P.Policies.slots in
     c.in_ok-swap_document.ensures.taken
-    ∙ (λ t. document_at (module_at (slots (c.policies_mut.ensures.value t)) c.args.number) c.args.key.now)
-    ∙ held-taken (slots c.args.self.now.pdp.policies) c.args.number c.args.key.now (held_within (slots c.args.self.now.pdp.policies) c.args.number c.requires.number)
+    ∙ (λ t. document_at (module_at (c.policies_mut.ensures.value t) c.args.number) c.args.key.now)
+    ∙ held-taken c.args.self.now.pdp.slots c.args.number c.args.key.now (held_within c.args.self.now.pdp.slots c.args.number c.requires.number)
 
 pub returns-clause-there : goal.returns-clause-there
 returns-clause-there g c =
-    let sources = g.A.Attributes.sources in
-    let slots = g.P.Policies.slots in
     let n = c.args.number in
     let k = c.args.key.now in
     let o = c.args.document.now in
-    let ms = slots c.args.self.now.pdp.policies in
+    let ms = c.args.self.now.pdp.slots in
     let within = held_within ms n c.requires.number in
-    let lent = ap slots c.policies_mut.ensures.value in
-    let swapped : slots c.swap_document.new.self ≡ set ms n (insert (module_at ms n) k o) = c.in_ok-swap_document.ensures.swapped ∙ (λ t. set (lent t) n (insert (module_at (lent t) n) k o)) in
+    let lent = c.policies_mut.ensures.value in
+    let swapped : g.P.Policies.slots c.swap_document.new.self ≡ set ms n (insert (module_at ms n) k o) = c.in_ok-swap_document.ensures.swapped ∙ (λ t. set (lent t) n (insert (module_at (lent t) n) k o)) in
     ap (λ (l : List Slots). is_some (get (module_at l n) k)) swapped ∙ there ms n k o within

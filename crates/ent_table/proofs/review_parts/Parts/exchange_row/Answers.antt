@@ -7,36 +7,32 @@ use Rattle.ent_table.proofs.review_parts.Parts.exchange_row.Goals as goal
 
 pub returns-clause-swapped : goal.returns-clause-swapped
 returns-clause-swapped g c =
-    let sources = g.A.Attributes.sources in
-    let slots = g.P.Policies.slots in
-    let s = state_of sources slots c.args.self.now in
-    let ss = sources c.args.self.now.pdp.attributes in
+    let s = state_of c.args.self.now in
+    let ss = c.args.self.now.pdp.sources in
     let n = c.args.number in
     let k = c.args.key.now in
     let vs = c.args.values.now in
     let within = filled_within ss n c.requires.number in
-    let lent = ap sources c.attributes_mut.ensures.value in
-    let swapped : sources c.swap_row.new.self ≡ set ss n (with_values_put k vs (source_at ss n)) =
+    let lent = c.attributes_mut.ensures.value in
+    let swapped : g.A.Attributes.sources c.swap_row.new.self ≡ set ss n (with_values_put k vs (source_at ss n)) =
     c.in_ok-swap_row.ensures.swapped ∙ (λ t. set (lent t) n (with_values_put k vs (source_at (lent t) n))) in
     let all = ap (λ (l : List Source). all_filled l) swapped ∙ filled-swapped ss n k vs within in
     λ t. record s { held = record s.held { sources = all t } }
 
 pub returns-clause-taken : goal.returns-clause-taken
 returns-clause-taken g c =
-    let sources = g.A.Attributes.sources in
     c.in_ok-swap_row.ensures.taken
-    ∙ (λ t. values_at (source_at (sources (c.attributes_mut.ensures.value t)) c.args.number).rows c.args.key.now)
-    ∙ filled-taken (sources c.args.self.now.pdp.attributes) c.args.number c.args.key.now (filled_within (sources c.args.self.now.pdp.attributes) c.args.number c.requires.number)
+    ∙ (λ t. values_at (source_at (c.attributes_mut.ensures.value t) c.args.number).rows c.args.key.now)
+    ∙ filled-taken c.args.self.now.pdp.sources c.args.number c.args.key.now (filled_within c.args.self.now.pdp.sources c.args.number c.requires.number)
 
 pub returns-clause-there : goal.returns-clause-there
 returns-clause-there g c =
-    let sources = g.A.Attributes.sources in
-    let ss = sources c.args.self.now.pdp.attributes in
+    let ss = c.args.self.now.pdp.sources in
     let n = c.args.number in
     let k = c.args.key.now in
     let vs = c.args.values.now in
     let within = filled_within ss n c.requires.number in
-    let lent = ap sources c.attributes_mut.ensures.value in
-    let swapped : sources c.swap_row.new.self ≡ set ss n (with_values_put k vs (source_at ss n)) =
+    let lent = c.attributes_mut.ensures.value in
+    let swapped : g.A.Attributes.sources c.swap_row.new.self ≡ set ss n (with_values_put k vs (source_at ss n)) =
     c.in_ok-swap_row.ensures.swapped ∙ (λ t. set (lent t) n (with_values_put k vs (source_at (lent t) n))) in
     ap (λ (l : List Source). is_some (get (source_at l n).rows k)) swapped ∙ row_there ss n k vs within

@@ -1,7 +1,7 @@
 use Rattle.std.proofs.Common.{IfOk, subst, sym}
 use Rattle.ent_index.specs.Asked.{asks_policy, asks_row}
-use Rattle.ent_cells.specs.Cell.{AreReadKeys}
-use Rattle.ent_table.specs.proofs_only.Look.{HasReadKeys, asks}
+use Rattle.ent_cells.specs.Cell.{HasReadKeys}
+use Rattle.ent_table.specs.proofs_only.Look.{asks}
 use Rattle.ent_table.proofs.ReadKeys.{has_asked}
 use Rattle.ent_table.proofs.review_parts.Parts.keys_asked.Goals as goal
 
@@ -9,9 +9,8 @@ pub returns-in-Document : goal.returns-in-Document
 returns-in-Document g c =
     let cells = c.args.self.now.table.cells in
     let kind = c.in-Document.key.kind in
-    let asked = subst (λ id. IfOk c.keys_of_policy.result (AreReadKeys (asks_policy kind id) cells)) c.as_str.ensures c.keys_of_policy.ensures in
-    subst (λ x. IfOk c.keys_of_policy.result (HasReadKeys (asks x) cells)) (sym c.in-Document.is)
-    (has_asked (asks_policy kind c.in-Document.key.id) cells c.keys_of_policy.result asked)
+    let asked = subst (λ id. IfOk c.keys_of_policy.result (HasReadKeys (asks_policy kind id) cells)) c.as_str.ensures c.keys_of_policy.ensures in
+    subst (λ x. IfOk c.keys_of_policy.result (HasReadKeys (asks x) cells)) (sym c.in-Document.is) asked
 
 pub returns-in-Row : goal.returns-in-Row
 returns-in-Row g c =

@@ -18,37 +18,33 @@ use Rattle.ent_table.proofs.review_parts.Parts.make.Goals as goal
 
 pub settle-requires : goal.settle-requires
 settle-requires g c =
-    let sources = g.A.Attributes.sources in
-    let slots = g.P.Policies.slots in
     let between = c.exchange_and_tell.new.self in
     let one = c.in-Ok.ensures in
-    right_but (state_of sources slots c.args.self.now) (state_of sources slots between) c.args.exchange one.made
+    right_but (state_of c.args.self.now) (state_of between) c.args.exchange one.made
     between.table.cells (ap (λ v. v.table.cells) one.rest ∙ c.requires.fresh.cells) c.as_slice.result.now
-    (subst (AreChanged (state_of sources slots c.args.self.now) c.args.exchange between.table.cells) (sym c.as_slice.ensures) one.changed)
+    (subst (AreChanged (state_of c.args.self.now) c.args.exchange between.table.cells) (sym c.as_slice.ensures) one.changed)
 
 -- the cells were made right
 pub returns-in-Ok-settle : goal.returns-in-Ok-settle
 returns-in-Ok-settle g c =
-    let sources = g.A.Attributes.sources in
-    let slots = g.P.Policies.slots in
     let old = c.args.self.now in
     let between = c.exchange_and_tell.new.self in
     let new = c.log_edit.new.self in
     let x = c.args.exchange in
-    let s = state_of sources slots old in
-    let mid = state_of sources slots between in
+    let s = state_of old in
+    let mid = state_of between in
     let one = c.in-Ok.ensures in
     let done = c.in-Ok-settle.ensures in
     let counted = c.log_edit.ensures in
     let was : between.table.cells ≡ fresh_cells s = ap (λ v. v.table.cells) one.rest ∙ c.requires.fresh.cells in
     let cells : c.settle.new.self ≡ fresh_cells (with_exchange s x) = done.ok ∙ all_renewed s mid x one.made between.table.cells was in
     let up : new.log.serial ≡ between.log.serial + 1 = counted.logs.serial ∙ ap (λ n. n + 1) done.log.serial in
-    let after : state_of sources slots new ≡ next (with_exchange s x) =
-    ap (state_of sources slots) counted.rest
-    ∙ ap (λ n. record mid { held = held_by sources slots c.settle.new.pdp; serial = n }) up
-    ∙ ap (λ p. record (next mid) { held = held_by sources slots p }) done.rest
+    let after : state_of new ≡ next (with_exchange s x) =
+    ap state_of counted.rest
+    ∙ ap (λ n. record mid { held = held_by c.settle.new.pdp; serial = n }) up
+    ∙ ap (λ p. record (next mid) { held = held_by p }) done.rest
     ∙ ap next one.made in
-    let now : new.table.cells ≡ fresh_cells (state_of sources slots new) =
+    let now : new.table.cells ≡ fresh_cells (state_of new) =
     ap (λ v. v.table.cells) counted.rest ∙ cells ∙ ap (λ (u : State). fresh_cells u) (sym after) in
     let more : new.log.serial ≡ old.log.serial + 1 = up ∙ ap (λ v. v.log.serial + 1) one.rest in
     let log = log_between old.log between.log c.settle.new.log c.settle.new.log (ap (λ v. v.log) one.rest) done.log refl in
@@ -75,26 +71,24 @@ returns-in-Ok-settle g c =
       counted = λ h. ap (λ v. v.pdp.evaluations) counted.rest
           ∙ done.counted (subst (λ n. n ≤ most) (sym begun) h)
           ∙ (λ i. raised (begun i) (count i));
-      tables = kept_over sources slots old new c.settle.new.log c.in-Ok-settle.olds log counted.logs
-          (undone s (state_of sources slots new) between.table.cells c.settle.new.self c.in-Ok-settle.olds was (sym (ap (λ v. v.table.cells) counted.rest) ∙ now) done.olds);
+      tables = kept_over old new c.settle.new.log c.in-Ok-settle.olds log counted.logs
+          (undone s (state_of new) between.table.cells c.settle.new.self c.in-Ok-settle.olds was (sym (ap (λ v. v.table.cells) counted.rest) ∙ now) done.olds);
     }
 
 -- the exchange was taken back
 pub returns : goal.returns
 returns g c =
-    let sources = g.A.Attributes.sources in
-    let slots = g.P.Policies.slots in
     let old = c.args.self.now in
     let between = c.exchange_and_tell.new.self in
     let new = c.take_back.new.self in
     let x = c.args.exchange in
-    let s = state_of sources slots old in
-    let mid = state_of sources slots between in
+    let s = state_of old in
+    let mid = state_of between in
     let one = c.in-Ok.ensures in
     let two = c.take_back.ensures in
     let failed = c.in-Err.ensures in
-    let settled = ap (λ n. record mid { held = held_by sources slots c.settle.new.pdp; serial = n }) failed.log.serial
-    ∙ ap (λ p. record mid { held = held_by sources slots p }) failed.rest in
+    let settled = ap (λ n. record mid { held = held_by c.settle.new.pdp; serial = n }) failed.log.serial
+    ∙ ap (λ p. record mid { held = held_by p }) failed.rest in
     let stays = two.before old (x, c.requires.within, settled ∙ one.made, one.taken) in
     let before = ap (λ v. v.log) one.rest in
     let after = ap (λ v. v.log) two.rest in
@@ -105,7 +99,7 @@ returns g c =
     let begun : between.pdp.evaluations ≡ old.pdp.evaluations = ap (λ v. v.pdp.evaluations) one.rest in
     let ended : c.settle.new.pdp.evaluations ≡ new.pdp.evaluations = sym (ap (λ v. v.pdp.evaluations) two.rest) in
     record {
-      fresh = fresh_again sources slots old new c.requires.fresh
+      fresh = fresh_again old new c.requires.fresh
           (ap (λ v. v.table.cells) two.rest ∙ failed.err ∙ ap (λ v. v.table.cells) one.rest)
           (ap (λ v. v.documents) two.rest ∙ ap (λ v. v.documents) one.rest)
           log (room_between old.log between.log c.settle.new.log new.log before failed.grows after) stays;
@@ -115,5 +109,5 @@ returns g c =
             subst (λ n. n ≤ new.pdp.evaluations) begun (subst (λ n. between.pdp.evaluations ≤ n) ended up.0),
             subst (λ n. n ≤ raised old.pdp.evaluations (touched_count s (with_exchange s x))) ended (subst (λ n. c.settle.new.pdp.evaluations ≤ n) (λ i. raised (begun i) (count i)) up.1),
           );
-      tables = kept_stays sources slots old new log stays;
+      tables = kept_stays old new log stays;
     }

@@ -10,7 +10,7 @@ use Rattle.ent_table.proofs.review_parts.Parts.replace_policy.Goals as goal
 
 pub make-requires-clause-documents : goal.make-requires-clause-documents
 make-requires-clause-documents g c =
-    let s = state_of g.A.Attributes.sources g.P.Policies.slots c.args.self.now in
+    let s = state_of c.args.self.now in
     let old = replaced_is_held s c.args.number c.args.document c.in_ok-key.ensures.tested in
     c.requires.documents
     ∙ sym (count_replaced s c.args.number (key_of c.args.document) c.args.document old.0 old.1)

@@ -5,4 +5,4 @@ use Rattle.ent_table.specs.proofs_only.Look.{IsSeen, keys_in}
 use Rattle.ent_table.proofs.review_parts.Parts.seen.Given as goal
 
 abbrev pub invariant-loop-key : goal.invariant-loop-key
-invariant-loop-key g l = (keys_in l.seen.items ≡ l.yielded) × AllByRecursion (IsSeen (state_of g.A.Attributes.sources g.P.Policies.slots l.self) l.exchange) l.seen.items
+invariant-loop-key g l = (keys_in l.seen.items ≡ l.yielded) × AllByRecursion (IsSeen (state_of l.self) l.exchange) l.seen.items

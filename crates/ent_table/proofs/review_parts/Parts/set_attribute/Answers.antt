@@ -9,7 +9,7 @@ use Rattle.ent_table.proofs.review_parts.Parts.set_attribute.Goals as goal
 
 pub returns-clause-counted : goal.returns-clause-counted
 returns-clause-counted g c =
-    let s = state_of g.A.Attributes.sources g.P.Policies.slots c.args.self.now in
+    let s = state_of c.args.self.now in
     let passes : IsOk (attribute_set s c.args.number c.args.key c.args.values) =
     subst (λ (vs : List Value). IsOk (attribute_set s c.args.number c.args.key vs)) c.as_slice.ensures c.in_ok-row_fault.ensures.tested in
     λ h. subst (λ r. IsCounted r s c.args.self.now.pdp.evaluations c.make.new.self.pdp.evaluations c.make.result)

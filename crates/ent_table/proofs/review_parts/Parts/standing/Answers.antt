@@ -7,12 +7,11 @@ use Rattle.ent_table.proofs.review_parts.Parts.standing.Goals as goal
 
 pub returns-in-Document : goal.returns-in-Document
 returns-in-Document g c =
-    let slots = g.P.Policies.slots in
-    let ms = slots c.args.self.now.pdp.policies in
-    let s = state_of g.A.Attributes.sources slots c.args.self.now in
+    let ms = c.args.self.now.pdp.slots in
+    let s = state_of c.args.self.now in
     let number = c.in-Document.number in
     let key = c.in-Document.key in
     c.document_at.ensures
-    ∙ (λ t. document_at (module_at (slots (c.policies.ensures t)) number) key)
+    ∙ (λ t. document_at (module_at (c.policies.ensures t) number) key)
     ∙ held-taken ms number key (held_within ms number (subst (IsWithin s) c.in-Document.is c.requires).0)
     ∙ ap (λ x. document_in (taken s x)) (sym c.in-Document.is)

@@ -6,12 +6,12 @@ use Rattle.ent_table.proofs.review_parts.Parts.withdraw_policy.Goals as goal
 
 pub overflow_sub-documents : goal.overflow_sub-documents
 overflow_sub-documents g c =
-    let s = state_of g.A.Attributes.sources g.P.Policies.slots c.args.self.now in
+    let s = state_of c.args.self.now in
     let old = withdrawn_is_held s c.args.number c.args.key c.in_ok-withdrawal_fault.ensures in
     omega (arith, c.requires.documents, count_withdrawn s c.args.number c.args.key old.0 old.1)
 
 pub make-requires-clause-documents : goal.make-requires-clause-documents
 make-requires-clause-documents g c =
-    let s = state_of g.A.Attributes.sources g.P.Policies.slots c.args.self.now in
+    let s = state_of c.args.self.now in
     let old = withdrawn_is_held s c.args.number c.args.key c.in_ok-withdrawal_fault.ensures in
     omega (arith, c.requires.documents, count_withdrawn s c.args.number c.args.key old.0 old.1)

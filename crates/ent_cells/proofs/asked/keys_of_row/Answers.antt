@@ -2,7 +2,7 @@ use Rattle.std.proofs.Common.{◌∷◌, ◌++◌, [], Some, ap, ◌∙◌}
 use Rattle.ent_request.specs.Noted.{has_key}
 use Rattle.ent_cells.proofs.ReadKeys.{both_keys, plain_keys}
 use Rattle.ent_cells.specs.proofs_only.Asked.{key_of_row}
-use Rattle.ent_cells.proofs.asked.row_keys.Goals as goal
+use Rattle.ent_cells.proofs.asked.keys_of_row.Goals as goal
 
 pub returns-in_default : goal.returns-in_default
 returns-in_default c =
