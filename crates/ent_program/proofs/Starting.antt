@@ -11,8 +11,8 @@ use Rattle.ent_finder.specs.Slots.{Slots, held, key_cmp}
 use Rattle.ent_finder.proofs.Filled.{entries-filled}
 use Rattle.ent_finder.proofs.Held.{entries-held, filled}
 use Rattle.ent_eval.specs.LooksOf.{held_by}
+use Rattle.ent_eval.specs.Point.{Point, point_of}
 use Rattle.ent_request.specs.declared.environment.Environment.TheVariants.{Empty}
-use Rattle.ent_eval.specs.declared.pdp.Pdp.{Pdp}
 use Rattle.ent_table.specs.State.{initial}
 use Rattle.ent_table.specs.declared.limits.Limits.{Limits}
 use Rattle.ent_report.specs.World.{unmarked}
@@ -61,15 +61,9 @@ alike : {A B : Type 0} (f : A → B) (x : A) (y : B) → f x ≡ y → (xs : Lis
 alike f x y is xs n count are all = ap (map f) are ∙ map-replicate f x y is n ∙ ap (λ m. replicate m y) all
 
 -- a decision point over what holds values and documents, with no root, where nothing is known of the time
-pub started : {A P : Type 0} (sources : A → List Source) (slots : P → List Slots) (pdp : Pdp A P) (limits : Limits) (attributes : A) (policies : P)
-    → pdp.root ≡ None → pdp.environment ≡ Empty → pdp.attributes ≡ attributes → pdp.policies ≡ policies
-    → initial (held_by sources slots pdp) limits ≡ (begun limits (sources attributes) (slots policies)).state
-started sources slots pdp limits attributes policies no_root no_time rows documents = λ t. initial (record {
-  root = no_root t;
-  modules = map held (slots (documents t));
-  sources = map filled_source (sources (rows t));
-  environment = no_time t;
-}) limits
+pub started : (sources : List Source) (slots : List Slots) (pdp : Point) (limits : Limits) → pdp ≡ point_of sources slots
+    → initial (held_by pdp) limits ≡ (begun limits sources slots).state
+started sources slots pdp limits is = λ t. initial (held_by (is t)) limits
 
 -- modules that hold nothing, as many as are asked for
 pub nothing_held : (limits : Limits) (os : List Source) (ms : List Slots) (n m a p : ℕ)

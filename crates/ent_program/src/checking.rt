@@ -1,12 +1,13 @@
 //! `review check`: what is said of a policy in a file.
 
-ghost use Rattle.std.specs.Prelude.{◌≡◌, ◌+◌, Result, Some, None, IfErr, IfOk, IfSome, option_map, string_bytes, take, true, ◌≢◌};
+ghost use Rattle.std.specs.Prelude.{◌≡◌, ◌≢◌, ◌+◌, Result, Some, None, true, take};
+ghost use Rattle.std.specs.Prelude.{IfErr, IfOk, IfSome, option_map, string_bytes};
 ghost use Rattle.ent_line.specs.Lines.{line_limit};
 ghost use Rattle.ent_line.specs.Pieces.{Sends};
 ghost use Rattle.ent_line.specs.Step.{data_of};
 ghost use Rattle.ent_line.specs.declared.fault.ServeFault.TheVariants.{Write};
-ghost use Rattle.ent_program.specs.Checking.{Checks, IsToldOf, Judges, is_fine, is_passed, line_of, passed_of, refusal_line};
-ghost use Rattle.ent_program.specs.Checking.{document_in, verdict_in, verdict_of};
+ghost use Rattle.ent_program.specs.Checking.{Checks, IsToldOf, Judges, is_fine, is_passed, line_of, passed_of};
+ghost use Rattle.ent_program.specs.Checking.{document_in, refusal_line, verdict_in, verdict_of};
 ghost use Rattle.ent_program.specs.declared.checking.Verdict.TheVariants.{Passed, Refused};
 
 use ent_faults::explain;

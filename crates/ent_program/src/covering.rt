@@ -88,8 +88,9 @@ fn told_of(alloc: Global, is_json: bool, dump: &[u8], table: &[u8]) -> Result<Ve
     told_text(alloc, is_json, rules.len(), missing.as_slice())
 }
 
-/// Writes which rules of the documents behind the lines of a state, of a service within those limits, give no decision in
-/// its table, as lines or as JSON; or which line is refused. Faults: the writer's, which may have taken a front of what is written, and want of memory.
+/// Writes which rules of the documents behind the lines of a state, of a service within those limits, give no decision
+/// in its table, as lines or as JSON; or which line is refused. Faults: the writer's, which may have taken a front of
+/// what is written, and want of memory.
 pub(crate) fn cover_from<W: Write>(
     alloc: Global,
     limits: Limits,

@@ -117,7 +117,8 @@ pub(crate) fn told_undeclared(
     bytes: &[u8],
     attributes: &[Attribute],
 ) -> Result<Option<String>, AllocError>
-    ensures { IfOk result (λ told. IfSome (data_of bytes.now) (λ d. TellsUndeclared attributes.now (whole d) (option_map string_bytes told))) }
+    ensures { IfOk result (λ told. IfSome (data_of bytes.now)
+        (λ d. TellsUndeclared attributes.now (whole d) (option_map string_bytes told))) }
 {
     let mut scratch = Scratch::new(alloc);
     let Some(json) = read_json(alloc, bytes, &mut scratch)? else {
@@ -131,8 +132,8 @@ pub(crate) fn told_undeclared(
     Ok(Some(told))
 }
 
-/// The verdict on the bytes of a file, and what is told of it where these attributes are declared: of a document that may
-/// be stored, where it first asks for another one.
+/// The verdict on the bytes of a file, and what is told of it where these attributes are declared: of a document that
+/// may be stored, where it first asks for another one.
 fn judge_declared(
     alloc: Global,
     bytes: &[u8],
@@ -140,7 +141,8 @@ fn judge_declared(
     wants_place: bool,
 ) -> Result<Judged, AllocError>
     ensures verdict { IfOk result (λ j. j.verdict ≡ verdict_of bytes.now) }
-    ensures declared { is_passed (verdict_of bytes.now) ≡ true → IfOk result (λ j. AsksDeclared attributes.now (data_of bytes.now) j) }
+    ensures declared { is_passed (verdict_of bytes.now) ≡ true
+        → IfOk result (λ j. AsksDeclared attributes.now (data_of bytes.now) j) }
 {
     let judged = judge(alloc, bytes, wants_place)?;
     if !is_passed(&judged.verdict) {
@@ -154,8 +156,8 @@ fn judge_declared(
     })
 }
 
-/// Writes the line of the verdict on the bytes of a file, as `check` does, flushes the writer, and gives the verdict and
-/// what is told of it where these attributes are declared; where a file that is refused is wrong, if it is wanted.
+/// Writes the line of the verdict on the bytes of a file, as `check` does, flushes the writer, and gives the verdict
+/// and what is told of it where these attributes are declared; where a file that is refused is wrong, if it is wanted.
 pub(crate) fn check_declared<W: Write>(
     alloc: Global,
     bytes: &[u8],
@@ -164,7 +166,8 @@ pub(crate) fn check_declared<W: Write>(
     writer: &mut W,
 ) -> Result<Judged, ServeFault>
     ensures judges { Judges (Some bytes.now) (W.contents writer.old) (W.contents writer.new) (verdict_in result) }
-    ensures declared { is_passed (verdict_of bytes.now) ≡ true → IfOk result (λ j. AsksDeclared attributes.now (data_of bytes.now) j) }
+    ensures declared { is_passed (verdict_of bytes.now) ≡ true
+        → IfOk result (λ j. AsksDeclared attributes.now (data_of bytes.now) j) }
 {
     let Ok(judged) = judge_declared(alloc, bytes, attributes, wants_place) else {
         return Err(ServeFault::Memory);

@@ -89,7 +89,8 @@ fn is_state(alloc: Global, steps: &[Step]) -> Result<bool, AllocError>
     }
 }
 
-/// The lines behind which changes are sent: none where these are those of a state of their own, else those of the state.
+/// The lines behind which changes are sent: none where these are those of a state of their own, else those of the
+/// state.
 fn base_of<'a>(
     alloc: Global,
     state: &'a [Step],
@@ -116,8 +117,8 @@ fn asking(alloc: Global, first: &[Step], second: &[Step]) -> Result<Vec<u8>, All
     Ok(lines)
 }
 
-/// What a new service tells of its table behind lines of a file of that name, and those of another, if it accepts all of
-/// them; else those that it refuses are told.
+/// What a new service tells of its table behind lines of a file of that name, and those of another, if it accepts all
+/// of them; else those that it refuses are told.
 fn table_behind<W: Write>(
     alloc: Global,
     limits: Limits,
@@ -191,14 +192,15 @@ fn send_difference<W: Write>(
     }
 }
 
-/// Writes what differs between the tables behind the lines of a state and behind changes, and says whether anything does.
+/// Writes what differs between the tables behind the lines of a state and behind changes, and says whether anything
+/// does.
 ///
-/// The changes are lines that are sent behind those of the state; or, where the first of them is `format`, as in a dump,
-/// the lines of a state of their own. Each service is a new one within those limits, over two modules of each sort. What differs is one line
-/// of JSON ([`difference`](ent_compare::difference)), a table ([`shown`](ent_compare::shown)), or Markdown
-/// ([`markdown`](ent_compare::markdown)). Where a line is refused, it is told by two lines, `NAME:LINE: expected no refusal`
-/// and `NAME:LINE: replied REPLY`, and nothing is compared.
-/// Faults: the writer's, which may have taken a front of what is written, and want of memory.
+/// The changes are lines that are sent behind those of the state; or, where the first of them is `format`, as in a
+/// dump, the lines of a state of their own. Each service is a new one within those limits, over two modules of each
+/// sort. What differs is one line of JSON ([`difference`](ent_compare::difference)), a table
+/// ([`shown`](ent_compare::shown)), or Markdown ([`markdown`](ent_compare::markdown)). Where a line is refused, it is
+/// told by two lines, `NAME:LINE: expected no refusal` and `NAME:LINE: replied REPLY`, and nothing is compared. Faults:
+/// the writer's, which may have taken a front of what is written, and want of memory.
 #[tactic(auto, using(crate::proofs::Differences::compared, crate::proofs::Differences::refused_second))]
 pub fn compare_from<W: Write>(
     alloc: Global,

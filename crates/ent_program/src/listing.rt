@@ -51,9 +51,9 @@ fn tell_chosen<W: Write>(
 }
 
 /// Writes of each session of the bytes of a file that a plan chooses where it begins and what it is called, as
-/// `NAME:LINE: SESSION`, and counts them as passed. None runs. Bytes that haven't the form of sessions, or that have none,
-/// count as one that failed, and it is written as by [`test_from`](crate::test_from). Faults: the writer's, which may have
-/// taken a front of what is written, and want of memory.
+/// `NAME:LINE: SESSION`, and counts them as passed. None runs. Bytes that haven't the form of sessions, or that have
+/// none, count as one that failed, and it is written as by [`test_from`](crate::test_from). Faults: the writer's, which
+/// may have taken a front of what is written, and want of memory.
 #[tactic(auto, using(crate::proofs::Headings::all_listed, crate::proofs::Headings::misplaced_listed))]
 pub fn list_tests<W: Write>(
     alloc: Global,

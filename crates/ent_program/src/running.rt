@@ -60,9 +60,9 @@ fn push_empty(
     Ok(())
 }
 
-/// Serves by a service over what holds values and documents, within those limits, which begins without a root, marks and
-/// names, and knows nothing of the time. No function holds such a service over boxed modules, so this one is generic in
-/// them.
+/// Serves by a service over what holds values and documents, within those limits, which begins without a root, marks
+/// and names, and knows nothing of the time. No function holds such a service over boxed modules, so this one is
+/// generic in them.
 fn serve_over<A: Attributes, P: Policies, R: BufRead, W: Write>(
     alloc: Global,
     attributes: A,

@@ -226,8 +226,8 @@ fn case_of(
     })
 }
 
-/// Judges a session by the replies to what is sent to its service, writes what isn't as it is to be, and says what became
-/// of it.
+/// Judges a session by the replies to what is sent to its service, writes what isn't as it is to be, and says what
+/// became of it.
 #[tactic(auto, using(crate::proofs::Tests::told_alone))]
 pub(crate) fn run_by<W: Write>(
     alloc: Global,

@@ -83,8 +83,8 @@ pub const ALL: &str = "all";
 /// The option of `check` by which a warning counts as a fault.
 pub const STRICT: &str = "strict";
 
-/// The option of `check` that names a file with the lines of a state, of whose table is told which rules it rests on; and
-/// of `test` by which the same is told of the tests.
+/// The option of `check` that names a file with the lines of a state, of whose table is told which rules it rests on;
+/// and of `test` by which the same is told of the tests.
 pub const COVERAGE: &str = "coverage";
 
 /// The option of `test` that says how many of a hundred rules have to give a decision.

@@ -1,5 +1,5 @@
-//! Responses, and lists of obligations and advice, as JSON values, which no line asks for: each is what the text that is
-//! written straight spells. And copies of answers.
+//! Responses, and lists of obligations and advice, as JSON values, which no line asks for: each is what the text that
+//! is written straight spells. And copies of answers.
 
 use crate::documents::json_of;
 use ent_combine::{IndKind, Outcome};

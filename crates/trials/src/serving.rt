@@ -295,8 +295,8 @@ impl Write for Holding<'_> {
     }
 }
 
-/// Whether all replies to a text, shown in pieces of `step` bytes, left before the next piece was waited for, and before
-/// the call ended, and how many lines they have.
+/// Whether all replies to a text, shown in pieces of `step` bytes, left before the next piece was waited for, and
+/// before the call ended, and how many lines they have.
 fn is_in_time(alloc: Global, text: &str, step: usize, looks: u32) -> (bool, u64) {
     let held = RefCell::new(Vec::new(alloc));
     let mut tally = Tally { alloc, lines: 0 };
@@ -312,8 +312,8 @@ fn is_in_time(alloc: Global, text: &str, step: usize, looks: u32) -> (bool, u64)
     (!reader.is_late && is_all(&held, ""), tally.lines)
 }
 
-/// Texts with the bytes of a piece and the number of lines. A whole line and a part of the next, lines that fill a piece,
-/// one that no newline ends, and pieces of a byte.
+/// Texts with the bytes of a piece and the number of lines. A whole line and a part of the next, lines that fill a
+/// piece, one that no newline ends, and pieces of a byte.
 const PIECES: &[(&str, usize, u64)] = &[
     ("abc\ndef\n", 6, 2),
     ("abc\ndef\nghi\njkl\nmn", 8, 5),
