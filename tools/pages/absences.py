@@ -152,7 +152,7 @@ def unseen():
 
 # Calls that are asked for by name, or stay for now, and that no part of the program makes.
 UNCALLED = ['ent_polform write_document', 'ent_profile write_given', 'ent_profile write_response',
-            'ent_index Index::cells_of', 'ent_request Request::exchange_resource', 'ent_program check_from',
+            'ent_index Index::cells_of', 'ent_program check_from',
             'ent_split merge_who', 'ent_split merge_by_rule', 'ent_split sum_counts', 'ent_split sum_changes']
 
 
