@@ -20,7 +20,8 @@ ROOT = {'PolicySet': {
 PLANS = policy('plans', Rule=[
     {'RuleId': name, 'Effect': 'Permit', 'Target': match(name)} for name in ['first', 'second', 'nowhere']])
 ASK = {'Request': {
-    'Resource': [{'Attribute': [{'AttributeId': 'urn:oasis:names:tc:xacml:1.0:resource:resource-id', 'Value': 'second'}]}]}}
+    'Resource': [{'Attribute': [
+        {'AttributeId': 'urn:oasis:names:tc:xacml:1.0:resource:resource-id', 'Value': 'second'}]}]}}
 STATE = [
     {'do': 'policy.add', 'document': PLANS}, {'do': 'policy.add', 'document': ROOT},
     {'do': 'root.set', 'reference': {'PolicySetIdReference': {'Id': 'root'}}},
@@ -50,7 +51,11 @@ def line(command):
 def text_of(names):
     """The file of those tests."""
     steps = {name: ''.join(f'> {line(sent)}\n~ {line(reply)}\n' for sent, reply in TESTS[name]) for name in names}
-    return ''.join(f'# {name.replace(" ", "_", name.count(" ") - name[-1].isdigit())}\n{steps[name]}\n' for name in names)
+
+    def word(name):
+        return name.replace(' ', '_', name.count(' ') - name[-1].isdigit())
+
+    return ''.join(f'# {word(name)}\n{steps[name]}\n' for name in names)
 
 
 def try_states(trial, state):
