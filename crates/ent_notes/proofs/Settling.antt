@@ -1,8 +1,8 @@
 -- What is noted of a part in which what fails is passed over.
-use Rattle.std.proofs.Common.{◌≡◌, Bool, List, [], ◌∷◌, Option, Some, None, map, true, refl, sym, ap, ◌∙◌}
+use Rattle.std.proofs.Common.{◌≡◌, List, [], ◌∷◌, Option, Some, None, map, true, refl, sym, ap, ◌∙◌}
 use Rattle.std.specs.Prelude.{is_some, option_map}
 use Rattle.ent_notes.specs.declared.causes.Causes.{Causes}
-use Rattle.ent_notes.specs.proofs_only.Met.{Met, all_passed, with_failing, with_passed}
+use Rattle.ent_notes.specs.proofs_only.Met.{all_passed, with_failing, with_passed}
 use Rattle.ent_notes.specs.proofs_only.Noted.{Notes, is_named, noting, passing, passing_unless, with_failure, with_note}
 use Rattle.ent_request.specs.Note.{Note, asks, fails, passed, passed_over}
 use Rattle.ent_request.specs.declared.cause.Cause.{Cause}

@@ -1,5 +1,5 @@
 -- Any-of of a function, a literal and a designator.
-use Rattle.std.proofs.Common.{◌≡◌, ℕ, Bool, true, false, List, [], ◌∷◌, map, refl, sym, ap, ap₂, ◌∙◌, subst, Option, Some, None}
+use Rattle.std.proofs.Common.{◌≡◌, ℕ, Bool, true, false, List, [], ◌∷◌, map, refl, ap, ap₂, ◌∙◌, subst, Option, Some, None}
 use Rattle.std.specs.Prelude.{IsSome, option_and_then, if◌then◌else◌}
 use Rattle.std.specs.List.{list_any}
 use Rattle.std.proofs.lemmas.List.{append-nil}
@@ -32,8 +32,8 @@ use Rattle.ent_request.specs.Looks.{Looks}
 use Rattle.ent_request.specs.Part.{Part, mapped, without_look}
 use Rattle.ent_request.specs.Sources.{demanded}
 use Rattle.ent_walk.specs.Target.{is_true}
-use Rattle.ent_walk.specs.proofs_only.Typed.{HasType, apply_type, type_of}
-use Rattle.ent_walk.specs.proofs_only.Uncopied.{AreTested, IsBoolean, any}
+use Rattle.ent_walk.specs.proofs_only.Typed.{Tests, apply_type, type_of}
+use Rattle.ent_walk.specs.proofs_only.Uncopied.{any}
 use Rattle.ent_walk.proofs.Literals.{designator-part, designator-type, goes-on, some_if, two_noted}
 
 -- a function of two values is True in the bag's place where it is so by itself
@@ -185,16 +185,16 @@ boolean_so : (type : Option ArgType) → is_boolean type ≡ true → gives_bool
 boolean_so None is = absurd (cc)
 boolean_so (Some t) is = ap (λ u. gives_boolean (Some u)) (same_plain t boolean refl is)
 
--- a boolean has the type of any-of
-pub has_type_of_any : (g f : Function) (v : Value) (d : Designator) (given : List Expression) → g ≡ functions.AnyOf
-    → given ≡ expressions.Function f ∷ expressions.Value v ∷ expressions.Designator d ∷ [] → IsBoolean g given
-has_type_of_any g f v d given g-is is w has definitions n some =
+-- any-of of these gives a boolean
+pub any-of-type : (definitions : List VariableDefinition) (n : ℕ) (g f : Function) (v : Value) (d : Designator) (given : List Expression) → g ≡ functions.AnyOf
+    → given ≡ expressions.Function f ∷ expressions.Value v ∷ expressions.Designator d ∷ [] → IsSome (apply_type definitions n g given) → apply_type definitions n g given ≡ Some boolean
+any-of-type definitions n g f v d given g-is is some =
     let type-is = any-type definitions n g f v d given g-is is in
-    subst (λ type. HasType type w) (sym (type-is ∙ any_typed f (datatype_of v) d.datatype (subst IsSome type-is some))) has
+    type-is ∙ any_typed f (datatype_of v) d.datatype (subst IsSome type-is some)
 
 -- the function gives one for the literal and each value
-pub are_tested : (g f : Function) (v : Value) (d : Designator) (given : List Expression) → g ≡ functions.AnyOf
-    → given ≡ expressions.Function f ∷ expressions.Value v ∷ expressions.Designator d ∷ [] → AreTested g given f v d.datatype
-are_tested g f v d given g-is is definitions n some =
+pub are_tested : (definitions : List VariableDefinition) (n : ℕ) (g f : Function) (v : Value) (d : Designator) (given : List Expression) → g ≡ functions.AnyOf
+    → given ≡ expressions.Function f ∷ expressions.Value v ∷ expressions.Designator d ∷ [] → IsSome (apply_type definitions n g given) → Tests f v d.datatype
+are_tested definitions n g f v d given g-is is some =
     let given-types = arg_types.One (datatype_of v) ∷ arg_types.One d.datatype ∷ [] in
     boolean_so (result_type_of f given-types) (same_types f given-types (any_tests f (datatype_of v) d.datatype (subst IsSome (any-type definitions n g f v d given g-is is) some)))

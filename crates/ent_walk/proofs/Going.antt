@@ -18,10 +18,6 @@ noting-append keys (k ∷ first) more = noting-append (with_note keys k) first m
 pub noting_both : (keys : Notes) (first more : List Note) → noting (noting keys first) more ≡ noting keys (first ++ more)
 noting_both keys first more = sym (noting-append keys first more)
 
--- and one behind a part
-pub noting_then : (keys : Notes) (first : List Note) (note : Note) → with_note (noting keys first) note ≡ noting keys (first ++ note ∷ [])
-noting_then keys first note = noting_both keys first (note ∷ [])
-
 values-append : {A : Type 0} (ps qs : List (Part A)) → values (ps ++ qs) ≡ values ps ++ values qs
 values-append [] qs = refl
 values-append (p ∷ ps) qs = ap (λ vs. p.value ∷ vs) (values-append ps qs)

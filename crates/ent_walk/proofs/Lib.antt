@@ -1,4 +1,3 @@
-pub mod Again
 pub mod AnyBag
 pub mod Alone
 pub mod AnswersAlike

@@ -34,8 +34,8 @@ use Rattle.ent_request.specs.Looks.{Looks}
 use Rattle.ent_request.specs.Own.{is_empty, own_values}
 use Rattle.ent_request.specs.Part.{Part, after_look, and_fails, and_then, mapped, notes_of, seen_parts, without_look}
 use Rattle.ent_request.specs.Sources.{asked_of, demanded, designated_values, missing, source_values}
-use Rattle.ent_walk.specs.proofs_only.Typed.{HasType, apply_type, type_of}
-use Rattle.ent_walk.specs.proofs_only.Uncopied.{IsOfItsType, member, only_part}
+use Rattle.ent_walk.specs.proofs_only.Typed.{apply_type, type_of}
+use Rattle.ent_walk.specs.proofs_only.Uncopied.{member, only_part}
 use Rattle.ent_functions.proofs.Taking.{exactly_types}
 
 -- a value is no result of a function that no boolean decides
@@ -141,19 +141,22 @@ module _ (looks : Looks) (request : Request) (definitions : List VariableDefinit
   unfolding applied first_order
   one e d v question = refl
 
-  -- one-and-only of a designator with one value
-  pub only-found : (f : Function) (e : Element) (d : Designator) (v : Value) (given : List Expression) → f ≡ functions.OneAndOnly e → given ≡ expressions.Designator d ∷ []
-      → designated_values looks request d ≡ v ∷ [] → application f (map (meaning looks request definitions n) given) ≡ only_part d v
-  only-found f e d v given f-is is found =
+  -- one-and-only of a designator, whatever its values are
+  pub only-part : (f : Function) (e : Element) (d : Designator) (given : List Expression) → f ≡ functions.OneAndOnly e → given ≡ expressions.Designator d ∷ []
+      → application f (map (meaning looks request definitions n) given) ≡ application (functions.OneAndOnly e) (designated looks request d ∷ [])
+  only-part f e d given f-is is =
       ap (λ h. application h (map (meaning looks request definitions n) given)) f-is
-      ∙ ap (application (functions.OneAndOnly e)) (ap (map (meaning looks request definitions n)) is ∙ ap (λ p. p ∷ []) (designator-part d ∙ found-part d v found))
-      ∙ one e d v (asks (Of (asked_of d)))
+      ∙ ap (application (functions.OneAndOnly e)) (ap (map (meaning looks request definitions n)) is ∙ ap (λ p. p ∷ []) (designator-part d))
+
+  -- one-and-only of a designator with one value
+  pub only-found : (e : Element) (d : Designator) (v : Value) → designated_values looks request d ≡ v ∷ [] → application (functions.OneAndOnly e) (designated looks request d ∷ []) ≡ only_part d v
+  only-found e d v found = ap (λ p. application (functions.OneAndOnly e) (p ∷ [])) (found-part d v found) ∙ one e d v (asks (Of (asked_of d)))
 
   -- the same, where the value is the request's own
   pub only : (f : Function) (e : Element) (d : Designator) (v : Value) (given : List Expression) (questions : List Note) → f ≡ functions.OneAndOnly e → given ≡ expressions.Designator d ∷ []
       → own_values d request ≡ v ∷ [] → questions ≡ asks (Of (asked_of d)) ∷ []
       → application f (map (meaning looks request definitions n) given) ≡ known v questions
-  only f e d v given questions f-is is own asked-is = only-found f e d v given f-is is (own-found d v own) ∙ ap (known v) (sym asked-is)
+  only f e d v given questions f-is is own asked-is = only-part f e d given f-is is ∙ only-found e d v (own-found d v own) ∙ ap (known v) (sym asked-is)
 
   -- is-in of a value and a designator
   pub is-in-part : (f : Function) (e : Element) (given : List Expression) (x y : Expression) (v : Value) (questions : List Note) (d : Designator) → f ≡ functions.IsIn e → given ≡ x ∷ y ∷ []
@@ -178,13 +181,6 @@ module _ (looks : Looks) (request : Request) (definitions : List VariableDefinit
 
 -- ---- types
 
--- the type of a function of arguments
-pub application-type : (definitions : List VariableDefinition) (n : ℕ) (x : Expression) (f : Function) (given seen : List Expression) → x ≡ expressions.Apply f given → seen ≡ given
-    → type_of definitions n x ≡ apply_type definitions n f seen
-unfolding Rattle.ent_policy.specs.declared.expression.Expression.TheViews.roll-Expression denote.Hole.Carrier.roll
-application-type definitions n x f given seen is given-is =
-    ap (type_of definitions n) is ∙ fold-roll-Expression (Option ArgType) (type_step (variable_type definitions n)) (Expression-F.Apply f given) ∙ ap (apply_type definitions n f) (sym given-is)
-
 pub some_if : (b : Bool) (t : ArgType) → IsSome (if b then Some t else None) → (if b then Some t else None) ≡ Some t
 some_if true t some = refl
 some_if false t some = absurd (cc)
@@ -194,18 +190,10 @@ unfolding result_type_of first_order_type
 is_in_typed e None some = absurd (cc)
 is_in_typed e (Some ts) some = some_if (pointwise same_type ts (value_of e ∷ bag_type e ∷ [])) boolean some
 
--- what has the type of a boolean has that of is-in
-pub has_type : (e : Element) (types : Option (List ArgType)) (v : Evaluated) → IsSome (option_and_then (result_type_of (functions.IsIn e)) types) → HasType (Some boolean) v → HasType (option_and_then (result_type_of (functions.IsIn e)) types) v
-has_type e types v some has = subst (λ type. HasType type v) (sym (is_in_typed e types some)) has
-
 equal_typed : (e : Element) (types : Option (List ArgType)) → IsSome (option_and_then (result_type_of (functions.Equal e)) types) → option_and_then (result_type_of (functions.Equal e)) types ≡ Some boolean
 unfolding result_type_of first_order_type
 equal_typed e None some = absurd (cc)
 equal_typed e (Some ts) some = some_if (pointwise same_type ts (value_of e ∷ value_of e ∷ [])) boolean some
-
--- and that of equal
-pub has_type_of_equal : (e : Element) (types : Option (List ArgType)) (v : Evaluated) → IsSome (option_and_then (result_type_of (functions.Equal e)) types) → HasType (Some boolean) v → HasType (option_and_then (result_type_of (functions.Equal e)) types) v
-has_type_of_equal e types v some has = subst (λ type. HasType type v) (sym (equal_typed e types some)) has
 
 pub designator-type : (definitions : List VariableDefinition) (n : ℕ) (d : Designator) → type_of definitions n (expressions.Designator d) ≡ Some (arg_types.Many d.datatype)
 unfolding Rattle.ent_policy.specs.declared.expression.Expression.TheViews.roll-Expression denote.Hole.Carrier.roll
@@ -218,10 +206,27 @@ only_typed e t some =
     let same : t ≡ element_type e = cc in
     some_if (pointwise same_type (arg_types.Many t ∷ []) (bag_type e ∷ [])) (value_of e) some ∙ ap (λ u. Some (arg_types.One u)) (sym same)
 
--- what has the type of a designator's values has that of one-and-only
-pub has_type_of_only : (f : Function) (e : Element) (d : Designator) (given : List Expression) → f ≡ functions.OneAndOnly e → given ≡ expressions.Designator d ∷ [] → IsOfItsType f given d
-has_type_of_only f e d given f-is is v v-is definitions n some =
-    let type-is : apply_type definitions n f given ≡ result_type_of (functions.OneAndOnly e) (arg_types.Many d.datatype ∷ []) =
-    ap (λ g. apply_type definitions n g given) f-is ∙ ap (apply_type definitions n (functions.OneAndOnly e)) is
-    ∙ ap (λ t. option_and_then (result_type_of (functions.OneAndOnly e)) (all_typed (t ∷ []))) (designator-type definitions n d) in
-    type-is ∙ only_typed e d.datatype (subst IsSome type-is some) ∙ ap (λ t. Some (arg_types.One t)) (sym v-is)
+module _ (definitions : List VariableDefinition) (n : ℕ) where
+  -- the type of a function, by which it is
+  typed_as : (f g : Function) (given : List Expression) (type : ArgType) → f ≡ g
+      → (IsSome (apply_type definitions n g given) → apply_type definitions n g given ≡ Some type)
+      → IsSome (apply_type definitions n f given) → apply_type definitions n f given ≡ Some type
+  typed_as f g given type is typed some =
+      let same = ap (λ h. apply_type definitions n h given) is in
+      same ∙ typed (subst IsSome same some)
+
+  -- is-in and equal give a boolean
+  pub is-in-type : (f : Function) (e : Element) (given : List Expression) → f ≡ functions.IsIn e → IsSome (apply_type definitions n f given) → apply_type definitions n f given ≡ Some boolean
+  is-in-type f e given is = typed_as f (functions.IsIn e) given boolean is (is_in_typed e (all_typed (map (type_of definitions n) given)))
+
+  pub equal-type : (f : Function) (e : Element) (given : List Expression) → f ≡ functions.Equal e → IsSome (apply_type definitions n f given) → apply_type definitions n f given ≡ Some boolean
+  equal-type f e given is = typed_as f (functions.Equal e) given boolean is (equal_typed e (all_typed (map (type_of definitions n) given)))
+
+  -- one-and-only of a designator a value of its type
+  pub only-type : (f : Function) (e : Element) (d : Designator) (given : List Expression) → f ≡ functions.OneAndOnly e → given ≡ expressions.Designator d ∷ [] → IsSome (apply_type definitions n f given)
+      → apply_type definitions n f given ≡ Some (arg_types.One d.datatype)
+  only-type f e d given f-is is some =
+      let type-is : apply_type definitions n f given ≡ result_type_of (functions.OneAndOnly e) (arg_types.Many d.datatype ∷ []) =
+      ap (λ g. apply_type definitions n g given) f-is ∙ ap (apply_type definitions n (functions.OneAndOnly e)) is
+      ∙ ap (λ t. option_and_then (result_type_of (functions.OneAndOnly e)) (all_typed (t ∷ []))) (designator-type definitions n d) in
+      type-is ∙ only_typed e d.datatype (subst IsSome type-is some)

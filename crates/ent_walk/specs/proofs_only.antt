@@ -6,7 +6,6 @@ pub mod Given
 pub mod Hops
 pub mod Judged
 pub mod Lender
-pub mod Looked
 pub mod Node
 pub mod Only
 pub mod Opened

@@ -1,32 +1,32 @@
 //! What expressions come to.
 
-ghost use Rattle.std.specs.Prelude.{◌≡◌, ◌∷◌, IfOk, IsSome, MatchResult, OnOk, Some, map, true, false};
+ghost use Rattle.std.specs.Prelude.{◌≡◌, IfNone, IfOk, IfSome, IsSome, MatchResult, OnOk, Some, map, true, false};
 ghost use Rattle.std.specs.Option.{option_copied};
 ghost use Rattle.ent_functions.specs.Applied.{applied};
 ghost use Rattle.ent_functions.specs.Arguments.{type_of_arg};
 ghost use Rattle.ent_functions.specs.Types.{boolean, result_type_of};
-ghost use Rattle.ent_functions.specs.declared.arg.Arg.TheVariants.{One};
-ghost use Rattle.ent_functions.specs.declared.types.ArgType.TheVariants.{Many};
+ghost use Rattle.ent_functions.specs.declared.types.ArgType.TheVariants as types;
 ghost use Rattle.ent_policy.specs.Typing.{variable_type};
 ghost use Rattle.ent_policy.specs.Variables.{definition_of};
 ghost use Rattle.ent_walk.specs.proofs_only.Comes.{Adds, Comes, in_walk};
 ghost use Rattle.ent_walk.specs.Expression.{designated, evaluated_of, fault_in, is_result, meaning, settles};
-ghost use Rattle.ent_request.specs.Note.{asks};
-ghost use Rattle.ent_request.specs.Sources.{asked_of, missing};
-ghost use Rattle.ent_request.specs.declared.question.Question.TheVariants.{Of};
+ghost use Rattle.ent_request.specs.Part.{mapped};
+ghost use Rattle.ent_request.specs.Sources.{demanded};
 ghost use Rattle.ent_walk.specs.proofs_only.Expression.{apply_part};
 ghost use Rattle.ent_walk.specs.Expression.{variable_part};
 ghost use Rattle.ent_walk.specs.declared.evaluated.Evaluated.TheVariants.{Known};
 ghost use Rattle.ent_walk.specs.proofs_only.Typed.{HasType, Tests, apply_type, type_of};
 ghost use Rattle.ent_notes.specs.proofs_only.Noted.{asked_by};
-ghost use Rattle.ent_walk.specs.proofs_only.Uncopied.{any, equal_part, member, member_part, only_part};
+ghost use Rattle.ent_walk.specs.proofs_only.Uncopied.{ComesOf, ComesOfOnly, HasItsType, IsTested, IsTyped};
+ghost use Rattle.ent_walk.specs.proofs_only.Uncopied.{any, equal_part, member_part, uncopied_part};
+ghost use Rattle.ent_walk.specs.proofs_only.Uncopied.{uncopied_type};
 
 use crate::evaluated::Evaluated;
-use crate::uncopied::{Sole, any, any_of, compared, equal, member, membership, one_and_only};
+use crate::uncopied::{Sole, Uncopied, any, member, only_in, truth};
 use crate::walk::Walk;
 use ent_functions::{Arg, Fault, Function, apply};
 use ent_policy::{Designator, Expression, VariableDefinition};
-use ent_request::{LentBag, LookUps, Reason, Status};
+use ent_request::{LookUps, Reason, Status};
 use ent_values::{Items, Text, Value};
 use std::alloc::AllocError;
 
@@ -83,7 +83,7 @@ impl<L: LookUps> Walk<'_, L> {
         }
     }
 
-    // A function of its arguments, which are evaluated up to the first that is the result.
+    // A function of its arguments.
     #[cycle(expression)]
     fn application(
         &mut self,
@@ -98,23 +98,27 @@ impl<L: LookUps> Walk<'_, L> {
             self.old self.new) }
         ensures typed { IfOk result (λ v. HasType (apply_type definitions.now references function arguments.now) v) }
     {
-        let request = self.lender.request();
-        if let Some((sole, designator)) = membership(request, function, arguments) {
-            return self.is_in(&sole, designator);
+        match self.uncopied(function, arguments)? {
+            Some(value) => Ok(value),
+            None => self.of_each(definitions, references, function, arguments),
         }
-        if let Some((first, second)) = equal(request, function, arguments) {
-            return self.are_equal(&first, &second);
-        }
-        if let Some(designator) = one_and_only(function, arguments) {
-            if let Some(only) = self.lender.sole(self.alloc, designator)? {
-                return self.is_only(designator, only);
-            }
-        }
-        if let Some((test, literal, designator)) = any_of(function, arguments) {
-            if let Some(bag) = self.lender.lent(designator)? {
-                return self.is_any(test, literal, designator, &bag);
-            }
-        }
+    }
+
+    // The same, whose arguments are evaluated up to the first that is the result.
+    #[cycle(expression)]
+    fn of_each(
+        &mut self,
+        definitions: &[VariableDefinition],
+        references: usize,
+        function: Function,
+        arguments: &[Expression],
+    ) -> Result<Evaluated, AllocError>
+        requires typed { IsSome (apply_type definitions.now references function arguments.now) }
+        ensures comes { IfOk result (Comes
+            (in_walk L.looks self.old apply_part definitions.now references function arguments.now)
+            self.old self.new) }
+        ensures typed { IfOk result (λ v. HasType (apply_type definitions.now references function arguments.now) v) }
+    {
         let mut evaluated = Items::new(self.alloc);
         for argument in arguments {
             let value = self.expression(definitions, references, argument)?;
@@ -126,13 +130,58 @@ impl<L: LookUps> Walk<'_, L> {
         self.applied_to(function, evaluated.as_slice())
     }
 
-    // The only value of a designator.
-    fn is_only(&mut self, designator: &Designator, value: Value) -> Result<Evaluated, AllocError>
-        ensures value { IfOk result (λ v. v ≡ Known (One value)) }
-        ensures comes { IfOk result (Comes (only_part designator.now value) self.old self.new) }
+    // A function that needs no copy of its arguments, if it is one. One-and-only is left, with nothing noted, unless
+    // there is one value.
+    fn uncopied(
+        &mut self,
+        function: Function,
+        arguments: &[Expression],
+    ) -> Result<Option<Evaluated>, AllocError>
+        requires { IsTyped function arguments.now }
+        ensures comes { IfOk result (λ o. IfSome o
+            (in_walk L.looks self.old ComesOf function arguments.now self.old self.new)) }
+        ensures typed { IfOk result (λ o. IfSome o (HasItsType function arguments.now)) }
+        ensures left { IfOk result (λ o. IfNone o (self.new ≡ self.old)) }
     {
-        self.notes.note_values(self.alloc, designator)?;
-        Ok(Evaluated::Known(Arg::One(value)))
+        match Uncopied::of(self.lender.request(), function, arguments) {
+            None => Ok(None),
+            Some(uncopied) => self.told(uncopied),
+        }
+    }
+
+    // What such a function comes to.
+    fn told(&mut self, uncopied: Uncopied<'_>) -> Result<Option<Evaluated>, AllocError>
+        requires { IsTested uncopied }
+        ensures comes { IfOk result (λ o. IfSome o (Comes
+            (in_walk L.looks self.old uncopied_part uncopied.entry) self.old self.new)) }
+        ensures typed { IfOk result (λ o. IfSome o (HasType (Some (uncopied_type uncopied.entry)))) }
+        ensures left { IfOk result (λ o. IfNone o (self.new ≡ self.old)) }
+    {
+        match uncopied {
+            Uncopied::Equal(first, second) => Ok(Some(self.are_equal(&first, &second)?)),
+            Uncopied::IsIn(sole, designator) => Ok(Some(self.is_in(&sole, designator)?)),
+            Uncopied::OneAndOnly(_, designator) => self.only(designator),
+            Uncopied::AnyOf(function, literal, designator) => {
+                Ok(Some(self.is_any(function, literal, designator)?))
+            }
+        }
+    }
+
+    // The only value of a designator, if there is exactly one: else nothing is noted.
+    fn only(&mut self, designator: &Designator) -> Result<Option<Evaluated>, AllocError>
+        ensures comes { IfOk result (λ o. IfSome o
+            (in_walk L.looks self.old ComesOfOnly designator.now self.old self.new)) }
+        ensures typed { IfOk result (λ o. IfSome o (HasType (Some (types.One designator.now.datatype)))) }
+        ensures left { IfOk result (λ o. IfNone o (self.new ≡ self.old)) }
+    {
+        let bag = self.lender.bag(self.alloc, designator)?;
+        match only_in(self.alloc, &bag)? {
+            None => Ok(None),
+            Some(value) => {
+                self.notes.note_values(self.alloc, designator)?;
+                Ok(Some(Evaluated::Known(Arg::One(value))))
+            }
+        }
     }
 
     // Whether a function is True of a literal and one of the values of a designator.
@@ -141,45 +190,27 @@ impl<L: LookUps> Walk<'_, L> {
         function: Function,
         literal: &Value,
         designator: &Designator,
-        bag: &LentBag<'_>,
     ) -> Result<Evaluated, AllocError>
-        requires { Tests function literal.now bag.now.datatype }
-        ensures value { IfOk result (λ v. v ≡ any function literal.now designator.now bag.now.values) }
+        requires { Tests function literal.now designator.now.datatype }
+        ensures comes { IfOk result (Comes
+            (mapped (any function literal.now designator.now)
+            (in_walk L.looks self.old demanded designator.now)) self.old self.new) }
         ensures typed { IfOk result (λ v. HasType (Some boolean) v) }
-        ensures notes { OnOk result (Adds
-            (asks (Of (asked_of designator.now)) ∷ missing designator.now bag.now.values)
-            self.old self.new) }
     {
-        self.notes.note_values(self.alloc, designator)?;
-        self.demand(designator, bag.values())?;
-        any(self.alloc, function, literal, designator, bag.values())
+        let bag = self.demanded(designator)?;
+        any(self.alloc, function, literal, designator, &bag)
     }
 
     // Is-in of a value and a designator.
-    #[tactic(auto, using(crate::proofs::Going::noting_then))]
+    #[tactic(auto, using(crate::proofs::Going::noting_both))]
     fn is_in(&mut self, sole: &Sole<'_>, designator: &Designator) -> Result<Evaluated, AllocError>
         ensures comes { IfOk result (Comes
             (in_walk L.looks self.old member_part sole.now designator.now) self.old self.new) }
         ensures typed { IfOk result (λ v. HasType (Some boolean) v) }
     {
         self.note_sole(sole)?;
-        let bag = self.values(designator)?;
-        self.member_of(sole, designator, &bag)
-    }
-
-    // Is-in of a value and of the values of a designator.
-    pub(crate) fn member_of(
-        &mut self,
-        sole: &Sole<'_>,
-        designator: &Designator,
-        bag: &LentBag<'_>,
-    ) -> Result<Evaluated, AllocError>
-        ensures value { IfOk result (λ v. v ≡ member sole.now.value.now designator.now bag.now.values) }
-        ensures typed { IfOk result (λ v. HasType (Some boolean) v) }
-        ensures notes { OnOk result (Adds (missing designator.now bag.now.values) self.old self.new) }
-    {
-        self.demand(designator, bag.values())?;
-        Ok(member(sole.value, designator, bag.values()))
+        let bag = self.demanded(designator)?;
+        Ok(member(sole.value, designator, &bag))
     }
 
     // Equal of two values.
@@ -190,7 +221,7 @@ impl<L: LookUps> Walk<'_, L> {
     {
         self.note_sole(first)?;
         self.note_sole(second)?;
-        Ok(compared(first.value, second.value))
+        Ok(truth(first.value == second.value))
     }
 
     // Notes what is asked for a value.
@@ -207,7 +238,7 @@ impl<L: LookUps> Walk<'_, L> {
     fn designator(&mut self, designator: &Designator) -> Result<Evaluated, AllocError>
         ensures comes { IfOk result (Comes
             (in_walk L.looks self.old designated designator.now) self.old self.new) }
-        ensures typed { IfOk result (λ v. HasType (Some (Many designator.now.datatype)) v) }
+        ensures typed { IfOk result (λ v. HasType (Some (types.Many designator.now.datatype)) v) }
     {
         let bag = self.demanded(designator)?;
         if designator.must_be_present && bag.values().is_empty() {

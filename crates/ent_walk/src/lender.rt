@@ -1,12 +1,10 @@
 //! The values of designators, each found once for an evaluation.
 
-ghost use Rattle.std.specs.Prelude.{◌≡◌, [], ◌∷◌, IfOk, IfSome, IsTrue, false};
-ghost use Rattle.ent_values.specs.Types.{datatype_of};
+ghost use Rattle.std.specs.Prelude.{◌≡◌, IfOk};
 ghost use Rattle.ent_request.specs.Sources.{designated_values};
 
 use ent_policy::Designator;
-use ent_request::{Asked, LentBag, LookUps, Request, designated, same_issuer, same_text};
-use ent_values::Value;
+use ent_request::{Asked, LentBag, LookUps, Request, designated};
 use std::alloc::{AllocError, Global};
 use std::marker::Model;
 
@@ -79,51 +77,11 @@ impl<'a, L: LookUps> Lender<'a, L> {
         }) }
         ensures same { self.new ≡ self.old }
     {
-        match self.lent(designator)? {
-            Some(bag) => Ok(bag),
-            None => self.lend(alloc, designator),
-        }
-    }
-
-    // The values of a designator, if they are lent already.
-    pub(crate) fn lent(&self, designator: &Designator) -> Result<Option<LentBag<'a>>, AllocError>
-        ensures { IfOk result (λ o. IfSome o (λ b. b ≡ record {
-          datatype = designator.now.datatype;
-          values = designated_values (L.looks self.now.held) self.now.request designator.now;
-        })) }
-    {
         for found in &self.found {
             if found.asked.is_of(designator) {
-                return Ok(Some(found.bag.copy()?));
+                return found.bag.copy();
             }
         }
-        Ok(None)
-    }
-
-    // The only value of a designator, if its values are lent already and there is exactly one.
-    pub(crate) fn sole(
-        &self,
-        alloc: Global,
-        designator: &Designator,
-    ) -> Result<Option<Value>, AllocError>
-        ensures value { IfOk result (λ o. IfSome o (λ v.
-            designated_values (L.looks self.now.held) self.now.request designator.now ≡ v ∷ [])) }
-        ensures typed { IfOk result (λ o. IfSome o (λ v. datatype_of v ≡ designator.now.datatype)) }
-    {
-        match self.lent(designator)? {
-            None => Ok(None),
-            Some(bag) => only_in(alloc, &bag),
-        }
-    }
-
-    // The values of a designator that aren't lent yet.
-    fn lend(&mut self, alloc: Global, designator: &Designator) -> Result<LentBag<'a>, AllocError>
-        ensures bag { IfOk result (λ b. b ≡ record {
-          datatype = designator.now.datatype;
-          values = designated_values (L.looks self.old.held) self.old.request designator.now;
-        }) }
-        ensures same { self.new ≡ self.old }
-    {
         let bag = designated(alloc, self.held, self.request, designator)?;
         if self.found.len() < MOST_LENT {
             let asked = Asked::of(alloc, designator)?;
@@ -134,26 +92,4 @@ impl<'a, L: LookUps> Lender<'a, L> {
         }
         Ok(bag)
     }
-}
-
-// The only value of a bag, if there is exactly one.
-fn only_in(alloc: Global, bag: &LentBag<'_>) -> Result<Option<Value>, AllocError>
-    ensures value { IfOk result (λ o. IfSome o (λ v. bag.now.values ≡ v ∷ [])) }
-    ensures typed { IfOk result (λ o. IfSome o (λ v. datatype_of v ≡ bag.now.datatype)) }
-{
-    match bag.values() {
-        [only] => Ok(Some(only.copy(alloc)?)),
-        _ => Ok(None),
-    }
-}
-
-// Whether two designators ask for the same values.
-pub(crate) fn seeks_same(first: &Designator, second: &Designator) -> bool
-    ensures { IsTrue result
-        → record first.now { must_be_present = false } ≡ record second.now { must_be_present = false } }
-{
-    same_text(first.attribute.as_str(), second.attribute.as_str())
-        && same_text(first.category.as_str(), second.category.as_str())
-        && first.datatype == second.datatype
-        && same_issuer(&first.issuer, &second.issuer)
 }

@@ -10,7 +10,6 @@ mod gather;
 mod holds;
 mod law;
 mod lender;
-mod looked;
 mod node;
 mod only;
 mod opened;

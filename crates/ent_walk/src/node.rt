@@ -141,9 +141,8 @@ impl<'a, L: LookUps> Walk<'a, L> {
             self.old self.new (or_nothing a)) }
     {
         let mut gathering = gather(self.alloc, algorithm);
-        let mut looked = None;
         for rule in rules {
-            let progress = self.next_rule(&mut gathering, &mut looked, within, rule)?;
+            let progress = self.next_rule(&mut gathering, within, rule)?;
             if let Progress::Stop = progress {
                 return gathering.finish(self.alloc, &mut self.notes, within.path, algorithm);
             }

@@ -6,14 +6,12 @@ ghost use Rattle.ent_policy.specs.Typing.{condition_is_typed, given_is_typed, ru
 ghost use Rattle.ent_walk.specs.proofs_only.Comes.{Adds, Comes, in_walk};
 ghost use Rattle.ent_walk.specs.proofs_only.Gathered.{Gathers, Tells};
 ghost use Rattle.ent_walk.specs.proofs_only.Judged.{or_nothing};
-ghost use Rattle.ent_walk.specs.proofs_only.Looked.{AreLooked};
 ghost use Rattle.ent_notes.specs.proofs_only.Path.{keys_of};
 ghost use Rattle.ent_walk.specs.Rule.{condition_part, decided, decision_of, in_rule, rule_part, rule_under, truth_of};
 ghost use Rattle.ent_walk.specs.proofs_only.Typed.{HasType};
 
 use crate::evaluated::{Evaluated, Truth};
 use crate::gather::Gathering;
-use crate::looked::Looked;
 use crate::own_given::indeterminate_of;
 use crate::target::Targeted;
 use crate::walk::Walk;
@@ -38,12 +36,10 @@ impl<'a, L: LookUps> Walk<'a, L> {
     pub(crate) fn next_rule(
         &mut self,
         gathering: &mut Gathering,
-        looked: &mut Option<Looked<'a>>,
         within: Within<'_>,
         rule: &'a Rule,
     ) -> Result<Progress, AllocError>
         requires typed { rule_is_typed within.definitions.now rule.now ≡ true }
-        requires looked { in_walk L.looks self.old AreLooked self.old.notes looked.old }
         ensures gathered { OnOk result (Gathers gathering.old gathering.new
             (in_walk L.looks self.old rule_part within.entry.definitions.now
             (keys_of within.entry.path.now) rule.now).value) }
@@ -54,10 +50,9 @@ impl<'a, L: LookUps> Walk<'a, L> {
             (in_walk L.looks self.old rule_part within.entry.definitions.now
             (keys_of within.entry.path.now) rule.now).notes
             self.old self.new) }
-        ensures looked { OnOk result (in_walk L.looks self.old AreLooked self.new.notes looked.new) }
     {
         let outer = self.enter_rule(&rule.id)?;
-        let progress = self.in_rule(gathering, looked, within, rule)?;
+        let progress = self.in_rule(gathering, within, rule)?;
         self.leave_rule(outer);
         Ok(progress)
     }
@@ -68,12 +63,10 @@ impl<'a, L: LookUps> Walk<'a, L> {
     fn in_rule(
         &mut self,
         gathering: &mut Gathering,
-        looked: &mut Option<Looked<'a>>,
         within: Within<'_>,
         rule: &'a Rule,
     ) -> Result<Progress, AllocError>
         requires typed { rule_is_typed within.definitions.now rule.now ≡ true }
-        requires looked { in_walk L.looks self.old AreLooked self.old.notes looked.old }
         ensures gathered { OnOk result (Gathers gathering.old gathering.new
             (in_walk L.looks self.old in_rule within.entry.definitions.now
             (keys_of within.entry.path.now) rule.now).value) }
@@ -84,13 +77,12 @@ impl<'a, L: LookUps> Walk<'a, L> {
             (in_walk L.looks self.old in_rule within.entry.definitions.now
             (keys_of within.entry.path.now) rule.now).notes
             self.old self.new) }
-        ensures looked { OnOk result (in_walk L.looks self.old AreLooked self.new.notes looked.new) }
     {
         let targeted = self.target(&rule.target)?;
         if let Targeted::NoMatch = targeted {
             return Ok(gathering.pass());
         }
-        let answer = self.rule_after(looked, within, rule, targeted)?;
+        let answer = self.rule_after(within, rule, targeted)?;
         gathering.take(answer)
     }
 
@@ -98,19 +90,16 @@ impl<'a, L: LookUps> Walk<'a, L> {
     #[tactic(auto, using(crate::proofs::Going::noting_both))]
     fn rule_after(
         &mut self,
-        looked: &mut Option<Looked<'a>>,
         within: Within<'_>,
         rule: &'a Rule,
         targeted: Targeted,
     ) -> Result<Option<Answer>, AllocError>
         requires condition { condition_is_typed within.definitions.now rule.now.condition ≡ true }
         requires given { given_is_typed within.definitions.now rule.now.given ≡ true }
-        requires looked { in_walk L.looks self.old AreLooked self.old.notes looked.old }
         ensures comes { IfOk result (λ a. Comes
             (in_walk L.looks self.old rule_under within.entry.definitions.now
             (keys_of within.entry.path.now) rule.now targeted)
             self.old self.new (or_nothing a)) }
-        ensures looked { OnOk result (in_walk L.looks self.old AreLooked self.new.notes looked.new) }
     {
         match targeted {
             Targeted::NoMatch => Ok(None),
@@ -118,7 +107,7 @@ impl<'a, L: LookUps> Walk<'a, L> {
                 self.decide(within.path, rule, Truth::Indeterminate(status))
             }
             Targeted::Match => {
-                let truth = self.condition(looked, within.definitions, &rule.condition)?;
+                let truth = self.condition(within.definitions, &rule.condition)?;
                 let answer = self.decide(within.path, rule, truth)?;
                 self.finished(within.definitions, &rule.given, answer)
             }
@@ -129,21 +118,18 @@ impl<'a, L: LookUps> Walk<'a, L> {
     #[tactic(auto, unfolding(ent_policy::specs::Typing::condition_is_typed))]
     fn condition(
         &mut self,
-        looked: &mut Option<Looked<'a>>,
         definitions: &[VariableDefinition],
         condition: &'a Option<Expression>,
     ) -> Result<Truth, AllocError>
         requires typed { condition_is_typed definitions.now condition.now ≡ true }
-        requires looked { in_walk L.looks self.old AreLooked self.old.notes looked.old }
         ensures comes { IfOk result (Comes
             (in_walk L.looks self.old condition_part definitions.now condition.now)
             self.old self.new) }
-        ensures looked { OnOk result (in_walk L.looks self.old AreLooked self.new.notes looked.new) }
     {
         match condition {
             None => Ok(Truth::True),
             Some(expression) => {
-                let evaluated = self.tested(looked, definitions, definitions.len(), expression)?;
+                let evaluated = self.expression(definitions, definitions.len(), expression)?;
                 Ok(truth_of(evaluated))
             }
         }

@@ -1,18 +1,17 @@
-//! What functions come to that need no copy of their arguments.
+//! Functions that need no copy of their arguments.
 
 ghost use Rattle.std.specs.Prelude.{◌≡◌, [], ◌∷◌, IfOk, IfSome, Some};
-ghost use Rattle.ent_values.specs.Same.{same_value};
+ghost use Rattle.ent_values.specs.Types.{datatype_of};
 ghost use Rattle.ent_functions.specs.Types.{boolean};
-ghost use Rattle.ent_walk.specs.proofs_only.Typed.{HasType, TestsEach};
-ghost use Rattle.ent_walk.specs.proofs_only.Uncopied.{ComesTo, IsBoolean, IsEqual, IsMembership, IsOnly, IsSole};
-ghost use Rattle.ent_walk.specs.proofs_only.Uncopied.{AreTested, GivesOnly, IsAnyOf, IsOfItsType, any, member};
+ghost use Rattle.ent_walk.specs.proofs_only.Typed.{HasType, Tests};
+ghost use Rattle.ent_walk.specs.proofs_only.Uncopied.{ComesTo, IsOnly, IsSole, IsUncopied, any, member, told};
 ghost use Rattle.ent_walk.specs.declared.evaluated.Evaluated.TheVariants.{Known};
 
 use crate::evaluated::Evaluated;
 use crate::holds::holds_of_one;
-use ent_functions::{Arg, Function};
+use ent_functions::{Arg, Element, Function};
 use ent_policy::{Designator, Expression};
-use ent_request::{Request, Sought, Status, is_among, only_own};
+use ent_request::{LentBag, Request, Sought, Status, is_among, only_own};
 use ent_values::Value;
 use std::alloc::{AllocError, Global};
 
@@ -24,66 +23,83 @@ pub(crate) struct Sole<'a> {
     pub(crate) asked: Option<&'a Designator>,
 }
 
-// The two values of which a function tells whether they are equal.
-#[tactic(auto, using(crate::proofs::Literals::has_type_of_equal))]
-pub(crate) fn equal<'a>(
-    request: &'a Request,
-    function: Function,
-    arguments: &'a [Expression],
-) -> Option<(Sole<'a>, Sole<'a>)>
-    ensures value { IfSome result (λ both. IsEqual request.now function arguments.now both.0 both.1) }
-    ensures typed { IfSome result (λ both. IsBoolean function arguments.now) }
-{
-    let (first, second) = two(arguments)?;
-    match function {
-        Function::Equal(_) => Some((seen(request, first)?, seen(request, second)?)),
-        _ => None,
-    }
+// A function with its arguments, as they stand: of two values, of a value and the values of a designator, of these
+// alone, of a function, a literal and these.
+#[derive(Clone, Copy)]
+pub(crate) enum Uncopied<'a> {
+    Equal(Sole<'a>, Sole<'a>),
+    IsIn(Sole<'a>, &'a Designator),
+    OneAndOnly(Element, &'a Designator),
+    AnyOf(Function, &'a Value, &'a Designator),
 }
 
-// The value and the designator of whose values a function tells whether it is among them.
-#[tactic(auto, using(crate::proofs::Literals::has_type))]
-pub(crate) fn membership<'a>(
-    request: &'a Request,
-    function: Function,
-    arguments: &'a [Expression],
-) -> Option<(Sole<'a>, &'a Designator)>
-    ensures value { IfSome result (λ m. IsMembership request.now function arguments.now m.0 m.1.now) }
-    ensures typed { IfSome result (λ m. IsBoolean function arguments.now) }
-{
-    let (first, second) = two(arguments)?;
-    match (function, second) {
-        (Function::IsIn(_), Expression::Designator(designator)) => {
-            Some((seen(request, first)?, designator))
+impl<'a> Uncopied<'a> {
+    // The function with its arguments, if it is one of these.
+    pub(crate) fn of(
+        request: &'a Request,
+        function: Function,
+        arguments: &'a [Expression],
+    ) -> Option<Uncopied<'a>>
+        ensures { IfSome result (λ u. IsUncopied request.now function arguments.now u) }
+    {
+        match function {
+            Function::Equal(_) => {
+                let (first, second) = two(arguments)?;
+                Some(Uncopied::Equal(Sole::of(request, first)?, Sole::of(request, second)?))
+            }
+            Function::IsIn(_) => {
+                let (value, designator) = value_and_designator(arguments)?;
+                Some(Uncopied::IsIn(Sole::of(request, value)?, designator))
+            }
+            Function::OneAndOnly(element) => {
+                Some(Uncopied::OneAndOnly(element, one_designator(arguments)?))
+            }
+            Function::AnyOf => {
+                let (test, literal, designator) = tested(arguments)?;
+                Some(Uncopied::AnyOf(test, literal, designator))
+            }
+            _ => None,
         }
-        _ => None,
     }
 }
 
-// The designator of whose values a function gives the only one.
-pub(crate) fn one_and_only(function: Function, arguments: &[Expression]) -> Option<&Designator>
-    ensures value { IfSome result (λ d. GivesOnly function arguments.now d.now) }
-    ensures typed { IfSome result (λ d. IsOfItsType function arguments.now d.now) }
-{
-    match function {
-        Function::OneAndOnly(_) => one_designator(arguments),
-        _ => None,
+impl<'a> Sole<'a> {
+    // The value of an expression that is a literal, or one-and-only of a designator, if there is one.
+    fn of(request: &'a Request, expression: &'a Expression) -> Option<Sole<'a>>
+        ensures { IfSome result (λ s. IsSole request.now expression.now s) }
+    {
+        match expression {
+            Expression::Value(value) => Some(Sole { value, asked: None }),
+            Expression::Apply(function, arguments) => {
+                Sole::of_only(request, *function, arguments.as_slice())
+            }
+            _ => None,
+        }
     }
-}
 
-// The function, the literal and the designator of which any-of tells whether the function is True of the literal and
-// one of the designator's values.
-pub(crate) fn any_of(
-    function: Function,
-    arguments: &[Expression],
-) -> Option<(Function, &Value, &Designator)>
-    ensures value { IfSome result (λ a. IsAnyOf function arguments.now a.0 a.1.now a.2.now) }
-    ensures typed { IfSome result (λ a. IsBoolean function arguments.now) }
-    ensures tests { IfSome result (λ a. AreTested function arguments.now a.0 a.1.now a.2.now.datatype) }
-{
-    match function {
-        Function::AnyOf => tested(arguments),
-        _ => None,
+    // What one-and-only comes to, where its bag is a designator's and has one value.
+    fn of_only(
+        request: &'a Request,
+        function: Function,
+        arguments: &'a [Expression],
+    ) -> Option<Sole<'a>>
+        ensures { IfSome result (λ s. ComesTo request.now function arguments.now s) }
+    {
+        match function {
+            Function::OneAndOnly(_) => Sole::of_own(request, one_designator(arguments)?),
+            _ => None,
+        }
+    }
+
+    // The only value of the request's own for a designator, if there is exactly one.
+    fn of_own(request: &'a Request, designator: &'a Designator) -> Option<Sole<'a>>
+        ensures { IfSome result (λ s. IsOnly request.now designator.now s) }
+    {
+        let value = only_own(request, &Sought::of(designator))?;
+        Some(Sole {
+            value,
+            asked: Some(designator),
+        })
     }
 }
 
@@ -102,50 +118,22 @@ fn tested(arguments: &[Expression]) -> Option<(Function, &Value, &Designator)>
     }
 }
 
-// What an expression comes to that is a literal, or the only value of a designator.
-fn seen<'a>(request: &'a Request, expression: &'a Expression) -> Option<Sole<'a>>
-    ensures { IfSome result (λ s. IsSole request.now expression.now s) }
-{
-    match expression {
-        Expression::Value(value) => Some(Sole { value, asked: None }),
-        Expression::Apply(function, arguments) => {
-            only_of(request, *function, arguments.as_slice())
-        }
-        _ => None,
-    }
-}
-
-// What one-and-only comes to, where its bag is a designator's and has one value.
-fn only_of<'a>(
-    request: &'a Request,
-    function: Function,
-    arguments: &'a [Expression],
-) -> Option<Sole<'a>>
-    ensures { IfSome result (λ s. ComesTo request.now function arguments.now s) }
-{
-    match function {
-        Function::OneAndOnly(_) => only_value(request, one_designator(arguments)?),
-        _ => None,
-    }
-}
-
-// The only value of the request's own for a designator, if there is exactly one.
-fn only_value<'a>(request: &'a Request, designator: &'a Designator) -> Option<Sole<'a>>
-    ensures { IfSome result (λ s. IsOnly request.now designator.now s) }
-{
-    let value = only_own(request, &Sought::of(designator))?;
-    Some(Sole {
-        value,
-        asked: Some(designator),
-    })
-}
-
 // The designator that is the only argument.
 fn one_designator(arguments: &[Expression]) -> Option<&Designator>
     ensures { IfSome result (λ d. arguments.now ≡ Expression.Designator d.now ∷ []) }
 {
     match arguments {
         [Expression::Designator(designator)] => Some(designator),
+        _ => None,
+    }
+}
+
+// An expression and a designator, if these are the arguments.
+fn value_and_designator(arguments: &[Expression]) -> Option<(&Expression, &Designator)>
+    ensures { IfSome result (λ a. arguments.now ≡ a.0.now ∷ Expression.Designator a.1.now ∷ []) }
+{
+    match arguments {
+        [value, Expression::Designator(designator)] => Some((value, designator)),
         _ => None,
     }
 }
@@ -160,23 +148,12 @@ fn two(arguments: &[Expression]) -> Option<(&Expression, &Expression)>
     }
 }
 
-// Whether two values are equal.
-pub(crate) fn compared(first: &Value, second: &Value) -> Evaluated
-    ensures value { result ≡ Known (Arg.One (Value.Boolean (same_value first.now second.now))) }
-    ensures typed { HasType (Some boolean) result }
-{
-    Evaluated::Known(Arg::One(Value::Boolean(first == second)))
-}
-
 // Is-in of a value and of the values of a designator.
-pub(crate) fn member(value: &Value, designator: &Designator, values: &[Value]) -> Evaluated
-    ensures value { result ≡ member value.now designator.now values.now }
+pub(crate) fn member(value: &Value, designator: &Designator, bag: &LentBag<'_>) -> Evaluated
+    ensures value { result ≡ member value.now designator.now bag.now.values }
     ensures typed { HasType (Some boolean) result }
 {
-    if values.is_empty() && designator.must_be_present {
-        return Evaluated::Indeterminate(Status::MissingAttribute);
-    }
-    is_found(is_among(value, values))
+    told(designator, bag.values(), is_among(value, bag.values()))
 }
 
 // Whether a function is True of a literal and one of the values of a designator.
@@ -185,22 +162,42 @@ pub(crate) fn any(
     function: Function,
     literal: &Value,
     designator: &Designator,
-    values: &[Value],
+    bag: &LentBag<'_>,
 ) -> Result<Evaluated, AllocError>
-    requires { TestsEach function literal.now values.now }
-    ensures value { IfOk result (λ v. v ≡ any function literal.now designator.now values.now) }
+    requires { Tests function literal.now bag.now.datatype }
+    ensures value { IfOk result (λ v. v ≡ any function literal.now designator.now bag.now.values) }
     ensures typed { IfOk result (λ v. HasType (Some boolean) v) }
 {
-    if values.is_empty() && designator.must_be_present {
-        return Ok(Evaluated::Indeterminate(Status::MissingAttribute));
-    }
-    Ok(is_found(holds_of_one(alloc, function, literal, values)?))
+    let is_so = holds_of_one(alloc, function, literal, bag.values())?;
+    Ok(told(designator, bag.values(), is_so))
 }
 
-// Whether a value is found.
-fn is_found(found: bool) -> Evaluated
-    ensures value { result ≡ Known (Arg.One (Value.Boolean found)) }
+// The only value of a bag, if there is exactly one.
+pub(crate) fn only_in(alloc: Global, bag: &LentBag<'_>) -> Result<Option<Value>, AllocError>
+    ensures value { IfOk result (λ o. IfSome o (λ v. bag.now.values ≡ v ∷ [])) }
+    ensures typed { IfOk result (λ o. IfSome o (λ v. datatype_of v ≡ bag.now.datatype)) }
+{
+    match bag.values() {
+        [only] => Ok(Some(only.copy(alloc)?)),
+        _ => Ok(None),
+    }
+}
+
+// What is told of a designator's values: nothing, where there are none and one must be present.
+fn told(designator: &Designator, values: &[Value], is_so: bool) -> Evaluated
+    ensures value { result ≡ told designator.now values.now is_so }
     ensures typed { HasType (Some boolean) result }
 {
-    Evaluated::Known(Arg::One(Value::Boolean(found)))
+    if values.is_empty() && designator.must_be_present {
+        return Evaluated::Indeterminate(Status::MissingAttribute);
+    }
+    truth(is_so)
+}
+
+// A boolean.
+pub(crate) fn truth(is_so: bool) -> Evaluated
+    ensures value { result ≡ Known (Arg.One (Value.Boolean is_so)) }
+    ensures typed { HasType (Some boolean) result }
+{
+    Evaluated::Known(Arg::One(Value::Boolean(is_so)))
 }

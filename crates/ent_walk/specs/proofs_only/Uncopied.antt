@@ -1,13 +1,15 @@
--- What functions come to that need no copy of their arguments, whatever is held and whatever the definitions are.
-use Rattle.std.specs.Prelude.{◌≡◌, ℕ, List, [], ◌∷◌, ◌++◌, false, if◌then◌else◌, IsSome, Some, option_copied}
+-- Functions that need no copy of their arguments, whatever is held and whatever the definitions are.
+use Rattle.std.specs.Prelude.{◌≡◌, ℕ, List, [], ◌∷◌, ◌++◌, Bool, if◌then◌else◌, IsSome, Some, option_copied}
 use Rattle.std.specs.List.{list_any}
 use Rattle.ent_values.specs.Same.{same_value}
-use Rattle.ent_values.specs.declared.datatype.DataType.{DataType}
-use Rattle.ent_values.specs.Types.{datatype_of}
 use Rattle.ent_values.specs.declared.value.Value.{Value}
 use Rattle.ent_values.specs.declared.value.Value.TheVariants.{Boolean}
 use Rattle.ent_functions.specs.declared.arg.Arg.TheVariants.{One}
+use Rattle.ent_functions.specs.declared.function.Element.{Element}
 use Rattle.ent_functions.specs.declared.function.Function.{Function}
+use Rattle.ent_functions.specs.declared.function.Function.TheVariants as functions
+use Rattle.ent_functions.specs.declared.types.ArgType.{ArgType}
+use Rattle.ent_functions.specs.declared.types.ArgType.TheVariants as types
 use Rattle.ent_functions.specs.Sets.{is_among}
 use Rattle.ent_functions.specs.Types.{boolean}
 use Rattle.ent_policy.specs.declared.document.Designator.{Designator}
@@ -19,14 +21,18 @@ use Rattle.ent_walk.specs.declared.evaluated.Evaluated.TheVariants.{Indeterminat
 use Rattle.ent_request.specs.declared.question.Question.TheVariants.{Of}
 use Rattle.ent_request.specs.declared.request.Request.{Request}
 use Rattle.ent_walk.specs.declared.uncopied.Sole.{Sole}
-use Rattle.ent_walk.specs.Expression.{meaning}
+use Rattle.ent_walk.specs.declared.uncopied.Uncopied.{Uncopied}
+use Rattle.ent_walk.specs.declared.walk.Walk.{Walk}
+use Rattle.ent_walk.specs.declared.uncopied.Uncopied.TheVariants.{AnyOf, Equal, IsIn, OneAndOnly}
+use Rattle.ent_walk.specs.Expression.{application, designated, meaning}
 use Rattle.ent_request.specs.Looks.{Looks}
 use Rattle.ent_request.specs.Note.{asks}
 use Rattle.ent_request.specs.Own.{own_values}
 use Rattle.ent_request.specs.Part.{Part, and_then, mapped}
-use Rattle.ent_request.specs.Sources.{asked_of, demanded, designated_values}
+use Rattle.ent_request.specs.Sources.{asked_of, demanded}
 use Rattle.ent_walk.specs.proofs_only.Expression.{apply_part}
 use Rattle.ent_notes.specs.proofs_only.Noted.{asked_by}
+use Rattle.ent_walk.specs.proofs_only.Comes.{Comes}
 use Rattle.ent_walk.specs.proofs_only.Typed.{HasType, Tests, apply_type}
 use Rattle.ent_walk.specs.Target.{is_true}
 
@@ -52,11 +58,6 @@ IsOnly request d s = (own_values d request ≡ s.value.now ∷ []) × (option_co
 abbrev pub only_part : Designator → Value → Part Evaluated
 only_part d v = record { value = Known (One v); notes = asks (Of (asked_of d)) ∷ [] }
 
--- a function of arguments comes to it, where a designator has that value alone
-abbrev pub GivesOnly : Function → List Expression → Designator → Type 0
-GivesOnly function arguments d = (looks : Looks) (request : Request) (definitions : List VariableDefinition) (references : ℕ) (v : Value)
-    → designated_values looks request d ≡ v ∷ [] → apply_part looks request definitions references function arguments ≡ only_part d v
-
 -- whether two values are equal
 abbrev pub equal_part : Sole → Sole → Part Evaluated
 equal_part s t = record {
@@ -64,50 +65,73 @@ equal_part s t = record {
   notes = asked_by (option_copied s.asked) ++ asked_by (option_copied t.asked);
 }
 
--- a function of arguments tells that
-abbrev pub IsEqual : Request → Function → List Expression → Sole → Sole → Type 0
-IsEqual request function arguments s t = (looks : Looks) (definitions : List VariableDefinition) (references : ℕ)
-    → apply_part looks request definitions references function arguments ≡ equal_part s t
+-- what is told of a designator's values: it is Indeterminate without one if one must be present (section 7.3.5)
+abbrev pub told : Designator → List Value → Bool → Evaluated
+told d [] is_so = if d.must_be_present then Indeterminate MissingAttribute else Known (One (Boolean is_so))
+told d (w ∷ ws) is_so = Known (One (Boolean is_so))
 
--- is-in of a value and the values of a designator: without one it is Indeterminate if one must be present (section 7.3.5, appendix A.3.10)
+-- is-in of a value and the values of a designator (appendix A.3.10)
 abbrev pub member : Value → Designator → List Value → Evaluated
-member v d [] = if d.must_be_present then Indeterminate MissingAttribute else Known (One (Boolean false))
-member v d (w ∷ ws) = Known (One (Boolean (is_among v (w ∷ ws))))
+member v d ws = told d ws (is_among v ws)
 
 -- is-in of a value and a designator
 abbrev pub member_part : Looks → Request → Sole → Designator → Part Evaluated
 member_part looks request s d =
     and_then (sole_part s) (λ v. mapped (member s.value.now d) (demanded looks request d))
 
--- a function of arguments is is-in of a value and a designator
-abbrev pub IsMembership : Request → Function → List Expression → Sole → Designator → Type 0
-IsMembership request function arguments s d = (looks : Looks) (definitions : List VariableDefinition) (references : ℕ)
-    → apply_part looks request definitions references function arguments ≡ member_part looks request s d
-
--- any-of of a function, a literal and the values of a designator: as is-in for no value (appendix A.3.12)
+-- any-of of a function, a literal and the values of a designator (appendix A.3.12)
 abbrev pub any : Function → Value → Designator → List Value → Evaluated
-any f v d [] = if d.must_be_present then Indeterminate MissingAttribute else Known (One (Boolean false))
-any f v d (w ∷ ws) = Known (One (Boolean (list_any (is_true f v) (w ∷ ws))))
+any f v d ws = told d ws (list_any (is_true f v) ws)
+
+-- what a function of such arguments comes to
+abbrev pub uncopied_part : Looks → Request → Uncopied → Part Evaluated
+uncopied_part looks request (Equal s t) = equal_part s t
+uncopied_part looks request (IsIn s d) = member_part looks request s d.now
+uncopied_part looks request (OneAndOnly e d) =
+    application (functions.OneAndOnly e) (designated looks request d.now ∷ [])
+uncopied_part looks request (AnyOf f v d) = mapped (any f v.now d.now) (demanded looks request d.now)
+
+-- its type
+abbrev pub uncopied_type : Uncopied → ArgType
+uncopied_type (Equal s t) = boolean
+uncopied_type (IsIn s d) = boolean
+uncopied_type (OneAndOnly e d) = types.One d.now.datatype
+uncopied_type (AnyOf f v d) = boolean
+
+-- any-of's function gives a boolean for the literal and values of the designator's type
+abbrev pub IsTested : Uncopied → Type 0
+IsTested (Equal s t) = Unit {0}
+IsTested (IsIn s d) = Unit {0}
+IsTested (OneAndOnly e d) = Unit {0}
+IsTested (AnyOf f v d) = Tests f v.now d.now.datatype
 
 -- a function of arguments is that
-abbrev pub IsAnyOf : Function → List Expression → Function → Value → Designator → Type 0
-IsAnyOf function arguments f v d = (looks : Looks) (request : Request) (definitions : List VariableDefinition) (references : ℕ)
-    → apply_part looks request definitions references function arguments ≡ mapped (any f v d) (demanded looks request d)
+pub record IsUncopied (request : Request) (function : Function) (arguments : List Expression) (u : Uncopied) : Type 0 where
+  pub part : (looks : Looks) (definitions : List VariableDefinition) (references : ℕ)
+      → apply_part looks request definitions references function arguments ≡ uncopied_part looks request u
+  pub typed : (definitions : List VariableDefinition) (references : ℕ)
+      → IsSome (apply_type definitions references function arguments)
+      → apply_type definitions references function arguments ≡ Some (uncopied_type u)
+  pub tested : (definitions : List VariableDefinition) (references : ℕ)
+      → IsSome (apply_type definitions references function arguments) → IsTested u
 
--- where the function takes the arguments, one gives a boolean for a literal and values of that type
-abbrev pub AreTested : Function → List Expression → Function → Value → DataType → Type 0
-AreTested function arguments f v datatype = (definitions : List VariableDefinition) (references : ℕ)
-    → IsSome (apply_type definitions references function arguments) → Tests f v datatype
+-- a function takes the arguments
+abbrev pub IsTyped : Function → List Expression → Type 0
+IsTyped function arguments = (definitions : List VariableDefinition) × (references : ℕ)
+    × IsSome (apply_type definitions references function arguments)
 
--- what it comes to has the type of the function, where it takes the arguments
+-- a value came of a function of arguments
+abbrev pub ComesOf : {L : Type 0} → Looks → Request → Function → List Expression → Walk L → Walk L → Evaluated → Type 0
+ComesOf looks request function arguments before after v = (definitions : List VariableDefinition) (references : ℕ)
+    → Comes (apply_part looks request definitions references function arguments) before after v
+
+-- it has the type of the function, where it takes the arguments
 abbrev pub HasItsType : Function → List Expression → Evaluated → Type 0
 HasItsType function arguments v = (definitions : List VariableDefinition) (references : ℕ)
-    → IsSome (apply_type definitions references function arguments) → HasType (apply_type definitions references function arguments) v
+    → IsSome (apply_type definitions references function arguments)
+    → HasType (apply_type definitions references function arguments) v
 
--- a boolean has the type of the function, where it takes the arguments
-abbrev pub IsBoolean : Function → List Expression → Type 0
-IsBoolean function arguments = (v : Evaluated) → HasType (Some boolean) v → HasItsType function arguments v
-
--- a value of the designator's type has the type of the function, where it takes the arguments
-abbrev pub IsOfItsType : Function → List Expression → Designator → Type 0
-IsOfItsType function arguments d = (v : Value) → datatype_of v ≡ d.datatype → HasItsType function arguments (Known (One v))
+-- a value came of one-and-only of a designator
+abbrev pub ComesOfOnly : {L : Type 0} → Looks → Request → Designator → Walk L → Walk L → Evaluated → Type 0
+ComesOfOnly looks request d before after v = (e : Element)
+    → Comes (application (functions.OneAndOnly e) (designated looks request d ∷ [])) before after v

@@ -4,7 +4,6 @@ use Rattle.ent_walk.specs.proofs_only.Judged.{or_nothing}
 use Rattle.ent_notes.specs.proofs_only.Path.{keys_of}
 use Rattle.ent_walk.specs.Rule.{rule_under}
 use Rattle.ent_walk.specs.Target.{target_part}
-use Rattle.ent_walk.proofs.Again.{looked_back, looked_kept, looked_stay}
 use Rattle.ent_walk.proofs.Left.{gathers_equal, left_behind, tells_equal}
 use Rattle.ent_walk.proofs.Parts.{came_from, keeps_on, on_ok}
 use Rattle.ent_walk.proofs.walk.Walk.in_rule.Goals as goal
@@ -46,20 +45,3 @@ returns-clause-notes g c =
     let looks = g.L.LookUps.looks c.args.self.now.lender.held in
     let under = rule_under looks c.args.self.now.lender.request c.args.within.definitions.now (keys_of c.args.within.path.now) c.args.rule.now in
     on_ok c.take.result _ (record { notes = came.notes ∙ (left_behind under (target_part looks c.args.self.now.lender.request c.args.rule.now.target) c.in_ok-targeted.targeted c.args.self.now.notes c.target.new.self.notes c.in_ok-targeted.ensures.comes.value c.in_ok-targeted.ensures.comes.notes).1; keeps = keeps_on c.args.self.now c.target.new.self c.rule_after.new.self c.in_ok-targeted.ensures.comes.keeps came.keeps })
-
-pub returns-in-NoMatch-clause-looked : goal.returns-in-NoMatch-clause-looked
-returns-in-NoMatch-clause-looked g c =
-    let looks = g.L.LookUps.looks c.args.self.now.lender.held in
-    let request = c.args.self.now.lender.request in
-    looked_stay looks request c.args.self.now.notes c.target.new.self.notes (target_part looks request c.args.rule.now.target).notes c.args.looked.now c.in_ok-targeted.ensures.comes.notes c.requires.looked
-
-pub rule_after-requires-clause-looked : goal.rule_after-requires-clause-looked
-rule_after-requires-clause-looked g c =
-    let looks = g.L.LookUps.looks c.args.self.now.lender.held in
-    let request = c.args.self.now.lender.request in
-    let has = looked_stay looks request c.args.self.now.notes c.target.new.self.notes (target_part looks request c.args.rule.now.target).notes c.args.looked.now c.in_ok-targeted.ensures.comes.notes c.requires.looked in
-    looked_kept g.L.LookUps.looks c.args.self.now c.target.new.self c.target.new.self.notes c.args.looked.now c.in_ok-targeted.ensures.comes.keeps has
-
-pub returns-clause-looked : goal.returns-clause-looked
-returns-clause-looked g c =
-    on_ok c.take.result _ (looked_back g.L.LookUps.looks c.args.self.now c.target.new.self c.rule_after.new.self.notes c.rule_after.new.looked c.in_ok-targeted.ensures.comes.keeps c.in_ok-answer.ensures.looked)

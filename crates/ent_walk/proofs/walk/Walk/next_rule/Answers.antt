@@ -1,18 +1,11 @@
-use Rattle.std.proofs.Common.{ap, subst}
+use Rattle.std.proofs.Common.{subst}
 use Rattle.ent_walk.specs.proofs_only.Comes.{Adds}
 use Rattle.ent_walk.specs.proofs_only.Gathered.{Gathers, Tells}
 use Rattle.ent_notes.specs.proofs_only.Path.{keys_of}
 use Rattle.ent_walk.specs.Rule.{in_rule}
-use Rattle.ent_walk.proofs.Again.{looked_back, looked_kept, looked_same}
 use Rattle.ent_walk.proofs.Parts.{kept}
 use Rattle.ent_walk.proofs.Within.{adds_of_rule}
 use Rattle.ent_walk.proofs.walk.Walk.next_rule.Goals as goal
-
-pub in_rule-requires-clause-looked : goal.in_rule-requires-clause-looked
-in_rule-requires-clause-looked g c =
-    let looks = g.L.LookUps.looks c.args.self.now.lender.held in
-    let has = looked_same looks c.args.self.now.lender.request c.args.self.now.notes c.enter_rule.new.self.notes c.args.looked.now (ap (λ n. n.questions) c.in_ok-outer.ensures.notes) c.requires.looked in
-    looked_kept g.L.LookUps.looks c.args.self.now c.enter_rule.new.self c.enter_rule.new.self.notes c.args.looked.now c.in_ok-outer.ensures.keeps has
 
 pub returns-clause-gathered : goal.returns-clause-gathered
 returns-clause-gathered g c =
@@ -30,9 +23,3 @@ returns-clause-notes g c =
     let added = subst (λ p. Adds p.notes c.enter_rule.new.self c.in_rule.new.self) same c.in_ok-progress.ensures.notes in
     adds_of_rule c.args.rule.now.id _ c.args.self.now c.enter_rule.new.self c.in_rule.new.self c.leave_rule.new.self c.in_ok-outer.outer c.in_ok-outer.ensures.notes c.in_ok-outer.ensures.keeps
     added c.in_ok-outer.ensures.outer c.leave_rule.ensures.notes c.leave_rule.ensures.keeps
-
-pub returns-clause-looked : goal.returns-clause-looked
-returns-clause-looked g c =
-    let looks = g.L.LookUps.looks c.args.self.now.lender.held in
-    let has = looked_back g.L.LookUps.looks c.args.self.now c.enter_rule.new.self c.in_rule.new.self.notes c.in_rule.new.looked c.in_ok-outer.ensures.keeps c.in_ok-progress.ensures.looked in
-    looked_same looks c.args.self.now.lender.request c.in_rule.new.self.notes c.leave_rule.new.self.notes c.in_rule.new.looked (ap (λ n. n.questions) c.leave_rule.ensures.notes) has

@@ -6,7 +6,6 @@ use Rattle.ent_walk.specs.Node.{rules_combined}
 use Rattle.ent_walk.specs.Rule.{rule_part}
 use Rattle.ent_walk.proofs.Children.{all_children, all_notes, last_child, last_notes, next_child}
 use Rattle.ent_notes.specs.proofs_only.Noted.{noting}
-use Rattle.ent_walk.proofs.Again.{looked_back, looked_kept}
 use Rattle.ent_walk.proofs.Parts.{comes, kept, keeps_on, on_ok}
 use Rattle.ent_walk.proofs.walk.Walk.rules.Goals as goal
 
@@ -37,7 +36,7 @@ loop-rule-preserved g c =
     c.loop-rule.gathering c.next_rule.new.gathering c.args.self.now.notes c.loop-rule.self.notes c.next_rule.new.self.notes
     c.loop-rule-test.true c.rule-item.is c.loop-rule.invariant.going c.loop-rule.invariant.gathered (ap (λ p. p.value) same) (c.in_ok-progress.ensures.notes.notes ∙ ap (λ p. noting c.loop-rule.self.notes p.notes) same)
     c.in_ok-progress.ensures.gathered c.in_ok-progress.ensures.progress c.in_default.is in
-    record { going = next.going; gathered = next.gathered; keeps = keeps; looked = looked_back g.L.LookUps.looks c.args.self.now c.loop-rule.self c.next_rule.new.self.notes c.next_rule.new.looked c.loop-rule.invariant.keeps c.in_ok-progress.ensures.looked }
+    record { going = next.going; gathered = next.gathered; keeps = keeps }
 
 pub returns : goal.returns
 returns g c =
@@ -51,6 +50,3 @@ returns g c =
             keeps = record { held = c.loop-rule.invariant.keeps.held; request = c.loop-rule.invariant.keeps.request };
           }));
     }
-
-pub next_rule-requires-clause-looked : goal.next_rule-requires-clause-looked
-next_rule-requires-clause-looked g c = looked_kept g.L.LookUps.looks c.args.self.now c.loop-rule.self c.loop-rule.self.notes c.loop-rule.looked c.loop-rule.invariant.keeps c.loop-rule.invariant.looked

@@ -3,9 +3,9 @@ use Rattle.std.proofs.lemmas.Option.{IfSome_then}
 use Rattle.std.specs.Prelude.{option_copied}
 use Rattle.ent_notes.specs.proofs_only.Noted.{asked_by}
 use Rattle.ent_walk.proofs.Literals.{only}
-use Rattle.ent_walk.proofs.uncopied.only_of.Goals as goal
+use Rattle.ent_walk.proofs.uncopied.Sole.of_only.Goals as goal
 
 pub returns-in_ok-one_designator-in-OneAndOnly : goal.returns-in_ok-one_designator-in-OneAndOnly
-returns-in_ok-one_designator-in-OneAndOnly c = IfSome_then c.only_value.result c.only_value.ensures (λ s own looks definitions references.
+returns-in_ok-one_designator-in-OneAndOnly c = IfSome_then c.of_own.result c.of_own.ensures (λ s own looks definitions references.
     only looks c.args.request.now definitions references c.args.function c.in-OneAndOnly.field-0 c.in_ok-one_designator-in-OneAndOnly.field-0.now s.value.now c.args.arguments.now (asked_by (option_copied s.asked))
     c.in-OneAndOnly.is c.in_ok-one_designator-in-OneAndOnly.ensures own.0 (ap asked_by own.1))
