@@ -1,5 +1,5 @@
 -- The order of keys beside the references of a kind and an id.
-use Rattle.std.proofs.Common.{◌≡◌, ℕ, Bool, true, false, cond, not, ◌&&◌, T, List, [], ◌∷◌, ◌++◌, arith, length, map, subst, Option, Some, None, Result, Ok, Err, IfOk, if◌then◌else◌, refl, sym, ap, append-nil, append_assoc, ◌∙◌}
+use Rattle.std.proofs.Common.{◌≡◌, ℕ, Bool, true, false, cond, not, ◌&&◌, T, List, [], ◌∷◌, ◌++◌, arith, length, subst, Option, Some, None, Result, Ok, Err, IfOk, if◌then◌else◌, refl, sym, ap, append-nil, append_assoc, ◌∙◌}
 use Rattle.std.specs.Cmp.{IsTotalOrder}
 use Rattle.std.specs.BTreeMap.{BTreeMap}
 use Rattle.std.specs.BTreeMap.Range.{entries_between}
@@ -31,11 +31,10 @@ use Rattle.ent_request.specs.Noted.{read_cmp}
 use Rattle.ent_request.specs.declared.key.ReadKey.{ReadKey}
 use Rattle.ent_request.specs.declared.key.ReadKey.TheVariants.{Attr, CurrentDate, CurrentDateTime, CurrentTime, Ref, Root}
 use Rattle.ent_index.specs.Asked.{asks_policy}
-use Rattle.slab.specs.Slab.{Slab}
 use Rattle.ent_index.proofs.Views.{read_cmp-total}
-use Rattle.ent_index.specs.Layout.{index_of, readers_at}
+use Rattle.ent_index.specs.Cells.{CellSet}
 use Rattle.ent_index.specs.proofs_only.Asked.{policy_order}
-use Rattle.ent_index.specs.declared.entry.Entry.{Entry}
+use Rattle.ent_index.specs.proofs_only.Stored.{index_of}
 
 abbrev constraints_cmp : VersionConstraints → VersionConstraints → Ordering
 constraints_cmp = (constraints.ghosts).cmp
@@ -210,24 +209,8 @@ module _ {K X : Type 0} (R : K → K → Ordering) where
 
 -- ---- the keys of an index
 
-module _ {K X Y : Type 0} (R : K → K → Ordering) (f : X → Y) where
-  below-map : (x : K) (es : List (K × X)) → T (below_all R x es) → T (below_all R x (map (λ e. (e.0, f e.1)) es))
-  below-map x [] h = tt
-  below-map x (e ∷ es) h = both (is_lt (R x e.0)) (below_all R x (map (λ e. (e.0, f e.1)) es)) (first (is_lt (R x e.0)) (below_all R x es) h) (below-map x es (second (is_lt (R x e.0)) (below_all R x es) h))
-
-  sorted-map : (es : List (K × X)) → T (is_sorted R es) → T (is_sorted R (map (λ e. (e.0, f e.1)) es))
-  sorted-map [] s = tt
-  sorted-map (e ∷ es) s =
-      both (below_all R e.0 (map (λ e. (e.0, f e.1)) es)) (is_sorted R (map (λ e. (e.0, f e.1)) es)) (below-map e.0 es (first (below_all R e.0 es) (is_sorted R es) s))
-      (sorted-map es (second (below_all R e.0 es) (is_sorted R es) s))
-
-keys-map : {K X Y : Type 0} (f : X → Y) (es : List (K × X)) → keys_of (map (λ e. (e.0, f e.1)) es) ≡ keys_of es
-keys-map f [] = refl
-keys-map f (e ∷ es) = ap (λ ks. e.0 ∷ ks) (keys-map f es)
-
-pub keys-index_of : (numbers : BTreeMap ReadKey ℕ) (slab : Slab Entry) → T (is_sorted read_cmp numbers.entries) → keys (index_of numbers slab) ≡ keys_of numbers.entries
-keys-index_of numbers slab s =
-    ap keys_of (entries-from_entries read_cmp-total _ (sorted-map read_cmp (readers_at slab) numbers.entries s)) ∙ keys-map (readers_at slab) numbers.entries
+pub keys-index_of : (readers : BTreeMap ReadKey CellSet) → T (is_sorted read_cmp readers.entries) → keys (index_of readers) ≡ keys_of readers.entries
+keys-index_of readers s = ap keys_of (entries-from_entries read_cmp-total readers.entries s)
 
 pub if_ok_also : {A E : Type 0} {P Q : A → Type 0} (r : Result A E) → ((a : A) → P a → Q a) → IfOk r P → IfOk r Q
 if_ok_also (Ok a) f h = f a h

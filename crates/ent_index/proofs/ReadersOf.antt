@@ -1,5 +1,5 @@
 -- The cells of a key, by what the index has.
-use Rattle.std.proofs.Common.{◌≡◌, arith, false, T, List, [], ◌∷◌, Option, Some, None, refl, sym}
+use Rattle.std.proofs.Common.{◌≡◌, arith, T, List, [], ◌∷◌, Option, Some, None, refl, sym}
 use Rattle.std.specs.FinMap.{contains_key-keys, entries, entries_sorted, get, is_sorted}
 use Rattle.std.specs.FinMap.Entries.{below_all}
 use Rattle.std.specs.List.{AllByRecursion, list_any}
@@ -11,16 +11,16 @@ use Rattle.std.specs.declared.cmp.Ordering.{Ordering}
 use Rattle.std.specs.declared.cmp.Ordering.TheVariants.{Less}
 use Rattle.std.proofs.lemmas.Map.Keys.{IsStrictlyIncreasing-from_sorted}
 use Rattle.ent_finder.proofs.Sorted.{first, is_true, less, second}
-use Rattle.ent_index.specs.Cells.{CellSet, has_cell, in_order}
-use Rattle.ent_index.specs.Index.{Readers}
+use Rattle.ent_index.specs.Cells.{CellSet, in_order}
+use Rattle.ent_index.specs.Index.{has_in}
 use Rattle.ent_index.specs.Law.{CellsReadTheirKey, CellsRise}
 
 pub cells_read : CellsReadTheirKey
 cells_read index k c = by (get index k)
   where
-    by : (o : Option Readers) → list_any (λ cell. is_eq (nat_cmp c cell)) (option_map_or (λ r. in_order r.cells) o []) ≡ option_map_or (λ r. has_cell r.cells c) o false
+    by : (o : Option CellSet) → list_any (λ cell. is_eq (nat_cmp c cell)) (option_map_or in_order o []) ≡ has_in o c
     by None = refl
-    by (Some r) = sym (contains_key-keys r.cells c)
+    by (Some s) = sym (contains_key-keys s c)
 
 module _ {K X : Type 0} (R : K → K → Ordering) where
   below : (x : K) (es : List (K × X)) → T (below_all R x es) → AllByRecursion (λ y. R x y ≡ Less) (keys_of es)
@@ -38,6 +38,6 @@ rising cells = IsStrictlyIncreasing-from_sorted (in_order cells) (ordered-from_s
 pub cells_rise : CellsRise
 cells_rise index k = by (get index k)
   where
-    by : (o : Option Readers) → IsStrictlyIncreasing (option_map_or (λ r. in_order r.cells) o [])
+    by : (o : Option CellSet) → IsStrictlyIncreasing (option_map_or in_order o [])
     by None = λ i lt. absurd (omega arith)
-    by (Some r) = rising r.cells
+    by (Some s) = rising s

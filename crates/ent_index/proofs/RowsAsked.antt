@@ -3,11 +3,10 @@ use Rattle.std.proofs.Common.{◌≡◌, ℕ, Bool, true, false, cond, ◌||◌,
 use Rattle.std.specs.Cmp.{IsTotalOrder}
 use Rattle.std.specs.Cmp.Lexicographic.{nat_list_cmp_total, slice_cmp}
 use Rattle.ent_values.specs.contracts.datatype.DataTypeOrd.TheImpl.Laws.{total-law}
-use Rattle.std.specs.FinMap.{IsAntisymmetric, entries, entries_sorted, find, get, get-entries, is_sorted, keys}
+use Rattle.std.specs.FinMap.{IsAntisymmetric, entries, entries_sorted, find, get-entries, is_sorted, keys}
 use Rattle.std.specs.FinMap.Entries.{below_all}
 use Rattle.std.specs.List.{filter}
 use Rattle.std.specs.Map.{keys_of}
-use Rattle.std.specs.Option.{option_map}
 use Rattle.std.specs.Ordering.{is_eq, nat_cmp, ordering_then}
 use Rattle.std.specs.Str.{bytes_eq}
 use Rattle.std.specs.declared.cmp.Ordering.{Ordering}
@@ -27,7 +26,7 @@ use Rattle.ent_request.specs.declared.key.ReadKey.{ReadKey}
 use Rattle.ent_request.specs.declared.key.ReadKey.TheVariants.{Attr, CurrentDate, CurrentDateTime, CurrentTime, Ref, Root}
 use Rattle.ent_index.proofs.Views.{key_itself, read_cmp-total, same_key}
 use Rattle.ent_index.specs.Asked.{asks_row}
-use Rattle.ent_index.specs.Index.{ReadIndex, Readers}
+use Rattle.ent_index.specs.Index.{ReadIndex}
 use Rattle.ent_index.specs.proofs_only.Steps.{is_read}
 
 -- ---- one key or two of a list
@@ -151,11 +150,7 @@ abbrev read_pick : ReadIndex → ReadKey → List ReadKey
 read_pick index k = if is_read index k then k ∷ [] else []
 
 found_read : (index : ReadIndex) (k : ReadKey) → is_some (find read_cmp k (entries index)) ≡ is_read index k
-found_read index k = ap is_some (sym (get-entries index k)) ∙ by (get index k)
-  where
-    by : (o : Option Readers) → is_some o ≡ is_some (option_map (λ r. r.number) o)
-    by None = refl
-    by (Some r) = refl
+found_read index k = ap is_some (sym (get-entries index k))
 
 pub row_plain : (index : ReadIndex) (row : RowKey) → row.issuer ≡ None → filter (asks_row row) (keys index) ≡ read_pick index (Attr (given row None))
 row_plain index row none =

@@ -1,6 +1,6 @@
 //! Cells in rising order.
 
-ghost use Rattle.std.specs.Prelude.{◌≡◌, ◌↔◌, IfOk, IsTrue, OnErr, OnOk, not};
+ghost use Rattle.std.specs.Prelude.{◌≡◌, ◌↔◌, IfOk, IsTrue, OnErr, OnOk};
 ghost use Rattle.ent_index.specs.Cells.{has_cell, in_order, no_cells};
 ghost use Rattle.ent_index.specs.proofs_only.Steps.{with_cell, without_cell};
 
@@ -62,19 +62,15 @@ impl Cells {
         self.cells.binary_search(&cell).is_ok()
     }
 
-    /// Puts a cell in, and says whether it wasn't there. After a refusal the cells are as before.
-    pub(crate) fn insert(&mut self, cell: usize) -> Result<bool, AllocError>
-        ensures added { IfOk result (λ added. added ≡ not (has_cell self.old cell)) }
+    /// Puts a cell in. After a refusal the cells are as before.
+    pub(crate) fn insert(&mut self, cell: usize) -> Result<(), AllocError>
         ensures ok { OnOk result (self.new ≡ with_cell self.old cell) }
         ensures err { OnErr result (self.new ≡ self.old) }
     {
-        match self.cells.binary_search(&cell) {
-            Ok(_) => Ok(false),
-            Err(place) => {
-                self.cells.insert(place, cell)?;
-                Ok(true)
-            }
+        if let Err(place) = self.cells.binary_search(&cell) {
+            self.cells.insert(place, cell)?;
         }
+        Ok(())
     }
 
     /// Takes a cell out, if it is there. It takes no memory.

@@ -3,13 +3,13 @@
 
 mod asked;
 mod cells;
-mod entry;
 mod group;
 mod groups;
 mod index;
 mod law;
 mod names;
 mod numbers;
+mod readers;
 mod roll;
 mod wanted;
 mod words;

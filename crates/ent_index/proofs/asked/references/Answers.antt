@@ -1,11 +1,12 @@
-use Rattle.std.proofs.Common.{ap, sym, ◌∷◌, ◌++◌, [], ◌∙◌, ℕ}
+use Rattle.std.proofs.Common.{ap, sym, ◌∷◌, ◌++◌, [], ◌∙◌}
 use Rattle.ent_request.specs.declared.key.ReadKey.{ReadKey}
+use Rattle.ent_index.specs.Cells.{CellSet}
 use Rattle.ent_index.proofs.KeyOrders.{before_them, behind_them, one_of_them, sorted_rest}
 use Rattle.ent_index.proofs.asked.references.Goals as goal
 
 pub loop-key-preserved-in-Less : goal.loop-key-preserved-in-Less
 loop-key-preserved-in-Less c =
-    let e : ReadKey × ℕ = (c.in-Some.key.now, c.in-Some.field-0-1.now) in
+    let e : ReadKey × CellSet = (c.in-Some.key.now, c.in-Some.field-0-1.now) in
     record {
       sorted = sorted_rest c.args.kind c.args.id.now e c.loop-key.key-iterator c.next.new.self c.in-Some.ensures.steps c.loop-key.invariant.sorted;
       rest = before_them c.args.kind c.args.id.now c.loop-key.keys e c.loop-key.key-iterator c.next.new.self c.args.range c.in-Some.ensures.steps (sym c.in-Less.ensures) c.loop-key.invariant.rest;
@@ -13,7 +14,7 @@ loop-key-preserved-in-Less c =
 
 pub loop-key-preserved : goal.loop-key-preserved
 loop-key-preserved c =
-    let e : ReadKey × ℕ = (c.in-Some.key.now, c.in-Some.field-0-1.now) in
+    let e : ReadKey × CellSet = (c.in-Some.key.now, c.in-Some.field-0-1.now) in
     record {
       sorted = sorted_rest c.args.kind c.args.id.now e c.loop-key.key-iterator c.next.new.self c.in-Some.ensures.steps c.loop-key.invariant.sorted;
       rest = one_of_them c.args.kind c.args.id.now c.loop-key.keys c.push.new.self e c.loop-key.key-iterator c.next.new.self c.args.range c.in-Some.ensures.steps (sym c.in-Equal.ensures)
@@ -22,5 +23,5 @@ loop-key-preserved c =
 
 pub returns-in-Greater : goal.returns-in-Greater
 returns-in-Greater c =
-    let e : ReadKey × ℕ = (c.in-Some.key.now, c.in-Some.field-0-1.now) in
+    let e : ReadKey × CellSet = (c.in-Some.key.now, c.in-Some.field-0-1.now) in
     behind_them c.args.kind c.args.id.now c.loop-key.keys e c.loop-key.key-iterator c.next.new.self c.args.range c.in-Some.ensures.steps (sym c.in-Greater.ensures) c.loop-key.invariant.sorted c.loop-key.invariant.rest

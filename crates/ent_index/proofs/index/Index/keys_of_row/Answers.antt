@@ -3,7 +3,6 @@ use Rattle.ent_request.specs.declared.key.ReadKey.{ReadKey}
 use Rattle.ent_request.specs.declared.key.ReadKey.TheVariants.{Attr}
 use Rattle.ent_index.proofs.KeyCells.{asked_have_cells}
 use Rattle.ent_index.proofs.RowsAsked.{given, row_both, row_plain}
-use Rattle.ent_index.proofs.Views.{sound}
 use Rattle.ent_index.specs.Asked.{asks_row}
 use Rattle.ent_index.specs.Index.{IsSound}
 use Rattle.ent_index.specs.proofs_only.Steps.{is_read}
@@ -15,12 +14,9 @@ returns-in_default-clause-keys c =
     c.in_ok-push_read.ensures ∙ ap (λ ks. ks ++ pick c.in_ok-key_of_row.field-0) c.new-keys.ensures ∙ ap pick c.in_ok-key_of_row.ensures
     ∙ sym (row_plain c.args.self.now c.args.row.now c.in_default.is)
 
-pub returns-in_default-clause-sound : goal.returns-in_default-clause-sound
-returns-in_default-clause-sound c = subst IsSound c.self.view_is (sound c.self.inside.numbers c.self.inside.entries c.self.invariant)
-
 pub returns-in_default-clause-read : goal.returns-in_default-clause-read
 returns-in_default-clause-read c =
-    asked_have_cells c.args.self.now (returns-in_default-clause-sound c) (asks_row c.args.row.now) c.push_read.new.keys (returns-in_default-clause-keys c)
+    asked_have_cells c.args.self.now (subst IsSound c.self.view_is c.self.invariant) (asks_row c.args.row.now) c.push_read.new.keys (returns-in_default-clause-keys c)
 
 pub returns-clause-keys : goal.returns-clause-keys
 returns-clause-keys c =
@@ -29,24 +25,6 @@ returns-clause-keys c =
     let second = c.in_ok-key_of_row-2.ensures ∙ ap (λ i. Attr (given c.args.row.now (Some i))) c.in_ok-issuer.ensures in
     c.in_ok-push_read-2.ensures ∙ (λ j. first j ++ pick (second j)) ∙ sym (row_both c.args.self.now c.args.row.now c.in-Some.issuer c.in-Some.is)
 
-pub returns-clause-sound : goal.returns-clause-sound
-returns-clause-sound c = subst IsSound c.self.view_is (sound c.self.inside.numbers c.self.inside.entries c.self.invariant)
-
 pub returns-clause-read : goal.returns-clause-read
 returns-clause-read c =
-    asked_have_cells c.args.self.now (returns-clause-sound c) (asks_row c.args.row.now) c.push_read-2.new.keys (returns-clause-keys c)
-
-pub returns-in_err-key_of_row-clause-sound : goal.returns-in_err-key_of_row-clause-sound
-returns-in_err-key_of_row-clause-sound c = subst IsSound c.self.view_is (sound c.self.inside.numbers c.self.inside.entries c.self.invariant)
-
-pub returns-in_err-push_read-clause-sound : goal.returns-in_err-push_read-clause-sound
-returns-in_err-push_read-clause-sound c = subst IsSound c.self.view_is (sound c.self.inside.numbers c.self.inside.entries c.self.invariant)
-
-pub returns-in_err-issuer-clause-sound : goal.returns-in_err-issuer-clause-sound
-returns-in_err-issuer-clause-sound c = subst IsSound c.self.view_is (sound c.self.inside.numbers c.self.inside.entries c.self.invariant)
-
-pub returns-in_err-key_of_row-2-clause-sound : goal.returns-in_err-key_of_row-2-clause-sound
-returns-in_err-key_of_row-2-clause-sound c = subst IsSound c.self.view_is (sound c.self.inside.numbers c.self.inside.entries c.self.invariant)
-
-pub returns-in_err-push_read-2-clause-sound : goal.returns-in_err-push_read-2-clause-sound
-returns-in_err-push_read-2-clause-sound c = subst IsSound c.self.view_is (sound c.self.inside.numbers c.self.inside.entries c.self.invariant)
+    asked_have_cells c.args.self.now (subst IsSound c.self.view_is c.self.invariant) (asks_row c.args.row.now) c.push_read-2.new.keys (returns-clause-keys c)

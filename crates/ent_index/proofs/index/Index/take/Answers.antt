@@ -1,25 +1,22 @@
-use Rattle.std.proofs.Common.{◌≡◌, Some, ap, sym}
-use Rattle.std.specs.Option.{option_map}
-use Rattle.ent_index.proofs.Taken.{drop_forgets, drop_kept, take_forgets, take_kept}
-use Rattle.ent_index.specs.Layout.{entry_key}
-use Rattle.ent_index.specs.declared.entry.Entry.{Entry}
+use Rattle.std.proofs.Common.{refl, sym}
+use Rattle.std.proofs.lemmas.Bool.{true≢false}
+use Rattle.ent_index.proofs.Views.{last_forgets, less_forgets}
 use Rattle.ent_index.proofs.index.Index.take.Goals as goal
 
 pub invariant_of-self : goal.invariant_of-self
-invariant_of-self c = take_kept c.self.inside.numbers c.self.inside.entries c.take_cell.new.entries c.args.number c.args.cell c.self.invariant c.take_cell.ensures.updates c.if-not-take_cell.ensures.read
+invariant_of-self c =
+    (less_forgets c.self.inside.readers c.take_cell.new.readers c.args.key.now c.args.cell c.take_cell.ensures.puts (λ e. true≢false (sym (c.if-not-take_cell.ensures.last.1 e)))).sound c.self.invariant
 
 pub returns-then-not-take_cell : goal.returns-then-not-take_cell
 returns-then-not-take_cell c =
-    rw (← c.self.view_is) (take_forgets c.self.inside.numbers c.self.inside.entries c.take_cell.new.entries c.args.number c.args.cell c.self.invariant c.take_cell.ensures.updates c.if-not-take_cell.ensures.read)
+    rw (← c.self.view_is)
+    (less_forgets c.self.inside.readers c.take_cell.new.readers c.args.key.now c.args.cell c.take_cell.ensures.puts (λ e. true≢false (sym (c.if-not-take_cell.ensures.last.1 e))))
 
 pub invariant_of-self-2 : goal.invariant_of-self-2
 invariant_of-self-2 c =
-    let at : entry_key c.take_cell.new.entries c.args.number ≡ Some c.in-Some.entry.key = ap (option_map (λ (e : Entry). e.key)) (sym c.in-Some.ensures.value) in
-    drop_kept c.self.inside.numbers c.self.inside.entries c.take_cell.new.entries c.args.number c.args.cell c.self.invariant c.take_cell.ensures.updates
-    c.remove.new.self c.try_remove.new.self c.in-Some.entry.key at c.if-not-take_cell.ensures.last.1 c.in-Some.ensures.updates c.remove.ensures.updates
+    (last_forgets c.self.inside.readers c.take_cell.new.readers c.args.key.now c.args.cell c.remove.new.self c.take_cell.ensures.puts (c.if-not-take_cell.ensures.last.0 refl) c.remove.ensures.updates.0).sound c.self.invariant
 
 pub returns : goal.returns
 returns c =
-    let at : entry_key c.take_cell.new.entries c.args.number ≡ Some c.in-Some.entry.key = ap (option_map (λ (e : Entry). e.key)) (sym c.in-Some.ensures.value) in
-    rw (← c.self.view_is) (drop_forgets c.self.inside.numbers c.self.inside.entries c.take_cell.new.entries c.args.number c.args.cell c.self.invariant c.take_cell.ensures.updates
-    c.remove.new.self c.try_remove.new.self c.in-Some.entry.key at c.if-not-take_cell.ensures.last.1 c.in-Some.ensures.updates c.remove.ensures.updates)
+    rw (← c.self.view_is)
+    (last_forgets c.self.inside.readers c.take_cell.new.readers c.args.key.now c.args.cell c.remove.new.self c.take_cell.ensures.puts (c.if-not-take_cell.ensures.last.0 refl) c.remove.ensures.updates.0)
