@@ -39,7 +39,8 @@ fn are_lines<J: JsonTree>(values: &[J]) -> bool
 
 /// The lines of an object that has the key `dump` alone, if they are texts without newlines.
 pub(crate) fn told_lines<J: JsonTree>(value: &J) -> Option<&[J]>
-    ensures { option_map (λ lines. map (λ j. text_of (J.content j)) lines.now) result ≡ told_lines (J.content value.now) }
+    ensures { option_map (λ lines. map (λ j. text_of (J.content j)) lines.now) result
+        ≡ told_lines (J.content value.now) }
 {
     if !value.has_only(&["dump"]) {
         return None;

@@ -413,7 +413,8 @@ impl<A: Attributes, P: Policies> Pdp<A, P> {
 
     /// Lends where the values of attributes are held. Nothing else is changed through it.
     pub fn attributes_mut(&mut self) -> &mut A
-        ensures* lends { sem 𝓛 (LendsAttributes A.row P.row ⟦<A as Attributes>⟧ ⟦<P as Policies>⟧ self.entry result) }
+        ensures* lends { sem 𝓛
+            (LendsAttributes A.row P.row ⟦<A as Attributes>⟧ ⟦<P as Policies>⟧ self.entry result) }
         ensures value { A.sources result.now ≡ self.old.sources }
     {
         &mut self.attributes
@@ -421,7 +422,8 @@ impl<A: Attributes, P: Policies> Pdp<A, P> {
 
     /// Lends where the documents are held. Nothing else is changed through it.
     pub fn policies_mut(&mut self) -> &mut P
-        ensures* lends { sem 𝓛 (LendsPolicies A.row P.row ⟦<A as Attributes>⟧ ⟦<P as Policies>⟧ self.entry result) }
+        ensures* lends { sem 𝓛
+            (LendsPolicies A.row P.row ⟦<A as Attributes>⟧ ⟦<P as Policies>⟧ self.entry result) }
         ensures value { P.slots result.now ≡ self.old.slots }
     {
         &mut self.policies

@@ -9,7 +9,8 @@ ghost use Rattle.ent_finder.specs.Rows.{filled_source, source_at};
 ghost use Rattle.ent_json.specs.Text.{tokens_of};
 ghost use Rattle.ent_json.specs.proofs_only.Text.{items_tokens_of};
 ghost use Rattle.ent_polform.specs.Written.{value_written};
-ghost use Rattle.ent_held.specs.Attributes.{attributes_data, attributes_text, is_of_entity, module_rows, row_data, rows_of};
+ghost use Rattle.ent_held.specs.Attributes.{attributes_data, attributes_text, is_of_entity};
+ghost use Rattle.ent_held.specs.Attributes.{module_rows, row_data, rows_of};
 ghost use Rattle.ent_held.specs.proofs_only.Walk.{each_tokens, filled_data};
 
 use crate::members::{begin_list, end_list, write_module};

@@ -1,9 +1,9 @@
 -- Pieces of lines, and fronts of what is written.
-use Rattle.std.proofs.Common.{◌≡◌, ℕ, suc, ◌+◌, ◌-◌, ◌<◌, ◌≤◌, min, List, [], ◌∷◌, ◌++◌, length, take, drop, get_or, Option, Some, None, IfSome, OnSome, sym, ap, subst, ◌∙◌, arith, take_all, take-take, length-drop, append-nil, inl, inr, append_assoc, take-append-drop, drop-cons, Bor, Err}
+use Rattle.std.proofs.Common.{◌≡◌, ℕ, suc, ◌+◌, ◌-◌, ◌<◌, ◌≤◌, min, List, [], ◌∷◌, ◌++◌, length, take, drop, get_or, Option, Some, None, IfSome, OnSome, sym, ap, subst, ◌∙◌, arith, take_all, take-take, append-nil, inl, inr, append_assoc, take-append-drop, drop-cons, Bor, Err}
 use Rattle.std.specs.List.{flat_map}
 use Rattle.std.proofs.lemmas.List.Concat.{flat_map-append}
 use Rattle.std.proofs.lemmas.Bool.{cases_lt}
-use Rattle.std.proofs.Math.Seq.{take-add, take-append-add}
+use Rattle.std.proofs.Math.Seq.{take-append-add}
 use Rattle.std.proofs.lemmas.List.{take_more, length-take}
 use Rattle.std.specs.Io.KnownBytes.{Appends, Keeps, IsAtEnd}
 use Rattle.std.proofs.KnownBytes.{Appends-trans}
@@ -29,12 +29,6 @@ kept_same old le = sym (ap kept_of (append-nil old) ∙ take_all (line_limit + 1
 
 pub through_newline : (a : List ℕ) (end : ℕ) → end < length a → get_or a end 0 ≡ 10 → take (end + 1) a ≡ ended (take end a)
 through_newline a end lt is = take_more a end 0 lt ∙ ap (λ b. take end a ++ b ∷ []) is
-
-pub Appends-more : (before mid after : Option (List ℕ)) (bytes : List ℕ) (sent n : ℕ) → Appends before mid (take sent bytes) → Appends mid after (take n (take (length bytes - sent) (drop sent bytes))) → Appends before after (take (sent + n) bytes)
-Appends-more before mid after bytes sent n p q =
-    let rest : take (length bytes - sent) (drop sent bytes) ≡ drop sent bytes = take_all (length bytes - sent) (drop sent bytes) (omega (arith, length-drop sent bytes)) in
-    let whole : take (sent + n) bytes ≡ take sent bytes ++ take n (take (length bytes - sent) (drop sent bytes)) = take-add sent n bytes ∙ ap (λ t. take sent bytes ++ take n t) (sym rest) in
-    subst (Appends before after) (sym whole) (Appends-trans before mid after (take sent bytes) (take n (take (length bytes - sent) (drop sent bytes))) p q)
 
 -- the reader showed nothing, so nothing is left
 pub at_end : (before after : Option (List ℕ)) (shown : List ℕ) → length shown ≡ 0 → IfSome before (λ xs. length shown ≡ 0 → xs ≡ []) → Keeps before after → OnSome before (IsAtEnd after)

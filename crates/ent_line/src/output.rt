@@ -5,32 +5,16 @@ ghost use Rattle.std.specs.List.{flat_map};
 ghost use Rattle.ent_line.specs.proofs_only.Writing.{SendsTo};
 
 use crate::fault::ServeFault;
-use std::io::{ErrorKind, Write};
+use std::io::Write;
 
 /// Writes all of the bytes, or a front of them.
 pub(crate) fn send<W: Write>(writer: &mut W, bytes: &[u8]) -> Result<(), ServeFault>
     ensures { SendsTo W.contents writer.old writer.new bytes.now result }
 {
-    let mut sent = 0;
-    for _ in 0..u64::MAX {
-        if sent == bytes.len() {
-            return Ok(());
-        }
-        match writer.write(&bytes[sent..]) {
-            Ok(n) => {
-                if n == 0 {
-                    return Err(ServeFault::Write);
-                }
-                sent += n;
-            }
-            Err(e) => {
-                if e.kind() != ErrorKind::Interrupted {
-                    return Err(ServeFault::Write);
-                }
-            }
-        }
+    match ent_dump::send(writer, bytes) {
+        Ok(()) => Ok(()),
+        Err(_) => Err(ServeFault::Write),
     }
-    Err(ServeFault::Write)
 }
 
 /// Writes the parts one after the other, or a front of them where the writer fails. Takes no memory.

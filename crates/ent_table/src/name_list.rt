@@ -30,8 +30,8 @@ fn index_of(names: &IndexSet<String>, name: &str) -> Option<usize>
     names.get_index_of(name)
 }
 
-/// Names in order of insertion and without doubles, at most 65,536 of them. A name is found by a `&str`, without memory.
-/// Each stands beside it as a text, which those who speak of the name may share.
+/// Names in order of insertion and without doubles, at most 65,536 of them. A name is found by a `&str`, without
+/// memory. Each stands beside it as a text, which those who speak of the name may share.
 #[derive(Drop)]
 pub(crate) struct NameList {
     names: IndexSet<String>,
