@@ -2,6 +2,7 @@ pub mod Checking
 pub mod Comparing
 pub mod Declaring
 pub mod Differing
+pub mod Ends
 pub mod Limiting
 pub mod Listing
 pub mod Meant

@@ -10,6 +10,9 @@ use Rattle.ent_program.specs.declared.differing.Ending.{Ending}
 use Rattle.ent_program.specs.declared.differing.Ending.TheVariants as compared
 use Rattle.ent_program.specs.declared.differing.Failing.{Failing}
 use Rattle.ent_program.specs.declared.differing.Failing.TheVariants.{Gain, Loss, Any}
+use Rattle.ent_program.specs.declared.found.Found.{Found}
+use Rattle.ent_program.specs.declared.status.Unmet.{Unmet}
+use Rattle.ent_program.specs.declared.status.Unmet.TheVariants as unmet
 use Rattle.ent_program.specs.declared.tally.Tally.{Tally}
 use Rattle.ent_program.specs.declared.words.WordsFault.{WordsFault}
 use Rattle.ent_program.specs.declared.words.WordsFault.TheVariants as words
@@ -20,20 +23,24 @@ fault_status fault.Read = 2
 fault_status fault.Write = 2
 fault_status fault.Memory = 3
 
+-- what was asked for wasn't done: where the words can't be meant together or a file was refused that gives 1, and a fault its own status
+abbrev pub unmet_status : Unmet → ℕ
+unmet_status unmet.Refused = 1
+unmet_status (unmet.Failed e) = fault_status e
+
 -- serving that ends with its input gives 0, whatever the number of lines, and a fault its own status
 abbrev pub serve_status : Result ℕ ServeFault → ℕ
 serve_status (Ok lines) = 0
 serve_status (Err e) = fault_status e
 
 -- what was found gives 0 where it is no fault, and no warning where these count, and else 1
-abbrev pub found_status : ℕ → ℕ → Bool → ℕ
-found_status faults warnings is_strict = if faults == 0 && (warnings == 0 || not is_strict) then 0 else 1
+abbrev pub found_status : Bool → Found → ℕ
+found_status is_strict found = if found.faults == 0 && (found.warnings == 0 || not is_strict) then 0 else 1
 
--- a document that may be stored gives 0, a refusal 1, and a fault its own status
-abbrev pub check_status : Result Bool ServeFault → ℕ
-check_status (Ok true) = 0
-check_status (Ok false) = 1
-check_status (Err e) = fault_status e
+-- a check gives the status of what was found, where warnings count or not
+abbrev pub checked_status : Bool → Result Found Unmet → ℕ
+checked_status is_strict (Ok found) = found_status is_strict found
+checked_status is_strict (Err u) = unmet_status u
 
 -- input that is no dump gives 1, a read or write fault 2, want of memory 3
 abbrev pub lines_fault_status : LinesFault → ℕ
@@ -52,6 +59,15 @@ abbrev pub test_status : Result Tally ServeFault → ℕ
 test_status (Ok tally) = if tally.failed == 0 && nat_lt 0 tally.passed then 0 else 1
 test_status (Err e) = fault_status e
 
+-- where the tests of a file ended with a fault, that gives its own status, the last one if there are several
+abbrev pub last_status : Option ServeFault → ℕ → ℕ
+last_status None status = status
+last_status (Some e) status = fault_status e
+
+-- tests that all passed give 1 where fewer rules than have to gave a decision
+abbrev pub covered_status : Bool → ℕ → ℕ
+covered_status is_short status = if is_short && status == 0 then 1 else status
+
 -- differences fail, of which a request gains Permit or not, and one loses it or not
 abbrev pub fails : Failing → Bool → Bool → Bool
 fails Gain gain loss = gain
@@ -63,12 +79,12 @@ abbrev pub different_status : Option Failing → Bool → Bool → ℕ
 different_status None gain loss = 1
 different_status (Some failing) gain loss = if fails failing gain loss then 4 else 0
 
--- states that don't differ give 0, a refused line 2, and a fault its own status
-abbrev pub compare_status : Option Failing → Result Ending ServeFault → ℕ
+-- states that don't differ give 0, a refused line 2
+abbrev pub compare_status : Option Failing → Result Ending Unmet → ℕ
 compare_status failing (Ok compared.Same) = 0
 compare_status failing (Ok (compared.Different gain loss)) = different_status failing gain loss
 compare_status failing (Ok compared.Refused) = 2
-compare_status failing (Err e) = fault_status e
+compare_status failing (Err u) = unmet_status u
 
 -- a word of the command line that isn't UTF-8 gives 1, want of memory 3
 abbrev pub words_status : WordsFault → ℕ

@@ -1,9 +1,14 @@
 //! What the program does, over the runtime that it is started with.
 
-ghost use Rattle.std.specs.Prelude.{◌≡◌};
+ghost use Rattle.std.specs.Prelude.{◌≡◌, ◌≢◌, Result, ⊤, ℕ};
+ghost use Rattle.clap.specs.Simple.{subcommand_rows_of};
 ghost use Rattle.clap.specs.Values.{kind_of};
+ghost use Rattle.ent_dump.specs.declared.fault.LinesFault.{LinesFault};
+ghost use Rattle.ent_line.specs.declared.fault.ServeFault.{ServeFault};
+ghost use Rattle.ent_line.specs.declared.fault.ServeFault.TheVariants.{Write};
+ghost use Rattle.ent_program.specs.Ends.{Ends, EndsBy};
 ghost use Rattle.ent_program.specs.Starting.{IsFew};
-ghost use Rattle.ent_program.specs.Statuses.{told_status};
+ghost use Rattle.ent_program.specs.Statuses.{lines_status, serve_status, told_status};
 ghost use Rattle.ent_table.specs.Limits.{IsWithinGreatest};
 
 use crate::checking::{FILE_LIMIT, read_fault};
@@ -15,7 +20,8 @@ use crate::running::serve_from;
 use crate::sentences::{declared_sentence, terminal_sentence};
 use crate::sources::{Shown, Source};
 use crate::status::{
-    REFUSED, limit_status, lines_status, serve_status, status_of, usage_status, words_status,
+    REFUSED, Unmet, limit_status, lines_status, serve_status, status_of, tell, usage_status,
+    words_status,
 };
 use crate::tabling::{compare_states, cover_state};
 use crate::trying::run_tests;
@@ -39,11 +45,13 @@ fn tell_cause(rt: &impl Eprint, source: Source<'_>, cause: Option<io::Error>) {
     }
 }
 
-/// Says on standard error that a source can't be read, and why, and gives the exit status for it.
-pub(crate) fn tell_unread(rt: &impl Eprint, source: Source<'_>, cause: io::Error) -> u8 {
-    let status = status_of(rt, read_fault(&cause));
+/// Says on standard error that a source can't be read, and why.
+pub(crate) fn tell_unread(rt: &impl Eprint, source: Source<'_>, cause: io::Error) -> ServeFault
+    ensures { result ≢ Write }
+{
+    let fault = tell(rt, read_fault(&cause));
     tell_cause(rt, source, Some(cause));
-    status
+    fault
 }
 
 /// Serves standard input to standard output, with modules of those numbers and within those limits, and gives the exit
@@ -57,6 +65,7 @@ fn serve_input<R: Input + Print + Eprint + AllocGlobal>(
     requires attributes { IsFew modules.attributes }
     requires policies { IsFew modules.policies }
     requires limits { IsWithinGreatest limits }
+    ensures { (served : Result ℕ ServeFault) × (result ≡ serve_status served) }
 {
     if is_terminal {
         let _ = rt.eprintln(terminal_sentence());
@@ -75,7 +84,9 @@ fn serve_input<R: Input + Print + Eprint + AllocGlobal>(
 }
 
 /// Writes the lines of the dump on standard input to standard output, and gives the exit status.
-fn write_lines<R: Input + Print + Eprint + AllocGlobal>(rt: &R) -> u8 {
+fn write_lines<R: Input + Print + Eprint + AllocGlobal>(rt: &R) -> u8
+    ensures { (written : Result ⊤ LinesFault) × (result ≡ lines_status written) }
+{
     let alloc = rt.alloc();
     let Ok(mut writer) = BufWriter::new(alloc, io::writer(rt)) else {
         return status_of(rt, ServeFault::Memory);
@@ -87,13 +98,13 @@ fn write_lines<R: Input + Print + Eprint + AllocGlobal>(rt: &R) -> u8 {
     status
 }
 
-/// The bytes of a reader, at most so many, or the exit status of a fault, which is told on standard error.
+/// The bytes of a reader, at most so many; a fault is told on standard error.
 fn read_from<R: Eprint + AllocGlobal, S: Read + Drop>(
     rt: &R,
     source: Source<'_>,
     reader: S,
     most: u64,
-) -> Result<Vec<u8>, u8> {
+) -> Result<Vec<u8>, ServeFault> {
     let mut bytes = Vec::new(rt.alloc());
     let mut front = reader.take(most);
     match front.read_to_end(&mut bytes) {
@@ -102,12 +113,12 @@ fn read_from<R: Eprint + AllocGlobal, S: Read + Drop>(
     }
 }
 
-/// The bytes of a source, at most so many, or the exit status of a fault, which is told on standard error.
+/// The bytes of a source, at most so many; a fault is told on standard error.
 pub(crate) fn read_source<R: Files + Input + Eprint + AllocGlobal>(
     rt: &R,
     source: Source<'_>,
     most: u64,
-) -> Result<Vec<u8>, u8> {
+) -> Result<Vec<u8>, ServeFault> {
     match source {
         Source::Input => read_from(rt, source, rt.reader(), most),
         Source::File(path) => match File::open(rt, path) {
@@ -124,20 +135,20 @@ pub(crate) fn tell_place(rt: &impl Eprint, source: Source<'_>, told: &Option<Str
     }
 }
 
-/// The attributes that a source declares, or the exit status where they can't be had, which is told on standard error.
+/// The attributes that a source declares; where they can't be had, that is told on standard error.
 pub(crate) fn read_declared<R: Files + Input + Eprint + AllocGlobal>(
     rt: &R,
     source: Source<'_>,
-) -> Result<Items<Attribute>, u8> {
+) -> Result<Items<Attribute>, Unmet> {
     let bytes = read_source(rt, source, FILE_LIMIT as u64 + 1)?;
     match declared_in(rt.alloc(), bytes.as_slice()) {
         Ok(Declared::Attributes(attributes)) => Ok(attributes),
         Ok(Declared::Refused(fault, told)) => {
             let _ = rt.eprintln(declared_sentence(fault));
             tell_place(rt, source, &told);
-            Err(REFUSED)
+            Err(Unmet::Refused)
         }
-        Err(_) => Err(status_of(rt, ServeFault::Memory)),
+        Err(_) => Err(Unmet::Failed(tell(rt, ServeFault::Memory))),
     }
 }
 
@@ -166,7 +177,9 @@ fn act<R: Files + Input + Print + Eprint + AllocGlobal>(
     rt: &R,
     matches: &ArgMatches<'_>,
     is_terminal: bool,
-) -> u8 {
+) -> u8
+    ensures { EndsBy (subcommand_rows_of matches.now) result }
+{
     let limits = match given_limits(matches) {
         Ok(limits) => limits,
         Err(wrong) => return limit_status(rt, wrong),
@@ -185,7 +198,9 @@ fn act<R: Files + Input + Print + Eprint + AllocGlobal>(
 /// Runs the program with the words of its command line, where standard input is a terminal or not, and gives its exit
 /// status: 0 where all went well, 1 where the command line can't be used, a file was refused, the input is no dump or a
 /// test failed, 2 where a limit can't be taken or reading or writing failed, and 3 for want of memory.
-pub fn run<R: Env + Files + Input + Print + Eprint + AllocGlobal>(rt: &R, is_terminal: bool) -> u8 {
+pub fn run<R: Env + Files + Input + Print + Eprint + AllocGlobal>(rt: &R, is_terminal: bool) -> u8
+    ensures { Ends result }
+{
     let words = match given_words(rt) {
         Ok(words) => words,
         Err(fault) => return words_status(rt, fault),

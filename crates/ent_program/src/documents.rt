@@ -1,10 +1,17 @@
 //! `review check`: what is said of policies in files, each by itself and together, and of lines that set values.
 
+ghost use Rattle.std.specs.Prelude.{◌≡◌, Result};
+ghost use Rattle.ent_line.specs.declared.fault.ServeFault.TheVariants.{Memory};
+ghost use Rattle.ent_program.specs.Statuses.{checked_status};
+ghost use Rattle.ent_program.specs.declared.found.Found.{Found};
+ghost use Rattle.ent_program.specs.declared.status.Unmet.{Unmet};
+
 use crate::acting::{read_declared, read_source, tell_place};
 use crate::asked_check::AskedCheck;
 use crate::checking::{FILE_LIMIT, Judged, Verdict, check, is_fine, is_passed};
 use crate::declaring::{check_declared, told_undeclared};
 use crate::folders::paths_of;
+use crate::found::Found;
 use crate::known::Known;
 use crate::meant::meant;
 use crate::misused::pass_check;
@@ -15,7 +22,7 @@ use crate::set_lines::check_lines;
 use crate::sizes::line_excess;
 use crate::sources::{Shown, Source};
 use crate::state_file::read_state;
-use crate::status::{REFUSED, check_status, found_status, status_of};
+use crate::status::{Unmet, check_status, tell};
 use ent_declared::Attribute;
 use ent_faults::{explain_all, warnings};
 use ent_line::ServeFault;
@@ -38,32 +45,11 @@ struct Text {
     is_document: bool,
 }
 
-/// How much was found.
-#[derive(Clone, Copy)]
-struct Found {
-    faults: usize,
-    warnings: usize,
-}
-
-impl Found {
-    /// Nothing.
-    fn nothing() -> Found {
-        Found {
-            faults: 0,
-            warnings: 0,
-        }
-    }
-
-    /// So many more.
-    fn add(&mut self, faults: usize, warnings: usize) {
-        self.faults = self.faults.saturating_add(faults);
-        self.warnings = self.warnings.saturating_add(warnings);
-    }
-}
-
-/// What a check ends with where it can't go on: the exit status, and what that is for was told on standard error.
-pub(crate) fn wanting(rt: &impl Eprint) -> u8 {
-    status_of(rt, ServeFault::Memory)
+/// Says on standard error that memory is wanting.
+pub(crate) fn wanting(rt: &impl Eprint) -> ServeFault
+    ensures { result ≡ Memory }
+{
+    tell(rt, ServeFault::Memory)
 }
 
 /// Says each fault of a document on standard error, and gives how many were told.
@@ -147,14 +133,14 @@ fn tell_warnings<R: Eprint + AllocGlobal>(
     Ok(warnings.len().saturating_add(1))
 }
 
-/// Writes the line of the document that these bytes are, and gives the verdict on it and what is told of it; or the
-/// exit status of a fault. Where all that is wrong is to be told, the place of the first fault isn't looked for here.
+/// Writes the line of the document that these bytes are, and gives the verdict on it and what is told of it; a fault is
+/// told on standard error. Where all that is wrong is to be told, the place of the first fault isn't looked for here.
 fn judge_bytes<R: Print + Eprint + AllocGlobal>(
     rt: &R,
     bytes: &[u8],
     known: &Option<Known>,
     is_all: bool,
-) -> Result<Judged, u8> {
+) -> Result<Judged, ServeFault> {
     let alloc = rt.alloc();
     let writer = &mut io::writer(rt);
     let judged = match known {
@@ -163,7 +149,7 @@ fn judge_bytes<R: Print + Eprint + AllocGlobal>(
     };
     match judged {
         Ok(judged) => Ok(judged),
-        Err(fault) => Err(check_status(rt, Err(fault))),
+        Err(fault) => Err(tell(rt, fault)),
     }
 }
 
@@ -194,7 +180,7 @@ fn judge_source<R: Files + Input + Print + Eprint + AllocGlobal>(
     known: &Option<Known>,
     is_all: bool,
     found: &mut Found,
-) -> Result<Text, u8> {
+) -> Result<Text, ServeFault> {
     let bytes = read_source(rt, source, FILE_LIMIT as u64 + 1)?;
     let judged = judge_bytes(rt, bytes.as_slice(), known, is_all)?;
     let is_document = is_passed(&judged.verdict);
@@ -212,7 +198,7 @@ fn judge_each<R: Files + Input + Print + Eprint + AllocGlobal>(
     known: &Option<Known>,
     is_all: bool,
     found: &mut Found,
-) -> Result<Vec<Text>, u8> {
+) -> Result<Vec<Text>, ServeFault> {
     let mut texts = Vec::new(rt.alloc());
     for &word in words {
         let text = judge_source(rt, Source::named(word), known, is_all, found)?;
@@ -269,7 +255,7 @@ fn tell_count(rt: &impl Eprint, count: usize, what: &str) {
 fn bytes_of<R: Files + Input + Eprint + AllocGlobal>(
     rt: &R,
     source: Option<Source<'_>>,
-) -> Result<Vec<u8>, u8> {
+) -> Result<Vec<u8>, ServeFault> {
     match source {
         None => Ok(Vec::new(rt.alloc())),
         Some(source) => read_source(rt, source, u64::MAX),
@@ -280,12 +266,12 @@ fn bytes_of<R: Files + Input + Eprint + AllocGlobal>(
 fn attributes_of<R: Files + Input + Eprint + AllocGlobal>(
     rt: &R,
     asked: &AskedCheck<'_, '_>,
-) -> Result<Option<Items<Attribute>>, u8> {
+) -> Result<Option<Items<Attribute>>, Unmet> {
     match asked.attributes {
         Some(source) => Ok(Some(read_declared(rt, source)?)),
         None if asked.lines.is_some() => {
             let _ = rt.eprintln(lines_alone_sentence());
-            Err(REFUSED)
+            Err(Unmet::Refused)
         }
         None => Ok(None),
     }
@@ -298,7 +284,7 @@ fn known_by<R: Eprint + AllocGlobal>(
     attributes: Option<Items<Attribute>>,
     state: &[u8],
     lines: &[u8],
-) -> Result<Option<Known>, u8> {
+) -> Result<Option<Known>, ServeFault> {
     let Some(attributes) = attributes else {
         return Ok(None);
     };
@@ -317,19 +303,19 @@ fn borrowed(alloc: Global, paths: &[String]) -> Result<Vec<&str>, AllocError> {
     Ok(words)
 }
 
-/// Does what is asked for, and gives the exit status, or that of a fault.
+/// Does what is asked for, and gives what was found.
 fn check_all<R: Files + Input + Print + Eprint + AllocGlobal>(
     rt: &R,
     asked: &AskedCheck<'_, '_>,
-) -> Result<u8, u8> {
+) -> Result<Found, Unmet> {
     pass_check(rt, asked)?;
     let paths = paths_of(rt, asked.files)?;
     let Ok(words) = borrowed(rt.alloc(), paths.files.as_slice()) else {
-        return Err(wanting(rt));
+        return Err(Unmet::Failed(wanting(rt)));
     };
     if words.is_empty() {
         let _ = rt.eprintln(no_files_sentence());
-        return Err(REFUSED);
+        return Err(Unmet::Refused);
     }
     let empty = tell_empty(rt, paths.empty.as_slice());
     check_words(rt, asked, words.as_slice(), empty)
@@ -344,13 +330,13 @@ fn tell_empty(rt: &impl Eprint, folders: &[String]) -> usize {
     folders.len()
 }
 
-/// Checks the documents that these words name, beside so many folders without one, and gives the exit status.
+/// Checks the documents that these words name, beside so many folders without one, and gives what was found.
 fn check_words<R: Files + Input + Print + Eprint + AllocGlobal>(
     rt: &R,
     asked: &AskedCheck<'_, '_>,
     words: &[&str],
     empty: usize,
-) -> Result<u8, u8> {
+) -> Result<Found, Unmet> {
     let attributes = attributes_of(rt, asked)?;
     let state_lines = bytes_of(rt, asked.stored)?;
     let lines = bytes_of(rt, asked.lines)?;
@@ -369,7 +355,7 @@ fn check_words<R: Files + Input + Print + Eprint + AllocGlobal>(
     if !is_alone {
         let texts = texts.as_slice();
         if tell_together(rt, state, name, words, texts, &mut found).is_err() {
-            return Err(wanting(rt));
+            return Err(Unmet::Failed(wanting(rt)));
         }
     }
     if let (Some(source), Some(known)) = (asked.lines, &known) {
@@ -380,16 +366,16 @@ fn check_words<R: Files + Input + Print + Eprint + AllocGlobal>(
         tell_count(rt, found.faults, "fault");
     }
     tell_count(rt, found.warnings, "warning");
-    Ok(found_status(found.faults, found.warnings, asked.is_strict))
+    Ok(found)
 }
 
 /// Checks documents, each by itself and together, and lines that set values, as is asked for. Gives the exit status.
 pub(crate) fn check_documents<R: Files + Input + Print + Eprint + AllocGlobal>(
     rt: &R,
     asked: AskedCheck<'_, '_>,
-) -> u8 {
-    match check_all(rt, &asked) {
-        Ok(status) => status,
-        Err(status) => status,
-    }
+) -> u8
+    ensures { (checked : Result Found Unmet) × (result ≡ checked_status asked.entry.is_strict checked) }
+{
+    let checked = check_all(rt, &asked);
+    check_status(asked.is_strict, checked)
 }

@@ -2,6 +2,7 @@
 
 use crate::acting::tell_unread;
 use crate::sources::Source;
+use ent_line::ServeFault;
 use std::alloc::Global;
 use std::io::{ErrorKind, Read};
 use std::rt::Files;
@@ -117,11 +118,11 @@ impl Paths {
     }
 }
 
-/// What the words name; or the exit status where a folder can't be read, which is told on standard error.
+/// What the words name; where a folder can't be read, that is told on standard error.
 pub(crate) fn paths_of<R: Files + Eprint + AllocGlobal>(
     rt: &R,
     words: &[&str],
-) -> Result<Paths, u8> {
+) -> Result<Paths, ServeFault> {
     let alloc = rt.alloc();
     let mut paths = Paths {
         files: Vec::new(alloc),

@@ -5,7 +5,7 @@ ghost use Rattle.std.specs.Io.KnownBytes.{Appends};
 ghost use Rattle.ent_junit.specs.Junit.{junit_of};
 ghost use Rattle.ent_line.specs.declared.fault.ServeFault.TheVariants.{Read};
 
-use crate::status::status_of;
+use crate::status::tell;
 use ent_junit::{Suite, junit_of};
 use ent_line::{ServeFault, send_all};
 use ent_values::Items;
@@ -45,27 +45,26 @@ pub(crate) fn broken_off(alloc: Global, name: &str) -> Result<Suite<'_>, AllocEr
     })
 }
 
-/// Writes what became of the tests of files to the file of that path as JUnit XML. Gives the exit status of a fault,
-/// which is told on standard error.
+/// Writes what became of the tests of files to the file of that path as JUnit XML. A fault is told on standard error.
 pub(crate) fn write_junit<R: Files + Eprint + AllocGlobal>(
     rt: &R,
     path: &str,
     suites: &[Suite<'_>],
-) -> Result<(), u8> {
+) -> Result<(), ServeFault> {
     let mut file = match File::create(rt, path) {
         Ok(file) => file,
         Err(cause) => {
-            let status = status_of(rt, ServeFault::Write);
+            let fault = tell(rt, ServeFault::Write);
             let _ = eprintln!(rt; "{path}: {cause}");
-            return Err(status);
+            return Err(fault);
         }
     };
     match send_junit(rt.alloc(), suites, &mut file) {
         Ok(()) => Ok(()),
         Err(fault) => {
-            let status = status_of(rt, fault);
+            let fault = tell(rt, fault);
             let _ = eprintln!(rt; "{path}: not written to its end");
-            Err(status)
+            Err(fault)
         }
     }
 }

@@ -1,5 +1,5 @@
-//! The program as a library: what `review serve`, `review check FILE..`, `review lines` and `review test FILE..` do, and
-//! the exit statuses that they end with.
+//! The program as a library: what `review serve`, `review check FILE..`, `review lines` and `review test FILE..` do,
+//! and the exit statuses that they end with.
 #![tactic(auto)]
 
 mod acting;
@@ -14,6 +14,7 @@ mod declaring;
 mod differing;
 mod documents;
 mod folders;
+mod found;
 mod junit;
 mod known;
 mod limiting;
@@ -56,10 +57,7 @@ pub use sentences::{
     state_sentence, terminal_sentence, undeclared_sentence, words_sentence,
 };
 pub use sources::Source;
-pub use status::{
-    check_status, compare_status, lines_status, serve_status, status_of, test_status, usage_status,
-    words_status,
-};
+pub use status::{lines_status, serve_status, status_of, test_status, usage_status, words_status};
 pub use tally::{Tally, send_tally};
 pub use testing::{Plan, test_from};
 pub use words::{WordsFault, command, given_words};

@@ -1,11 +1,14 @@
 //! Words of the command line that can't be meant together.
 
+ghost use Rattle.std.specs.Prelude.{OnErr};
+ghost use Rattle.ent_program.specs.Ends.{NameInputTwice};
+
 use crate::asked_check::AskedCheck;
 use crate::asked_states::AskedStates;
 use crate::asked_tests::AskedTests;
 use crate::sentences::{input_twice_sentence, junit_sentence};
 use crate::sources::Source;
-use crate::status::REFUSED;
+use crate::status::Unmet;
 
 /// How often standard input is named.
 fn inputs(words: &[&str], others: &[Option<Source<'_>>]) -> usize {
@@ -24,24 +27,37 @@ fn inputs(words: &[&str], others: &[Option<Source<'_>>]) -> usize {
 }
 
 /// Passes words that name standard input once at most: who reads it again finds nothing.
-fn pass_inputs(rt: &impl Eprint, words: &[&str], others: &[Option<Source<'_>>]) -> Result<(), u8> {
+fn pass_inputs(
+    rt: &impl Eprint,
+    words: &[&str],
+    others: &[Option<Source<'_>>],
+) -> Result<(), Unmet> {
     if inputs(words, others) < 2 {
         return Ok(());
     }
-    let _ = rt.eprintln(input_twice_sentence());
-    Err(REFUSED)
+    Err(refuse_inputs(rt))
 }
 
-/// Passes what is to be checked, or gives the exit status where its words can't be meant, which is told on standard
-/// error.
-pub(crate) fn pass_check(rt: &impl Eprint, asked: &AskedCheck<'_, '_>) -> Result<(), u8> {
+/// Says on standard error that standard input is named more than once.
+fn refuse_inputs(rt: &impl Eprint) -> Unmet {
+    let _ = rt.eprintln(input_twice_sentence());
+    Unmet::Refused
+}
+
+/// Passes what is to be checked; where its words can't be meant, that is told on standard error.
+pub(crate) fn pass_check(rt: &impl Eprint, asked: &AskedCheck<'_, '_>) -> Result<(), Unmet> {
     let others = [asked.attributes, asked.stored, asked.lines];
     pass_inputs(rt, asked.files, &others)
 }
 
-/// Passes states that are to be compared, or gives the exit status as `pass_check` does.
-pub(crate) fn pass_states(rt: &impl Eprint, states: &AskedStates<'_>) -> Result<(), u8> {
-    pass_inputs(rt, &[], &[Some(states.state), Some(states.changes)])
+/// Passes states that are to be compared, as `pass_check` does.
+pub(crate) fn pass_states(rt: &impl Eprint, states: &AskedStates<'_>) -> Result<(), Unmet>
+    ensures { OnErr result (NameInputTwice states.now) }
+{
+    match (states.state, states.changes) {
+        (Source::Input, Source::Input) => Err(refuse_inputs(rt)),
+        _ => Ok(()),
+    }
 }
 
 /// Whether a file for JUnit XML can't be written: no test runs, it isn't a file, or it is one that is read.
@@ -62,12 +78,12 @@ fn is_misused(tests: &AskedTests<'_, '_>, path: &str) -> bool {
     false
 }
 
-/// Passes tests that are to run, or gives the exit status as `pass_check` does.
-pub(crate) fn pass_tests(rt: &impl Eprint, tests: &AskedTests<'_, '_>) -> Result<(), u8> {
+/// Passes tests that are to run, as `pass_check` does.
+pub(crate) fn pass_tests(rt: &impl Eprint, tests: &AskedTests<'_, '_>) -> Result<(), Unmet> {
     if let Some(path) = tests.junit {
         if is_misused(tests, path) {
             let _ = rt.eprintln(junit_sentence());
-            return Err(REFUSED);
+            return Err(Unmet::Refused);
         }
     }
     pass_inputs(rt, tests.files, &[tests.state])

@@ -5,7 +5,7 @@ use crate::known::Known;
 use crate::sentences::line_sentence;
 use crate::sources::{Shown, Source};
 use ent_declared::{FaultyLine, faulty_lines};
-use ent_line::command_words;
+use ent_line::{ServeFault, command_words};
 use std::alloc::{AllocError, Global};
 
 /// So many lines are told at most.
@@ -73,14 +73,14 @@ fn told_lines<R: Eprint + AllocGlobal>(
     Ok((faults, warnings))
 }
 
-/// Compares the lines of a source with what there is, says on standard error what is wrong with them, and gives with how
-/// many something is wrong and how many may not be meant; or the exit status where that can't be said.
+/// Compares the lines of a source with what there is, says on standard error what is wrong with them, and gives with
+/// how many something is wrong and how many may not be meant.
 pub(crate) fn check_lines<R: Eprint + AllocGlobal>(
     rt: &R,
     source: Source<'_>,
     text: &[u8],
     known: &Known,
-) -> Result<(usize, usize), u8> {
+) -> Result<(usize, usize), ServeFault> {
     match told_lines(rt, source, text, known) {
         Ok(counts) => Ok(counts),
         Err(_) => Err(wanting(rt)),

@@ -3,7 +3,7 @@
 use crate::documents::wanting;
 use crate::sentences::state_sentence;
 use crate::sources::{Shown, Source};
-use crate::status::REFUSED;
+use crate::status::Unmet;
 use ent_line::LINE_LIMIT;
 use ent_together::{State, StateFault};
 
@@ -19,38 +19,38 @@ fn long_line(lines: &[u8]) -> Option<usize> {
     None
 }
 
-/// Passes the lines of a state that can be those of a dump, or gives the exit status, and says why not.
-fn pass_lines(rt: &impl Eprint, source: Source<'_>, lines: &[u8]) -> Result<(), u8> {
+/// Passes the lines of a state that can be those of a dump, or says why not.
+fn pass_lines(rt: &impl Eprint, source: Source<'_>, lines: &[u8]) -> Result<(), Unmet> {
     let name = Shown(source.name());
     if lines.is_empty() {
         let _ = rt.eprintln(state_sentence());
         let _ = eprintln!(rt; "{name}: the file is empty");
-        return Err(REFUSED);
+        return Err(Unmet::Refused);
     }
     match long_line(lines) {
         None => Ok(()),
         Some(number) => {
             let _ = rt.eprintln(state_sentence());
             let _ = eprintln!(rt; "{name}: line {number} has more than {LINE_LIMIT} bytes");
-            Err(REFUSED)
+            Err(Unmet::Refused)
         }
     }
 }
 
-/// The documents and the root of a state, or the exit status where they can't be had, which is told on standard error.
+/// The documents and the root of a state; where they can't be had, that is told on standard error.
 pub(crate) fn read_state<R: Eprint + AllocGlobal>(
     rt: &R,
     source: Source<'_>,
     lines: &[u8],
-) -> Result<State, u8> {
+) -> Result<State, Unmet> {
     pass_lines(rt, source, lines)?;
     match State::of(rt.alloc(), lines) {
         Ok(state) => Ok(state),
         Err(StateFault::NotDump(line)) => {
             let _ = rt.eprintln(state_sentence());
             let _ = eprintln!(rt; "{}: line {line}", Shown(source.name()));
-            Err(REFUSED)
+            Err(Unmet::Refused)
         }
-        Err(StateFault::Memory) => Err(wanting(rt)),
+        Err(StateFault::Memory) => Err(Unmet::Failed(wanting(rt))),
     }
 }

@@ -2,12 +2,14 @@
 
 ghost use Rattle.std.specs.Prelude.{◌≡◌};
 ghost use Rattle.clap.specs.Values.{kind_of};
-ghost use Rattle.ent_program.specs.Statuses.{check_status, compare_status, different_status, fails, fault_status};
-ghost use Rattle.ent_program.specs.Statuses.{found_status, limit_status};
+ghost use Rattle.ent_program.specs.Statuses.{checked_status, compare_status, different_status, fails, fault_status};
+ghost use Rattle.ent_program.specs.Statuses.{found_status, limit_status, unmet_status};
 ghost use Rattle.ent_program.specs.Statuses.{lines_fault_status, lines_status, serve_status};
 ghost use Rattle.ent_program.specs.Statuses.{test_status, usage_status, words_status};
+ghost use Rattle.ent_program.specs.declared.status.Unmet.TheVariants as unmet;
 
 use crate::differing::{Ending, Failing};
+use crate::found::Found;
 use crate::limiting::WrongLimit;
 use crate::sentences::{fault_sentence, lines_sentence, words_sentence};
 use crate::sources::Shown;
@@ -31,14 +33,55 @@ const NO_MEMORY: u8 = 3;
 /// A difference was found that is to fail.
 const FAILING: u8 = 4;
 
-/// Says on standard error why serving or a check ended early, and gives the exit status for it.
-pub fn status_of(rt: &impl Eprint, fault: ServeFault) -> u8
-    ensures { result ≡ fault_status fault }
+/// Why what was asked for wasn't done; what there is to say of it was said on standard error.
+#[derive(Clone, Copy, Debug, PartialEq, Eq)]
+pub(crate) enum Unmet {
+    /// The words can't be meant together, or a file was refused.
+    Refused,
+    /// Reading or writing failed, or memory was wanting.
+    Failed(ServeFault),
+}
+
+impl From<ServeFault> for Unmet {
+    ghost from_gives = { λ fault u. u ≡ unmet.Failed fault };
+
+    fn from(fault: ServeFault) -> Unmet {
+        Unmet::Failed(fault)
+    }
+}
+
+/// Says on standard error why something ended early, and gives why.
+pub(crate) fn tell(rt: &impl Eprint, fault: ServeFault) -> ServeFault
+    ensures { result ≡ fault }
 {
     let _ = rt.eprintln(fault_sentence(fault));
+    fault
+}
+
+/// The exit status of a fault.
+pub(crate) fn fault_status(fault: ServeFault) -> u8
+    ensures { result ≡ fault_status fault }
+{
     match fault {
         ServeFault::Read | ServeFault::Write => BROKEN,
         ServeFault::Memory => NO_MEMORY,
+    }
+}
+
+/// Says on standard error why serving ended early, and gives the exit status for it.
+pub fn status_of(rt: &impl Eprint, fault: ServeFault) -> u8
+    ensures { result ≡ fault_status fault }
+{
+    fault_status(tell(rt, fault))
+}
+
+/// The exit status where what was asked for wasn't done.
+pub(crate) fn unmet_status(unmet: Unmet) -> u8
+    ensures { result ≡ unmet_status unmet }
+{
+    match unmet {
+        Unmet::Refused => REFUSED,
+        Unmet::Failed(fault) => fault_status(fault),
     }
 }
 
@@ -52,25 +95,24 @@ pub fn serve_status(rt: &impl Eprint, served: Result<u64, ServeFault>) -> u8
     }
 }
 
-/// The exit status of a check; a fault is told on standard error.
-pub fn check_status(rt: &impl Eprint, checked: Result<bool, ServeFault>) -> u8
-    ensures { result ≡ check_status checked }
+/// The exit status by what a check found: a warning counts where that is asked for.
+fn found_status(found: Found, is_strict: bool) -> u8
+    ensures { result ≡ found_status is_strict found }
 {
-    match checked {
-        Ok(true) => OKAY,
-        Ok(false) => REFUSED,
-        Err(fault) => status_of(rt, fault),
-    }
-}
-
-/// The exit status of a check by what was found: a warning counts where that is asked for.
-pub(crate) fn found_status(faults: usize, warnings: usize, is_strict: bool) -> u8
-    ensures { result ≡ found_status faults warnings is_strict }
-{
-    if faults == 0 && (warnings == 0 || !is_strict) {
+    if found.faults == 0 && (found.warnings == 0 || !is_strict) {
         OKAY
     } else {
         REFUSED
+    }
+}
+
+/// The exit status of a check, where a warning counts or not.
+pub(crate) fn check_status(is_strict: bool, checked: Result<Found, Unmet>) -> u8
+    ensures { result ≡ checked_status is_strict checked }
+{
+    match checked {
+        Ok(found) => found_status(found, is_strict),
+        Err(unmet) => unmet_status(unmet),
     }
 }
 
@@ -130,19 +172,15 @@ fn different_status(failing: Option<Failing>, gain: bool, loss: bool) -> u8
     }
 }
 
-/// The exit status of a comparison, by which differences fail, where that is said; a fault is told on standard error.
-pub fn compare_status(
-    rt: &impl Eprint,
-    failing: Option<Failing>,
-    compared: Result<Ending, ServeFault>,
-) -> u8
+/// The exit status of a comparison, by which differences fail, where that is said.
+pub(crate) fn compare_status(failing: Option<Failing>, compared: Result<Ending, Unmet>) -> u8
     ensures { result ≡ compare_status failing compared }
 {
     match compared {
         Ok(Ending::Same) => OKAY,
         Ok(Ending::Different(gain, loss)) => different_status(failing, gain, loss),
         Ok(Ending::Refused) => BROKEN,
-        Err(fault) => status_of(rt, fault),
+        Err(unmet) => unmet_status(unmet),
     }
 }
 

@@ -1,11 +1,18 @@
 //! The comparison that the command line asks for, over the runtime that the program is started with.
 
+ghost use Rattle.std.specs.Prelude.{◌≡◌, ◌≢◌, Err, None, Result};
+ghost use Rattle.ent_program.specs.Ends.{IsOfStates};
+ghost use Rattle.ent_program.specs.Statuses.{compare_status};
+ghost use Rattle.ent_program.specs.declared.differing.Ending.{Ending};
+ghost use Rattle.ent_program.specs.declared.status.Unmet.{Unmet};
+ghost use Rattle.ent_program.specs.declared.status.Unmet.TheVariants.{Refused};
+
 use crate::asked_coverage::AskedCoverage;
 use crate::asked_states::AskedStates;
 use crate::covering::cover_from;
 use crate::differing::{Ending, Form, Lines, compare_from};
 use crate::misused::pass_states;
-use crate::status::{compare_status, status_of};
+use crate::status::{Unmet, compare_status, tell};
 use crate::trying::read_state;
 use ent_line::ServeFault;
 use ent_table::Limits;
@@ -30,19 +37,21 @@ fn write_difference<W: Write>(
     }
 }
 
-/// Compares the tables behind the lines of two sources, writes what differs to standard output, and gives the exit
-/// status, or that of a fault, which is told on standard error.
+/// Compares the tables behind the lines of two sources, and writes what differs to standard output. A fault is told on
+/// standard error.
 fn compare_sources<R: Files + Input + Print + Eprint + AllocGlobal>(
     rt: &R,
     limits: Limits,
     states: AskedStates<'_>,
-) -> Result<u8, u8> {
+) -> Result<Ending, Unmet>
+    ensures { IsOfStates states.entry result }
+{
     pass_states(rt, &states)?;
     let first = read_state(rt, states.state)?;
     let second = read_state(rt, states.changes)?;
     let alloc = rt.alloc();
     let Ok(mut writer) = BufWriter::new(alloc, io::writer(rt)) else {
-        return Err(status_of(rt, ServeFault::Memory));
+        return Err(Unmet::Failed(tell(rt, ServeFault::Memory)));
     };
     let state = Lines {
         name: states.state.name(),
@@ -52,21 +61,24 @@ fn compare_sources<R: Files + Input + Print + Eprint + AllocGlobal>(
         name: states.changes.name(),
         steps: second.as_slice(),
     };
-    let compared = write_difference(alloc, limits, states.form, state, changes, &mut writer);
-    Ok(compare_status(rt, states.failing, compared))
+    match write_difference(alloc, limits, states.form, state, changes, &mut writer) {
+        Ok(ending) => Ok(ending),
+        Err(fault) => Err(Unmet::Failed(tell(rt, fault))),
+    }
 }
 
-/// Does the comparison that is asked for, and gives the exit status: 0 where nothing differs, 1 where something does, and
-/// 2 where a line was refused; where it is said which differences fail, 4 where there are such, and else 0.
+/// Does the comparison that is asked for, and gives the exit status: 0 where nothing differs, 1 where something does,
+/// and 2 where a line was refused; where it is said which differences fail, 4 where there are such, and else 0.
 pub(crate) fn compare_states<R: Files + Input + Print + Eprint + AllocGlobal>(
     rt: &R,
     limits: Limits,
     states: AskedStates<'_>,
-) -> u8 {
-    match compare_sources(rt, limits, states) {
-        Ok(status) => status,
-        Err(status) => status,
-    }
+) -> u8
+    ensures { (compared : Result Ending Unmet) × IsOfStates states.entry compared
+        × (result ≡ compare_status states.entry.failing compared) }
+{
+    let compared = compare_sources(rt, limits, states);
+    compare_status(states.failing, compared)
 }
 
 /// Writes which rules of a state give no decision in its table, and flushes the writer.
@@ -84,24 +96,27 @@ fn write_coverage<W: Write>(
     }
 }
 
-/// Tells on standard output which rules of a state give no decision in its table, and gives the exit status, or that of a
-/// fault, which is told on standard error.
+/// Tells on standard output which rules of a state give no decision in its table. A fault is told on standard error.
 fn cover_source<R: Files + Input + Print + Eprint + AllocGlobal>(
     rt: &R,
     limits: Limits,
     asked: AskedCoverage<'_>,
-) -> Result<u8, u8> {
+) -> Result<Ending, Unmet>
+    ensures { result ≢ Err Refused }
+{
     let steps = read_state(rt, asked.state)?;
     let alloc = rt.alloc();
     let Ok(mut writer) = BufWriter::new(alloc, io::writer(rt)) else {
-        return Err(status_of(rt, ServeFault::Memory));
+        return Err(Unmet::Failed(tell(rt, ServeFault::Memory)));
     };
     let state = Lines {
         name: asked.state.name(),
         steps: steps.as_slice(),
     };
-    let covered = write_coverage(alloc, limits, asked.is_json, state, &mut writer);
-    Ok(compare_status(rt, None, covered))
+    match write_coverage(alloc, limits, asked.is_json, state, &mut writer) {
+        Ok(ending) => Ok(ending),
+        Err(fault) => Err(Unmet::Failed(tell(rt, fault))),
+    }
 }
 
 /// Does so, and gives the exit status: 0, or 2 where a line was refused.
@@ -109,9 +124,9 @@ pub(crate) fn cover_state<R: Files + Input + Print + Eprint + AllocGlobal>(
     rt: &R,
     limits: Limits,
     asked: AskedCoverage<'_>,
-) -> u8 {
-    match cover_source(rt, limits, asked) {
-        Ok(status) => status,
-        Err(status) => status,
-    }
+) -> u8
+    ensures { (covered : Result Ending Unmet) × (covered ≢ Err Refused) × (result ≡ compare_status None covered) }
+{
+    let covered = cover_source(rt, limits, asked);
+    compare_status(None, covered)
 }

@@ -1,6 +1,8 @@
 //! The tests that the command line asks for, over the runtime that the program is started with.
 
-ghost use Rattle.std.specs.Prelude.{◌≡◌, IfOk};
+ghost use Rattle.std.specs.Prelude.{◌≡◌, Bool, IfOk};
+ghost use Rattle.ent_program.specs.Ends.{IsOfTests};
+ghost use Rattle.ent_program.specs.Statuses.{covered_status, last_status};
 
 use crate::acting::read_source;
 use crate::asked_tests::AskedTests;
@@ -9,7 +11,7 @@ use crate::junit::{broken_off, write_junit};
 use crate::listing::list_tests;
 use crate::misused::pass_tests;
 use crate::sources::Source;
-use crate::status::{REFUSED, status_of, test_status};
+use crate::status::{REFUSED, fault_status, status_of, tell, test_status, unmet_status};
 use crate::tally::{Tally, send_tally};
 use crate::testing::{Plan, test_from};
 use ent_junit::Suite;
@@ -22,26 +24,35 @@ use std::io;
 use std::io::{BufWriter, Write};
 use std::rt::Files;
 
-/// How tests of files ended: how many passed and failed, and the status of the last fault, which was told, if there was
-/// one.
+/// How tests of files ended: how many passed and failed, and the last fault, which was told, if there was one.
 #[derive(Clone, Copy)]
 struct Ended {
     tally: Tally,
-    fault: Option<u8>,
+    fault: Option<ServeFault>,
 }
 
 impl Ended {
-    /// These and the tests of one more file, or the status of its fault, with which it counts as a test that failed.
-    fn with(self, tested: Result<Tally, u8>) -> Ended {
+    /// These and the tests of one more file, or its fault, with which it counts as a test that failed.
+    fn with(self, tested: Result<Tally, ServeFault>) -> Ended {
         match tested {
             Ok(tally) => Ended {
                 tally: self.tally.and(tally),
                 fault: self.fault,
             },
-            Err(status) => Ended {
+            Err(fault) => Ended {
                 tally: self.tally.and(Tally::one_failed()),
-                fault: Some(status),
+                fault: Some(fault),
             },
+        }
+    }
+
+    /// The exit status: that of the last fault, or else that of the tests.
+    fn status(self, tested: u8) -> u8
+        ensures { result ≡ last_status self.fault tested }
+    {
+        match self.fault {
+            Some(fault) => fault_status(fault),
+            None => tested,
         }
     }
 }
@@ -76,9 +87,11 @@ impl Gathered<'_> {
     }
 }
 
-/// The exit status of tests that would end with another: where all passed, 1 if fewer of a hundred rules gave a decision
-/// than have to, which is told on standard error.
-fn covered_status(rt: &impl Eprint, least: Option<usize>, share: &Option<Share>, status: u8) -> u8 {
+/// The exit status of tests that would end with another: where all passed, 1 if fewer of a hundred rules gave a
+/// decision than have to, which is told on standard error.
+fn covered_status(rt: &impl Eprint, least: Option<usize>, share: &Option<Share>, status: u8) -> u8
+    ensures { (is_short : Bool) × (result ≡ covered_status is_short status) }
+{
     let (Some(least), Some(share)) = (least, share) else {
         return status;
     };
@@ -92,79 +105,78 @@ fn covered_status(rt: &impl Eprint, least: Option<usize>, share: &Option<Share>,
     REFUSED
 }
 
-/// The lines of a source, or the exit status of a fault, which is told on standard error.
+/// The lines of a source; a fault is told on standard error.
 pub(crate) fn read_state<R: Files + Input + Eprint + AllocGlobal>(
     rt: &R,
     source: Source<'_>,
-) -> Result<Items<Step>, u8> {
+) -> Result<Items<Step>, ServeFault> {
     let bytes = read_source(rt, source, u64::MAX)?;
     match read_lines(rt.alloc(), bytes.as_slice()) {
         Ok(lines) => Ok(lines),
-        Err(_) => Err(status_of(rt, ServeFault::Memory)),
+        Err(_) => Err(tell(rt, ServeFault::Memory)),
     }
 }
 
-/// Runs the tests of a source, and writes what isn't as it is to be. Gives what became of them, or the exit status of a
-/// fault, which is told on standard error.
+/// Runs the tests of a source, and writes what isn't as it is to be. Gives what became of them; a fault is told on
+/// standard error.
 fn run_source<'a, R: Files + Input + Eprint + AllocGlobal, W: Write>(
     rt: &R,
     plan: Plan<'_>,
     source: Source<'a>,
     writer: &mut W,
     covered: &mut Option<Covered>,
-) -> Result<Suite<'a>, u8> {
+) -> Result<Suite<'a>, ServeFault> {
     let alloc = rt.alloc();
     let bytes = read_source(rt, source, u64::MAX)?;
     let tested = test_from(alloc, plan, source.name(), &mut bytes.as_slice(), writer);
     let suite = match tested {
         Ok(suite) => suite,
-        Err(fault) => return Err(status_of(rt, fault)),
+        Err(fault) => return Err(tell(rt, fault)),
     };
     if let Some(covered) = covered {
         if let Err(fault) = covered.add_file(alloc, plan, bytes.as_slice()) {
-            return Err(status_of(rt, fault));
+            return Err(tell(rt, fault));
         }
     }
     Ok(suite)
 }
 
 /// Runs the tests of a source, writes what isn't as it is to be, and puts what became of them last. Gives how many
-/// passed, or the exit status of a fault, which is told on standard error.
+/// passed; a fault is told on standard error.
 fn test_source<'a, R: Files + Input + Eprint + AllocGlobal, W: Write>(
     rt: &R,
     plan: Plan<'_>,
     source: Source<'a>,
     writer: &mut W,
     gathered: &mut Gathered<'a>,
-) -> Result<Tally, u8> {
+) -> Result<Tally, ServeFault> {
     let (suite, tested) = match run_source(rt, plan, source, writer, &mut gathered.covered) {
         Ok(suite) => {
             let tally = Tally::of(&suite);
             (suite, Ok(tally))
         }
-        Err(status) => match broken_off(rt.alloc(), source.name()) {
-            Ok(suite) => (suite, Err(status)),
-            Err(_) => return Err(status_of(rt, ServeFault::Memory)),
+        Err(fault) => match broken_off(rt.alloc(), source.name()) {
+            Ok(suite) => (suite, Err(fault)),
+            Err(_) => return Err(tell(rt, ServeFault::Memory)),
         },
     };
     match gathered.suites.push(suite) {
         Ok(()) => tested,
-        Err(_) => Err(status_of(rt, ServeFault::Memory)),
+        Err(_) => Err(tell(rt, ServeFault::Memory)),
     }
 }
 
-/// Lists the tests of a source that would run. Gives how many there are, or the exit status of a fault, which is told
-/// on standard error.
+/// Lists the tests of a source that would run. Gives how many there are; a fault is told on standard error.
 fn list_source<R: Files + Input + Eprint + AllocGlobal, W: Write>(
     rt: &R,
     plan: Plan<'_>,
     source: Source<'_>,
     writer: &mut W,
-) -> Result<Tally, u8> {
+) -> Result<Tally, ServeFault> {
     let bytes = read_source(rt, source, u64::MAX)?;
     match list_tests(rt.alloc(), plan, source.name(), bytes.as_slice(), writer) {
         Ok(tally) => Ok(tally),
-        Err(fault) => Err(status_of(rt, fault)),
+        Err(fault) => Err(tell(rt, fault)),
     }
 }
 
@@ -191,7 +203,9 @@ fn list_by<R: Files + Input + Print + Eprint + AllocGlobal>(
     rt: &R,
     plan: Plan<'_>,
     words: &[&str],
-) -> u8 {
+) -> u8
+    ensures { IsOfTests result }
+{
     let Ok(mut writer) = BufWriter::new(rt.alloc(), io::writer(rt)) else {
         return status_of(rt, ServeFault::Memory);
     };
@@ -200,11 +214,7 @@ fn list_by<R: Files + Input + Print + Eprint + AllocGlobal>(
         Ok(()) => Ok(ended.tally),
         Err(_) => Err(ServeFault::Write),
     };
-    let status = test_status(rt, flushed);
-    match ended.fault {
-        Some(fault) => fault,
-        None => status,
-    }
+    ended.status(test_status(rt, flushed))
 }
 
 /// Runs the tests of each source that the words name, in turn, and puts what became of them last; one that can't be
@@ -251,7 +261,9 @@ fn test_by<R: Files + Input + Print + Eprint + AllocGlobal>(
     rt: &R,
     plan: Plan<'_>,
     tests: AskedTests<'_, '_>,
-) -> u8 {
+) -> u8
+    ensures { IsOfTests result }
+{
     let Ok(mut writer) = BufWriter::new(rt.alloc(), io::writer(rt)) else {
         return status_of(rt, ServeFault::Memory);
     };
@@ -261,11 +273,11 @@ fn test_by<R: Files + Input + Print + Eprint + AllocGlobal>(
         return status_of(rt, ServeFault::Memory);
     };
     let status = test_status(rt, write_end(&mut writer, &share, ended.tally));
-    let status = covered_status(rt, tests.least, &share, ended.fault.unwrap_or(status));
+    let status = covered_status(rt, tests.least, &share, ended.status(status));
     match tests.junit {
         Some(path) => match write_junit(rt, path, gathered.suites.as_slice()) {
             Ok(()) => status,
-            Err(fault) => fault,
+            Err(fault) => fault_status(fault),
         },
         None => status,
     }
@@ -277,9 +289,11 @@ pub(crate) fn run_tests<R: Files + Input + Print + Eprint + AllocGlobal>(
     rt: &R,
     limits: Limits,
     tests: AskedTests<'_, '_>,
-) -> u8 {
-    if let Err(status) = pass_tests(rt, &tests) {
-        return status;
+) -> u8
+    ensures { IsOfTests result }
+{
+    if let Err(unmet) = pass_tests(rt, &tests) {
+        return unmet_status(unmet);
     }
     let plan = Plan {
         only: tests.only,
@@ -302,6 +316,6 @@ pub(crate) fn run_tests<R: Files + Input + Print + Eprint + AllocGlobal>(
             };
             test_by(rt, plan, tests)
         }
-        Err(status) => status,
+        Err(fault) => fault_status(fault),
     }
 }
