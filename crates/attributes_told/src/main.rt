@@ -126,8 +126,8 @@ fn said(alloc: Global, line: &[u8], known: &mut Known) -> Result<String, AllocEr
     }
 }
 
-/// Writes what is said of each line of the reader, a heading as it stands. False where that fails.
-fn tell<R: BufRead, W: Write>(alloc: Global, reader: &mut R, writer: &mut W) -> bool {
+/// Writes what is said of each line of the reader, a heading as it stands. `None` where that fails.
+fn tell<R: BufRead, W: Write>(alloc: Global, reader: &mut R, writer: &mut W) -> Option<()> {
     let mut known = Known {
         attributes: Items::new(alloc),
         listed: Listed::new(alloc),
@@ -136,21 +136,17 @@ fn tell<R: BufRead, W: Write>(alloc: Global, reader: &mut R, writer: &mut W) -> 
     let mut line = Vec::new(alloc);
     for _ in 0..u64::MAX {
         line.clear();
-        match reader.read_until(b'\n', &mut line) {
-            Ok(0) => return writer.flush().is_ok(),
-            Ok(_) => {}
-            Err(_) => return false,
+        if reader.read_until(b'\n', &mut line).ok()? == 0 {
+            return writer.flush().ok();
         }
         if line.starts_with(b"#") {
             known.lines.clear();
-            if writer.write_all(line.as_slice()).is_err() {
-                return false;
-            }
-        } else if write_said(alloc, line.trim_ascii_end(), &mut known, writer).is_none() {
-            return false;
+            writer.write_all(line.as_slice()).ok()?;
+        } else {
+            write_said(alloc, line.trim_ascii_end(), &mut known, writer)?;
         }
     }
-    false
+    None
 }
 
 /// Writes what is said of a line, on a line of its own.
@@ -165,21 +161,21 @@ fn write_said<W: Write>(
     writer.write_all(b"\n").ok()
 }
 
+/// Tells of standard input on standard output. `None` where that fails.
+fn serve<R: Input + Print + AllocGlobal>(rt: &R) -> Option<()> {
+    let alloc = rt.alloc();
+    let mut reader = BufReader::new(alloc, rt.reader()).ok()?;
+    let mut writer = BufWriter::new(alloc, io::writer(rt)).ok()?;
+    tell(alloc, &mut reader, &mut writer)
+}
+
 /// Tells of standard input on standard output, and gives the exit status.
 fn run<R: Input + Print + AllocGlobal>(rt: &R) -> u8
     ensures { (result ≡ 0) ⊎ (result ≡ 2) }
 {
-    let alloc = rt.alloc();
-    let (Ok(mut reader), Ok(mut writer)) = (
-        BufReader::new(alloc, rt.reader()),
-        BufWriter::new(alloc, io::writer(rt)),
-    ) else {
-        return BROKEN;
-    };
-    if tell(alloc, &mut reader, &mut writer) {
-        OKAY
-    } else {
-        BROKEN
+    match serve(rt) {
+        Some(()) => OKAY,
+        None => BROKEN,
     }
 }
 

@@ -116,21 +116,30 @@ fn tell_all<R: BufRead, W: Write>(
     Err(Broken)
 }
 
+/// Says of the documents of standard input what is wrong with them.
+fn serve<R: Input + Print + AllocGlobal>(rt: &R) -> Result<(), Broken> {
+    let alloc = rt.alloc();
+    let Ok(mut reader) = BufReader::new(alloc, rt.reader()) else {
+        return Err(Broken);
+    };
+    let Ok(mut writer) = BufWriter::new(alloc, io::writer(rt)) else {
+        return Err(Broken);
+    };
+    tell_all(alloc, &mut reader, &mut writer)?;
+    match writer.flush() {
+        Ok(()) => Ok(()),
+        Err(_) => Err(Broken),
+    }
+}
+
 /// Says of the documents of standard input what is wrong with them, and gives the exit status.
 fn run<R: Input + Print + AllocGlobal>(rt: &R) -> u8
     ensures { (result ≡ 0) ⊎ (result ≡ 2) }
 {
-    let alloc = rt.alloc();
-    let (Ok(mut reader), Ok(mut writer)) = (
-        BufReader::new(alloc, rt.reader()),
-        BufWriter::new(alloc, io::writer(rt)),
-    ) else {
-        return BROKEN;
-    };
-    if tell_all(alloc, &mut reader, &mut writer).is_err() || writer.flush().is_err() {
-        return BROKEN;
+    match serve(rt) {
+        Ok(()) => OKAY,
+        Err(_) => BROKEN,
     }
-    OKAY
 }
 
 fn main(rt: HostRuntime) -> ExitCode {

@@ -29,88 +29,67 @@ fn chosen(rt: &impl Abort, targets: &[TargetResult]) -> (Choice, Option<usize>) 
 // The pseudo-code of the standard's appendix C, line by line, for a second reading of it. Each gives
 // what the loop returns, with the number of children that it has evaluated, or what stands after it.
 
-fn appendix_c2(children: &[Outcome]) -> (Outcome, Option<usize>) {
-    let mut at_least_one_error_d = false;
-    let mut at_least_one_error_p = false;
+// C.2 and C.4: one decision overrides the other.
+fn appendix_overrides(
+    children: &[Outcome],
+    winner: Outcome,
+    of_winner: IndKind,
+    loser: Outcome,
+    of_loser: IndKind,
+) -> (Outcome, Option<usize>) {
+    let mut at_least_one_error_of_winner = false;
+    let mut at_least_one_error_of_loser = false;
     let mut at_least_one_error_dp = false;
-    let mut at_least_one_permit = false;
+    let mut at_least_one_loser = false;
     for i in 0..children.len() {
         match children[i] {
-            Outcome::Deny => return (Outcome::Deny, Some(i + 1)),
-            Outcome::Permit => at_least_one_permit = true,
+            Outcome::Permit | Outcome::Deny => {
+                if children[i] == winner {
+                    return (winner, Some(i + 1));
+                }
+                at_least_one_loser = true;
+            }
             Outcome::NotApplicable => {}
-            Outcome::Ind(IndKind::D) => at_least_one_error_d = true,
-            Outcome::Ind(IndKind::P) => at_least_one_error_p = true,
             Outcome::Ind(IndKind::DP) => at_least_one_error_dp = true,
+            Outcome::Ind(kind) => {
+                if kind == of_winner {
+                    at_least_one_error_of_winner = true;
+                } else {
+                    at_least_one_error_of_loser = true;
+                }
+            }
         }
     }
     if at_least_one_error_dp {
         return (Outcome::Ind(IndKind::DP), None);
     }
-    if at_least_one_error_d && (at_least_one_error_p || at_least_one_permit) {
+    if at_least_one_error_of_winner && (at_least_one_error_of_loser || at_least_one_loser) {
         return (Outcome::Ind(IndKind::DP), None);
     }
-    if at_least_one_error_d {
-        return (Outcome::Ind(IndKind::D), None);
+    if at_least_one_error_of_winner {
+        return (Outcome::Ind(of_winner), None);
     }
-    if at_least_one_permit {
-        return (Outcome::Permit, None);
+    if at_least_one_loser {
+        return (loser, None);
     }
-    if at_least_one_error_p {
-        return (Outcome::Ind(IndKind::P), None);
+    if at_least_one_error_of_loser {
+        return (Outcome::Ind(of_loser), None);
     }
     (Outcome::NotApplicable, None)
 }
 
-fn appendix_c4(children: &[Outcome]) -> (Outcome, Option<usize>) {
-    let mut at_least_one_error_d = false;
-    let mut at_least_one_error_p = false;
-    let mut at_least_one_error_dp = false;
-    let mut at_least_one_deny = false;
+// C.6 and C.7: one decision, unless a child has the other.
+fn appendix_unless(
+    children: &[Outcome],
+    decision: Outcome,
+    other: Outcome,
+) -> (Outcome, Option<usize>) {
     for i in 0..children.len() {
-        match children[i] {
-            Outcome::Deny => at_least_one_deny = true,
-            Outcome::Permit => return (Outcome::Permit, Some(i + 1)),
-            Outcome::NotApplicable => {}
-            Outcome::Ind(IndKind::D) => at_least_one_error_d = true,
-            Outcome::Ind(IndKind::P) => at_least_one_error_p = true,
-            Outcome::Ind(IndKind::DP) => at_least_one_error_dp = true,
+        if children[i] == other {
+            return (other, Some(i + 1));
         }
     }
-    if at_least_one_error_dp {
-        return (Outcome::Ind(IndKind::DP), None);
-    }
-    if at_least_one_error_p && (at_least_one_error_d || at_least_one_deny) {
-        return (Outcome::Ind(IndKind::DP), None);
-    }
-    if at_least_one_error_p {
-        return (Outcome::Ind(IndKind::P), None);
-    }
-    if at_least_one_deny {
-        return (Outcome::Deny, None);
-    }
-    if at_least_one_error_d {
-        return (Outcome::Ind(IndKind::D), None);
-    }
-    (Outcome::NotApplicable, None)
-}
-
-fn appendix_c6(children: &[Outcome]) -> (Outcome, Option<usize>) {
-    for i in 0..children.len() {
-        if children[i] == Outcome::Permit {
-            return (Outcome::Permit, Some(i + 1));
-        }
-    }
-    (Outcome::Deny, None)
-}
-
-fn appendix_c7(children: &[Outcome]) -> (Outcome, Option<usize>) {
-    for i in 0..children.len() {
-        if children[i] == Outcome::Deny {
-            return (Outcome::Deny, Some(i + 1));
-        }
-    }
-    (Outcome::Permit, None)
+    (decision, None)
 }
 
 fn appendix_c8(children: &[Outcome]) -> (Outcome, Option<usize>) {
@@ -150,11 +129,17 @@ fn appendix_c9(policies: &[TargetResult]) -> (Choice, Option<usize>) {
 
 /// What the appendix says of some outcomes.
 fn appendix(algorithm: RuleAlg, outcomes: &[Outcome]) -> (Outcome, Option<usize>) {
+    let deny = Outcome::Deny;
+    let permit = Outcome::Permit;
     match algorithm {
-        RuleAlg::DenyOverrides | RuleAlg::OrderedDenyOverrides => appendix_c2(outcomes),
-        RuleAlg::PermitOverrides | RuleAlg::OrderedPermitOverrides => appendix_c4(outcomes),
-        RuleAlg::DenyUnlessPermit => appendix_c6(outcomes),
-        RuleAlg::PermitUnlessDeny => appendix_c7(outcomes),
+        RuleAlg::DenyOverrides | RuleAlg::OrderedDenyOverrides => {
+            appendix_overrides(outcomes, deny, IndKind::D, permit, IndKind::P)
+        }
+        RuleAlg::PermitOverrides | RuleAlg::OrderedPermitOverrides => {
+            appendix_overrides(outcomes, permit, IndKind::P, deny, IndKind::D)
+        }
+        RuleAlg::DenyUnlessPermit => appendix_unless(outcomes, deny, permit),
+        RuleAlg::PermitUnlessDeny => appendix_unless(outcomes, permit, deny),
         RuleAlg::FirstApplicable => appendix_c8(outcomes),
     }
 }

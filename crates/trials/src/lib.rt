@@ -15,6 +15,8 @@ mod help;
 #[cfg(test)]
 mod hostile;
 #[cfg(test)]
+mod index;
+#[cfg(test)]
 mod lines;
 #[cfg(test)]
 mod machine;

@@ -138,30 +138,6 @@ const CHECKED: &[(&[&str], &str, &str, &str, &str, u8)] = &[
         1,
     ),
     (
-        &["review", "check", "--attributes", "whole", "-"],
-        DECLARED,
-        ASKING,
-        "ok Policy p 1\n",
-        "",
-        0,
-    ),
-    (
-        &["review", "check", "--attributes", "whole", "-"],
-        NONE_DECLARED,
-        ASKING,
-        "ok Policy p 1\n",
-        "review: the document asks for an attribute, or compares with a value, that isn't declared\nstandard input: ",
-        1,
-    ),
-    (
-        &["review", "check", "--attributes", "whole", "-"],
-        "{}",
-        ASKING,
-        "",
-        "review: the file of attributes hasn't the form of one\nwhole: ",
-        1,
-    ),
-    (
         &["review", "check", "whole", "-"],
         SMALL_LETTER,
         TWO_REFERENCES,
@@ -169,21 +145,37 @@ const CHECKED: &[(&[&str], &str, &str, &str, &str, u8)] = &[
         "review: a key is unknown or missing, or what stands at it has the wrong form\nwhole: /",
         1,
     ),
+];
+
+/// Files of attributes beside a policy that asks for one, with what is written, what is said at the beginning, and the
+/// status.
+const OF_ATTRIBUTES: &[(&str, &str, &str, u8)] = &[
+    (DECLARED, "ok Policy p 1\n", "", 0),
     (
-        &["review", "check", "--stored", "whole", "-"],
-        STORED,
-        TWO_REFERENCES,
-        "ok PolicySet s 1\n",
-        "standard input: /PolicySet/Children/1: line 3, column 47: no Policy q is stored\nreview: 1 fault\n",
+        NONE_DECLARED,
+        "ok Policy p 1\n",
+        "review: the document asks for an attribute, or compares with a value, that isn't declared\nstandard input: ",
         1,
     ),
     (
-        &["review", "check", "--stored", "whole", "-"],
+        "{}",
+        "",
+        "review: the file of attributes hasn't the form of one\nwhole: ",
+        1,
+    ),
+];
+
+/// Files of a state beside a set with references, with what is written, and what is said at the beginning.
+const OF_STATE: &[(&str, &str, &str)] = &[
+    (
+        STORED,
+        "ok PolicySet s 1\n",
+        "standard input: /PolicySet/Children/1: line 3, column 47: no Policy q is stored\nreview: 1 fault\n",
+    ),
+    (
         "{\"do\":\"work\"}",
-        TWO_REFERENCES,
         "",
         "review: the file of the state hasn't the lines of a dump\nwhole: line 1\n",
-        1,
     ),
 ];
 
@@ -210,6 +202,28 @@ fn what_is_said_of_documents(rt: HostRuntime) {
     for &(words, file, input, written, told, status) in CHECKED {
         assert!(rt;
             is_checked(rt.alloc(), words, file, input, written, told, status),
+            "{told}"
+        );
+    }
+}
+
+#[test]
+fn what_is_said_beside_attributes(rt: HostRuntime) {
+    for &(file, written, told, status) in OF_ATTRIBUTES {
+        let words = &["review", "check", "--attributes", "whole", "-"];
+        assert!(rt;
+            is_checked(rt.alloc(), words, file, ASKING, written, told, status),
+            "{told}"
+        );
+    }
+}
+
+#[test]
+fn what_is_said_beside_a_state(rt: HostRuntime) {
+    for &(file, written, told) in OF_STATE {
+        let words = &["review", "check", "--stored", "whole", "-"];
+        assert!(rt;
+            is_checked(rt.alloc(), words, file, TWO_REFERENCES, written, told, 1),
             "{told}"
         );
     }

@@ -55,104 +55,87 @@ whole:1: failed as_json
 0 passed, 1 failed
 ";
 
-/// Words that ask for tests, with the tests of the file and the input, what is written, what is said, and the status.
-const TESTED: &[(&[&str], &str, &str, &str, u8)] = &[
-    (&["review", "test", "whole"], TESTS, DIFFERENCE, "", 1),
+/// A test that passes.
+const PASSES: &str = "# passes\n> {\"do\":\"table\"}\n< {\"table\":[]}\n";
+
+/// Names of inputs, with the tests in them, what is written, and the status.
+const READ: &[(&str, &str, &str, u8)] = &[
+    ("whole", TESTS, DIFFERENCE, 1),
     (
-        &["review", "test", "whole", "-"],
-        "# passes\n> {\"do\":\"table\"}\n< {\"table\":[]}\n",
-        "2 passed, 0 failed\n",
-        "",
-        0,
-    ),
-    (
-        &["review", "test", "-"],
+        "-",
         "> {\"do\":\"table\"}\n",
         "standard input:1: this line can't stand here: a test begins with # NAME\n0 passed, 1 failed\n",
-        "",
         1,
     ),
     (
-        &["review", "test", "whole"],
+        "whole",
         "# t 9\n",
         "whole:1: this line can't stand here: a test has from 1 to 4 modules of each sort\n0 passed, 1 failed\n",
-        "",
         1,
     ),
     (
-        &["review", "test", "whole"],
+        "whole",
         "-- nothing\n",
         "whole:1: no test begins here\n0 passed, 1 failed\n",
-        "",
         1,
     ),
     (
-        &["review", "test", "whole"],
+        "whole",
         "# nothing\n> {\"do\":\"table\"}\n",
         "whole:1: no reply is expected\nwhole:1: failed nothing\n0 passed, 1 failed\n",
-        "",
         1,
     ),
-    (&["review", "test", "whole"], AS_JSON, AS_JSON_TOLD, "", 1),
-    (
-        &["review", "test", "whole"],
-        OTHER_ENDS,
-        "1 passed, 0 failed\n",
-        "",
-        0,
-    ),
+    ("whole", AS_JSON, AS_JSON_TOLD, 1),
+    ("whole", OTHER_ENDS, "1 passed, 0 failed\n", 0),
+];
+
+/// Words that ask for some tests or for their names, with what is written, and the status.
+const CHOSEN: &[(&[&str], &str, u8)] = &[
     (
         &["review", "test", "--run", "passes", "whole"],
-        TESTS,
         "1 passed, 0 failed\n",
-        "",
         0,
     ),
     (
         &["review", "test", "--list", "whole"],
-        TESTS,
         "whole:1: passes\nwhole:4: fails\n",
-        "",
         0,
     ),
     (
         &["review", "test", "--run", "other", "whole"],
-        TESTS,
         "0 passed, 0 failed\n",
-        "",
         1,
     ),
+];
+
+/// Words that ask for tests, with what is written, what is said, and the status.
+const SAID: &[(&[&str], &str, &str, u8)] = &[
     (
         &["review", "test", "--junit", "none", "whole"],
-        TESTS,
         DIFFERENCE,
         "review: write fault\nnone: No such file or directory (os error 2)\n",
         2,
     ),
     (
         &["review", "test", "--junit", "broken", "whole"],
-        TESTS,
         DIFFERENCE,
         "review: write fault\nbroken: not written to its end\n",
         2,
     ),
     (
         &["review", "test", "--junit", "whole", "whole"],
-        TESTS,
         "",
         "review: --junit wants a file of its own, and no --list\n",
         1,
     ),
     (
         &["review", "test", "-", "-"],
-        TESTS,
         "",
         "review: standard input is named more than once\n",
         1,
     ),
     (
         &["review", "test", "whole", "none"],
-        TESTS,
         BESIDE_THE_FAULT,
         "review: read fault\nnone: No such file or directory (os error 2)\n",
         2,
@@ -217,11 +200,38 @@ fn is_tested(
     has_run(&machine, false, written, told, status)
 }
 
+/// Whether those of one input have it, and nothing is said.
+fn is_read(alloc: Global, name: &str, tests: &str, written: &str, status: u8) -> bool {
+    is_tested(alloc, &["review", "test", name], tests, written, "", status)
+}
+
 #[test]
 fn tests_of_files(rt: HostRuntime) {
-    for &(words, tests, written, told, status) in TESTED {
+    for &(name, tests, written, status) in READ {
         assert!(rt;
-            is_tested(rt.alloc(), words, tests, written, told, status),
+            is_read(rt.alloc(), name, tests, written, status),
+            "{tests}"
+        );
+    }
+    let both = &["review", "test", "whole", "-"];
+    assert!(rt; is_tested(rt.alloc(), both, PASSES, "2 passed, 0 failed\n", "", 0));
+}
+
+#[test]
+fn some_tests_of_a_file(rt: HostRuntime) {
+    for &(words, written, status) in CHOSEN {
+        assert!(rt;
+            is_tested(rt.alloc(), words, TESTS, written, "", status),
+            "{words:?}"
+        );
+    }
+}
+
+#[test]
+fn what_is_said_of_tests(rt: HostRuntime) {
+    for &(words, written, told, status) in SAID {
+        assert!(rt;
+            is_tested(rt.alloc(), words, TESTS, written, told, status),
             "{words:?}"
         );
     }
