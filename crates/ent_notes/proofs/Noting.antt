@@ -1,6 +1,5 @@
--- What is noted stays noted: a key in a set of keys, and a question in the notes.
-use Rattle.std.proofs.Common.{◌≡◌, List, [], ◌∷◌, ◌++◌, length, Option, Some, None, Ordering, Less, Equal, Greater, refl, sym, ap, ◌∙◌, arith}
-use Rattle.std.specs.Prelude.{if◌then◌else◌}
+-- What is noted stays noted: keys in a set of keys.
+use Rattle.std.proofs.Common.{◌≡◌, List, [], ◌∷◌, length, Ordering, Less, Equal, Greater, refl, ap, ◌∙◌, arith}
 use Rattle.std.specs.BTreeSet.{insert_key}
 use Rattle.std.specs.Cmp.{IsTotalOrder, tied_itself}
 use Rattle.std.specs.FinMap.{IsAntisymmetric}
@@ -8,13 +7,8 @@ use Rattle.std.specs.List.{AllByRecursion}
 use Rattle.std.specs.Ordering.{match_ordering, ordering_reverse}
 use Rattle.ent_request.specs.contracts.key.ReadKeyOrd.TheImpl.Laws.{total-law}
 use Rattle.ent_request.specs.declared.key.ReadKey.{ReadKey}
-use Rattle.ent_request.specs.declared.question.Question.{Question}
-use Rattle.ent_notes.specs.proofs_only.Noted.{IsNoted}
-use Rattle.ent_request.specs.Note.{Note, asks, fails, passed}
 use Rattle.ent_request.specs.Noted.{noted, read_cmp, with_key}
-use Rattle.ent_notes.specs.proofs_only.Noted.{Notes, is_asked, noting, with_asked, with_note}
 use Rattle.ent_request.proofs.Keys.{read_cmp-IsAntisymmetric}
-use Rattle.ent_request.proofs.Among.{asked_now, asked_still}
 
 module _ {K : Type 0} (cmp : K → K → Ordering) (order : IsTotalOrder cmp) (same : IsAntisymmetric cmp) where
   abbrev with : List K → K → List K
@@ -64,8 +58,6 @@ module _ {K : Type 0} (cmp : K → K → Ordering) (order : IsTotalOrder cmp) (s
         ap (λ o. match_ordering o (key ∷ x ∷ with xs more) (x ∷ with xs more) (x ∷ with (with xs more) key)) is
         ∙ ap (λ ks. x ∷ ks) (later (rest_of x (with xs key) xs there))
 
--- ---- keys
-
 key_again : (keys : List ReadKey) (key : ReadKey) → with_key (with_key keys key) key ≡ with_key keys key
 key_again = with_again read_cmp total-law read_cmp-IsAntisymmetric
 
@@ -89,35 +81,3 @@ kept_now keys (key ∷ more) = (key_stays_noted (with_key keys key) key more (ke
 pub kept_same : (keys more : List ReadKey) → AreKept keys more → noted keys more ≡ keys
 kept_same keys [] there = refl
 kept_same keys (key ∷ more) there = ap (λ ks. noted ks more) there.0 ∙ kept_same keys more there.1
-
--- ---- questions
-
-asked_of_some : (asked : Option (List Question)) (question : Question) → IsNoted (with_asked asked question) question
-asked_of_some None question = tt
-asked_of_some (Some questions) question = asked_now questions question
-
--- a question that was just noted is noted
-pub noted_now : (notes : Notes) (question : Question) → IsNoted (with_note notes (asks question)).questions question
-noted_now notes question = asked_of_some notes.questions question
-
-asked_stays : (asked : Option (List Question)) (question more : Question) → IsNoted asked question → IsNoted (with_asked asked more) question
-asked_stays None question more there = tt
-asked_stays (Some questions) question more there = asked_still questions question more (is_asked questions more) there
-
-noted_stays : (notes : Notes) (question : Question) (more : Note) → IsNoted notes.questions question → IsNoted (with_note notes more).questions question
-noted_stays notes question (asks more) there = asked_stays notes.questions question more there
-noted_stays notes question (fails cause) there = there
-noted_stays notes question (passed cause) there = there
-
--- one that is noted stays noted
-pub noted_stay : (notes : Notes) (question : Question) (more : List Note) → IsNoted notes.questions question → IsNoted (noting notes more).questions question
-noted_stay notes question [] there = there
-noted_stay notes question (n ∷ more) there = noted_stay (with_note notes n) question more (noted_stays notes question n there)
-
-asked_same : (asked : Option (List Question)) (question : Question) → IsNoted asked question → asked ≡ with_asked asked question
-asked_same None question there = refl
-asked_same (Some questions) question there = ap (λ b. Some (if b then questions else questions ++ question ∷ [])) (sym there)
-
--- noting it again leaves the notes as they are
-pub noted_same : (notes : Notes) (question : Question) → IsNoted notes.questions question → notes ≡ with_note notes (asks question)
-noted_same notes question there = ap (λ asked. record { questions = asked; causes = notes.causes; failed = notes.failed }) (asked_same notes.questions question there)

@@ -1,6 +1,5 @@
 pub mod AnyBag
 pub mod Alone
-pub mod AnswersAlike
 pub mod AnswersRest
 pub mod Arguments
 pub mod Booleans

@@ -1,5 +1,4 @@
 pub mod Answer
-pub mod Came
 pub mod Expression
 pub mod Given
 pub mod Judged

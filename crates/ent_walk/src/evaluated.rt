@@ -3,17 +3,17 @@
 use ent_functions::Arg;
 use ent_request::Status;
 
-/// What an expression comes to.
+/// What an expression comes to (section 7.4).
 #[derive(Drop)]
-pub(crate) enum Evaluated {
+pub enum Evaluated {
     /// A value, a bag, or a function as an argument.
     Known(Arg),
     Indeterminate(Status),
 }
 
 /// What a condition comes to (section 7.9).
-#[derive(Clone, Copy)]
-pub(crate) enum Truth {
+#[derive(Clone, Copy, PartialEq, Eq)]
+pub enum Truth {
     True,
     False,
     Indeterminate(Status),

@@ -1,6 +1,5 @@
 //! Laws of what answers rest on.
 
-ghost use Rattle.ent_walk.specs.Came.{EqualTestsGiveEqualAnswers};
 ghost use Rattle.ent_walk.specs.Law.{DecidedNamesNoCause, EqualFindingsGiveEqualConditions};
 ghost use Rattle.ent_walk.specs.Law.{EqualFindingsGiveEqualPolicies};
 ghost use Rattle.ent_walk.specs.Law.{EqualFindingsGiveEqualRules, EqualFindingsGiveEqualTargets};
@@ -33,13 +32,6 @@ pub fn equal_findings_give_equal_rules()
 /// Law: so it is with a policy, wherever it stands.
 pub fn equal_findings_give_equal_policies()
     ensures { EqualFindingsGiveEqualPolicies }
-{}
-
-/// Law: where the root and the documents are the same, and each target, each rule and what each element gives itself
-/// come to the same for another request, the answer is the same, and the same is noted of it. Those below a target that
-/// doesn't match don't count.
-pub fn equal_tests_give_equal_answers()
-    ensures { EqualTestsGiveEqualAnswers }
 {}
 
 /// Law: where each look-up that is recorded for an answer gives the same, the answer is the same, and so are the

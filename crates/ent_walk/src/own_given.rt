@@ -25,9 +25,9 @@ pub(crate) struct Due<'b> {
 }
 
 impl<L: LookUps> Walk<'_, L> {
-    // An element with its own obligations and advice, which are evaluated where it gives a decision.
+    /// An element with its own obligations and advice, which are evaluated where it gives a decision (section 7.18).
     #[tactic(auto, using(crate::proofs::Typing::both_true), unfolding(ent_policy::specs::Typing::given_is_typed))]
-    pub(crate) fn finished(
+    pub fn finished(
         &mut self,
         definitions: &[VariableDefinition],
         given: &GivenExpressions,

@@ -114,9 +114,9 @@ impl<'a, L: LookUps> Walk<'a, L> {
         }
     }
 
-    // A condition. An absent one is true.
+    /// A condition (section 7.9). An absent one is true.
     #[tactic(auto, unfolding(ent_policy::specs::Typing::condition_is_typed))]
-    fn condition(
+    pub fn condition(
         &mut self,
         definitions: &[VariableDefinition],
         condition: &'a Option<Expression>,
@@ -135,8 +135,8 @@ impl<'a, L: LookUps> Walk<'a, L> {
         }
     }
 
-    // A rule with a target that matches, by its condition.
-    fn decide(
+    /// A rule with a target that matches, by its condition (section 7.11).
+    pub fn decide(
         &mut self,
         path: &Path<'_>,
         rule: &Rule,

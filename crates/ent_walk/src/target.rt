@@ -24,9 +24,10 @@ pub enum Targeted {
 }
 
 impl<'a, L: LookUps> Walk<'a, L> {
-    // Whether a target matches. What fails in it is passed over unless it is Indeterminate; so it is with its elements.
+    /// Whether a target matches (section 7.7). What fails in it is passed over unless it is Indeterminate; so it is with
+    /// its elements.
     #[tactic(auto, unfolding(ent_policy::specs::Typing::target_is_typed))]
-    pub(crate) fn target(&mut self, target: &'a Target) -> Result<Targeted, AllocError>
+    pub fn target(&mut self, target: &'a Target) -> Result<Targeted, AllocError>
         requires { target_is_typed target.now ≡ true }
         ensures comes { IfOk result (Comes
             (in_walk L.looks self.old target_part target.now) self.old self.new) }

@@ -1,6 +1,6 @@
 -- What is noted of an evaluation so far: words of the code's own contracts.
 use Rattle.std.specs.Prelude.{ℕ, List, [], ◌∷◌, ◌++◌, Bool, true, if◌then◌else◌, Option, Some, None, is_some}
-use Rattle.std.specs.Prelude.{option_and_then, option_map, length, take, ◌-◌, ◌≡◌}
+use Rattle.std.specs.Prelude.{option_and_then, option_map, length, take, ◌-◌}
 use Rattle.std.specs.Option.{option_or}
 use Rattle.ent_policy.specs.declared.document.Designator.{Designator}
 use Rattle.ent_policy.specs.declared.key.DocKey.{DocKey}
@@ -86,8 +86,3 @@ in_rule notes rule = record notes { causes = option_map (λ (k : Causes). record
 abbrev pub asked_by : Option Designator → List Note
 asked_by None = []
 asked_by (Some d) = asks (Of (asked_of d)) ∷ []
-
--- a question is among those that are noted, if they are asked for
-abbrev pub IsNoted : Option (List Question) → Question → Type 0
-IsNoted None question = Unit {0}
-IsNoted (Some questions) question = is_asked questions question ≡ true
