@@ -1,0 +1,2 @@
+pub mod Gists
+pub mod HeardAlike

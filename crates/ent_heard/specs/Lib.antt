@@ -1,0 +1,2 @@
+pub mod CameBy
+pub mod Heard

@@ -1,0 +1,13 @@
+//! The tests of documents in a list, and what comes of them.
+#![tactic(auto)]
+
+mod alone;
+mod entries;
+mod law;
+mod task;
+mod way;
+
+pub use entries::plan_of;
+pub use law::equal_ways_are_heard_alike;
+pub use task::{Entry, Item, Named, Task, Within};
+pub use way::{Outcomes, Step, sign};
