@@ -1,0 +1,10 @@
+pub mod AskedOnce
+pub mod BagsNumbered
+pub mod FoundAll
+pub mod Growing
+pub mod Learning
+pub mod ListedBags
+pub mod MakingWays
+pub mod Placed
+pub mod RowsStill
+pub mod Seeking
