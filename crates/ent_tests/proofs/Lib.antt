@@ -1,0 +1,4 @@
+pub mod Asking
+pub mod Outcomes
+pub mod Resting
+pub mod Telling

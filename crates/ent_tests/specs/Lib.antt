@@ -1,0 +1,3 @@
+pub mod Law
+pub mod Tested
+pub mod proofs_only
