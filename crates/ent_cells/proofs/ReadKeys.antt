@@ -1,5 +1,5 @@
 -- The keys that a row or a kind and an id ask for, and that cells read.
-use Rattle.std.proofs.Common.{◌≡◌, ◌≢◌, ◌<◌, ℕ, zero, suc, Bool, true, false, ◌||◌, List, [], ◌∷◌, Option, Some, None, inl, inr, if◌then◌else◌, slice_index_or as get_or, length, option_map, refl, sym, ap, subst, ◌∙◌, arith}
+use Rattle.std.proofs.Common.{◌≡◌, ◌≢◌, ◌<◌, ℕ, zero, suc, Bool, true, false, ◌||◌, List, [], ◌∷◌, ◌++◌, Option, Some, None, inl, inr, if◌then◌else◌, slice_index_or as get_or, length, option_map, refl, sym, ap, subst, ◌∙◌, arith}
 use Rattle.std.specs.Prelude.{filter_map}
 use Rattle.std.specs.List.{cons_option}
 use Rattle.std.specs.Ordering.{is_eq}
@@ -8,6 +8,8 @@ use Rattle.slab.specs.Slab.{Slab, get}
 use Rattle.ent_policy.specs.declared.key.Kind.{Kind}
 use Rattle.ent_policy.specs.declared.key.Reference.{Reference}
 use Rattle.ent_finder.specs.declared.row.RowKey.{RowKey}
+use Rattle.ent_finder.proofs.Sorted.{equal}
+use Rattle.ent_request.proofs.Keys.{read_cmp-IsAntisymmetric}
 use Rattle.ent_request.proofs.Sames.{question-Decides}
 use Rattle.ent_request.specs.declared.key.ReadKey.{ReadKey}
 use Rattle.ent_request.specs.declared.key.ReadKey.TheVariants as key
@@ -24,23 +26,51 @@ use Rattle.ent_index.specs.declared.groups.Groups.{Groups}
 use Rattle.ent_index.specs.Groups.{numbers_of}
 use Rattle.ent_cells.proofs.StoreSteps.{get_seen}
 use Rattle.ent_cells.specs.declared.cell.Cell.{Cell}
-use Rattle.ent_cells.specs.proofs_only.Asked.{key_of_row, reads_at, reference_of}
+use Rattle.ent_cells.specs.proofs_only.Asked.{asked_keys, key_of_row, reads_at, reference_of}
 use Rattle.ent_cells.specs.proofs_only.Grouping.{IsStore, entry_in, seen}
 
 -- ---- the keys of a row
 
-or_none : (b : Bool) → (b || false) ≡ b
-or_none true = refl
-or_none false = refl
+plain_keys : (row : RowKey) → row.issuer ≡ None → (k : ReadKey) → is_eq (read_cmp k (key_of_row row None)) ≡ asks_row row k
+plain_keys row none k = key_turned k (key_of_row row None) ∙ sym (asked_plain row none k)
 
-pub plain_keys : (row : RowKey) → row.issuer ≡ None → (k : ReadKey) → has_key (key_of_row row None ∷ []) k ≡ asks_row row k
-plain_keys row none k = or_none (is_eq (read_cmp k (key_of_row row None))) ∙ key_turned k (key_of_row row None) ∙ sym (asked_plain row none k)
-
-pub both_keys : (row : RowKey) (i : List ℕ) → row.issuer ≡ Some i → (k : ReadKey) → has_key (key_of_row row None ∷ key_of_row row (Some i) ∷ []) k ≡ asks_row row k
+both_keys : (row : RowKey) (i : List ℕ) → row.issuer ≡ Some i → (k : ReadKey) → (is_eq (read_cmp k (key_of_row row None)) || is_eq (read_cmp k (key_of_row row (Some i)))) ≡ asks_row row k
 both_keys row i some k =
-    ap (λ b. is_eq (read_cmp k (key_of_row row None)) || b) (or_none (is_eq (read_cmp k (key_of_row row (Some i)))))
-    ∙ (λ j. key_turned k (key_of_row row None) j || key_turned k (key_of_row row (Some i)) j)
+    (λ j. key_turned k (key_of_row row None) j || key_turned k (key_of_row row (Some i)) j)
     ∙ sym (asked_both row i some k)
+
+module _ (q : List Question) (k : ReadKey) (asked : is_asked q (question_of k) ≡ true) where
+  -- a key whose question is one of these is among them
+  itself : (x : ReadKey) → is_eq (read_cmp k x) ≡ true → asked_keys q x ≡ x ∷ []
+  itself x tied =
+      let same : k ≡ x = read_cmp-IsAntisymmetric k x (equal (read_cmp k x) tied) in
+      ap (λ b. if b then x ∷ [] else []) (ap (λ y. is_asked q (question_of y)) (sym same) ∙ asked)
+
+  first_there : (x : ReadKey) (others : List ReadKey) → is_eq (read_cmp k x) ≡ true → has_key (asked_keys q x ++ others) k ≡ true
+  first_there x others tied = ap (λ ks. has_key (ks ++ others) k) (itself x tied) ∙ or_left (is_eq (read_cmp k x)) (has_key others k) tied
+
+  only_there : (x : ReadKey) → is_eq (read_cmp k x) ≡ true → has_key (asked_keys q x) k ≡ true
+  only_there x tied = ap (λ ks. has_key ks k) (itself x tied) ∙ or_left (is_eq (read_cmp k x)) false tied
+
+  behind : (x : ReadKey) (others : List ReadKey) → has_key others k ≡ true → has_key (asked_keys q x ++ others) k ≡ true
+  behind x others there = by (is_asked q (question_of x)) where
+    by : (b : Bool) → has_key ((if b then x ∷ [] else []) ++ others) k ≡ true
+    by true = or_right (is_eq (read_cmp k x)) (has_key others k) there
+    by false = there
+
+  -- so are those of a row
+  pub plain_there : (row : RowKey) → row.issuer ≡ None → asks_row row k ≡ true → has_key (asked_keys q (key_of_row row None)) k ≡ true
+  plain_there row none asks = only_there (key_of_row row None) (plain_keys row none k ∙ asks)
+
+  pub both_there : (row : RowKey) (i : List ℕ) → row.issuer ≡ Some i → asks_row row k ≡ true
+      → has_key (asked_keys q (key_of_row row None) ++ asked_keys q (key_of_row row (Some i))) k ≡ true
+  both_there row i some asks =
+      let first = key_of_row row None in
+      let second = key_of_row row (Some i) in
+      elim (or_cases (is_eq (read_cmp k first)) (is_eq (read_cmp k second)) (both_keys row i some k ∙ asks)) [
+        | inl tied ↦ first_there first (asked_keys q second) tied
+        | inr tied ↦ behind first (asked_keys q second) (only_there second tied)
+      ]
 
 -- ---- references among questions
 

@@ -12,7 +12,7 @@ use crate::who::Who;
 use ent_eval::{Memory, Pdp};
 use ent_finder::{Attributes, Policies};
 use ent_values::{Items, Shared};
-use std::alloc::{AllocError, Global};
+use std::alloc::AllocError;
 
 /// Keys of cells that likely say the same as the next one: the last of these, and one so many places back.
 fn near(keys: &[usize], apart: usize) -> [usize; 2] {
@@ -52,29 +52,30 @@ fn push<A: Attributes, P: Policies>(
     Ok(())
 }
 
-/// Evaluates requests that have no cells, each once, and puts their cells last. What is found for one serves those
-/// behind it, and is forgotten then. After a refusal the cells of some may be there.
+/// Evaluates requests that have no cells, each once, and puts their cells last. What is remembered serves
+/// them. After a refusal the cells of some may be there.
 pub(crate) fn push_all<A: Attributes, P: Policies>(
-    alloc: Global,
     store: &mut Store,
     keys: &mut Vec<usize>,
     pdp: &mut Pdp<A, P>,
+    memory: &mut Memory,
     apart: usize,
     requests: Items<Shared<Who>>,
 ) -> Result<(), AllocError>
-    requires { IsLive store.old.cells keys.old.items }
+    requires live { IsLive store.old.cells keys.old.items }
+    requires remembers { Remembers (looks_of pdp.old) store.old.questions memory.old }
     ensures live { IsLive store.new.cells keys.new.items }
     ensures ok { OnOk result (kept_of store.new.cells keys.new.items
         ≡ kept_of store.old.cells keys.old.items ++ map (cell_of (looks_of pdp.old)) requests) }
     ensures err { OnErr result (take (length keys.old.items) (kept_of store.new.cells keys.new.items)
         ≡ kept_of store.old.cells keys.old.items) }
+    ensures remembers { Remembers (looks_of pdp.old) store.new.questions memory.new }
     ensures counted { OnOk result (Counts pdp.old.evaluations pdp.new.evaluations (length requests)) }
     ensures bound { CountsAtMost pdp.old.evaluations pdp.new.evaluations (length requests) }
     ensures rest { pdp.new ≡ record pdp.old { evaluations = pdp.new.evaluations } }
 {
-    let mut memory = Memory::new(alloc);
     for who in requests.into_vec() {
-        push(store, keys, pdp, &mut memory, apart, who)?;
+        push(store, keys, pdp, memory, apart, who)?;
     }
     Ok(())
 }

@@ -1,46 +1,62 @@
 //! The keys that look at a row, or at documents of a kind and an id.
 
-ghost use Rattle.std.specs.Prelude.{◌≡◌, IfOk, filter_map};
+ghost use Rattle.std.specs.Prelude.{◌≡◌, ◌++◌, IfOk, OnOk, filter_map, true};
 ghost use Rattle.ent_request.specs.declared.key.ReadKey.{ReadKey as Key};
 ghost use Rattle.ent_request.specs.declared.key.ReadKey.TheVariants.{Ref};
 ghost use Rattle.ent_request.specs.Noted.{has_key};
+ghost use Rattle.ent_request.specs.QuestionOf.{question_of};
+ghost use Rattle.ent_request.specs.Questions.{is_asked};
 ghost use Rattle.ent_index.specs.Asked.{asks_policy, asks_row};
-ghost use Rattle.ent_cells.specs.proofs_only.Asked.{key_of_row, reference_of};
+ghost use Rattle.ent_cells.specs.proofs_only.Asked.{asked_keys, key_of_row, reference_of};
 
-use ent_eval::{Question, ReadKey};
-use ent_finder::{AttrKey, RowKey};
+use ent_eval::{Asked, Question, Questions, ReadKey};
+use ent_finder::RowKey;
 use ent_policy::{Kind, Reference};
 use ent_values::{Items, Text};
 use std::alloc::{AllocError, Global};
 
-/// The key of values that the issuer gives of what a row is of, or without an issuer of those that anyone gives.
-fn key_of_row(alloc: Global, row: &RowKey, issuer: Option<Text>) -> Result<ReadKey, AllocError>
-    ensures { IfOk result (λ k. k ≡ key_of_row row.now issuer) }
+/// Adds the key of values that the issuer gives of what a row is of, or without an issuer of those that anyone gives,
+/// if its question has a number.
+fn add_asked(
+    alloc: Global,
+    questions: &Questions,
+    row: &RowKey,
+    issuer: Option<Text>,
+    keys: &mut Items<ReadKey>,
+) -> Result<(), AllocError>
+    ensures { OnOk result (keys.new ≡ keys.old ++ asked_keys questions.now (key_of_row row.now issuer)) }
 {
-    Ok(ReadKey::Attr(AttrKey {
+    let question = Question::Of(Asked {
         category: row.category.copy(alloc)?,
-        entity: row.entity.copy(alloc)?,
         attribute: row.attribute.copy(alloc)?,
         datatype: row.datatype,
         issuer,
-    }))
+    });
+    match (questions.number_of(&question), question) {
+        (Some(_), Question::Of(asked)) => {
+            keys.push(ReadKey::Attr(asked.key(alloc, &row.entity)?))
+        }
+        _ => Ok(()),
+    }
 }
 
-/// The keys whose values a row may change: those without an issuer and those with the row's.
-///
-/// # Errors
-///
-/// `AllocError` if memory runs out.
-pub fn keys_of_row(alloc: Global, row: &RowKey) -> Result<Items<ReadKey>, AllocError>
-    ensures { IfOk result (λ keys. (k : Key) → has_key keys k ≡ asks_row row.now k) }
+/// The keys whose values a row may change, those without an issuer and those with the row's, if their questions have a
+/// number.
+pub(crate) fn keys_of_row(
+    alloc: Global,
+    questions: &Questions,
+    row: &RowKey,
+) -> Result<Items<ReadKey>, AllocError>
+    ensures { IfOk result (λ keys. (k : Key) → asks_row row.now k ≡ true
+        → is_asked questions.now (question_of k) ≡ true → has_key keys k ≡ true) }
 {
     let mut keys = Items::new(alloc);
-    keys.push(key_of_row(alloc, row, None)?)?;
+    add_asked(alloc, questions, row, None, &mut keys)?;
     let Some(issuer) = &row.issuer else {
         return Ok(keys);
     };
     let issuer = issuer.copy(alloc)?;
-    keys.push(key_of_row(alloc, row, Some(issuer))?)?;
+    add_asked(alloc, questions, row, Some(issuer), &mut keys)?;
     Ok(keys)
 }
 

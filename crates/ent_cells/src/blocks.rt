@@ -35,7 +35,8 @@ fn split(keys: &[usize], count: usize) -> (&[usize], &[usize])
 
 /// Takes the cells under some keys out. It takes no memory.
 fn remove_all(store: &mut Store, keys: &[usize])
-    ensures { (q : ℕ) → get store.new.cells q ≡ left_of store.old.cells keys.now q }
+    ensures cells { (q : ℕ) → get store.new.cells q ≡ left_of store.old.cells keys.now q }
+    ensures questions { store.new.questions ≡ store.old.questions }
 {
     for key in keys {
         store.remove(*key);
@@ -44,7 +45,8 @@ fn remove_all(store: &mut Store, keys: &[usize])
 
 /// Takes out the cells whose keys stand from place `from` on. It takes no memory.
 pub(crate) fn remove_from(store: &mut Store, keys: &[usize], from: usize)
-    ensures { (q : ℕ) → get store.new.cells q ≡ left_of store.old.cells (drop from keys.now) q }
+    ensures cells { (q : ℕ) → get store.new.cells q ≡ left_of store.old.cells (drop from keys.now) q }
+    ensures questions { store.new.questions ≡ store.old.questions }
 {
     let (_, gone) = split(keys, from);
     remove_all(store, gone);
@@ -55,6 +57,7 @@ fn remove_one(store: &mut Store, log: &mut Log<Who, Answer>, key: usize)
     requires { 0 < room_of log.old }
     ensures cells { Updates store.old.cells store.new.cells key None }
     ensures logged { Puts (gone_in store.old.cells (key ∷ [])) log.old log.new }
+    ensures questions { store.new.questions ≡ store.old.questions }
 {
     if let Some(old) = store.remove(key) {
         log.put(old);
@@ -67,6 +70,7 @@ fn remove_logged(store: &mut Store, log: &mut Log<Who, Answer>, keys: &[usize])
     requires room { length keys.now ≤ room_of log.old }
     ensures cells { (q : ℕ) → get store.new.cells q ≡ left_of store.old.cells keys.now q }
     ensures logged { Puts (gone_in store.old.cells keys.now) log.old log.new }
+    ensures questions { store.new.questions ≡ store.old.questions }
 {
     for key in keys {
         remove_one(store, log, *key);
@@ -89,6 +93,7 @@ pub(crate) fn remove_blocks(
         ≡ left_of store.old.cells (taken_out blocks.count blocks.width from blocks.each keys.now) q }
     ensures logged { Puts (gone_in store.old.cells (taken_out blocks.count blocks.width from blocks.each keys.now))
         log.old log.new }
+    ensures questions { store.new.questions ≡ store.old.questions }
 {
     let mut rest = keys;
     for done in 0..blocks.count {

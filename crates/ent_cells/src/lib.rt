@@ -16,7 +16,6 @@ mod steps;
 mod store;
 mod who;
 
-pub use asked::keys_of_row;
 pub use blocks::Blocks;
 pub use live::Live;
 pub use who::Who;

@@ -4,9 +4,10 @@ ghost use Rattle.std.specs.Prelude.{◌≡◌, ◌<◌, ◌≤◌, ◌+◌, ◌+
 ghost use Rattle.std.specs.Prelude.{IfOk, IfSome, MatchOption, OnErr, OnOk, option_copied, option_map, vec_capacity};
 ghost use Rattle.std.specs.List.{AllByRecursion};
 ghost use Rattle.ent_eval.specs.LooksOf.{looks_of};
-ghost use Rattle.ent_index.specs.Asked.{asks_policy};
+ghost use Rattle.ent_index.specs.Asked.{asks_policy, asks_row};
 ghost use Rattle.ent_log.specs.Tables.{IsSameLog, room_of};
-ghost use Rattle.ent_cells.specs.Cell.{HasReadKeys, IsRightBut, answers_in, cell_of, failures_in, reads_any, renewed};
+ghost use Rattle.ent_cells.specs.Cell.{HasReadKeys, IsRightBut, Knows, answers_in, cell_of, failures_in};
+ghost use Rattle.ent_cells.specs.Cell.{reads_any, renewed};
 ghost use Rattle.ent_cells.specs.Cell.{unlike_count};
 ghost use Rattle.ent_cells.specs.Count.{Counts, CountsAtMost};
 ghost use Rattle.ent_cells.specs.Old.{AreOld, IsLogged};
@@ -19,8 +20,8 @@ use crate::cell::Cell;
 use crate::phases::{commit_all, give_up_all, prepare};
 use crate::store::Store;
 use crate::who::Who;
-use ent_eval::{Answer, Pdp, ReadKey};
-use ent_finder::{Attributes, Policies};
+use ent_eval::{Answer, Memory, Pdp, ReadKey};
+use ent_finder::{Attributes, Policies, RowKey};
 use ent_log::{Log, OldAnswer};
 use ent_policy::Kind;
 use ent_values::{Items, Shared};
@@ -36,21 +37,20 @@ pub struct Live {
 }
 
 impl Model for Live {
-    ghost use Rattle.std.specs.Prelude.{List};
-    ghost use Rattle.std.specs.Coded.{coded_list};
     ghost use Rattle.ent_request.specs.contracts.answer.Answer as answer;
     ghost use Rattle.ent_request.specs.contracts.key.ReadKey as key;
+    ghost use Rattle.ent_request.specs.contracts.question.Question as question;
     ghost use Rattle.ent_cells.specs.contracts.who.Who as whose;
-    ghost use Rattle.ent_cells.specs.Cell.{Kept};
-    ghost use Rattle.ent_cells.specs.proofs_only.Codes.{kept_code};
+    ghost use Rattle.ent_cells.specs.Cell.{Cells};
+    ghost use Rattle.ent_cells.specs.proofs_only.Codes.{cells_code};
 
-    ghost Value = { List Kept };
+    ghost Value = { Cells };
 
-    ghost coded = { coded_list (kept_code whose.the_row.coded answer.the_row.coded key.the_row.coded) };
+    ghost coded = { cells_code whose.the_row.coded answer.the_row.coded key.the_row.coded question.the_row.coded };
 
     ghost use Rattle.ent_cells.specs.Entries.{IsLive, kept_of};
 
-    ghost view = { λ l. kept_of l.store.cells l.keys.items };
+    ghost view = { λ l. record { kept = kept_of l.store.cells l.keys.items; questions = l.store.questions } };
 
     ghost invariant = { λ l. IsLive l.store.cells l.keys.items };
 }
@@ -58,7 +58,8 @@ impl Model for Live {
 impl Live {
     /// No cells, for which nothing is allocated.
     pub fn new(alloc: Global) -> Live
-        ensures { result ≡ [] }
+        ensures kept { result.kept ≡ [] }
+        ensures questions { result.questions ≡ [] }
     {
         Live {
             alloc,
@@ -69,14 +70,14 @@ impl Live {
 
     /// How many cells there are.
     pub fn len(&self) -> usize
-        ensures { result ≡ length self.now }
+        ensures { result ≡ length self.now.kept }
     {
         self.keys.len()
     }
 
     /// The cell at a place in list order.
     fn cell(&self, place: usize) -> Option<&Cell>
-        ensures cell { option_map shown (option_copied result) ≡ slice_get (map shown_kept self.now) place }
+        ensures cell { option_map shown (option_copied result) ≡ slice_get (map shown_kept self.now.kept) place }
         ensures within { IfSome result (λ _. place < usize.MAX) }
     {
         let key = self.keys.get(place)?;
@@ -86,7 +87,7 @@ impl Live {
 
     /// The answer at a place in list order, as its owner.
     pub fn shared_answer(&self, place: usize) -> Option<&Shared<Answer>>
-        ensures answer { option_copied result ≡ slice_get (answers_in self.now) place }
+        ensures answer { option_copied result ≡ slice_get (answers_in self.now.kept) place }
         ensures within { IfSome result (λ _. place < usize.MAX) }
     {
         let cell = self.cell(place)?;
@@ -96,7 +97,7 @@ impl Live {
     /// Whether a part of the evaluation at a place in list order came to Indeterminate by itself (section 5.55),
     /// whatever the answer is.
     pub fn failed(&self, place: usize) -> Option<bool>
-        ensures { result ≡ slice_get (failures_in self.now) place }
+        ensures { result ≡ slice_get (failures_in self.now.kept) place }
     {
         let cell = self.cell(place)?;
         Some(cell.said.failed)
@@ -104,7 +105,7 @@ impl Live {
 
     /// The answer at a place in list order.
     pub fn answer(&self, place: usize) -> Option<&Answer>
-        ensures answer { option_copied result ≡ slice_get (answers_in self.now) place }
+        ensures answer { option_copied result ≡ slice_get (answers_in self.now.kept) place }
         ensures within { IfSome result (λ _. place < usize.MAX) }
     {
         let answer = self.shared_answer(place)?;
@@ -114,8 +115,8 @@ impl Live {
     /// The answer at a place in list order, and the place behind it.
     pub fn next_from(&self, place: usize) -> Option<(&Answer, usize)>
         ensures { MatchOption result
-            (drop place (answers_in self.now) ≡ [])
-            (λ next. drop place (answers_in self.now) ≡ next.0.now ∷ drop next.1 (answers_in self.now)) }
+            (drop place (answers_in self.now.kept) ≡ [])
+            (λ next. drop place (answers_in self.now.kept) ≡ next.0.now ∷ drop next.1 (answers_in self.now.kept)) }
     {
         let answer = self.answer(place)?;
         Some((answer, place + 1))
@@ -128,27 +129,38 @@ impl Live {
     pub fn settle<A: Attributes, P: Policies>(
         &mut self,
         pdp: &mut Pdp<A, P>,
+        memory: &mut Memory,
         log: &mut Log<Who, Answer>,
         changed: &[ReadKey],
     ) -> Result<Items<OldAnswer<Who, Answer>>, AllocError>
-        requires { AllByRecursion (IsRightBut changed.now (looks_of pdp.old)) self.old }
-        ensures ok { OnOk result (self.new ≡ map (renewed (looks_of pdp.old)) self.old) }
-        ensures olds { IfOk result (λ olds. AreOld olds self.old self.new) }
+        requires right { AllByRecursion (IsRightBut changed.now (looks_of pdp.old)) self.old.kept }
+        requires knows { Knows (looks_of pdp.old) self.old memory.old }
+        ensures ok { OnOk result (self.new.kept ≡ map (renewed (looks_of pdp.old)) self.old.kept) }
+        ensures olds { IfOk result (λ olds. AreOld olds self.old.kept self.new.kept) }
         ensures changes { IfOk result
-            (λ olds. length olds ≡ unlike_count (answers_in self.old) (answers_in self.new)) }
-        ensures room { IfOk result (λ olds. length olds + length self.new ≤ room_of log.new) }
+            (λ olds. length olds ≡ unlike_count (answers_in self.old.kept) (answers_in self.new.kept)) }
+        ensures room { IfOk result (λ olds. length olds + length self.new.kept ≤ room_of log.new) }
         ensures log { IsSameLog log.old log.new }
         ensures grows { room_of log.old ≤ room_of log.new }
-        ensures err { OnErr result (self.new ≡ self.old) }
+        ensures err { OnErr result (self.new.kept ≡ self.old.kept) }
+        ensures knows { Knows (looks_of pdp.old) self.new memory.new }
         ensures counted { OnOk result
-            (Counts pdp.old.evaluations pdp.new.evaluations (count_by (reads_any changed.now) self.old)) }
+            (Counts pdp.old.evaluations pdp.new.evaluations (count_by (reads_any changed.now) self.old.kept)) }
         ensures bound { CountsAtMost pdp.old.evaluations pdp.new.evaluations
-            (count_by (reads_any changed.now) self.old) }
+            (count_by (reads_any changed.now) self.old.kept) }
         ensures rest { pdp.new ≡ record pdp.old { evaluations = pdp.new.evaluations } }
     {
         let touched = self.store.touched(changed)?;
         let keys = touched.as_slice();
-        match prepare(self.alloc, &mut self.store, pdp, log, keys, self.keys.len()) {
+        match prepare(
+            self.alloc,
+            &mut self.store,
+            pdp,
+            memory,
+            log,
+            keys,
+            self.keys.len(),
+        ) {
             Ok(olds) => {
                 commit_all(&mut self.store, keys);
                 Ok(olds)
@@ -165,18 +177,21 @@ impl Live {
     pub fn add<A: Attributes, P: Policies>(
         &mut self,
         pdp: &mut Pdp<A, P>,
+        memory: &mut Memory,
         blocks: Blocks,
         requests: Items<Shared<Who>>,
     ) -> Result<(), AllocError>
-        ensures ok { OnOk result (self.new ≡ woven blocks.count blocks.width blocks.each self.old
+        requires { Knows (looks_of pdp.old) self.old memory.old }
+        ensures ok { OnOk result (self.new.kept ≡ woven blocks.count blocks.width blocks.each self.old.kept
             (map (cell_of (looks_of pdp.old)) requests)) }
-        ensures err { OnErr result (self.new ≡ self.old) }
+        ensures err { OnErr result (self.new.kept ≡ self.old.kept) }
+        ensures knows { Knows (looks_of pdp.old) self.new memory.new }
         ensures counted { OnOk result (Counts pdp.old.evaluations pdp.new.evaluations (length requests)) }
         ensures bound { CountsAtMost pdp.old.evaluations pdp.new.evaluations (length requests) }
         ensures rest { pdp.new ≡ record pdp.old { evaluations = pdp.new.evaluations } }
     {
         let start = self.len();
-        self.append(pdp, blocks.each, requests)?;
+        self.append(pdp, memory, blocks.each, requests)?;
         if blocks.count == 0 {
             return Ok(());
         }
@@ -195,27 +210,36 @@ impl Live {
     /// Drops the cells of a name, which stand from place `from` on in each of the blocks, and logs their answers. It
     /// takes no memory.
     pub fn narrow(&mut self, log: &mut Log<Who, Answer>, blocks: Blocks, from: usize)
-        requires room { length self.old ≤ room_of log.old }
-        ensures cells { self.new ≡ without blocks.count blocks.width from blocks.each self.old }
-        ensures logged { IsLogged self.old self.new log.old log.new }
+        requires room { length self.old.kept ≤ room_of log.old }
+        ensures questions { self.new.questions ≡ self.old.questions }
+        ensures cells { self.new.kept ≡ without blocks.count blocks.width from blocks.each self.old.kept }
+        ensures logged { IsLogged self.old.kept self.new.kept log.old log.new }
         ensures from { log.new.from ≡ log.old.from }
         ensures serial { log.new.serial ≡ log.old.serial }
-        ensures room { length self.new ≤ room_of log.new }
+        ensures room { length self.new.kept ≤ room_of log.new }
     {
         remove_blocks(&mut self.store, log, &self.keys, blocks, from);
         keep_present(&mut self.keys, &self.store);
     }
 
+    /// Keys whose values a row may change, among them each on which an answer rests.
+    pub fn keys_of_row(&self, row: &RowKey) -> Result<Items<ReadKey>, AllocError>
+        ensures { IfOk result (HasReadKeys (asks_row row.now) self.now.kept) }
+    {
+        self.store.keys_of_row(row)
+    }
+
     /// References of a kind and an id, among them each on which an answer rests.
     pub fn keys_of_policy(&self, kind: Kind, id: &str) -> Result<Items<ReadKey>, AllocError>
-        ensures { IfOk result (HasReadKeys (asks_policy kind id.now) self.now) }
+        ensures { IfOk result (HasReadKeys (asks_policy kind id.now) self.now.kept) }
     {
         self.store.keys_of_policy(kind, id)
     }
 
     /// Keeps the first cells. It takes no memory.
     fn truncate(&mut self, len: usize)
-        ensures { self.new ≡ take len self.old }
+        ensures cells { self.new.kept ≡ take len self.old.kept }
+        ensures questions { self.new.questions ≡ self.old.questions }
     {
         remove_from(&mut self.store, &self.keys, len);
         keep_present(&mut self.keys, &self.store);
@@ -224,10 +248,12 @@ impl Live {
     /// Moves the cells from place `start` on behind the blocks before it. It takes no memory but the room that it is
     /// given.
     fn arrange(&mut self, mut room: Vec<usize>, start: usize, blocks: Blocks)
-        requires start { start ≤ length self.old }
+        requires start { start ≤ length self.old.kept }
         requires empty { room.items ≡ [] }
-        requires room { length self.old ≤ vec_capacity room }
-        ensures { self.new ≡ woven blocks.count blocks.width blocks.each (take start self.old) (drop start self.old) }
+        requires room { length self.old.kept ≤ vec_capacity room }
+        ensures cells { self.new.kept ≡ woven blocks.count blocks.width blocks.each
+            (take start self.old.kept) (drop start self.old.kept) }
+        ensures questions { self.new.questions ≡ self.old.questions }
     {
         let (keys, added) = self.keys.split_at(start);
         weave(
@@ -245,18 +271,21 @@ impl Live {
     fn append<A: Attributes, P: Policies>(
         &mut self,
         pdp: &mut Pdp<A, P>,
+        memory: &mut Memory,
         apart: usize,
         requests: Items<Shared<Who>>,
     ) -> Result<(), AllocError>
-        ensures ok { OnOk result (self.new ≡ self.old ++ map (cell_of (looks_of pdp.old)) requests) }
-        ensures err { OnErr result (self.new ≡ self.old) }
+        requires { Knows (looks_of pdp.old) self.old memory.old }
+        ensures ok { OnOk result (self.new.kept ≡ self.old.kept ++ map (cell_of (looks_of pdp.old)) requests) }
+        ensures err { OnErr result (self.new.kept ≡ self.old.kept) }
+        ensures knows { Knows (looks_of pdp.old) self.new memory.new }
         ensures counted { OnOk result (Counts pdp.old.evaluations pdp.new.evaluations (length requests)) }
         ensures bound { CountsAtMost pdp.old.evaluations pdp.new.evaluations (length requests) }
         ensures rest { pdp.new ≡ record pdp.old { evaluations = pdp.new.evaluations } }
     {
         let start = self.len();
         let (store, keys) = (&mut self.store, &mut self.keys);
-        match push_all(self.alloc, store, keys, pdp, apart, requests) {
+        match push_all(store, keys, pdp, memory, apart, requests) {
             Ok(()) => Ok(()),
             Err(error) => {
                 self.truncate(start);

@@ -5,6 +5,7 @@ ghost use Rattle.std.specs.Prelude.{◌≡◌, ◌<◌, ◌≤◌, ◌+◌, ◌^
 ghost use Rattle.std.specs.List.{All};
 ghost use Rattle.slab.specs.Slab.{get};
 ghost use Rattle.ent_eval.specs.LooksOf.{looks_of};
+ghost use Rattle.ent_eval.specs.Memory.{Remembers};
 ghost use Rattle.ent_log.specs.Tables.{IsSameLog, room_of};
 ghost use Rattle.ent_cells.specs.Count.{Counts, CountsAtMost};
 ghost use Rattle.ent_cells.specs.Entries.{AreFree};
@@ -22,28 +23,29 @@ use ent_values::Items;
 use std::alloc::{AllocError, Global};
 use std::slice;
 
-/// Evaluates the cells under some keys, each once, and makes ready what that says. What is found for one serves those
-/// behind it, and is forgotten then. After a refusal some may be ready.
+/// Evaluates the cells under some keys, each once, and makes ready what that says. What is remembered
+/// serves them. After a refusal some may be ready.
 fn prepare_all<A: Attributes, P: Policies>(
-    alloc: Global,
     store: &mut Store,
     pdp: &mut Pdp<A, P>,
+    memory: &mut Memory,
     keys: &[usize],
 ) -> Result<(), AllocError>
     requires free { AreFree store.old.cells }
     requires there { All (λ c. IsSome (get store.old.cells c)) keys.now }
     requires once { (c : ℕ) → times c keys.now ≤ 1 }
+    requires remembers { Remembers (looks_of pdp.old) store.old.questions memory.old }
     ensures ok { OnOk result
         (IsPrepared (looks_of pdp.old) keys.now store.old.cells store.new.cells) }
     ensures err { OnErr result (KeepsCells keys.now store.old.cells store.new.cells) }
+    ensures remembers { Remembers (looks_of pdp.old) store.new.questions memory.new }
     ensures counted { OnOk result (Counts pdp.old.evaluations pdp.new.evaluations (length keys.now)) }
     ensures bound { CountsAtMost pdp.old.evaluations pdp.new.evaluations (length keys.now) }
     ensures rest { pdp.new ≡ record pdp.old { evaluations = pdp.new.evaluations } }
 {
-    let mut memory = Memory::new(alloc);
     let mut beside: &[usize] = &[];
     for key in keys {
-        store.prepare(pdp, &mut memory, *key, beside)?;
+        store.prepare(pdp, memory, *key, beside)?;
         beside = slice::from_ref(key);
     }
     Ok(())
@@ -72,6 +74,7 @@ pub(crate) fn prepare<A: Attributes, P: Policies>(
     alloc: Global,
     store: &mut Store,
     pdp: &mut Pdp<A, P>,
+    memory: &mut Memory,
     log: &mut Log<Who, Answer>,
     keys: &[usize],
     others: usize,
@@ -80,18 +83,20 @@ pub(crate) fn prepare<A: Attributes, P: Policies>(
     requires there { All (λ c. IsSome (get store.old.cells c)) keys.now }
     requires once { (c : ℕ) → times c keys.now ≤ 1 }
     requires fits { length keys.now + others < 2 ^ 64 }
+    requires remembers { Remembers (looks_of pdp.old) store.old.questions memory.old }
     ensures ok { OnOk result
         (IsPrepared (looks_of pdp.old) keys.now store.old.cells store.new.cells) }
     ensures olds { IfOk result (λ olds. olds ≡ olds_in store.new.cells keys.now) }
     ensures room { IfOk result (λ olds. length olds + others ≤ room_of log.new) }
     ensures err { OnErr result (KeepsCells keys.now store.old.cells store.new.cells) }
+    ensures remembers { Remembers (looks_of pdp.old) store.new.questions memory.new }
     ensures log { IsSameLog log.old log.new }
     ensures grows { room_of log.old ≤ room_of log.new }
     ensures counted { OnOk result (Counts pdp.old.evaluations pdp.new.evaluations (length keys.now)) }
     ensures bound { CountsAtMost pdp.old.evaluations pdp.new.evaluations (length keys.now) }
     ensures rest { pdp.new ≡ record pdp.old { evaluations = pdp.new.evaluations } }
 {
-    prepare_all(alloc, store, pdp, keys)?;
+    prepare_all(store, pdp, memory, keys)?;
     let olds = old_answers(alloc, store, keys)?;
     log.reserve(olds.len() + others)?;
     Ok(olds)
@@ -101,7 +106,8 @@ pub(crate) fn prepare<A: Attributes, P: Policies>(
 pub(crate) fn give_up_all(store: &mut Store, keys: &[usize])
     requires there { All (λ c. IsSome (get store.old.cells c)) keys.now }
     requires once { (c : ℕ) → times c keys.now ≤ 1 }
-    ensures { (c : ℕ) → get store.new.cells c ≡ changed_at given_up keys.now c (get store.old.cells c) }
+    ensures cells { (c : ℕ) → get store.new.cells c ≡ changed_at given_up keys.now c (get store.old.cells c) }
+    ensures questions { store.new.questions ≡ store.old.questions }
 {
     for key in keys {
         store.give_up(*key);
@@ -112,7 +118,8 @@ pub(crate) fn give_up_all(store: &mut Store, keys: &[usize])
 pub(crate) fn commit_all(store: &mut Store, keys: &[usize])
     requires there { All (λ c. IsSome (get store.old.cells c)) keys.now }
     requires once { (c : ℕ) → times c keys.now ≤ 1 }
-    ensures { (c : ℕ) → get store.new.cells c ≡ changed_at settled keys.now c (get store.old.cells c) }
+    ensures cells { (c : ℕ) → get store.new.cells c ≡ changed_at settled keys.now c (get store.old.cells c) }
+    ensures questions { store.new.questions ≡ store.old.questions }
 {
     for key in keys {
         store.commit(*key);

@@ -1,11 +1,11 @@
 //! Cells under keys that last, and the groups in which they are.
 
-ghost use Rattle.std.specs.Prelude.{◌≡◌, ℕ, cond, IfOk, IsSome, None, OnErr, OnOk};
+ghost use Rattle.std.specs.Prelude.{◌≡◌, ℕ, [], cond, IfOk, IsSome, None, OnErr, OnOk};
 ghost use Rattle.std.specs.Prelude.{option_and_then, option_copied, option_map};
 ghost use Rattle.slab.specs.Slab.{Updates, get};
 ghost use Rattle.ent_eval.specs.LooksOf.{looks_of};
 ghost use Rattle.ent_eval.specs.Memory.{Remembers};
-ghost use Rattle.ent_index.specs.Asked.{asks_policy};
+ghost use Rattle.ent_index.specs.Asked.{asks_policy, asks_row};
 ghost use Rattle.ent_cells.specs.Cell.{says};
 ghost use Rattle.ent_cells.specs.Count.{Counts, CountsAtMost};
 ghost use Rattle.ent_cells.specs.Grid.{times};
@@ -16,7 +16,7 @@ ghost use Rattle.ent_cells.specs.proofs_only.Grouping.{shown, shown_entry};
 ghost use Rattle.ent_cells.specs.proofs_only.Logging.{old_at, old_of};
 ghost use Rattle.ent_cells.specs.proofs_only.Phases.{made_ready};
 
-use crate::asked::references;
+use crate::asked::{keys_of_row, references};
 use crate::cell::{Cell, Grouped};
 use crate::confirm::keep_touched;
 use crate::evaluate::evaluate;
@@ -25,7 +25,7 @@ use crate::sharing::{group_of_first, shared_answer};
 use crate::steps::{drop_next, enter, leave, make_ready, regroup, say_next};
 use crate::who::Who;
 use ent_eval::{Answer, Memory, Pdp, Questions, ReadKey};
-use ent_finder::{Attributes, Policies};
+use ent_finder::{Attributes, Policies, RowKey};
 use ent_index::{Groups, Wanted};
 use ent_log::OldAnswer;
 use ent_policy::Kind;
@@ -66,7 +66,8 @@ impl Model for Store {
 impl Store {
     /// No cells, for which nothing is allocated.
     pub(crate) fn new(alloc: Global) -> Store
-        ensures { result.cells ≡ no_entries }
+        ensures cells { result.cells ≡ no_entries }
+        ensures questions { result.questions ≡ [] }
     {
         Store {
             alloc,
@@ -136,7 +137,8 @@ impl Store {
     /// Says of the cell under a key what is ready of it. It takes no memory.
     pub(crate) fn commit(&mut self, key: usize)
         requires { IsSome (get self.old.cells key) }
-        ensures { Becomes settled key self.old.cells self.new.cells }
+        ensures cells { Becomes settled key self.old.cells self.new.cells }
+        ensures questions { self.new.questions ≡ self.old.questions }
     {
         say_next(&mut self.slab, &mut self.groups, key);
     }
@@ -144,7 +146,8 @@ impl Store {
     /// Gives up what is ready of the cell under a key. It takes no memory.
     pub(crate) fn give_up(&mut self, key: usize)
         requires { IsSome (get self.old.cells key) }
-        ensures { Becomes given_up key self.old.cells self.new.cells }
+        ensures cells { Becomes given_up key self.old.cells self.new.cells }
+        ensures questions { self.new.questions ≡ self.old.questions }
     {
         drop_next(&mut self.slab, &mut self.groups, key);
     }
@@ -188,6 +191,7 @@ impl Store {
     pub(crate) fn remove(&mut self, key: usize) -> Option<OldAnswer<Who, Answer>>
         ensures cells { Updates self.old.cells self.new.cells key None }
         ensures gone { result ≡ option_map (λ e. old_of e.kept) (get self.old.cells key) }
+        ensures questions { self.new.questions ≡ self.old.questions }
     {
         let Some(cell) = self.slab.try_remove(key) else {
             return None;
@@ -205,6 +209,13 @@ impl Store {
         let wanted = Wanted::of(self.alloc, &self.questions, changed)?;
         let cells = self.groups.candidates(&wanted)?;
         keep_touched(self.alloc, &self.slab, &self.groups, &cells, &wanted)
+    }
+
+    /// The keys whose values a row may change, and on which an answer has rested, whoever it was of.
+    pub(crate) fn keys_of_row(&self, row: &RowKey) -> Result<Items<ReadKey>, AllocError>
+        ensures { IfOk result (HasKeysOf (asks_row row.now) self.now.cells) }
+    {
+        keys_of_row(self.alloc, &self.questions, row)
     }
 
     /// The references of a kind and an id on which an answer has rested.

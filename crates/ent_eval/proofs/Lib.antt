@@ -1,9 +1,5 @@
-pub mod AtEnd
-pub mod BagsNumbered
 pub mod Fitting
-pub mod Growing
-pub mod ListedBags
-pub mod MakingWays
+pub mod PlanStands
 pub mod Remembering
-pub mod Seeking
 pub mod Shelved
+pub mod TestsKept

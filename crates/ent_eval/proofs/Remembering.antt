@@ -1,101 +1,81 @@
 -- What is remembered stays so as questions and bags get numbers, and a case gives the answer of each request that fits it.
-use Rattle.std.proofs.Common.{◌≡◌, inl, inr, ℕ, ◌<◌, List, [], ◌∷◌, Option, Some, length, slice_get, get_or, refl, sym, ap, subst, ◌∙◌, arith}
+use Rattle.std.proofs.Common.{List, refl, ◌∙◌}
 use Rattle.std.specs.List.{AllByRecursion}
-use Rattle.std.proofs.lemmas.Option.{get_or_from_slice_get, slice_get-get_or, slice_get_within}
 use Rattle.ent_values.specs.Bags.{Contents}
 use Rattle.ent_eval.specs.declared.case.Case.{Case}
-use Rattle.ent_eval.specs.declared.case.Finding.{Finding}
 use Rattle.ent_eval.specs.declared.cases.Cases.{Cases}
 use Rattle.ent_eval.specs.declared.memory.Memory.{Memory}
-use Rattle.ent_eval.specs.declared.names.Names.{Names}
-use Rattle.ent_eval.specs.declared.names.Row.{Row}
-use Rattle.ent_request.specs.declared.question.Asked.{Asked}
 use Rattle.ent_request.specs.declared.question.Question.{Question}
-use Rattle.ent_request.specs.declared.question.Question.TheVariants.{Root, Of}
-use Rattle.ent_request.specs.declared.readers.Place.{Place}
 use Rattle.ent_request.specs.declared.readers.Place.TheVariants.{Person, Action, Resource}
 use Rattle.ent_request.specs.declared.request.Request.{Request}
 use Rattle.ent_eval.specs.declared.shelf.Shelf.{Shelf}
 use Rattle.ent_request.specs.Listed.{listed}
 use Rattle.ent_request.specs.Looks.{Looks}
-use Rattle.ent_eval.specs.Memory.{AreShelves, FindsBag, Fits, IsCase, IsFinding, IsRow, IsShelf, Remembers, bag_for, place_of}
-use Rattle.ent_request.specs.Questions.{AreNumbers, BeginsWith, at_numbers}
-use Rattle.ent_eval.specs.proofs_only.Remembered.{AddsRows, AreRows, Begins, FindsAll, FindsForName, IsAbout, IsAt, Knows, KnowsLatest, LearnsLatest, NoneFits, bag_in}
-use Rattle.ent_request.proofs.Lists.{all_append}
-use Rattle.ent_eval.proofs.Growing.{all_map, all_set, get_set, some_same, starts_back, starts_get, starts_itself, starts_length}
-use Rattle.ent_eval.proofs.ListedBags.{found_for}
-use Rattle.ent_request.proofs.Numbering.{all_at}
+use Rattle.ent_eval.specs.Held.{HaveSameDocuments}
+use Rattle.ent_eval.specs.Memory.{AreShelves, Fits, IsCase, IsShelf, Remembers}
+use Rattle.ent_request.specs.Questions.{BeginsWith}
+use Rattle.ent_found.specs.proofs_only.Ready.{Begins}
+use Rattle.ent_eval.specs.proofs_only.Remembered.{NoneFits}
+use Rattle.ent_found.proofs.Growing.{all_map, starts_itself, starts_then}
+use Rattle.ent_found.proofs.Learning.{about_more, all_back, all_more, are_more, numbers_more, rows_more}
+use Rattle.ent_eval.proofs.TestsKept.{tests_more}
 
 -- ---- growth
 
 module _ (looks : Looks) (questions more : List Question) (bags bigger : List Contents) (first : Begins more questions) (second : Begins bigger bags) where
-  finds_more : (request : Request) (n k : ℕ) → FindsBag looks questions bags request n k → FindsBag looks more bigger request n k
-  finds_more request n k finds = (finds.0, (starts_get questions more n finds.0 first finds.1.0, starts_get bags bigger k (bag_for looks request finds.0) second finds.1.1))
-
-  pub all_more : (request : Request) (found : List Finding) → FindsAll looks questions bags request found → FindsAll looks more bigger request found
-  all_more request found all =
-      all_map (λ f. FindsBag looks questions bags request f.question f.bag) (λ f. FindsBag looks more bigger request f.question f.bag) (λ f. finds_more request f.question f.bag) found all
-
-  pub finding_more : (f : Finding) → IsFinding questions bags f → IsFinding more bigger f
-  finding_more f is = (omega (arith, is.0, starts_length bags bigger second), (is.1.0, (starts_get questions more f.question is.1.0 first is.1.1.0, is.1.1.1)))
-
-  pub are_more : (found : List Finding) → AllByRecursion (IsFinding questions bags) found → AllByRecursion (IsFinding more bigger) found
-  are_more found all = all_map (IsFinding questions bags) (IsFinding more bigger) finding_more found all
-
-  -- what a request finds that was found before, it found then
-  finds_back : (request : Request) (f : Finding) → IsFinding questions bags f → FindsBag looks more bigger request f.question f.bag → FindsBag looks questions bags request f.question f.bag
-  finds_back request f is finds =
-      let below : f.question < length questions = slice_get_within questions f.question is.1.0 is.1.1.0 in
-      (finds.0, (starts_back questions more f.question finds.0 first below finds.1.0, starts_back bags bigger f.bag (bag_for looks request finds.0) second is.0 finds.1.1))
-
-  pub all_back : (request : Request) (found : List Finding) → AllByRecursion (IsFinding questions bags) found → FindsAll looks more bigger request found → FindsAll looks questions bags request found
-  all_back request [] are all = tt
-  all_back request (f ∷ found) are all = (finds_back request f are.0 all.0, all_back request found are.1 all.1)
-
-  row_more : (place : Place) (row : Row) → IsRow looks questions bags place row → IsRow looks more bigger place row
-  row_more place row is n k known person action resource same = finds_more (listed person action resource) n k (is n k known person action resource same)
-
-  pub rows_more : (place : Place) (names : Names) → AreRows looks questions bags place names → AreRows looks more bigger place names
-  rows_more place names all = all_map (IsRow looks questions bags place) (IsRow looks more bigger place) (row_more place) names.rows.items all
-
-  numbers_more : (numbers : List ℕ) → AreNumbers questions numbers → AreNumbers more numbers × (at_numbers more numbers ≡ at_numbers questions numbers)
-  numbers_more [] within = (tt, refl)
-  numbers_more (n ∷ numbers) within =
-      let rest = numbers_more numbers within.1 in
-      let there : slice_get more n ≡ Some (get_or questions n Root) = starts_get questions more n (get_or questions n Root) first (slice_get-get_or questions n Root within.0) in (
-        (slice_get_within more n (get_or questions n Root) there, rest.0),
-        ap (λ x. x ∷ at_numbers more numbers) (get_or_from_slice_get more n (get_or questions n Root) Root there) ∙ ap (λ xs. get_or questions n Root ∷ xs) rest.1,
-      )
-
   pub case_more : (c : Case) → IsCase looks questions bags c → IsCase looks more bigger c
   case_more c is =
-      let numbers = numbers_more c.asked is.within in
+      let numbers = numbers_more looks questions more bags bigger first second c.asked is.within in
       record {
-        findings = are_more c.found is.findings;
+        findings = are_more looks questions more bags bigger first second c.found is.findings;
         within = numbers.0;
-        answer = λ person action resource fits. is.answer person action resource (all_back (listed person action resource) c.found is.findings fits);
-        asked = λ person action resource fits. numbers.1 ∙ is.asked person action resource (all_back (listed person action resource) c.found is.findings fits);
-        failed = λ person action resource fits. is.failed person action resource (all_back (listed person action resource) c.found is.findings fits);
+        answer = λ t same person action resource fits. is.answer t same person action resource (all_back t questions more bags bigger first second (listed person action resource) c.found is.findings fits);
+        asked = λ t same person action resource fits. numbers.1 ∙ is.asked t same person action resource (all_back t questions more bags bigger first second (listed person action resource) c.found is.findings fits);
+        failed = λ t same person action resource fits. is.failed t same person action resource (all_back t questions more bags bigger first second (listed person action resource) c.found is.findings fits);
       }
 
   pub cases_more : (cases : List Case) → AllByRecursion (IsCase looks questions bags) cases → AllByRecursion (IsCase looks more bigger) cases
   cases_more cases all = all_map (IsCase looks questions bags) (IsCase looks more bigger) case_more cases all
 
   pub none_more : (request : Request) (cases : List Case) → NoneFits looks more bigger request cases → NoneFits looks questions bags request cases
-  none_more request cases all = all_map (λ c. Fits looks more bigger request c → ⊥) (λ c. Fits looks questions bags request c → ⊥) (λ c no fits. no (all_more request c.found fits)) cases all
-
-  about_more : (n : ℕ) (place : Place) → IsAbout questions n place → IsAbout more n place
-  about_more n place is = (is.0, (starts_get questions more n is.0 first is.1.0, is.1.1))
+  none_more request cases all = all_map (λ c. Fits looks more bigger request c → ⊥) (λ c. Fits looks questions bags request c → ⊥) (λ c no fits. no (all_more looks questions more bags bigger first second request c.found fits)) cases all
 
   pub shelf_more : (shelf : Shelf) → IsShelf looks questions bags shelf → IsShelf looks more bigger shelf
   shelf_more shelf is = record {
     cases = cases_more shelf.cases.items is.cases;
     few = is.few;
-    index = record { asks = λ n k asked. about_more k.question k.place (is.index.asks n k asked); led = is.index.led; leads = is.index.leads };
+    index = record { asks = λ n k asked. about_more looks questions more bags bigger first second k.question k.place (is.index.asks n k asked); led = is.index.led; leads = is.index.leads };
   }
 
   pub shelves_more : (cases : Cases) → AreShelves looks questions bags cases → AreShelves looks more bigger cases
   shelves_more cases are = record { older = shelf_more cases.older are.older; latest = shelf_more cases.latest are.latest }
+
+-- ---- where values alone are others
+
+documents_then : (s t u : Looks) → HaveSameDocuments s t → HaveSameDocuments t u → HaveSameDocuments s u
+documents_then s t u first second = record {
+  root = second.root ∙ first.root;
+  documents = λ reference. second.documents reference ∙ first.documents reference;
+  date = second.date ∙ first.date;
+  time = second.time ∙ first.time;
+  date_time = second.date_time ∙ first.date_time;
+}
+
+module _ (looks other : Looks) (same : HaveSameDocuments looks other) (questions : List Question) (bags : List Contents) where
+  case_still : (c : Case) → IsCase looks questions bags c → IsCase other questions bags c
+  case_still c is = record {
+    findings = is.findings;
+    within = is.within;
+    answer = λ t next person action resource fits. is.answer t (documents_then looks other t same next) person action resource fits;
+    asked = λ t next person action resource fits. is.asked t (documents_then looks other t same next) person action resource fits;
+    failed = λ t next person action resource fits. is.failed t (documents_then looks other t same next) person action resource fits;
+  }
+
+  shelf_still : (shelf : Shelf) → IsShelf looks questions bags shelf → IsShelf other questions bags shelf
+  shelf_still shelf is = record { cases = all_map (IsCase looks questions bags) (IsCase other questions bags) case_still shelf.cases.items is.cases; few = is.few; index = is.index }
+
+  pub shelves_still : (cases : Cases) → AreShelves looks questions bags cases → AreShelves other questions bags cases
+  shelves_still cases are = record { older = shelf_still cases.older are.older; latest = shelf_still cases.latest are.latest }
 
 -- what is remembered stays so as more questions get numbers
 pub remembers_more : (looks : Looks) (questions more : List Question) (memory : Memory) → BeginsWith more questions → Remembers looks questions memory → Remembers looks more memory
@@ -110,71 +90,9 @@ remembers_more looks questions more memory begins has =
         resources = rows_more looks questions more bags bags begins same Resource memory.findings.resources has.findings.resources;
       };
       cases = shelves_more looks questions more bags bags begins same memory.cases has.cases;
+      tests = tests_more questions more bags bags begins same memory.tests looks has.tests;
     }
 
--- ---- rows
-
--- rows of which nothing is known are as they should be
-pub added_rows : (looks : Looks) (questions : List Question) (bags : List Contents) (place : Place) (old new : List Row) → AddsRows old new
-    → AllByRecursion (IsRow looks questions bags place) old → AllByRecursion (IsRow looks questions bags place) new
-added_rows looks questions bags place old new adds all =
-    subst (AllByRecursion (IsRow looks questions bags place)) (sym adds.1.0)
-    (all_append (IsRow looks questions bags place) old adds.0 all (all_map (λ r. r.found.items ≡ []) (IsRow looks questions bags place) fresh adds.0 adds.1.1)) where
-      nothing : (xs : List (Option ℕ)) (n k : ℕ) → xs ≡ [] → slice_get xs n ≡ Some (Some k) → ⊥
-      nothing [] n k is at = absurd (cc)
-      nothing (x ∷ xs) n k is at = absurd (cc)
-
-      fresh : (row : Row) → row.found.items ≡ [] → IsRow looks questions bags place row
-      fresh row is n k known = absurd (nothing row.found.items n k is known)
-
--- what is known of the latest name is found for it
-pub known_for : (looks : Looks) (questions : List Question) (bags : List Contents) (place : Place) (names : Names) (name : List ℕ) (n k : ℕ) → AreRows looks questions bags place names
-    → IsAt names name → KnowsLatest names n k → FindsForName looks questions bags place name n k
-known_for looks questions bags place names name n k all at knows person action resource same =
-    let row : knows.0 ≡ at.0 = some_same knows.0 at.0 (sym knows.1.0 ∙ at.1.0) in
-    let named : name ≡ knows.0.name = sym at.1.1 ∙ ap (λ (r : Row). r.name) (sym row) in
-    all_at (IsRow looks questions bags place) names.rows.items names.latest knows.0 all knows.1.0 n k knows.1.1 person action resource (same ∙ named)
-
--- a row that learns what is found for its name is as it should be
-pub learnt_rows : (looks : Looks) (questions : List Question) (bags : List Contents) (place : Place) (old new : Names) (name : List ℕ) (n k : ℕ) → FindsForName looks questions bags place name n k
-    → IsAt old name → LearnsLatest old new n k → AreRows looks questions bags place old → AreRows looks questions bags place new
-learnt_rows looks questions bags place old new name n k finds at learns all =
-    subst (AllByRecursion (IsRow looks questions bags place)) (sym learns.1.1.1.1.0) (all_set (IsRow looks questions bags place) old.rows.items old.latest learns.1.0 next all) where
-      next : (row : Row) → slice_get old.rows.items old.latest ≡ Some row → IsRow looks questions bags place row → IsRow looks questions bags place learns.1.0
-      next row there is m j knows person action resource same =
-          let this : learns.0 ≡ row = some_same learns.0 row (sym learns.1.1.1.0 ∙ there) in
-          let at_row : at.0 ≡ row = some_same at.0 row (sym at.1.0 ∙ there) in
-          let named : learns.1.0.name ≡ row.name = learns.1.1.1.1.1.0 ∙ ap (λ (r : Row). r.name) this in
-          elim (learns.1.1.1.1.1.1 m j knows) [
-            | inl before ↦ is m j (subst (λ r. Knows r m j) this before) person action resource (same ∙ named)
-            | inr now ↦ subst (λ x. FindsBag looks questions bags (listed person action resource) x j) (sym now.0)
-                (subst (λ x. FindsBag looks questions bags (listed person action resource) n x) (sym now.1)
-                (finds person action resource (same ∙ named ∙ ap (λ (r : Row). r.name) (sym at_row) ∙ at.1.1)))
-          ]
-
--- and the names are still at it
-pub learnt_at : (old new : Names) (name : List ℕ) (n k : ℕ) → IsAt old name → LearnsLatest old new n k → IsAt new name
-learnt_at old new name n k at learns =
-    let row : at.0 ≡ learns.0 = some_same at.0 learns.0 (sym at.1.0 ∙ learns.1.1.1.0) in
-    let below : old.latest < length old.rows.items = slice_get_within old.rows.items old.latest learns.0 learns.1.1.1.0 in (
-      learns.1.0,
-      (
-        ap (slice_get new.rows.items) learns.1.1.0 ∙ ap (λ rows. slice_get rows old.latest) learns.1.1.1.1.0 ∙ get_set old.rows.items old.latest learns.1.0 below,
-        learns.1.1.1.1.1.0 ∙ ap (λ (r : Row). r.name) (sym row) ∙ at.1.1,
-      ),
-    )
-
--- what was looked up for a name is found for it
-pub found_now : (looks : Looks) (questions : List Question) (bags : List Contents) (place : Place) (name : List ℕ) (n k : ℕ) (a : Asked) (b : Contents) → slice_get questions n ≡ Some (Of a)
-    → IsAbout questions n place → b ≡ bag_in looks a name → slice_get bags k ≡ Some b → FindsForName looks questions bags place name n k
-found_now looks questions bags place name n k a b at about is there =
-    let this : about.0 ≡ Of a = some_same about.0 (Of a) (sym about.1.0 ∙ at) in
-    found_for looks questions bags place name n k a at (ap place_of (sym this) ∙ about.1.1) (there ∙ ap Some is)
-
--- and its row learns it
-pub learnt_now : (looks : Looks) (questions : List Question) (bags bigger : List Contents) (place : Place) (old new : Names) (name : List ℕ) (n k : ℕ) (a : Asked) (b : Contents) → slice_get questions n ≡ Some (Of a)
-    → IsAbout questions n place → b ≡ bag_in looks a name → slice_get bigger k ≡ Some b → Begins bigger bags → IsAt old name → LearnsLatest old new n k → AreRows looks questions bags place old
-    → AreRows looks questions bigger place new
-learnt_now looks questions bags bigger place old new name n k a b at about is there begins stands learns all =
-    learnt_rows looks questions bigger place old new name n k (found_now looks questions bigger place name n k a b at about is there) stands learns
-    (rows_more looks questions questions bags bigger (starts_itself questions questions refl) begins place old all)
+-- questions that have numbers keep them, over two steps
+pub begins_then : (first second third : List Question) → BeginsWith second first → BeginsWith third second → BeginsWith third first
+begins_then first second third one two = starts_then first second third one two

@@ -8,49 +8,34 @@ use Rattle.std.proofs.lemmas.Option.{slice_get_within}
 use Rattle.ent_tree.specs.Tree.{Ends, Leads, LeadsAsBefore, key_at, leaf_at}
 use Rattle.ent_values.specs.Bags.{Contents}
 use Rattle.ent_eval.specs.declared.case.Case.{Case}
-use Rattle.ent_eval.specs.declared.case.Finding.{Finding}
 use Rattle.ent_eval.specs.declared.cases.Cases.{Cases}
 use Rattle.ent_eval.specs.declared.pdp.ListedEvaluation.{ListedEvaluation}
 use Rattle.ent_request.specs.declared.question.Question.{Question}
 use Rattle.ent_request.specs.declared.request.Request.{Request}
 use Rattle.ent_eval.specs.declared.shelf.Shelf.{Shelf}
-use Rattle.ent_eval.specs.Found.{IsAbout}
 use Rattle.ent_request.specs.Looks.{Looks}
-use Rattle.ent_eval.specs.Memory.{Fits, Gives, HasCaseIn, IsCase, IsFinding, IsShelf, cases_in, most_cases}
-use Rattle.ent_eval.specs.Ways.{AsksAbout, IsIndex, Nodes, Way, turn_of, turned, way_of}
-use Rattle.ent_eval.specs.proofs_only.Led.{AreAbout, FindsWay}
-use Rattle.ent_eval.specs.proofs_only.Remembered.{Begins, FindsAll, HasPut, NoneFits}
+use Rattle.ent_eval.specs.Memory.{Fits, Gives, HasCaseIn, IsCase, IsIndex, IsShelf, cases_in, most_cases}
+use Rattle.ent_found.specs.Ways.{AsksAbout, FindsWay, Nodes, Way, way_of}
+use Rattle.ent_found.specs.proofs_only.Ready.{Begins}
+use Rattle.ent_eval.specs.proofs_only.Remembered.{HasPut, NoneFits}
 use Rattle.ent_request.proofs.Lists.{all_append}
-use Rattle.ent_eval.proofs.Growing.{all_map, at_end, get_fewer, get_more, some_same, starts_itself}
+use Rattle.ent_found.proofs.Growing.{all_by_place, at_end, get_fewer, get_more, some_same, starts_itself}
+use Rattle.ent_found.proofs.Learning.{finds_way, way_finds}
 use Rattle.ent_eval.proofs.Remembering.{none_more}
 
 -- ---- what is found on a shelf
 
-all_by_place : {A : Type 0} (P : A → Type 0) (xs : List A) → ((i : ℕ) (x : A) → slice_get xs i ≡ Some x → P x) → AllByRecursion P xs
-all_by_place P [] each = tt
-all_by_place P (x ∷ xs) each = (each 0 x refl, all_by_place P xs (λ i y at. each (suc i) y at))
-
 module _ (looks : Looks) (questions : List Question) (bags : List Contents) (request : Request) where
-  way_finds : (way : Way) (found : List Finding) → FindsWay looks questions bags request (turned way found) → FindsWay looks questions bags request way × FindsAll looks questions bags request found
-  way_finds way [] all = (all, tt)
-  way_finds way (f ∷ found) all =
-      let later = way_finds (turn_of f ∷ way) found all in
-      (later.0.1, (later.0.0, later.1))
-
-  finds_way : (way : Way) (found : List Finding) → FindsWay looks questions bags request way → FindsAll looks questions bags request found → FindsWay looks questions bags request (turned way found)
-  finds_way way [] before all = before
-  finds_way way (f ∷ found) before all = finds_way (turn_of f ∷ way) found (all.0, before) all.1
-
   pub found_case : (shelf : Shelf) → IsIndex questions shelf → (way : Way) (i : ℕ) → Leads shelf.tree.nodes.items way i → FindsWay looks questions bags request way
       → (c : Case) × ((slice_get shelf.cases.items i ≡ Some c) × Fits looks questions bags request c)
   found_case shelf index way i led finds =
       let c = index.led way i led in
-      (c.0, (c.1.0, (way_finds [] c.0.found (subst (FindsWay looks questions bags request) c.1.1 finds)).1))
+      (c.0, (c.1.0, (way_finds looks questions bags request [] c.0.found (subst (FindsWay looks questions bags request) c.1.1 finds)).1))
 
   pub no_case : (shelf : Shelf) → IsIndex questions shelf → ((way : Way) (i : ℕ) → Leads shelf.tree.nodes.items way i → FindsWay looks questions bags request way → ⊥)
       → NoneFits looks questions bags request shelf.cases.items
   no_case shelf index none =
-      all_by_place (λ c. Fits looks questions bags request c → ⊥) shelf.cases.items (λ i c at fits. none (way_of c.found) i (index.leads i c at) (finds_way [] c.found tt fits))
+      all_by_place (λ c. Fits looks questions bags request c → ⊥) shelf.cases.items (λ i c at fits. none (way_of c.found) i (index.leads i c at) (finds_way looks questions bags request [] c.found tt fits))
 
 -- ---- a case is put there
 
@@ -108,9 +93,6 @@ index_none questions shelf none nothing = record {
 }
 
 -- ---- shelves
-
-pub about_all : (questions : List Question) (bags : List Contents) (found : List Finding) → AllByRecursion (IsFinding questions bags) found → AreAbout questions found
-about_all questions bags found are = all_map (IsFinding questions bags) (λ f. IsAbout questions f.question f.place) (λ f is. is.1) found are
 
 pub shelf_none : (looks : Looks) (questions : List Question) (bags : List Contents) (shelf : Shelf) → shelf.cases.items ≡ [] → shelf.tree.nodes.items ≡ [] → IsShelf looks questions bags shelf
 shelf_none looks questions bags shelf none nothing = record {

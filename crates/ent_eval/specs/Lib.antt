@@ -1,7 +1,7 @@
-pub mod Found
+pub mod Held
 pub mod Lending
 pub mod LooksOf
 pub mod Memory
 pub mod Point
-pub mod Ways
+pub mod Tests
 pub mod proofs_only

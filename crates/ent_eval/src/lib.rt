@@ -2,16 +2,16 @@
 //! the memory of listed evaluations.
 #![tactic(auto)]
 
-mod bags;
 mod case;
 mod cases;
-mod findings;
+mod front;
+mod listed;
 mod memory;
-mod names;
 mod pdp;
-mod scene;
+mod plan;
 mod shelf;
-mod ways;
+mod tests;
+mod worth;
 
 pub use ent_request::{
     ACCESS_SUBJECT, ACTION, Answer, Asked, Assignment, Attribute, Category, Cause, Environment,

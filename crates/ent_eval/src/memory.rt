@@ -1,30 +1,42 @@
 //! What is remembered over evaluations of listed requests.
 
-ghost use Rattle.std.specs.Prelude.{◌≡◌, List, IfNone, IfOk, IfSome, OnOk};
-ghost use Rattle.std.specs.List.{AllByRecursion};
+ghost use Rattle.std.specs.Prelude.{◌≡◌, List, IfNone, IfOk, IfSome, IsTrue, OnOk};
 ghost use Rattle.ent_request.specs.Looks.{Looks};
-ghost use Rattle.ent_eval.specs.Memory.{Gives, HasCase, IsFinding, Remembers, cases_in};
-ghost use Rattle.ent_request.specs.Questions.{AreNumbers};
-ghost use Rattle.ent_eval.specs.proofs_only.Remembered.{AreReady, FindsAll, IsEvaluated, KeepsReady, NoneFits};
-ghost use Rattle.ent_eval.specs.proofs_only.Remembered.{NotesFinding, TellsAll};
-ghost use Rattle.ent_eval.specs.proofs_only.Remembered.{in_scene, request_of};
+ghost use Rattle.ent_request.specs.Listed.{listed};
+ghost use Rattle.ent_request.specs.Questions.{BeginsWith};
+ghost use Rattle.ent_eval.specs.Held.{DifferAtMost, HaveSameValues};
+ghost use Rattle.ent_eval.specs.Memory.{Gives, HasCase, Remembers, cases_in};
+ghost use Rattle.ent_eval.specs.Tests.{HasPlan, IsSigned};
+ghost use Rattle.ent_eval.specs.proofs_only.Remembered.{AreNamed, IsEvaluated, NoneFits};
+ghost use Rattle.ent_found.specs.proofs_only.Ready.{in_scene, request_of};
 ghost use Rattle.ent_request.specs.declared.question.Question.{Question};
+ghost use Rattle.ent_request.specs.declared.request.Request.{Request};
 
-use crate::case::{Case, Finding};
+use crate::case::Case;
 use crate::cases::Cases;
-use crate::findings::{Findings, place_of};
+use crate::front::Front;
 use crate::pdp::ListedEvaluation;
-use crate::scene::Scene;
-use ent_request::LookUps;
-use ent_values::Items;
+use crate::tests::Tests;
+use ent_found::{Findings, Scene, findings_of};
+use ent_request::{LookUps, Questions};
+use ent_values::Text;
 use std::alloc::{AllocError, Global};
 
-/// What is remembered over evaluations of listed requests, as long as nothing that is held changes: what questions
-/// found for names, and cases. It is of use where many requests find the same.
+/// Beyond so many values in bags all is forgotten at the next edit of values.
+const MOST_VALUES: usize = 131_072;
+
+/// Beyond so many names too.
+const MOST_NAMES: usize = 131_072;
+
+/// What is remembered over evaluations of listed requests: what questions found for names, and cases by that, as long
+/// as nothing that is held changes; and what came of tests, and cases by that, over edits. It is of use where many
+/// requests find the same.
 #[derive(Drop)]
 pub struct Memory {
     pub(crate) findings: Findings,
     pub(crate) cases: Cases,
+    pub(crate) front: Front,
+    pub(crate) tests: Tests,
 }
 
 impl Memory {
@@ -35,7 +47,45 @@ impl Memory {
         Memory {
             findings: Findings::new(alloc),
             cases: Cases::new(alloc),
+            front: Front::new(),
+            tests: Tests::new(alloc),
         }
+    }
+
+    /// The values in rows of a name may be others from now on, and nothing else: what was found for it is forgotten.
+    pub fn forget_name(&mut self, alloc: Global, name: &Text)
+        ensures { (before after : Looks) (questions : List Question) → DifferAtMost name.now before after
+            → Remembers before questions self.old → Remembers after questions self.new }
+    {
+        if self.is_much() {
+            self.forget(alloc);
+        } else {
+            self.findings.forget_name(name);
+        }
+    }
+
+    /// The root, documents and the time may be others from now on, and no values: cases by what was found are
+    /// forgotten, and the plan of tests is compared before it is used again.
+    pub fn forget_documents(&mut self, alloc: Global)
+        ensures { (before after : Looks) (questions : List Question) → HaveSameValues before after
+            → Remembers before questions self.old → Remembers after questions self.new }
+    {
+        self.cases = Cases::new(alloc);
+        self.tests.close();
+    }
+
+    // Whether more is remembered than is to be kept.
+    fn is_much(&self) -> bool {
+        self.findings.bags.values() > MOST_VALUES || self.findings.names() > MOST_NAMES
+    }
+
+    // Forgets all.
+    fn forget(&mut self, alloc: Global)
+        ensures { (looks : Looks) (questions : List Question) → Remembers looks questions self.new }
+    {
+        self.findings = Findings::new(alloc);
+        self.cases = Cases::new(alloc);
+        self.tests.forget(alloc);
     }
 
     // The answer and the questions of a case that a request fits, if there is one.
@@ -50,18 +100,100 @@ impl Memory {
             (request_of scene.now) (cases_in self.old.cases))) }
         ensures remembers { in_scene L.looks scene.now Remembers self.new }
         ensures cases { cases_in self.new.cases ≡ cases_in self.old.cases }
+        ensures named { OnOk result (in_scene L.looks scene.now AreNamed self.new.findings
+            scene.now.person.now scene.now.action.now scene.now.resource.now) }
     {
+        self.front.tried();
         self.findings.turn_to(scene)?;
         match self.cases.recall(scene, &mut self.findings)? {
             None => Ok(None),
             Some(evaluation) => {
+                self.front.hit();
                 self.cases.count_taken();
                 Ok(Some(evaluation))
             }
         }
     }
 
-    // Remembers an evaluation as a case.
+    // Whether tests are to be tried for an evaluation over what is held.
+    pub(crate) fn are_tests_tried<L: LookUps>(
+        &mut self,
+        alloc: Global,
+        held: &L,
+    ) -> Result<bool, AllocError>
+        ensures remembers { (questions : List Question) → Remembers (L.looks held.now) questions self.old
+            → Remembers (L.looks held.now) questions self.new }
+        ensures planned { (questions : List Question) → Remembers (L.looks held.now) questions self.old
+            → IfOk result (λ b. IsTrue b → HasPlan (L.looks held.now) self.new.tests) }
+        ensures findings { self.new.findings ≡ self.old.findings }
+    {
+        self.tests.are_tried(alloc, held)
+    }
+
+    // Signs the tests for the request of three names.
+    pub(crate) fn sign<L: LookUps>(
+        &mut self,
+        alloc: Global,
+        held: &L,
+        questions: &mut Questions,
+        person: &Text,
+        action: &Text,
+        resource: &Text,
+    ) -> Result<(), AllocError>
+        requires remembers { Remembers (L.looks held.now) questions.old self.old }
+        requires plan { HasPlan (L.looks held.now) self.old.tests }
+        requires at { AreNamed (L.looks held.now) questions.old self.old.findings
+            person.now action.now resource.now }
+        ensures remembers { Remembers (L.looks held.now) questions.new self.new }
+        ensures signed { OnOk result (IsSigned (L.looks held.now) questions.new
+            (listed person.now action.now resource.now) self.new.tests) }
+        ensures questions { BeginsWith questions.new questions.old }
+    {
+        self.tests.sign(
+            alloc,
+            held,
+            questions,
+            &mut self.findings,
+            person,
+            action,
+            resource,
+        )
+    }
+
+    // The answer and the questions of the case that the way of tests tells, if there is one.
+    pub(crate) fn told(&mut self) -> Result<Option<ListedEvaluation>, AllocError>
+        ensures told { (looks : Looks) (questions : List Question) (request : Request)
+            → Remembers looks questions self.old → IsSigned looks questions request self.old.tests
+            → IfOk result (λ o. IfSome o (IsEvaluated looks questions request)) }
+        ensures remembers { (looks : Looks) (questions : List Question) → Remembers looks questions self.old
+            → Remembers looks questions self.new }
+        ensures signed { (looks : Looks) (questions : List Question) (request : Request)
+            → IsSigned looks questions request self.old.tests
+            → IsSigned looks questions request self.new.tests }
+    {
+        match self.tests.told()? {
+            None => Ok(None),
+            Some(evaluation) => {
+                self.tests.count_hit();
+                Ok(Some(evaluation))
+            }
+        }
+    }
+
+    // Puts an evaluation as the case that the way of tests tells.
+    pub(crate) fn put(
+        &mut self,
+        alloc: Global,
+        evaluation: &ListedEvaluation,
+    ) -> Result<(), AllocError>
+        ensures { (looks : Looks) (questions : List Question) (request : Request)
+            → Remembers looks questions self.old → IsSigned looks questions request self.old.tests
+            → IsEvaluated looks questions request evaluation.now → Remembers looks questions self.new }
+    {
+        self.tests.put(alloc, evaluation)
+    }
+
+    // Remembers an evaluation as a case, where cases are of use.
     pub(crate) fn keep<L: LookUps>(
         &mut self,
         scene: &Scene<'_, L>,
@@ -70,9 +202,11 @@ impl Memory {
         requires remembers { in_scene L.looks scene.now Remembers self.old }
         requires evaluated { in_scene L.looks scene.now IsEvaluated (request_of scene.now) evaluation.now }
         ensures remembers { in_scene L.looks scene.now Remembers self.new }
-        ensures kept { OnOk result (in_scene L.looks scene.now HasCase self.new (request_of scene.now)
-            (Gives evaluation.now)) }
+        ensures tests { self.new.tests ≡ self.old.tests }
     {
+        if !self.front.is_of_use() {
+            return Ok(());
+        }
         self.findings.turn_to(scene)?;
         let asked = evaluation.asked.get().as_slice();
         let found = findings_of(scene, &mut self.findings, asked)?;
@@ -83,51 +217,5 @@ impl Memory {
             failed: evaluation.failed,
         };
         self.cases.put(scene.alloc, case)
-    }
-}
-
-// What a request finds for those of some questions that are about its names.
-fn findings_of<L: LookUps>(
-    scene: &Scene<'_, L>,
-    findings: &mut Findings,
-    asked: &[u32],
-) -> Result<Items<Finding>, AllocError>
-    requires ready { AreReady (L.looks scene.now.held.now) scene.now findings.old }
-    requires within { AreNumbers scene.now.questions.now asked.now }
-    ensures are { IfOk result (AllByRecursion (IsFinding scene.now.questions.now findings.new.bags)) }
-    ensures found { IfOk result (in_scene L.looks scene.now FindsAll findings.new.bags (request_of scene.now)) }
-    ensures tells { IfOk result
-        (in_scene L.looks scene.now TellsAll findings.new.bags (request_of scene.now) asked.now) }
-    ensures keeps { KeepsReady (L.looks scene.now.held.now) scene.now findings.old findings.new }
-{
-    let mut found = Items::new(scene.alloc);
-    for number in asked {
-        note_finding(scene, findings, *number, &mut found)?;
-    }
-    Ok(found)
-}
-
-// Notes what a request finds for a question, if it is about one of its names.
-fn note_finding<L: LookUps>(
-    scene: &Scene<'_, L>,
-    findings: &mut Findings,
-    number: u32,
-    found: &mut Items<Finding>,
-) -> Result<(), AllocError>
-    requires ready { AreReady (L.looks scene.now.held.now) scene.now findings.old }
-    ensures notes { OnOk result
-        (in_scene L.looks scene.now NotesFinding findings.new.bags (request_of scene.now) number found.old found.new) }
-    ensures keeps { KeepsReady (L.looks scene.now.held.now) scene.now findings.old findings.new }
-{
-    match place_of(scene.questions, number) {
-        None => Ok(()),
-        Some(place) => {
-            let bag = findings.bag_of(scene, number, place)?;
-            found.push(Finding {
-                question: number,
-                place,
-                bag,
-            })
-        }
     }
 }

@@ -1,24 +1,20 @@
 //! The decision point.
 
-ghost use Rattle.std.specs.Prelude.{◌≡◌, ◌+◌, ◌-◌, ◌^◌, min, [], IfNone, IfOk, IfSome, OnOk};
+ghost use Rattle.std.specs.Prelude.{◌≡◌, ◌+◌, ◌-◌, ◌^◌, min, IfOk, OnOk};
 ghost use Rattle.std.specs.Borrow.{sem};
-ghost use Rattle.ent_walk.specs.Answer.{answer, answer_part, asked, causes_told, has_cause, recorded};
+ghost use Rattle.ent_walk.specs.Answer.{answer, answer_part, causes_told, recorded};
 ghost use Rattle.ent_eval.specs.Lending.{LendsAttributes, LendsPolicies};
-ghost use Rattle.ent_request.specs.Listed.{listed};
 ghost use Rattle.ent_eval.specs.LooksOf.{looks_of};
-ghost use Rattle.ent_eval.specs.Memory.{Gives, HasCase, IsKnown, Remembers, cases_in};
-ghost use Rattle.ent_request.specs.Questions.{AreNumbers, BeginsWith, asked_once, at_numbers, keys_at};
 ghost use Rattle.ent_notes.specs.proofs_only.Noted.{noting};
-ghost use Rattle.ent_eval.specs.proofs_only.Remembered.{IsEvaluated, NoneFits};
+ghost use Rattle.ent_request.specs.Questions.{BeginsWith};
 ghost use Rattle.ent_eval.specs.Point.{point_of};
+ghost use Rattle.ent_eval.specs.proofs_only.Remembered.{IsEvaluated};
 
-use crate::memory::Memory;
-use crate::scene::Scene;
 use ent_finder::{AttrKey, AttributeFinder, Attributes, Policies, PolicyFinder};
 use ent_notes::{Notebook, Notes};
 use ent_policy::{Document, Reference};
 use ent_request::{Answer, Cause, Environment, LookUps, Questions, Reads, Request};
-use ent_values::{Bag, Date, DateTime, Items, Shared, Text, Time, Value};
+use ent_values::{Bag, Date, DateTime, Items, Shared, Time, Value};
 use ent_walk::Walk;
 use std::alloc::{AllocError, Global};
 use std::marker::Model;
@@ -169,153 +165,8 @@ impl<A: Attributes, P: Policies> Pdp<A, P> {
         })
     }
 
-    /// The answer to the request of three names (section 7), and the questions that were asked for it, each once, by
-    /// their numbers among those of the caller. One that has none there gets one; the others keep theirs, whatever
-    /// comes. The look-ups that the answer rests on are those of these questions. For the rest it is as `evaluate`.
-    /// A case that is remembered and that the request fits is taken over; else the request is evaluated, and is a case.
-    pub fn evaluate_listed(
-        &mut self,
-        memory: &mut Memory,
-        questions: &mut Questions,
-        person: &Text,
-        action: &Text,
-        resource: &Text,
-    ) -> Result<ListedEvaluation, AllocError>
-        requires remembers { Remembers (looks_of self.old) questions.old memory.old }
-        ensures answer { IfOk result (λ e. e.answer
-            ≡ answer (looks_of self.old) (listed person.now action.now resource.now)) }
-        ensures asked { IfOk result (λ e. at_numbers questions.new e.asked
-            ≡ asked_once [] (asked (looks_of self.old) (listed person.now action.now resource.now))) }
-        ensures within { IfOk result (λ e. AreNumbers questions.new e.asked) }
-        ensures reads { IfOk result (λ e.
-            keys_at (listed person.now action.now resource.now) (at_numbers questions.new e.asked)
-            ≡ recorded (looks_of self.old) (listed person.now action.now resource.now)) }
-        ensures failed { IfOk result (λ e. e.failed
-            ≡ has_cause (looks_of self.old) (listed person.now action.now resource.now)) }
-        ensures numbers { BeginsWith questions.new questions.old }
-        ensures remembers { Remembers (looks_of self.old) questions.new memory.new }
-        ensures kept { IfOk result (λ e. HasCase (looks_of self.old) questions.new memory.new
-            (listed person.now action.now resource.now) (Gives e)) }
-        ensures again { IsKnown (looks_of self.old) questions.old memory.old
-            (listed person.now action.now resource.now)
-            → (cases_in memory.new.cases ≡ cases_in memory.old.cases) × (questions.new ≡ questions.old) }
-        ensures counted { self.new.evaluations ≡ min (self.old.evaluations + 1) (2 ^ 128 - 1) }
-        ensures rest { self.new ≡ record self.old { evaluations = self.new.evaluations } }
-    {
-        match self.recalled(memory, questions, person, action, resource) {
-            Err(error) => {
-                self.evaluations = raised(self.evaluations);
-                Err(error)
-            }
-            Ok(Some(evaluation)) => Ok(self.counting(evaluation)),
-            Ok(None) => self.evaluate_anew(memory, questions, person, action, resource),
-        }
-    }
-
-    // Counts an evaluation that was taken over.
-    fn counting(&mut self, evaluation: ListedEvaluation) -> ListedEvaluation
-        ensures evaluation { result ≡ evaluation }
-        ensures counted { self.new.evaluations ≡ min (self.old.evaluations + 1) (2 ^ 128 - 1) }
-        ensures rest { self.new ≡ record self.old { evaluations = self.new.evaluations } }
-    {
-        let evaluations = raised(self.evaluations);
-        self.evaluations = evaluations;
-        evaluation
-    }
-
-    // The answer and the questions of a case that is remembered, if the request fits one.
-    fn recalled(
-        &self,
-        memory: &mut Memory,
-        questions: &Questions,
-        person: &Text,
-        action: &Text,
-        resource: &Text,
-    ) -> Result<Option<ListedEvaluation>, AllocError>
-        requires { Remembers (looks_of self.now) questions.now memory.old }
-        ensures some { IfOk result (λ o. IfSome o (λ e.
-            HasCase (looks_of self.now) questions.now memory.new
-            (listed person.now action.now resource.now) (Gives e))) }
-        ensures none { IfOk result (λ o. IfNone o (NoneFits (looks_of self.now) questions.now
-            memory.old.findings.bags (listed person.now action.now resource.now) (cases_in memory.old.cases))) }
-        ensures remembers { Remembers (looks_of self.now) questions.now memory.new }
-        ensures cases { cases_in memory.new.cases ≡ cases_in memory.old.cases }
-    {
-        memory.recall(&Scene {
-            alloc: self.alloc,
-            held: self,
-            questions,
-            person,
-            action,
-            resource,
-        })
-    }
-
-    // Evaluates the request and remembers its case.
-    fn evaluate_anew(
-        &mut self,
-        memory: &mut Memory,
-        questions: &mut Questions,
-        person: &Text,
-        action: &Text,
-        resource: &Text,
-    ) -> Result<ListedEvaluation, AllocError>
-        requires remembers { Remembers (looks_of self.old) questions.old memory.old }
-        ensures evaluated { IfOk result (IsEvaluated (looks_of self.old) questions.new
-            (listed person.now action.now resource.now)) }
-        ensures numbers { BeginsWith questions.new questions.old }
-        ensures remembers { Remembers (looks_of self.old) questions.new memory.new }
-        ensures kept { IfOk result (λ e. HasCase (looks_of self.old) questions.new memory.new
-            (listed person.now action.now resource.now) (Gives e)) }
-        ensures counted { self.new.evaluations ≡ min (self.old.evaluations + 1) (2 ^ 128 - 1) }
-        ensures rest { self.new ≡ record self.old { evaluations = self.new.evaluations } }
-    {
-        let evaluation = self.evaluate_afresh(questions, person, action, resource)?;
-        memory.keep(
-            &Scene {
-                alloc: self.alloc,
-                held: self,
-                questions,
-                person,
-                action,
-                resource,
-            },
-            &evaluation,
-        )?;
-        Ok(evaluation)
-    }
-
-    // Evaluates the request.
-    fn evaluate_afresh(
-        &mut self,
-        questions: &mut Questions,
-        person: &Text,
-        action: &Text,
-        resource: &Text,
-    ) -> Result<ListedEvaluation, AllocError>
-        ensures evaluated { IfOk result (IsEvaluated (looks_of self.old) questions.new
-            (listed person.now action.now resource.now)) }
-        ensures numbers { BeginsWith questions.new questions.old }
-        ensures counted { self.new.evaluations ≡ min (self.old.evaluations + 1) (2 ^ 128 - 1) }
-        ensures rest { self.new ≡ record self.old { evaluations = self.new.evaluations } }
-    {
-        let request = Request::listed(
-            self.alloc,
-            person.as_str(),
-            action.as_str(),
-            resource.as_str(),
-        );
-        match request {
-            Ok(request) => self.evaluate_numbered(questions, &request),
-            Err(error) => {
-                self.evaluations = raised(self.evaluations);
-                Err(error)
-            }
-        }
-    }
-
-    // The same of a request that is made.
-    fn evaluate_numbered(
+    // The same of a listed one, with the numbers of its questions among those of the caller. It isn't counted.
+    pub(crate) fn evaluate_numbered(
         &mut self,
         questions: &mut Questions,
         request: &Request,
@@ -323,11 +174,10 @@ impl<A: Attributes, P: Policies> Pdp<A, P> {
         ensures evaluated { IfOk result
             (IsEvaluated (looks_of self.old) questions.new request.now) }
         ensures numbers { BeginsWith questions.new questions.old }
-        ensures counted { self.new.evaluations ≡ min (self.old.evaluations + 1) (2 ^ 128 - 1) }
-        ensures rest { self.new ≡ record self.old { evaluations = self.new.evaluations } }
+        ensures rest { self.new ≡ self.old }
     {
         let mut notes = self.notebook.open(self.alloc, true, false);
-        let answer = self.answered(&mut notes, request)?;
+        let answer = self.walked(&mut notes, request)?;
         let failed = notes.has_failed();
         let numbers = notes.numbers_among(self.alloc, questions)?;
         self.notebook.close(notes);
@@ -352,8 +202,13 @@ impl<A: Attributes, P: Policies> Pdp<A, P> {
         Ok(answer)
     }
 
+    // What it allocates with.
+    pub(crate) fn alloc(&self) -> Global {
+        self.alloc
+    }
+
     // Counts an evaluation.
-    fn count(&mut self)
+    pub(crate) fn count(&mut self)
         ensures { self.new ≡ record self.old { evaluations = min (self.old.evaluations + 1) (2 ^ 128 - 1) } }
     {
         self.evaluations = raised(self.evaluations);
@@ -368,6 +223,15 @@ impl<A: Attributes, P: Policies> Pdp<A, P> {
         ensures rest { self.new ≡ record self.old { evaluations = self.new.evaluations } }
     {
         self.count();
+        self.walked(notes, request)
+    }
+
+    // The same, which isn't counted.
+    pub(crate) fn walked(&self, notes: &mut Notes, request: &Request) -> Result<Answer, AllocError>
+        ensures answer { IfOk result (λ a. a ≡ answer (looks_of self.now) request.now) }
+        ensures notes { OnOk result (notes.new
+            ≡ noting notes.old (answer_part (looks_of self.now) request.now).notes) }
+    {
         let noted = mem::replace(notes, Notes::unasked(self.alloc));
         let mut walk = Walk::over(self.alloc, self, request, noted);
         let came = walk.answer();

@@ -3,17 +3,17 @@
 ghost use Rattle.std.specs.Prelude.{◌≡◌, ◌<◌, [], IfNone, IfOk, IfSome, List, None, OnErr, Some};
 ghost use Rattle.std.specs.Prelude.{length, slice_get};
 ghost use Rattle.ent_eval.specs.Memory.{Gives, HasCaseIn, IsShelf};
-ghost use Rattle.ent_eval.specs.Ways.{IsIndex};
-ghost use Rattle.ent_eval.specs.proofs_only.Led.{AreAbout, IsPut};
-ghost use Rattle.ent_eval.specs.proofs_only.Remembered.{AreReady, KeepsReady, NoneFits, in_scene, request_of};
+ghost use Rattle.ent_eval.specs.Memory.{IsIndex};
+ghost use Rattle.ent_found.specs.proofs_only.Led.{AreAbout};
+ghost use Rattle.ent_eval.specs.proofs_only.Remembered.{IsPut};
+ghost use Rattle.ent_found.specs.proofs_only.Ready.{AreReady, KeepsReady, in_scene, request_of};
+ghost use Rattle.ent_eval.specs.proofs_only.Remembered.{NoneFits};
 ghost use Rattle.ent_eval.specs.declared.case.Case.{Case};
 ghost use Rattle.ent_request.specs.declared.question.Question.{Question};
 
-use crate::case::{About, Case};
-use crate::findings::Findings;
+use crate::case::Case;
 use crate::pdp::ListedEvaluation;
-use crate::scene::Scene;
-use crate::ways::{make_way, seek};
+use ent_found::{About, Findings, Scene, make_way, seek};
 use ent_request::LookUps;
 use ent_tree::Tree;
 use std::alloc::{AllocError, Global};

@@ -7,6 +7,7 @@ pub mod Doubles
 pub mod Edited
 pub mod Exchanges
 pub mod Kept
+pub mod Knowing
 pub mod Listed
 pub mod Logs
 pub mod Members

@@ -1,6 +1,5 @@
 -- Keys among keys.
 use Rattle.std.proofs.Common.{◌≡◌, inl, inr, Bool, true, false, ◌||◌, ◌&&◌, List, [], ◌∷◌, filter, if◌then◌else◌, refl, sym, ap, ◌∙◌}
-use Rattle.std.specs.Prelude.{IfOk, Result, Ok, Err}
 use Rattle.std.specs.List.{list_any}
 use Rattle.std.specs.Ordering.{is_eq}
 use Rattle.std.proofs.lemmas.Cmp.{tied_itself}
@@ -9,7 +8,6 @@ use Rattle.ent_request.specs.Noted.{has_key, read_cmp}
 use Rattle.ent_request.specs.contracts.key.ReadKeyOrd.TheImpl.Laws.{total-law}
 use Rattle.ent_request.specs.declared.key.ReadKey.{ReadKey}
 use Rattle.ent_request.proofs.Keys.{read_cmp-IsAntisymmetric}
-use Rattle.ent_cells.specs.Cell.{HasReadKeys, Kept}
 use Rattle.ent_table.proofs.Bits.{or_cases, or_left, or_right, same_test}
 
 key_itself : (k : ReadKey) → is_eq (read_cmp k k) ≡ true
@@ -67,8 +65,3 @@ has_filter p (x ∷ ks) k = by (p x) (is_eq (read_cmp k x)) refl refl (has_filte
       let fails : p k ≡ false = ap p (same_key k x tied) ∙ is in
       ap (λ b. has_key (if b then x ∷ filter p ks else filter p ks) k) is ∙ rest ∙ none (has_key ks k) (p k) fails ∙ sym (ap (λ c. (c || has_key ks k) && p k) tied)
   by false false is tied rest = ap (λ b. has_key (if b then x ∷ filter p ks else filter p ks) k) is ∙ rest ∙ sym (ap (λ c. (c || has_key ks k) && p k) tied)
-
--- all keys that pass are, whichever are read
-pub has_asked : {E : Type 0} (passes : ReadKey → Bool) (cells : List Kept) (r : Result (List ReadKey) E) → IfOk r (λ keys. (k : ReadKey) → has_key keys k ≡ passes k) → IfOk r (HasReadKeys passes cells)
-has_asked passes cells (Ok keys) are = λ k asked read. are k ∙ asked
-has_asked passes cells (Err e) are = tt

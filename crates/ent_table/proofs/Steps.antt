@@ -1,5 +1,5 @@
 -- What a test that found nothing says of an edit's step.
-use Rattle.std.proofs.Common.{◌≡◌, ℕ, ◌<◌, Bool, true, false, List, Result, Ok, refl, ltb-true}
+use Rattle.std.proofs.Common.{◌≡◌, ℕ, ◌<◌, ◌^◌, Bool, true, false, List, Result, Ok, refl, leb-false, ltb-true}
 use Rattle.std.specs.Prelude.{IsOk, ◌||◌, ◌&&◌, not, nat_le, nat_lt, length}
 use Rattle.ent_policy.specs.Key.{key_of}
 use Rattle.ent_policy.specs.Names.{is_bad_name}
@@ -28,6 +28,19 @@ three_pass false false false x y z t h = (refl, refl)
 pub name_passes : (s : State) (list : Which) (name : List ℕ) → IsOk (name_added s list name) → (has_name name (list_of list s.names) ≡ false) × (name_added s list name ≡ Ok (more_names s list name))
 name_passes s list name h =
     three_pass (has_name name (list_of list s.names)) (is_last s || exceeds s list name) (is_bad_name name) AlreadyThere Limit BadValue (more_names s list name) h
+
+open_below : (a b c d : Bool) (x y z : EditFault) (t : State)
+    → IsOk (unless a x (unless (b || c) y (unless d z (Ok t)))) → b ≡ false
+open_below true b c d x y z t h = cc
+open_below false true c d x y z t h = cc
+open_below false false c d x y z t h = refl
+
+-- where a name can be added, the serial isn't the last
+pub name_open : (s : State) (list : Which) (name : List ℕ) → IsOk (name_added s list name) → s.serial < 2 ^ 63
+name_open s list name h =
+    leb-false (2 ^ 63) s.serial
+    (open_below (has_name name (list_of list s.names)) (is_last s) (exceeds s list name) (is_bad_name name)
+    AlreadyThere Limit BadValue (more_names s list name) h)
 
 four_pass : (a b c d : Bool) (w x y z : EditFault) (t : State) → IsOk (unless a w (unless b x (unless c y (unless d z (Ok t))))) → unless a w (unless b x (unless c y (unless d z (Ok t)))) ≡ Ok t
 four_pass true b c d w x y z t h = cc

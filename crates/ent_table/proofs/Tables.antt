@@ -14,7 +14,7 @@ use Rattle.ent_table.proofs.Changes.{changes-name_dropped, less_names, more_name
 -- the names of a table and its cells are those of a state
 pub record Shows (s : State) (t : Table) : Type 0 where
   pub names : t.names ≡ s.names
-  pub cells : t.cells ≡ fresh_cells s
+  pub cells : t.cells.kept ≡ fresh_cells s
 
 filled : (s : State) (t : Table) → Shows s t → IsFilled (cell_of (looks_in s.held)) t
 filled s t is = is.cells ∙ ap (λ (n : Names). map (cell_of (looks_in s.held)) (triples n)) (sym is.names)
@@ -37,7 +37,7 @@ shows_less s list name old new count is d =
       cells = d.cells (cell_of (looks_in s.held)) (filled s old is) ∙ ap (λ (n : Names). map (cell_of (looks_in s.held)) (triples n)) names;
     }
 
-long : (s : State) (t : Table) → Shows s t → length t.cells ≡ length (triples s.names)
+long : (s : State) (t : Table) → Shows s t → length t.cells.kept ≡ length (triples s.names)
 long s t is = ap length is.cells ∙ length-map (triples s.names) (cell_of (looks_in s.held))
 
 -- as many answers change as cells are dropped

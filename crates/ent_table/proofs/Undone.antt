@@ -30,6 +30,7 @@ module _ {A P : Type 0} where
           root = new.pdp.root;
           environment = new.pdp.environment;
         };
+        memory = new.memory;
       }) one
 
 module _ {A P : Type 0} where

@@ -1,7 +1,8 @@
 -- When the parts of a review fit each other, and what they are then.
 use Rattle.std.specs.Prelude.{◌≡◌, ◌≤◌, ◌^◌, length}
 use Rattle.ent_finder.specs.Slots.{document_count}
-use Rattle.ent_eval.specs.LooksOf.{held_by}
+use Rattle.ent_cells.specs.Cell.{Knows}
+use Rattle.ent_eval.specs.LooksOf.{held_by, looks_of}
 use Rattle.ent_log.specs.Tables.{IsClosed, room_of}
 use Rattle.ent_table.specs.declared.review_parts.Parts.{Parts}
 use Rattle.ent_table.specs.Limits.{IsWithinGreatest}
@@ -25,12 +26,13 @@ reviewed parts = record {
   evaluations = parts.pdp.evaluations;
 }
 
--- the kept cells are the fresh table, the kept count is that of the documents, no edit is being logged, and there is
--- room to log the answer of each cell
+-- the kept cells are the fresh table, what is remembered is so over what is held, the kept count is that of the
+-- documents, no edit is being logged, and there is room to log the answer of each cell
 pub record IsFresh {A P : Type 0} (parts : Parts A P) : Type 0 where
-  pub cells : parts.table.cells ≡ fresh_cells (state_of parts)
+  pub cells : parts.table.cells.kept ≡ fresh_cells (state_of parts)
+  pub knows : Knows (looks_of parts.pdp) parts.table.cells parts.memory
   pub documents : parts.documents ≡ document_count (state_of parts).held.modules
   pub serial : parts.log.serial ≤ 2 ^ 63
   pub limits : IsWithinGreatest parts.limits
   pub closed : IsClosed parts.log
-  pub room : length parts.table.cells ≤ room_of parts.log
+  pub room : length parts.table.cells.kept ≤ room_of parts.log

@@ -28,7 +28,7 @@ requests_left c =
 
 -- the answers that are left
 abbrev pub answers_left : Cells → List Answer
-answers_left c = drop c.place (answers_in c.answers.now)
+answers_left c = drop c.place (answers_in c.answers.now.kept)
 
 -- the requests that are left, each with its answer
 abbrev pub cells_left : Cells → List (Triple × Answer)
@@ -36,7 +36,7 @@ cells_left c = zip (requests_left c) (answers_left c)
 
 -- the cells that an iterator of judged cells has left, each with whether a part of it failed
 abbrev pub judged_left : Judged → List ((Triple × Answer) × Bool)
-judged_left j = zip (cells_left j.cells) (drop j.place (failures_in j.marks.now))
+judged_left j = zip (cells_left j.cells) (drop j.place (failures_in j.marks.now.kept))
 
 -- an item as a request with its answer
 abbrev pub cell_of : Bor (List ℕ) × Bor (List ℕ) × Bor (List ℕ) × Bor Answer → Triple × Answer

@@ -25,7 +25,7 @@ column stride (person ∷ people) (a ∷ answers) = (person, a) ∷ column strid
 
 -- the people that are left, each with its answer
 abbrev pub column_left : Column → List (List ℕ × Answer)
-column_left c = column c.stride (texts c.people.now) (drop c.place (answers_in c.answers.now))
+column_left c = column c.stride (texts c.people.now) (drop c.place (answers_in c.answers.now.kept))
 
 -- an item as a person with an answer
 abbrev pub answer_of : Bor (List ℕ) × Bor Answer → List ℕ × Answer

@@ -37,7 +37,7 @@ impl<'a> Cells<'a> {
     ) -> Cells<'a>
         ensures { cells_left result
             ≡ zip (all_triples (texts people.now) (texts actions.now) (texts resources.now))
-            (drop place (answers_in answers.now)) }
+            (drop place (answers_in answers.now.kept)) }
     {
         Cells {
             people,

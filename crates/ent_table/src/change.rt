@@ -2,7 +2,8 @@
 
 ghost use Rattle.std.specs.Prelude.{◌≡◌, OnErr, OnOk};
 ghost use Rattle.ent_table.specs.proofs_only.Change.{Becomes, Stays};
-ghost use Rattle.ent_table.specs.proofs_only.Exchange.{IsMade, IsThere, IsWithin, OnlyHeld, taken, with_exchange};
+ghost use Rattle.ent_table.specs.proofs_only.Exchange.{IsMade, IsThere, IsWithin, OnlyHeld, StillKnows};
+ghost use Rattle.ent_table.specs.proofs_only.Exchange.{taken, with_exchange};
 ghost use Rattle.ent_table.specs.Fresh.{state_of};
 
 use crate::review_parts::Parts;
@@ -36,19 +37,26 @@ impl<A: Attributes, P: Policies> Parts<A, P> {
         ensures there { OnOk result (IsThere self.new exchange.new) }
         ensures absent { OnErr result (¬ IsThere self.old exchange.old) }
         ensures kept { OnErr result (Stays self.old self.new) }
+        ensures knows { StillKnows self.old self.new }
         ensures rest { OnlyHeld self.old self.new }
     {
         match exchange {
             Exchange::Document(number, key, document) => {
+                self.memory.forget_documents(self.alloc);
                 self.exchange_document(*number, key, document)
             }
-            Exchange::Row(number, key, values) => self.exchange_row(*number, key, values),
+            Exchange::Row(number, key, values) => {
+                self.memory.forget_name(self.alloc, &key.entity);
+                self.exchange_row(*number, key, values)
+            }
             Exchange::Root(root) => {
+                self.memory.forget_documents(self.alloc);
                 let before = self.pdp.set_root(root.take());
                 *root = before;
                 Ok(())
             }
             Exchange::Environment(environment) => {
+                self.memory.forget_documents(self.alloc);
                 let before = self.pdp.set_environment(*environment);
                 *environment = before;
                 Ok(())
@@ -63,6 +71,7 @@ impl<A: Attributes, P: Policies> Parts<A, P> {
         requires there { IsThere self.old exchange.old }
         ensures before { (before : Parts A P) → IsMade before self.old exchange.old
             → Stays before self.new }
+        ensures knows { StillKnows self.old self.new }
         ensures rest { OnlyHeld self.old self.new }
     {
         match self.exchange(exchange) {

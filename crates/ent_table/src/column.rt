@@ -29,7 +29,7 @@ impl<'a> Column<'a> {
         place: usize,
         stride: usize,
     ) -> Column<'a>
-        ensures { column_left result ≡ column stride (texts people.now) (drop place (answers_in answers.now)) }
+        ensures { column_left result ≡ column stride (texts people.now) (drop place (answers_in answers.now.kept)) }
     {
         Column {
             people,
@@ -41,8 +41,8 @@ impl<'a> Column<'a> {
 
     /// The place of the next person's answer, or one behind all answers.
     fn next_place(&self) -> usize
-        ensures { drop result (answers_in self.now.answers.now)
-            ≡ drop (self.now.place + self.now.stride) (answers_in self.now.answers.now) }
+        ensures { drop result (answers_in self.now.answers.now.kept)
+            ≡ drop (self.now.place + self.now.stride) (answers_in self.now.answers.now.kept) }
     {
         min(self.place.saturating_add(self.stride), self.answers.len())
     }

@@ -23,7 +23,7 @@ pub struct Judged<'a> {
 impl<'a> Judged<'a> {
     /// The cells that are left, with these marks.
     pub(crate) fn new(cells: Cells<'a>, marks: &'a Live) -> Judged<'a>
-        ensures { judged_left result ≡ zip (cells_left cells.entry) (drop 0 (failures_in marks.now)) }
+        ensures { judged_left result ≡ zip (cells_left cells.entry) (drop 0 (failures_in marks.now.kept)) }
     {
         Judged {
             cells,
@@ -35,9 +35,9 @@ impl<'a> Judged<'a> {
     /// The mark of the next one, and the place behind it.
     fn next_mark(&self) -> Option<(bool, usize)>
         ensures { MatchOption result
-            (drop self.now.place (failures_in self.now.marks.now) ≡ [])
-            (λ next. drop self.now.place (failures_in self.now.marks.now)
-            ≡ next.0 ∷ drop next.1 (failures_in self.now.marks.now)) }
+            (drop self.now.place (failures_in self.now.marks.now.kept) ≡ [])
+            (λ next. drop self.now.place (failures_in self.now.marks.now.kept)
+            ≡ next.0 ∷ drop next.1 (failures_in self.now.marks.now.kept)) }
     {
         if self.place >= self.marks.len() {
             return None;

@@ -7,14 +7,14 @@ ghost use Rattle.ent_policy.specs.Same.{same_document};
 ghost use Rattle.ent_cells.specs.Cell.{HasReadKeys};
 ghost use Rattle.ent_request.specs.Held.{looks_in};
 ghost use Rattle.ent_table.specs.proofs_only.Change.{Becomes, Stays};
-ghost use Rattle.ent_table.specs.proofs_only.Exchange.{IsThere, IsWithin, OnlyHeld, document_in, taken, with_exchange};
+ghost use Rattle.ent_table.specs.proofs_only.Exchange.{IsThere, IsWithin, OnlyHeld, StillKnows, document_in};
+ghost use Rattle.ent_table.specs.proofs_only.Exchange.{taken, with_exchange};
 ghost use Rattle.ent_table.specs.proofs_only.Look.{AreChanged, IsSeen, asks, environment_keys};
 ghost use Rattle.ent_table.specs.proofs_only.Look.{finds_another, found_by, is_another, keys_in, look_of, which};
 ghost use Rattle.ent_table.specs.Fresh.{state_of};
 
 use crate::change::Exchange;
 use crate::review_parts::Parts;
-use ent_cells::keys_of_row;
 use ent_eval::ReadKey;
 use ent_finder::{AttrKey, Attributes, Policies};
 use ent_policy::{Document, Reference};
@@ -122,8 +122,9 @@ impl<A: Attributes, P: Policies> Parts<A, P> {
         ensures again { OnOk result (IsWithin (state_of self.new) exchange.new) }
         ensures there { OnOk result (IsThere self.new exchange.new) }
         ensures changed { IfOk result
-            (AreChanged (state_of self.old) exchange.old self.new.table.cells) }
+            (AreChanged (state_of self.old) exchange.old self.new.table.cells.kept) }
         ensures kept { OnErr result (Stays self.old self.new) }
+        ensures knows { StillKnows self.old self.new }
         ensures rest { OnlyHeld self.old self.new }
     {
         let seen = self.seen(exchange)?;
@@ -141,7 +142,7 @@ impl<A: Attributes, P: Policies> Parts<A, P> {
     fn seen(&self, exchange: &Exchange) -> Result<Vec<Seen>, AllocError>
         requires { IsWithin (state_of self.now) exchange.now }
         ensures keys { IfOk result
-            (λ seen. HasReadKeys (asks exchange.now) self.now.table.cells (keys_in seen.items)) }
+            (λ seen. HasReadKeys (asks exchange.now) self.now.table.cells.kept (keys_in seen.items)) }
         ensures looks { IfOk result
             (λ seen. AllByRecursion (IsSeen (state_of self.now) exchange.now) seen.items) }
     {
@@ -155,13 +156,13 @@ impl<A: Attributes, P: Policies> Parts<A, P> {
 
     /// The keys that an exchange may change, each that a cell reads among them.
     fn keys_asked(&self, exchange: &Exchange) -> Result<Items<ReadKey>, AllocError>
-        ensures { IfOk result (HasReadKeys (asks exchange.now) self.now.table.cells) }
+        ensures { IfOk result (HasReadKeys (asks exchange.now) self.now.table.cells.kept) }
     {
         match exchange {
             Exchange::Document(_, key, _) => {
                 self.table.cells.keys_of_policy(key.kind, key.id.as_str())
             }
-            Exchange::Row(_, key, _) => keys_of_row(self.alloc, key),
+            Exchange::Row(_, key, _) => self.table.cells.keys_of_row(key),
             Exchange::Root(_) => Items::of_one(self.alloc, ReadKey::Root),
             Exchange::Environment(_) => environment_keys(self.alloc),
         }

@@ -23,7 +23,14 @@ impl<A: Attributes, P: Policies> Parts<A, P> {
     {
         self.name_fault(list, &name)?;
         let table = &mut self.table;
-        match table.add(self.alloc, &mut self.pdp, &mut self.log, list, name) {
+        match table.add(
+            self.alloc,
+            &mut self.pdp,
+            &mut self.memory,
+            &mut self.log,
+            list,
+            name,
+        ) {
             Ok(olds) => Ok(self.log_edit(olds)),
             Err(_) => Err(EditFault::Memory),
         }

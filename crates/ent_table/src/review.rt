@@ -20,7 +20,7 @@ use crate::judged::Judged;
 use crate::limits::Limits;
 use crate::review_parts::Parts;
 use crate::table::Table;
-use ent_eval::{Answer, Environment, Pdp};
+use ent_eval::{Answer, Environment, Memory, Pdp};
 use ent_finder::{AttributeFinder, Attributes, Policies, PolicyFinder};
 use ent_log::Log;
 use ent_values::Shared;
@@ -68,6 +68,7 @@ impl<A: Attributes, P: Policies> Review<A, P> {
                 pdp,
                 limits,
                 table: Table::new(alloc),
+                memory: Memory::new(alloc),
                 log: Log::new(alloc),
                 documents,
             },

@@ -14,7 +14,7 @@ use crate::limits::Limits;
 use crate::review::LAST_SERIAL;
 use crate::table::Table;
 use ent_cells::Who;
-use ent_eval::{Answer, Pdp};
+use ent_eval::{Answer, Memory, Pdp};
 use ent_finder::{Attributes, Policies};
 use ent_log::{Log, OldAnswer};
 use ent_values::Items;
@@ -27,6 +27,8 @@ pub(crate) struct Parts<A: Attributes, P: Policies> {
     pub(crate) pdp: Pdp<A, P>,
     pub(crate) limits: Limits,
     pub(crate) table: Table,
+    // What is remembered for evaluations of its cells.
+    pub(crate) memory: Memory,
     // What edits changed, and how many were accepted.
     pub(crate) log: Log<Who, Answer>,
     // How many documents are held.
@@ -70,8 +72,8 @@ impl<A: Attributes, P: Policies> Parts<A, P> {
         let Ok(changed) = self.exchange_and_tell(&mut exchange) else {
             return Err(EditFault::Memory);
         };
-        let cells = &mut self.table.cells;
-        match cells.settle(&mut self.pdp, &mut self.log, changed.as_slice()) {
+        let (cells, memory) = (&mut self.table.cells, &mut self.memory);
+        match cells.settle(&mut self.pdp, memory, &mut self.log, changed.as_slice()) {
             Ok(olds) => {
                 self.documents = documents;
                 Ok(self.log_edit(olds))
@@ -93,10 +95,10 @@ impl<A: Attributes, P: Policies> Parts<A, P> {
     /// Logs an edit that was made by the old answers of what it changed, and counts it. It takes no memory.
     pub(crate) fn log_edit(&mut self, olds: Items<OldAnswer<Who, Answer>>) -> Accepted
         requires serial { self.old.log.serial < 2 ^ 63 }
-        requires room { length olds + length self.old.table.cells ≤ room_of self.old.log }
+        requires room { length olds + length self.old.table.cells.kept ≤ room_of self.old.log }
         ensures rest { self.new ≡ record self.old { log = self.new.log } }
         ensures logs { Logs olds self.old.log self.new.log }
-        ensures room { length self.new.table.cells ≤ room_of self.new.log }
+        ensures room { length self.new.table.cells.kept ≤ room_of self.new.log }
         ensures accepted { result ≡ record { serial = self.old.log.serial + 1; changes = length olds } }
     {
         let changes = olds.len();

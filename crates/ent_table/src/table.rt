@@ -1,18 +1,19 @@
 //! The table: three lists of names, and an answer for each of the requests that they make.
 
 ghost use Rattle.std.specs.Prelude.{◌≡◌, ◌+◌, ◌<◌, ◌≤◌, false, length, IfOk, MatchOption, OnErr, OnOk};
-ghost use Rattle.ent_cells.specs.Cell.{cell_of};
+ghost use Rattle.ent_cells.specs.Cell.{Knows, cell_of};
 ghost use Rattle.ent_cells.specs.Count.{Counts, CountsAtMost};
 ghost use Rattle.ent_cells.specs.Old.{IsLogged};
 ghost use Rattle.ent_eval.specs.LooksOf.{looks_of};
 ghost use Rattle.ent_table.specs.Names.{has_name, list_of};
 ghost use Rattle.ent_log.specs.Tables.{IsSameLog, room_of};
-ghost use Rattle.ent_table.specs.proofs_only.Table.{Drops, IsAdded, behind, empty_table, requests_with, unanswered};
+ghost use Rattle.ent_table.specs.proofs_only.Table.{Drops, HasSameCells, IsAdded, behind, empty_table};
+ghost use Rattle.ent_table.specs.proofs_only.Table.{requests_with, unanswered};
 
 use crate::edit::List;
 use crate::lists::Lists;
 use ent_cells::{Blocks, Live, Who};
-use ent_eval::{Answer, Pdp};
+use ent_eval::{Answer, Memory, Pdp};
 use ent_finder::{Attributes, Policies};
 use ent_log::{Log, OldAnswer};
 use ent_values::{Items, Shared, Text};
@@ -85,18 +86,21 @@ impl Table {
         &mut self,
         alloc: Global,
         pdp: &mut Pdp<A, P>,
+        memory: &mut Memory,
         log: &mut Log<Who, Answer>,
         list: List,
         name: Text,
     ) -> Result<Items<OldAnswer<Who, Answer>>, AllocError>
         requires room { length (list_of list self.old.names) < 65536 }
         requires absent { has_name name (list_of list self.old.names) ≡ false }
+        requires knows { Knows (looks_of pdp.old) self.old.cells memory.old }
         ensures ok { OnOk result (IsAdded (cell_of (looks_of pdp.old)) list name self.old self.new) }
         ensures olds { IfOk result (λ olds. olds ≡ unanswered (requests_with list name self.old.names)) }
-        ensures room { IfOk result (λ olds. length olds + length self.new.cells ≤ room_of log.new) }
+        ensures room { IfOk result (λ olds. length olds + length self.new.cells.kept ≤ room_of log.new) }
         ensures same { IsSameLog log.old log.new }
         ensures grows { room_of log.old ≤ room_of log.new }
-        ensures err { OnErr result (self.new ≡ self.old) }
+        ensures err { OnErr result (HasSameCells self.old self.new) }
+        ensures knows { Knows (looks_of pdp.old) self.new.cells memory.new }
         ensures counted { OnOk result
             (Counts pdp.old.evaluations pdp.new.evaluations (length (requests_with list name self.old.names))) }
         ensures bound { CountsAtMost pdp.old.evaluations pdp.new.evaluations
@@ -111,7 +115,7 @@ impl Table {
         let olds = unanswered(alloc, requests.as_slice())?;
         make_room(log, self.cells.len(), olds.len())?;
         self.names.push(alloc, list, name)?;
-        match self.cells.add(pdp, behind(list, blocks), requests) {
+        match self.cells.add(pdp, memory, behind(list, blocks), requests) {
             Ok(()) => Ok(olds),
             Err(error) => {
                 self.names.undo_push(list);
@@ -128,13 +132,14 @@ impl Table {
         list: List,
         name: &str,
     ) -> Option<usize>
-        requires { length self.old.cells ≤ room_of log.old }
+        requires { length self.old.cells.kept ≤ room_of log.old }
         ensures dropped { Drops list name.now self.old self.new result }
         ensures logged { MatchOption result (log.new ≡ log.old)
-            (λ _. IsLogged self.old.cells self.new.cells log.old log.new) }
+            (λ _. IsLogged self.old.cells.kept self.new.cells.kept log.old log.new) }
+        ensures questions { self.new.cells.questions ≡ self.old.cells.questions }
         ensures from { log.new.from ≡ log.old.from }
         ensures serial { log.new.serial ≡ log.old.serial }
-        ensures room { length self.new.cells ≤ room_of log.new }
+        ensures room { length self.new.cells.kept ≤ room_of log.new }
     {
         let blocks = self.names.blocks(list);
         let place = self.names.remove(list, name)?;

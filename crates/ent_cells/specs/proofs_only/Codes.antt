@@ -6,7 +6,7 @@ use Rattle.ent_request.specs.declared.answer.Answer.{Answer}
 use Rattle.ent_request.specs.declared.key.ReadKey.{ReadKey}
 use Rattle.ent_request.specs.declared.question.Question.{Question}
 use Rattle.ent_cells.specs.declared.who.Who.{Who}
-use Rattle.ent_cells.specs.Cell.{Kept, Said}
+use Rattle.ent_cells.specs.Cell.{Cells, Kept, Said}
 use Rattle.ent_cells.specs.Entries.{Entry, Stored}
 
 -- what is said is stored as answer, keys and mark, a cell as the pair of request and that
@@ -26,3 +26,8 @@ entry_code whos answers keys =
 abbrev pub stored_code : Coded Who → Coded Answer → Coded ReadKey → Coded Question → Coded Stored
 stored_code whos answers keys questions =
     code_by (Slab Entry × List Question) (coded× (slab_code (entry_code whos answers keys)) (coded_list questions)) (λ s. (s.cells, s.questions)) (λ p. record { cells = p.0; questions = p.1 }) (λ _. refl)
+
+-- cells in list order and questions, as the pair of both
+abbrev pub cells_code : Coded Who → Coded Answer → Coded ReadKey → Coded Question → Coded Cells
+cells_code whos answers keys questions =
+    code_by (List Kept × List Question) (coded× (coded_list (kept_code whos answers keys)) (coded_list questions)) (λ c. (c.kept, c.questions)) (λ p. record { kept = p.0; questions = p.1 }) (λ _. refl)

@@ -9,6 +9,8 @@ use Rattle.ent_finder.specs.Slots.{document_count, module_at}
 use Rattle.ent_policy.specs.declared.document.Tree.{Tree}
 use Rattle.ent_policy.specs.declared.key.DocKey.{DocKey}
 use Rattle.ent_values.specs.declared.value.Value.{Value}
+use Rattle.ent_cells.specs.Cell.{Knows}
+use Rattle.ent_eval.specs.LooksOf.{looks_of}
 use Rattle.ent_eval.specs.Point.{Point}
 use Rattle.ent_finder.specs.declared.row.RowKey.{RowKey}
 use Rattle.ent_table.specs.declared.change.Exchange.{Exchange}
@@ -89,7 +91,7 @@ OnlySlots old new = new ≡ record old { pdp = record old.pdp { slots = new.pdp.
 abbrev pub OnlySources : {A P : Type 0} → Parts A P → Parts A P → Type 0
 OnlySources old new = new ≡ record old { pdp = record old.pdp { sources = new.pdp.sources } }
 
--- only what is held changed
+-- only what is held changed, and what is remembered
 abbrev pub OnlyHeld : {A P : Type 0} → Parts A P → Parts A P → Type 0
 OnlyHeld old new = new ≡ record old {
   pdp = record old.pdp {
@@ -98,7 +100,13 @@ OnlyHeld old new = new ≡ record old {
     root = new.pdp.root;
     environment = new.pdp.environment;
   };
+  memory = new.memory;
 }
+
+-- what is remembered is so over what is held now, if it was so over what was held
+abbrev pub StillKnows : {A P : Type 0} → Parts A P → Parts A P → Type 0
+StillKnows old new =
+    Knows (looks_of old.pdp) old.table.cells old.memory → Knows (looks_of new.pdp) new.table.cells new.memory
 
 -- a review became another by an exchange, of which this stood there
 abbrev pub IsMade : {A P : Type 0} → Parts A P → Parts A P → Exchange → Type 0

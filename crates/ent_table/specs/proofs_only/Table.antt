@@ -17,11 +17,11 @@ unanswered xs = map (λ x. record { key = x; answer = None }) xs
 
 -- no names, and so no cells
 abbrev pub empty_table : Table
-empty_table = record { names = no_names; cells = [] }
+empty_table = record { names = no_names; cells = record { kept = []; questions = [] } }
 
 -- each cell is what f makes of its request
 abbrev pub IsFilled : (Triple → Kept) → Table → Type 0
-IsFilled f t = t.cells ≡ map f (triples t.names)
+IsFilled f t = t.cells.kept ≡ map f (triples t.names)
 
 -- the requests of a new name of a list
 abbrev pub requests_with : Which → List ℕ → Names → List Triple
@@ -33,6 +33,11 @@ behind which.People b = record b { count = 0 }
 behind which.Actions b = b
 behind which.Resources b = b
 
+-- the names and the cells are the same, whatever questions have got numbers
+pub record HasSameCells (old new : Table) : Type 0 where
+  pub names : new.names ≡ old.names
+  pub cells : new.cells.kept ≡ old.cells.kept
+
 -- a name was put last in its list, and what f makes of its requests where it belongs
 pub record IsAdded (f : Triple → Kept) (list : Which) (name : List ℕ) (old new : Table) : Type 0 where
   pub names : new.names ≡ with_name list name old.names
@@ -43,7 +48,7 @@ pub record IsDropped (list : Which) (name : List ℕ) (old new : Table) (count :
   pub there : has_name name (list_of list old.names) ≡ true
   pub names : new.names ≡ without_name list name old.names
   pub cells : (f : Triple → Kept) → IsFilled f old → IsFilled f new
-  pub counted : length old.cells ≡ count + length new.cells
+  pub counted : length old.cells.kept ≡ count + length new.cells.kept
 
 -- so many cells were dropped with a name, or the list lacks it and nothing changed
 abbrev pub Drops : Which → List ℕ → Table → Table → Option ℕ → Type 0

@@ -4,4 +4,7 @@ use Rattle.ent_cells.specs.Shape.{left_of}
 use Rattle.ent_cells.proofs.blocks.remove_all.Given as goal
 
 abbrev pub invariant-loop-key : goal.invariant-loop-key
-invariant-loop-key l = (q : ℕ) → get l.store.cells q ≡ left_of l.initial.store.cells (take l.key-index l.keys) q
+invariant-loop-key l = record {
+  cells : (q : ℕ) → get l.store.cells q ≡ left_of l.initial.store.cells (take l.key-index l.keys) q;
+  questions : l.store.questions ≡ l.initial.store.questions;
+}

@@ -54,4 +54,5 @@ loop-done-preserved c =
           (puts-as (gone_in s gone ++ gone_in t next) (gone_in s (taken_out (n - i) w o each rest)) c.loop-done.log end
           (gone_then s t gone c.remove_logged.ensures.cells next once ∙ ap (gone_in s) (sym step))
           (puts-append (gone_in s gone) (gone_in t next) c.loop-done.log c.remove_logged.new.log end c.remove_logged.ensures.logged puts));
+      questions = c.remove_logged.ensures.questions ∙ c.loop-done.invariant.questions;
     }

@@ -17,4 +17,5 @@ invariant-loop-done l = record {
   room : length l.rest ≤ room_of l.log;
   logged : (end : Log Who Answer) → Puts (gone_in l.store.cells (taken_out (l.blocks.count - l.done) l.blocks.width l.from l.blocks.each l.rest)) l.log end
       → Puts (gone_in l.initial.store.cells (taken_out l.blocks.count l.blocks.width l.from l.blocks.each l.keys)) l.initial.log end;
+  questions : l.store.questions ≡ l.initial.store.questions;
 }

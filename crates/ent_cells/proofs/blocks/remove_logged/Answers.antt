@@ -29,4 +29,5 @@ loop-key-preserved c =
           puts-as (gone_in s (take i keys) ++ gone_in c.loop-key.store.cells (k ∷ [])) (gone_in s (take (i + 1) keys)) c.args.log.now c.remove_one.new.log
           (ap (λ os. gone_in s (take i keys) ++ os) one ∙ sym (gone_more s keys i c.loop-key-test.true))
           (puts-append (gone_in s (take i keys)) (gone_in c.loop-key.store.cells (k ∷ [])) c.args.log.now c.loop-key.log c.remove_one.new.log c.loop-key.invariant.logged c.remove_one.ensures.logged);
+      questions = c.remove_one.ensures.questions ∙ c.loop-key.invariant.questions;
     }

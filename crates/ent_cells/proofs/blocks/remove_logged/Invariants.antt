@@ -8,4 +8,5 @@ abbrev pub invariant-loop-key : goal.invariant-loop-key
 invariant-loop-key l = record {
   cells : (q : ℕ) → get l.store.cells q ≡ left_of l.initial.store.cells (take l.key-index l.keys) q;
   logged : Puts (gone_in l.initial.store.cells (take l.key-index l.keys)) l.initial.log l.log;
+  questions : l.store.questions ≡ l.initial.store.questions;
 }

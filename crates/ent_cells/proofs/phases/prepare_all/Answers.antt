@@ -29,12 +29,18 @@ returns-in_err-prepare-clause-err g c =
     subst (KeepsCells c.args.keys.now c.args.store.now.cells) (sym c.in_err-prepare.ensures.err) (keeps_cells looks c.args.store.now.cells c.loop-key.store.cells c.args.keys.now c.loop-key.key-index c.requires.free c.loop-key.invariant.ready) in
     refused c.from_residual.result kept
 
+pub returns-in_err-prepare-clause-remembers : goal.returns-in_err-prepare-clause-remembers
+returns-in_err-prepare-clause-remembers g c =
+    let looks : Looks = looks_of c.args.pdp.now in
+    let same : looks_of c.loop-key.pdp ≡ looks = ap looks_of {y = record c.args.pdp.now { evaluations = c.loop-key.pdp.evaluations }} c.loop-key.invariant.rest in
+    subst (λ (l : Looks). Remembers l c.prepare.new.self.questions c.prepare.new.memory) same c.prepare.ensures.remembers
+
 pub loop-key-init : goal.loop-key-init
 loop-key-init g c =
     let looks : Looks = looks_of c.args.pdp.now in
     record {
       ready = λ k. refl;
-      remembers = c.new-memory.ensures looks c.args.store.now.questions;
+      remembers = c.requires.remembers;
       counted = counts_none c.args.pdp.now.evaluations;
       rest = refl;
     }

@@ -1,7 +1,7 @@
-use Rattle.std.proofs.Common.{IfOk, List, subst}
+use Rattle.std.proofs.Common.{IfOk, List, subst, ap}
 use Rattle.std.proofs.lemmas.Result.{IfOk-weaker}
 use Rattle.ent_index.specs.Asked.{asks_policy}
-use Rattle.ent_cells.specs.Cell.{HasReadKeys, Kept}
+use Rattle.ent_cells.specs.Cell.{Cells, HasReadKeys, Kept}
 use Rattle.ent_cells.specs.Entries.{kept_of}
 use Rattle.ent_cells.specs.proofs_only.Asked.{HasKeysOf}
 use Rattle.ent_cells.proofs.Listed.{are_listed}
@@ -12,5 +12,5 @@ returns c =
     let asks = asks_policy c.args.kind c.args.id.now in
     let s = c.self.inside.store.cells in
     let ks = c.self.inside.keys.items in
-    subst (λ (es : List Kept). IfOk c.keys_of_policy.result (HasReadKeys asks es)) c.self.view_is
+    subst (λ (es : List Kept). IfOk c.keys_of_policy.result (HasReadKeys asks es)) (ap (λ (x : Cells). x.kept) c.self.view_is)
     (IfOk-weaker c.keys_of_policy.result (HasKeysOf asks s) (HasReadKeys asks (kept_of s ks)) (are_listed asks s ks) c.keys_of_policy.ensures)

@@ -4,7 +4,7 @@ use Rattle.ent_request.specs.declared.answer.Answer.{Answer}
 use Rattle.ent_log.specs.Tables.{room_of}
 use Rattle.ent_log.specs.declared.log.Log.{Log}
 use Rattle.ent_cells.specs.declared.who.Who.{Who}
-use Rattle.ent_cells.specs.Cell.{Kept}
+use Rattle.ent_cells.specs.Cell.{Cells, Kept}
 use Rattle.ent_cells.specs.Entries.{Entry, kept_of}
 use Rattle.ent_cells.specs.Grid.{IsGrid, times}
 use Rattle.ent_cells.specs.proofs_only.Logging.{Puts, gone_in}
@@ -28,7 +28,7 @@ remove_blocks-requires-clause-once c = rw c.deref.ensures.value (keys_once c.sel
 
 pub remove_blocks-requires-clause-room : goal.remove_blocks-requires-clause-room
 remove_blocks-requires-clause-room c =
-    omega (arith, c.requires.room, ap length c.deref.ensures.value, kept_long c.self.inside.store.cells c.self.inside.keys.items c.self.invariant.grid, ap length c.self.view_is)
+    omega (arith, c.requires.room, ap length c.deref.ensures.value, kept_long c.self.inside.store.cells c.self.inside.keys.items c.self.invariant.grid, ap length (ap (λ (x : Cells). x.kept) c.self.view_is))
 
 pub invariant_of-self : goal.invariant_of-self
 invariant_of-self c =
@@ -59,7 +59,7 @@ returns-clause-cells c =
     let is = c.keep_present.ensures ∙ narrow_filter c.self.inside.store.cells c.remove_blocks.new.store.cells c.args.blocks.count c.args.blocks.width c.args.from c.args.blocks.each c.self.inside.keys.items c.self.invariant.grid cleared in
     ap (kept_of c.remove_blocks.new.store.cells) is
     ∙ narrow_kept c.self.inside.store.cells c.remove_blocks.new.store.cells c.args.blocks.count c.args.blocks.width c.args.from c.args.blocks.each c.self.inside.keys.items c.self.invariant cleared
-    ∙ ap (without c.args.blocks.count c.args.blocks.width c.args.from c.args.blocks.each) c.self.view_is
+    ∙ ap (without c.args.blocks.count c.args.blocks.width c.args.from c.args.blocks.each) (ap (λ (x : Cells). x.kept) c.self.view_is)
 
 pub returns-clause-logged : goal.returns-clause-logged
 returns-clause-logged c =
@@ -68,9 +68,9 @@ returns-clause-logged c =
     let is = c.keep_present.ensures ∙ narrow_filter c.self.inside.store.cells c.remove_blocks.new.store.cells c.args.blocks.count c.args.blocks.width c.args.from c.args.blocks.each c.self.inside.keys.items c.self.invariant.grid cleared in
     let new_is = ap (kept_of c.remove_blocks.new.store.cells) is
     ∙ narrow_kept c.self.inside.store.cells c.remove_blocks.new.store.cells c.args.blocks.count c.args.blocks.width c.args.from c.args.blocks.each c.self.inside.keys.items c.self.invariant cleared
-    ∙ ap (without c.args.blocks.count c.args.blocks.width c.args.from c.args.blocks.each) c.self.view_is in
+    ∙ ap (without c.args.blocks.count c.args.blocks.width c.args.from c.args.blocks.each) (ap (λ (x : Cells). x.kept) c.self.view_is) in
     is_logged c.self.inside.store.cells c.remove_blocks.new.store.cells c.args.blocks.count c.args.blocks.width c.args.from c.args.blocks.each c.self.inside.keys.items c.keep_present.new.keys.items c.self.invariant.grid c.args.log.now c.remove_blocks.new.log puts
-    c.args.self.now c.self.view_is new_is
+    c.args.self.now.kept (ap (λ (x : Cells). x.kept) c.self.view_is) new_is
 
 pub returns-clause-room : goal.returns-clause-room
 returns-clause-room c =
@@ -79,6 +79,9 @@ returns-clause-room c =
     let is = c.keep_present.ensures ∙ narrow_filter c.self.inside.store.cells c.remove_blocks.new.store.cells c.args.blocks.count c.args.blocks.width c.args.from c.args.blocks.each c.self.inside.keys.items c.self.invariant.grid cleared in
     let new_is = ap (kept_of c.remove_blocks.new.store.cells) is
     ∙ narrow_kept c.self.inside.store.cells c.remove_blocks.new.store.cells c.args.blocks.count c.args.blocks.width c.args.from c.args.blocks.each c.self.inside.keys.items c.self.invariant cleared
-    ∙ ap (without c.args.blocks.count c.args.blocks.width c.args.from c.args.blocks.each) c.self.view_is in
+    ∙ ap (without c.args.blocks.count c.args.blocks.width c.args.from c.args.blocks.each) (ap (λ (x : Cells). x.kept) c.self.view_is) in
     still_room c.self.inside.store.cells c.remove_blocks.new.store.cells c.args.blocks.count c.args.blocks.width c.args.from c.args.blocks.each c.self.inside.keys.items c.keep_present.new.keys.items c.self.invariant.grid c.args.log.now c.remove_blocks.new.log puts
-    c.args.self.now c.self.view_is new_is c.requires.room
+    c.args.self.now.kept (ap (λ (x : Cells). x.kept) c.self.view_is) new_is c.requires.room
+
+pub returns-clause-questions : goal.returns-clause-questions
+returns-clause-questions c = c.remove_blocks.ensures.questions ∙ ap (λ (x : Cells). x.questions) c.self.view_is

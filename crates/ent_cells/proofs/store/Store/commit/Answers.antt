@@ -7,7 +7,10 @@ pub invariant_of-self : goal.invariant_of-self
 invariant_of-self c =
     replaced_store c.self.inside.questions c.self.inside.groups c.say_next.new.groups c.self.inside.slab c.say_next.new.cells c.args.key c.self.invariant c.say_next.ensures.groups (get c.self.inside.slab c.args.key) refl c.say_next.ensures.cells
 
-pub returns : goal.returns
-returns c =
+pub returns-clause-cells : goal.returns-clause-cells
+returns-clause-cells c =
     rw (← c.self.view_is)
     (replaced_seen c.self.inside.questions c.self.inside.groups c.say_next.new.groups c.self.inside.slab c.say_next.new.cells c.args.key c.self.invariant c.say_next.ensures.groups (get c.self.inside.slab c.args.key) refl c.say_next.ensures.cells)
+
+pub returns-clause-questions : goal.returns-clause-questions
+returns-clause-questions c = λ j. (c.self.view_is j).questions

@@ -4,5 +4,5 @@ use Rattle.ent_cells.proofs.store.Store.new.Goals as goal
 pub invariant_of-result : goal.invariant_of-result
 invariant_of-result c = new_store c.new-2.result c.new-3.result c.new.result c.new.ensures.empty
 
-pub returns : goal.returns
-returns c = new_seen c.new-2.result c.new-3.result c.new.result c.new.ensures.empty
+pub returns-clause-cells : goal.returns-clause-cells
+returns-clause-cells c = new_seen c.new-2.result c.new-3.result c.new.result c.new.ensures.empty

@@ -37,3 +37,9 @@ pub returns-clause-gone : goal.returns-clause-gone
 returns-clause-gone c =
     rw (← c.self.view_is)
     (ap Some c.gone_answer.ensures ∙ gone_answer_seen c.self.inside.questions c.self.inside.groups c.self.inside.slab c.args.key (Some c.in-Some.cell) (sym c.in-Some.ensures.value))
+
+pub returns-in_default-clause-questions : goal.returns-in_default-clause-questions
+returns-in_default-clause-questions c = λ j. (c.self.view_is j).questions
+
+pub returns-clause-questions : goal.returns-clause-questions
+returns-clause-questions c = λ j. (c.self.view_is j).questions

@@ -1,8 +1,9 @@
 use Rattle.std.proofs.Common.{ap, arith, length, sym, subst, ◌∙◌}
 use Rattle.ent_eval.specs.Memory.{IsShelf}
 use Rattle.ent_eval.specs.declared.shelf.Shelf.{Shelf}
-use Rattle.ent_eval.specs.proofs_only.Led.{IsPut}
-use Rattle.ent_eval.proofs.Shelved.{about_all, put_last, shelf_none, shelf_put}
+use Rattle.ent_eval.specs.proofs_only.Remembered.{IsPut}
+use Rattle.ent_found.proofs.Learning.{about_all}
+use Rattle.ent_eval.proofs.Shelved.{put_last, shelf_none, shelf_put}
 use Rattle.ent_eval.proofs.cases.Cases.begin.Goals as goal
 
 pub returns-clause-shelves : goal.returns-clause-shelves

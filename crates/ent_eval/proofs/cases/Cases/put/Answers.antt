@@ -1,7 +1,8 @@
 use Rattle.std.proofs.Common.{subst, sym}
 use Rattle.ent_eval.specs.Memory.{IsCase}
-use Rattle.ent_eval.specs.proofs_only.Led.{IsPut}
-use Rattle.ent_eval.proofs.Shelved.{about_all, has_same, on_false, put_last, shelf_put, shelf_same}
+use Rattle.ent_eval.specs.proofs_only.Remembered.{IsPut}
+use Rattle.ent_found.proofs.Learning.{about_all}
+use Rattle.ent_eval.proofs.Shelved.{has_same, on_false, put_last, shelf_put, shelf_same}
 use Rattle.ent_eval.proofs.cases.Cases.put.Goals as goal
 
 pub returns-then-is_full-clause-shelves : goal.returns-then-is_full-clause-shelves

@@ -1,9 +1,10 @@
 use Rattle.std.proofs.Common.{refl, subst}
 use Rattle.std.specs.Prelude.{IfNone, IfSome}
 use Rattle.ent_eval.specs.Memory.{Gives, HasCaseIn}
-use Rattle.ent_eval.specs.proofs_only.Remembered.{NoneFits, request_of}
-use Rattle.ent_eval.proofs.Fitting.{keeps_then}
-use Rattle.ent_eval.proofs.Growing.{starts_itself}
+use Rattle.ent_eval.specs.proofs_only.Remembered.{NoneFits}
+use Rattle.ent_found.specs.proofs_only.Ready.{request_of}
+use Rattle.ent_found.proofs.FoundAll.{keeps_then}
+use Rattle.ent_found.proofs.Growing.{starts_itself}
 use Rattle.ent_eval.proofs.Remembering.{shelf_more}
 use Rattle.ent_eval.proofs.Shelved.{has_latest, none_older, some_older}
 use Rattle.ent_eval.proofs.cases.Cases.recall.Goals as goal

@@ -1,16 +1,17 @@
 use Rattle.std.proofs.Common.{refl, subst}
 use Rattle.std.specs.Prelude.{IfNone}
 use Rattle.ent_eval.specs.Memory.{cases_in}
-use Rattle.ent_eval.specs.proofs_only.Remembered.{Begins, NoneFits, request_of}
+use Rattle.ent_found.specs.proofs_only.Ready.{Begins, request_of}
+use Rattle.ent_eval.specs.proofs_only.Remembered.{NoneFits}
 use Rattle.ent_eval.proofs.Fitting.{recalls}
-use Rattle.ent_eval.proofs.Growing.{starts_itself, starts_then}
+use Rattle.ent_found.proofs.Growing.{starts_itself, starts_then}
 use Rattle.ent_eval.proofs.memory.Memory.recall.Goals as goal
 
 pub returns-in_err-turn_to-clause-remembers : goal.returns-in_err-turn_to-clause-remembers
 returns-in_err-turn_to-clause-remembers g c =
     let looks = g.L.LookUps.looks c.args.scene.now.held.now in
     let questions = c.args.scene.now.questions.now in
-    recalls looks questions c.args.self.now c.turn_to.new.self c.args.self.now.cases c.requires (c.in_err-turn_to.ensures.kept looks questions c.requires.findings)
+    recalls looks questions c.args.self.now c.turn_to.new.self c.args.self.now.cases c.tried.new.self c.requires (c.in_err-turn_to.ensures.kept looks questions c.requires.findings)
     (starts_itself c.args.self.now.findings.bags c.turn_to.new.self.bags c.in_err-turn_to.ensures.bags) refl refl
 
 pub recall-requires-clause-ready : goal.recall-requires-clause-ready
@@ -23,14 +24,14 @@ pub recall-requires-clause-shelves : goal.recall-requires-clause-shelves
 recall-requires-clause-shelves g c =
     let looks = g.L.LookUps.looks c.args.scene.now.held.now in
     let questions = c.args.scene.now.questions.now in
-    (recalls looks questions c.args.self.now c.turn_to.new.self c.args.self.now.cases c.requires (c.in_ok-turn_to.ensures.kept looks questions c.requires.findings)
+    (recalls looks questions c.args.self.now c.turn_to.new.self c.args.self.now.cases c.tried.new.self c.requires (c.in_ok-turn_to.ensures.kept looks questions c.requires.findings)
     (starts_itself c.args.self.now.findings.bags c.turn_to.new.self.bags c.in_ok-turn_to.ensures.bags) refl refl).cases
 
 pub returns-in_err-recall-clause-remembers : goal.returns-in_err-recall-clause-remembers
 returns-in_err-recall-clause-remembers g c =
     let begins : Begins c.recall.new.findings.bags c.args.self.now.findings.bags = starts_then c.args.self.now.findings.bags c.turn_to.new.self.bags c.recall.new.findings.bags
     (starts_itself c.args.self.now.findings.bags c.turn_to.new.self.bags c.in_ok-turn_to.ensures.bags) c.in_err-recall.ensures.keeps.begins in
-    recalls (g.L.LookUps.looks c.args.scene.now.held.now) c.args.scene.now.questions.now c.args.self.now c.recall.new.findings c.args.self.now.cases c.requires c.in_err-recall.ensures.keeps.ready.are begins refl refl
+    recalls (g.L.LookUps.looks c.args.scene.now.held.now) c.args.scene.now.questions.now c.args.self.now c.recall.new.findings c.args.self.now.cases c.tried.new.self c.requires c.in_err-recall.ensures.keeps.ready.are begins refl refl
 
 pub returns-in-None-clause-none : goal.returns-in-None-clause-none
 returns-in-None-clause-none g c =
@@ -44,11 +45,11 @@ pub returns-in-None-clause-remembers : goal.returns-in-None-clause-remembers
 returns-in-None-clause-remembers g c =
     let begins : Begins c.recall.new.findings.bags c.args.self.now.findings.bags = starts_then c.args.self.now.findings.bags c.turn_to.new.self.bags c.recall.new.findings.bags
     (starts_itself c.args.self.now.findings.bags c.turn_to.new.self.bags c.in_ok-turn_to.ensures.bags) c.in_ok-recall.ensures.keeps.begins in
-    recalls (g.L.LookUps.looks c.args.scene.now.held.now) c.args.scene.now.questions.now c.args.self.now c.recall.new.findings c.args.self.now.cases c.requires c.in_ok-recall.ensures.keeps.ready.are begins refl refl
+    recalls (g.L.LookUps.looks c.args.scene.now.held.now) c.args.scene.now.questions.now c.args.self.now c.recall.new.findings c.args.self.now.cases c.tried.new.self c.requires c.in_ok-recall.ensures.keeps.ready.are begins refl refl
 
 pub returns-in-Some-clause-remembers : goal.returns-in-Some-clause-remembers
 returns-in-Some-clause-remembers g c =
     let begins : Begins c.recall.new.findings.bags c.args.self.now.findings.bags = starts_then c.args.self.now.findings.bags c.turn_to.new.self.bags c.recall.new.findings.bags
     (starts_itself c.args.self.now.findings.bags c.turn_to.new.self.bags c.in_ok-turn_to.ensures.bags) c.in_ok-recall.ensures.keeps.begins in
-    recalls (g.L.LookUps.looks c.args.scene.now.held.now) c.args.scene.now.questions.now c.args.self.now c.recall.new.findings c.count_taken.new.self c.requires c.in_ok-recall.ensures.keeps.ready.are begins
+    recalls (g.L.LookUps.looks c.args.scene.now.held.now) c.args.scene.now.questions.now c.args.self.now c.recall.new.findings c.count_taken.new.self _ c.requires c.in_ok-recall.ensures.keeps.ready.are begins
     c.count_taken.ensures.older c.count_taken.ensures.latest

@@ -4,7 +4,7 @@ use Rattle.ent_walk.specs.Answer.{answer_part, asked}
 use Rattle.ent_eval.specs.LooksOf.{looks_of}
 use Rattle.ent_eval.specs.Point.{Point}
 use Rattle.ent_request.specs.Questions.{AreNumbers, asked_once, at_numbers}
-use Rattle.ent_eval.proofs.AtEnd.{told_failed, told_questions}
+use Rattle.ent_plan.proofs.AtEnd.{told_failed, told_questions}
 use Rattle.ent_eval.proofs.pdp.Pdp.evaluate_numbered.Goals as goal
 
 pub returns-clause-evaluated : goal.returns-clause-evaluated
@@ -19,7 +19,7 @@ returns-clause-evaluated g c =
     } in
     let questions = asked (looks_of point) c.args.request.now in
     let notes = (answer_part (looks_of point) c.args.request.now).notes in
-    let is : c.answered.new.notes.questions ≡ Some (asked_once [] questions) = ap (λ n. n.questions) c.in_ok-answer.ensures.notes ∙ told_questions c.open-notes.result [] notes (ap (λ n. n.questions) c.open-notes.ensures) in
+    let is : c.walked.new.notes.questions ≡ Some (asked_once [] questions) = ap (λ n. n.questions) c.in_ok-answer.ensures.notes ∙ told_questions c.open-notes.result [] notes (ap (λ n. n.questions) c.open-notes.ensures) in
     rw (← c.self.view_is) (record {
       answer = c.in_ok-answer-2.ensures ∙ c.in_ok-answer.ensures.answer;
       asked = ap (at_numbers c.numbers_among.new.questions) c.in_ok-asked.ensures

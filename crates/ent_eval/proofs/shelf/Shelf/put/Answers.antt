@@ -2,8 +2,8 @@ use Rattle.std.proofs.Common.{◌≡◌, arith, length, refl, sym, subst}
 use Rattle.std.proofs.lemmas.Bool.{false≢true}
 use Rattle.std.specs.Prelude.{IfSome, IsSome}
 use Rattle.ent_tree.specs.Tree.{Ends}
-use Rattle.ent_eval.specs.Ways.{way_of}
-use Rattle.ent_eval.specs.proofs_only.Led.{AreAbout, IsMade}
+use Rattle.ent_found.specs.Ways.{way_of}
+use Rattle.ent_found.specs.proofs_only.Led.{AreAbout, IsMade}
 use Rattle.ent_eval.proofs.Shelved.{index_more, index_same}
 use Rattle.ent_eval.proofs.shelf.Shelf.put.Goals as goal
 

@@ -31,7 +31,7 @@ returns g c =
     let depths : c.blocks-columns.result.each ≡ length names.resources = ap (λ b. b.each) c.blocks-columns.ensures.blocks in
     let one : c.blocks-depths.result.each ≡ 1 = ap (λ b. b.each) c.blocks-depths.ensures.blocks in
     c.new-2.ensures
-    ∙ (λ i. column (stride i) (c.names.ensures.names i) (drop (c.in-Some.column * depths i + c.in-Some-place_in.depth * one i) (fresh_answers (state_of parts) parts.table.cells c.self.invariant.cells i)))
+    ∙ (λ i. column (stride i) (c.names.ensures.names i) (drop (c.in-Some.column * depths i + c.in-Some-place_in.depth * one i) (fresh_answers (state_of parts) parts.table.cells.kept c.self.invariant.cells i)))
     ∙ answers_by_place f names.people names.actions names.resources c.args.action.now c.args.resource.now c.in-Some.column c.in-Some-place_in.depth
     c.blocks-columns.ensures.distinct c.blocks-depths.ensures.distinct c.in-Some.ensures.at c.in-Some-place_in.ensures.at
     ∙ ap (λ (r : Reviewed). answers_to c.args.action.now c.args.resource.now (table_of r.state)) c.self.view_is

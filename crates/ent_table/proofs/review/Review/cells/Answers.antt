@@ -12,5 +12,5 @@ returns g c =
     let parts = c.self.inside.parts in
     let s = state_of parts in
     c.new.ensures
-    ∙ (λ i. zip (all_triples (c.names.ensures.names i) (c.names-2.ensures.names i) (c.names-3.ensures.names i)) (drop 0 (fresh_answers s parts.table.cells c.self.invariant.cells i)))
+    ∙ (λ i. zip (all_triples (c.names.ensures.names i) (c.names-2.ensures.names i) (c.names-3.ensures.names i)) (drop 0 (fresh_answers s parts.table.cells.kept c.self.invariant.cells i)))
     ∙ ap (λ (r : Reviewed). table_of r.state) c.self.view_is

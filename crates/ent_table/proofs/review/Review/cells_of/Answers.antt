@@ -32,6 +32,6 @@ returns-in-Some g c =
     let one : texts c.from_ref.result.now ≡ c.args.person.now ∷ [] = ap texts c.from_ref.ensures.value
     ∙ ap (λ n. n ∷ []) (ap string_bytes same ∙ text_there c.names-people.result.now c.in-Some.row c.index-people-row.result c.args.person.now at) in
     c.new-in-Some.ensures
-    ∙ (λ i. zip (all_triples (one i) (actions i) (resources i)) (drop (c.in-Some.row * each i) (fresh_answers s parts.table.cells c.self.invariant.cells i)))
+    ∙ (λ i. zip (all_triples (one i) (actions i) (resources i)) (drop (c.in-Some.row * each i) (fresh_answers s parts.table.cells.kept c.self.invariant.cells i)))
     ∙ cells_by_place f names.people names.actions names.resources c.args.person.now c.in-Some.row c.blocks-blocks.ensures.distinct c.in-Some.ensures.at
     ∙ ap (λ (r : Reviewed). cells_of c.args.person.now (table_of r.state)) c.self.view_is

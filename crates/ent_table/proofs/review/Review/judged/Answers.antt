@@ -13,6 +13,6 @@ returns g c =
     let parts = c.self.inside.parts in
     let s = state_of parts in
     c.new.ensures
-    ∙ (λ i. zip ((c.cells.ensures ∙ ap (λ (r : Reviewed). table_of r.state) (sym c.self.view_is)) i) (drop 0 (failures_fresh s parts.table.cells c.self.invariant.cells i)))
+    ∙ (λ i. zip ((c.cells.ensures ∙ ap (λ (r : Reviewed). table_of r.state) (sym c.self.view_is)) i) (drop 0 (failures_fresh s parts.table.cells.kept c.self.invariant.cells i)))
     ∙ judged_so (answer_to s) (has_failed s) (triples s.names)
     ∙ ap (λ (r : Reviewed). judged r.state) c.self.view_is

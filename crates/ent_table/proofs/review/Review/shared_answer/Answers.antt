@@ -18,7 +18,7 @@ returns g c =
     let place = c.in_ok-place.place in
     let at = c.in_ok-place.ensures in
     c.shared_answer.ensures.answer
-    ∙ ap (λ (l : List Answer). slice_get l place) (fresh_answers s parts.table.cells c.self.invariant.cells)
+    ∙ ap (λ (l : List Answer). slice_get l place) (fresh_answers s parts.table.cells.kept c.self.invariant.cells)
     ∙ slice_get-map (answer_to s) (triples s.names) place
     ∙ ap (option_map (answer_to s)) at.1
     ∙ sym (ap (λ b. if b then Some (answer_to s x) else None) at.0)

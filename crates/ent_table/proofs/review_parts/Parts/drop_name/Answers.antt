@@ -1,5 +1,8 @@
-use Rattle.std.proofs.Common.{◌≡◌, ◌+◌, ◌≤◌, ℕ, List, Ok, refl, sym, ap, subst, ◌∙◌, false}
+use Rattle.std.proofs.Common.{◌≡◌, ◌+◌, ◌≤◌, ◌^◌, ℕ, List, Ok, refl, sym, ap, subst, ◌∙◌, false, arith, leb-false, length}
 use Rattle.ent_cells.specs.Old.{IsLogged}
+use Rattle.ent_eval.specs.LooksOf.{looks_of}
+use Rattle.ent_eval.specs.Memory.{Remembers}
+use Rattle.ent_request.specs.declared.question.Question.{Question}
 use Rattle.ent_table.specs.Difference.{changes}
 use Rattle.ent_table.specs.Fresh.{state_of}
 use Rattle.ent_table.specs.State.{State, fresh_cells}
@@ -34,6 +37,35 @@ returns-clause-step g c =
       ap (λ a. a.changes) c.accepted.ensures ∙ dropped_changes s list name old.table new count shows dropped ∙ ap (λ (u : State). changes s u) (sym after),
     )
 
+pub returns-clause-fresh : goal.returns-clause-fresh
+returns-clause-fresh g c =
+    let old = c.args.self.now in
+    let s = state_of old in
+    let list = c.args.list in
+    let name = c.args.name.now in
+    let table = c.remove.new.self in
+    let new = record old { table = table; log = c.close.new.self } in
+    let shows : Shows s old.table = record { names = refl; cells = c.requires.cells } in
+    let dropped : IsDropped list name old.table table c.in-Some.changes =
+    subst (λ (k : List ℕ). IsDropped list k old.table table c.in-Some.changes) c.as_str-2.ensures
+    c.in-Some.ensures.dropped in
+    let open_ : is_last s ≡ false = sym c.is_last.ensures ∙ c.if-is_last.false in
+    let left : Ok (less_names s list name) ≡ Ok (state_of new) =
+    sym (name_leaves s list name dropped.there open_) ∙ (returns-clause-step g c).0 in
+    let after : less_names s list name ≡ state_of new = cc in
+    record {
+      cells = (shows_less s list name old.table table c.in-Some.changes shows dropped).cells
+          ∙ ap (λ (u : State). fresh_cells u) after;
+      knows = subst (λ (questions : List Question). Remembers (looks_of old.pdp) questions old.memory)
+          (sym c.remove.ensures.questions) c.requires.knows;
+      documents = c.requires.documents;
+      serial = subst (λ n. n ≤ 2 ^ 63) (ap (λ (u : State). u.serial) after)
+          (omega (arith, leb-false (2 ^ 63) s.serial open_));
+      limits = c.requires.limits;
+      closed = c.close.ensures.closed;
+      room = subst (λ n. length table.cells.kept ≤ n) (sym c.close.ensures.room) c.remove.ensures.room;
+    }
+
 pub returns-clause-counted : goal.returns-clause-counted
 returns-clause-counted g c =
     let s = state_of c.args.self.now in
@@ -53,7 +85,7 @@ returns-clause-tables g c =
     let name = c.args.name.now in
     let shows : Shows s old.table = record { names = refl; cells = c.requires.cells } in
     let dropped : IsDropped list name old.table c.remove.new.self c.in-Some.changes = subst (λ (k : List ℕ). IsDropped list k old.table c.remove.new.self c.in-Some.changes) c.as_str-2.ensures c.in-Some.ensures.dropped in
-    let logged : IsLogged old.table.cells c.remove.new.self.cells old.log c.remove.new.log = c.in-Some.ensures.logged in
+    let logged : IsLogged old.table.cells.kept c.remove.new.self.cells.kept old.log c.remove.new.log = c.in-Some.ensures.logged in
     let logs : Logs logged.0 old.log c.close.new.self = record {
       from = c.close.ensures.from ∙ c.remove.ensures.from;
       serial = c.close.ensures.serial ∙ ap (λ n. n + 1) c.remove.ensures.serial;
@@ -65,4 +97,4 @@ returns-clause-tables g c =
     sym (name_leaves s list name dropped.there (sym c.is_last.ensures ∙ c.if-is_last.false)) ∙ (returns-clause-step g c).0 in
     let after : less_names s list name ≡ state_of new = cc in
     let is = (shows_less s list name old.table c.remove.new.self c.in-Some.changes shows dropped).cells ∙ ap (λ (u : State). fresh_cells u) after in
-    kept_over old new old.log logged.0 (same_log old.log old.log refl) logs (undone s (state_of new) old.table.cells c.remove.new.self.cells logged.0 c.requires.cells is logged.1)
+    kept_over old new old.log logged.0 (same_log old.log old.log refl) logs (undone s (state_of new) old.table.cells.kept c.remove.new.self.cells.kept logged.0 c.requires.cells is logged.1)

@@ -12,8 +12,8 @@ returns-in-Ok-clause-changed g c =
     let x = c.args.exchange.now in
     let seen = c.in_ok-seen.seen.items in
     let one = c.in_ok-exchange.ensures in
-    let cells = c.exchange.new.self.table.cells in
-    let has = subst (λ (es : List Kept). HasReadKeys (asks x) es (keys_in seen)) (sym (ap (λ v. v.table.cells) one.rest)) c.in_ok-seen.ensures.keys in
+    let cells = c.exchange.new.self.table.cells.kept in
+    let has = subst (λ (es : List Kept). HasReadKeys (asks x) es (keys_in seen)) (sym (ap (λ v. v.table.cells.kept) one.rest)) c.in_ok-seen.ensures.keys in
     subst (AreChanged s x cells) (sym c.in-Ok.ensures)
     (are_changed s (state_of c.exchange.new.self) x _ seen cells c.requires one.made one.taken has c.in_ok-seen.ensures.looks)
 
@@ -25,3 +25,6 @@ returns-in-Err-clause-kept g c =
 pub returns-in-Err-clause-rest : goal.returns-in-Err-clause-rest
 returns-in-Err-clause-rest g c =
     held_twice c.args.self.now c.exchange.new.self c.take_back.new.self c.in_ok-exchange.ensures.rest c.take_back.ensures.rest
+
+pub returns-in-Err-clause-knows : goal.returns-in-Err-clause-knows
+returns-in-Err-clause-knows g c = λ known. c.take_back.ensures.knows (c.in_ok-exchange.ensures.knows known)

@@ -1,6 +1,8 @@
 use Rattle.std.proofs.Common.{◌≡◌, ◌+◌, ◌≤◌, ◌^◌, Ok, refl, sym, ap, subst, ◌∙◌, arith}
 use Rattle.ent_cells.specs.Count.{most, raised}
-use Rattle.ent_eval.specs.LooksOf.{held_by}
+use Rattle.ent_cells.specs.Cell.{Knows}
+use Rattle.ent_eval.specs.LooksOf.{held_by, looks_of}
+use Rattle.ent_request.specs.Looks.{Looks}
 use Rattle.ent_finder.specs.Slots.{document_count}
 use Rattle.ent_table.specs.Counted.{touched_count}
 use Rattle.ent_table.specs.Difference.{changes}
@@ -16,13 +18,16 @@ use Rattle.ent_table.proofs.Rests.{all_renewed, count_touched, names_stay, right
 use Rattle.ent_table.proofs.SerialTables.{kept_over, kept_stays, undone}
 use Rattle.ent_table.proofs.review_parts.Parts.make.Goals as goal
 
-pub settle-requires : goal.settle-requires
-settle-requires g c =
+pub settle-requires-clause-right : goal.settle-requires-clause-right
+settle-requires-clause-right g c =
     let between = c.exchange_and_tell.new.self in
     let one = c.in-Ok.ensures in
     right_but (state_of c.args.self.now) (state_of between) c.args.exchange one.made
-    between.table.cells (ap (λ v. v.table.cells) one.rest ∙ c.requires.fresh.cells) c.as_slice.result.now
-    (subst (AreChanged (state_of c.args.self.now) c.args.exchange between.table.cells) (sym c.as_slice.ensures) one.changed)
+    between.table.cells.kept (ap (λ v. v.table.cells.kept) one.rest ∙ c.requires.fresh.cells) c.as_slice.result.now
+    (subst (AreChanged (state_of c.args.self.now) c.args.exchange between.table.cells.kept) (sym c.as_slice.ensures) one.changed)
+
+pub settle-requires-clause-knows : goal.settle-requires-clause-knows
+settle-requires-clause-knows g c = c.in-Ok.ensures.knows c.requires.fresh.knows
 
 -- the cells were made right
 pub returns-in-Ok-settle : goal.returns-in-Ok-settle
@@ -36,24 +41,27 @@ returns-in-Ok-settle g c =
     let one = c.in-Ok.ensures in
     let done = c.in-Ok-settle.ensures in
     let counted = c.log_edit.ensures in
-    let was : between.table.cells ≡ fresh_cells s = ap (λ v. v.table.cells) one.rest ∙ c.requires.fresh.cells in
-    let cells : c.settle.new.self ≡ fresh_cells (with_exchange s x) = done.ok ∙ all_renewed s mid x one.made between.table.cells was in
+    let was : between.table.cells.kept ≡ fresh_cells s = ap (λ v. v.table.cells.kept) one.rest ∙ c.requires.fresh.cells in
+    let cells : c.settle.new.self.kept ≡ fresh_cells (with_exchange s x) = done.ok ∙ all_renewed s mid x one.made between.table.cells.kept was in
     let up : new.log.serial ≡ between.log.serial + 1 = counted.logs.serial ∙ ap (λ n. n + 1) done.log.serial in
     let after : state_of new ≡ next (with_exchange s x) =
     ap state_of counted.rest
     ∙ ap (λ n. record mid { held = held_by c.settle.new.pdp; serial = n }) up
     ∙ ap (λ p. record (next mid) { held = held_by p }) done.rest
     ∙ ap next one.made in
-    let now : new.table.cells ≡ fresh_cells (state_of new) =
-    ap (λ v. v.table.cells) counted.rest ∙ cells ∙ ap (λ (u : State). fresh_cells u) (sym after) in
+    let now : new.table.cells.kept ≡ fresh_cells (state_of new) =
+    ap (λ v. v.table.cells.kept) counted.rest ∙ cells ∙ ap (λ (u : State). fresh_cells u) (sym after) in
     let more : new.log.serial ≡ old.log.serial + 1 = up ∙ ap (λ v. v.log.serial + 1) one.rest in
     let log = log_between old.log between.log c.settle.new.log c.settle.new.log (ap (λ v. v.log) one.rest) done.log refl in
-    let changed = subst (AreChanged s x between.table.cells) (sym c.as_slice.ensures) one.changed in
-    let count = count_touched s mid x one.made between.table.cells was c.as_slice.result.now changed in
+    let changed = subst (AreChanged s x between.table.cells.kept) (sym c.as_slice.ensures) one.changed in
+    let count = count_touched s mid x one.made between.table.cells.kept was c.as_slice.result.now changed in
     let begun : between.pdp.evaluations ≡ old.pdp.evaluations = ap (λ v. v.pdp.evaluations) one.rest in
     record {
       fresh = record {
         cells = now;
+        knows =
+            subst (λ v. Knows (looks_of v.pdp) v.table.cells v.memory) (sym counted.rest)
+            (subst (λ (l : Looks). Knows l c.settle.new.self c.settle.new.memory) (sym (ap looks_of done.rest)) c.settle.ensures.knows);
         documents = ap (λ v. v.documents) counted.rest ∙ c.requires.documents ∙ ap (λ (u : State). document_count u.held.modules) (sym after);
         serial = subst (λ n. n ≤ 2 ^ 63) (sym more) (omega (arith, c.requires.serial));
         limits = subst IsWithinGreatest (sym (ap (λ v. v.limits) counted.rest ∙ ap (λ v. v.limits) one.rest)) c.requires.fresh.limits;
@@ -65,14 +73,14 @@ returns-in-Ok-settle g c =
         ap (λ a. a.serial) counted.accepted ∙ sym counted.logs.serial,
         ap (λ a. a.changes) counted.accepted
             ∙ done.changes
-            ∙ unlike_changes s (with_exchange s x) between.table.cells c.settle.new.self (names_stay s x) was cells
+            ∙ unlike_changes s (with_exchange s x) between.table.cells.kept c.settle.new.self.kept (names_stay s x) was cells
             ∙ ap (λ (u : State). changes s u) (sym after),
       );
       counted = λ h. ap (λ v. v.pdp.evaluations) counted.rest
           ∙ done.counted (subst (λ n. n ≤ most) (sym begun) h)
           ∙ (λ i. raised (begun i) (count i));
       tables = kept_over old new c.settle.new.log c.in-Ok-settle.olds log counted.logs
-          (undone s (state_of new) between.table.cells c.settle.new.self c.in-Ok-settle.olds was (sym (ap (λ v. v.table.cells) counted.rest) ∙ now) done.olds);
+          (undone s (state_of new) between.table.cells.kept c.settle.new.self.kept c.in-Ok-settle.olds was (sym (ap (λ v. v.table.cells.kept) counted.rest) ∙ now) done.olds);
     }
 
 -- the exchange was taken back
@@ -93,14 +101,15 @@ returns g c =
     let before = ap (λ v. v.log) one.rest in
     let after = ap (λ v. v.log) two.rest in
     let log = log_between old.log between.log c.settle.new.log new.log before failed.log after in
-    let was = ap (λ v. v.table.cells) one.rest ∙ c.requires.fresh.cells in
-    let changed = subst (AreChanged s x between.table.cells) (sym c.as_slice.ensures) one.changed in
-    let count = count_touched s mid x one.made between.table.cells was c.as_slice.result.now changed in
+    let was = ap (λ v. v.table.cells.kept) one.rest ∙ c.requires.fresh.cells in
+    let changed = subst (AreChanged s x between.table.cells.kept) (sym c.as_slice.ensures) one.changed in
+    let count = count_touched s mid x one.made between.table.cells.kept was c.as_slice.result.now changed in
     let begun : between.pdp.evaluations ≡ old.pdp.evaluations = ap (λ v. v.pdp.evaluations) one.rest in
     let ended : c.settle.new.pdp.evaluations ≡ new.pdp.evaluations = sym (ap (λ v. v.pdp.evaluations) two.rest) in
     record {
       fresh = fresh_again old new c.requires.fresh
-          (ap (λ v. v.table.cells) two.rest ∙ failed.err ∙ ap (λ v. v.table.cells) one.rest)
+          (ap (λ v. v.table.cells.kept) two.rest ∙ failed.err ∙ ap (λ v. v.table.cells.kept) one.rest)
+          (two.knows (subst (λ (l : Looks). Knows l c.settle.new.self c.settle.new.memory) (sym (ap looks_of failed.rest)) c.settle.ensures.knows))
           (ap (λ v. v.documents) two.rest ∙ ap (λ v. v.documents) one.rest)
           log (room_between old.log between.log c.settle.new.log new.log before failed.grows after) stays;
       step = (tt, stays);

@@ -23,8 +23,8 @@ returns-in-Ok-clause-room g c =
     let f = cell_of (looks_of c.args.pdp.now) in
     let requests = c.in_ok-requests.requests in
     let long : length c.in_ok-olds.olds ≡ length requests = ap length c.in_ok-olds.ensures ∙ length-map c.as_slice.result.now (λ x. record { key = x; answer = None }) ∙ ap length c.as_slice.ensures in
-    let cells : length c.add.new.self ≡ length c.args.self.now.cells + length requests =
-    ap length c.in-Ok.ensures.ok ∙ length-woven b.count b.width b.each c.args.self.now.cells (map f requests) ∙ ap (λ n. length c.args.self.now.cells + n) (length-map requests f) in
+    let cells : length c.add.new.self.kept ≡ length c.args.self.now.cells.kept + length requests =
+    ap length c.in-Ok.ensures.ok ∙ length-woven b.count b.width b.each c.args.self.now.cells.kept (map f requests) ∙ ap (λ n. length c.args.self.now.cells.kept + n) (length-map requests f) in
     omega (arith, long, cells, c.len.ensures, c.len-2.ensures, c.in_ok-make_room.ensures.room)
 
 pub returns-in-Ok-clause-ok : goal.returns-in-Ok-clause-ok
@@ -44,3 +44,9 @@ returns-in-Ok-clause-ok g c =
           ∙ added_cells f list old.names c.args.name
           ∙ ap (λ (n : Names). map f (triples n)) (sym names);
     }
+
+pub returns-in-Err-clause-err : goal.returns-in-Err-clause-err
+returns-in-Err-clause-err g c = record {
+  names = c.undo_push.ensures c.args.self.now.names c.args.name c.in_ok-push.ensures.ok;
+  cells = c.in-Err.ensures.err;
+}
