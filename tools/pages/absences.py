@@ -15,9 +15,10 @@ PAGE = ROOT / 'docs' / 'ARCHITECTURE.md'
 COMMANDS = (r'"(?:(?:person|action|resource)\.(?:add|drop)|(?:attr|day|moment|root)\.set'
             r'|policy\.(?:add|replace|withdraw))')
 PROGRAMS = ['conformance', 'faults_told', 'attributes_told', 'together_told', 'review', 'review_with_options']
-EVALUATING = ['ent_request', 'ent_notes', 'ent_walk', 'ent_eval']
-BELOW_LINES = ['ent_values', 'ent_functions', 'ent_combine', 'ent_policy', 'ent_finder', *EVALUATING, 'ent_tree',
-               'ent_reach', 'ent_index', 'ent_log', 'ent_cells', 'ent_table', 'ent_rebuild']
+EVALUATING = ['ent_request', 'ent_notes', 'ent_walk', 'ent_heard', 'ent_plan', 'ent_found', 'ent_tests', 'ent_told',
+              'ent_eval']
+BELOW_LINES = ['ent_values', 'ent_functions', 'ent_combine', 'ent_policy', 'ent_copies', 'ent_meaning', 'ent_finder',
+               *EVALUATING, 'ent_tree', 'ent_reach', 'ent_index', 'ent_log', 'ent_cells', 'ent_table', 'ent_rebuild']
 
 
 def lines_of_crates():
@@ -210,7 +211,7 @@ def unsafe():
 def libraries():
     yield from named(['jiff', 'jiff_core'], but=['ent_values'])
     yield from named(['slab'], but=['ent_index', 'ent_cells'])
-    yield from named(['indexmap'], but=['ent_table', 'ent_request', 'ent_notes', 'ent_eval'])
+    yield from named(['indexmap'], but=['ent_table', 'ent_request', 'ent_notes', 'ent_found'])
 
 
 CHECKS = {
@@ -225,7 +226,8 @@ CHECKS = {
     'sessions and marks in a review': lambda: found(r'(?i)session', BELOW_LINES, ('src', 'specs')),
     'the table in the log and in the index': table_in_the_log,
     'finders and modules in the evaluator':
-        lambda: found(r'\b(?:Attributes|Policies)\b', EVALUATING, but=['ent_eval/src/pdp.rt']),
+        lambda: found(r'\b(?:Attributes|Policies)\b', EVALUATING,
+                      but=['ent_eval/src/pdp.rt', 'ent_eval/src/listed.rt']),
     'keys of look-ups above the table':
         lambda: found(r'\bReadKey\b', ['ent_report', 'ent_dump', 'ent_line', 'ent_program'], ('src', 'specs')),
     'evaluations made elsewhere': evaluations,
