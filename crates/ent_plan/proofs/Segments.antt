@@ -1,11 +1,10 @@
 -- Entries list what comes of tests.
-use Rattle.std.proofs.Common.{◌≡◌, ℕ, zero, suc, ◌+◌, ◌-◌, ◌<◌, ◌≤◌, Bool, true, false, ◌&&◌, List, [], ◌∷◌, ◌++◌, append-nil, append_assoc, get_or, length, map, take, refl, sym, ap, ap₂, ◌∙◌, subst, Option, Some, None, Ok, arith}
+use Rattle.std.proofs.Common.{◌≡◌, ℕ, zero, suc, ◌+◌, ◌-◌, ◌<◌, ◌≤◌, Bool, true, false, ◌&&◌, List, [], ◌∷◌, ◌++◌, append-nil, get_or, length, map, take, refl, sym, ap, ap₂, ◌∙◌, subst, Option, Some, None, arith}
 use Rattle.std.proofs.Math.Path.{fun_ext}
 use Rattle.std.proofs.lemmas.List.{take_all, take_more}
 use Rattle.std.proofs.lemmas.List.Concat.{flat_map-append}
 use Rattle.std.specs.Prelude.{if◌then◌else◌}
 use Rattle.std.specs.List.{AllByRecursion, flat_map, list_all}
-use Rattle.ent_policy.specs.Children.{as_child}
 use Rattle.ent_policy.specs.Typing as typing
 use Rattle.ent_policy.specs.Typing.{condition_is_typed, definition_is_typed, given_is_typed, policy_is_typed, rule_is_typed, target_is_typed}
 use Rattle.ent_policy.specs.declared.document.Child.{Child}
@@ -28,7 +27,7 @@ use Rattle.ent_request.specs.declared.answer.Answer.{Answer}
 use Rattle.ent_request.specs.declared.request.Request.{Request}
 use Rattle.ent_walk.proofs.Typing.{both_true}
 use Rattle.ent_walk.specs.Given.{effect_of, finished, given_with}
-use Rattle.ent_heard.specs.Heard.{Came, Heard, Tests, child_came, came_of_rule, element_came, found_came, heard, named, node_came, refer_came, root_came, set_came}
+use Rattle.ent_heard.specs.Heard.{Came, Tests, child_came, came_of_rule, element_came, found_came, heard, named, node_came, refer_came, root_came, set_came}
 use Rattle.ent_walk.specs.Node.{policy_key, set_key}
 use Rattle.ent_walk.specs.Target.{is_no_match, target_part}
 use Rattle.ent_walk.specs.proofs_only.Typed.{fit_step, is_fit, set_is_fit}

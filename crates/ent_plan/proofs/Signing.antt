@@ -1,9 +1,19 @@
 -- How a way comes about, one entry after the other.
-use Rattle.std.proofs.Common.{◌≡◌, ℕ, zero, suc, ◌+◌, ◌-◌, ◌<◌, ◌≤◌, Bool, true, false, List, [], ◌∷◌, ◌++◌, append-nil, append_assoc, drop, get_or, length, refl, sym, ap, subst, ◌∙◌, arith}
+use Rattle.std.proofs.Common.{◌≡◌, inl, inr, ℕ, zero, suc, ◌+◌, ◌<◌, ◌≤◌, Bool, true, false, List, [], ◌∷◌, ◌++◌, append-nil, append_assoc, drop, get_or, length, ltb, min, refl, sym, ap, subst, ◌∙◌, arith}
+use Rattle.std.specs.Prelude.{◌⊎◌}
 use Rattle.std.proofs.Math.Seq.{drop-cons}
-use Rattle.std.proofs.lemmas.List.{drop_all}
+use Rattle.std.proofs.lemmas.Bool.{ltb-false, ltb-true}
+use Rattle.std.proofs.lemmas.List.{drop-drop, drop_all}
 use Rattle.ent_plan.specs.Run.{CameBy, Signs, passed, run}
 use Rattle.ent_plan.specs.Signed.{Grows, NotesOne}
+
+-- where signing goes on behind an entry, and as many more as are passed: past the end at most
+pub next_place : (places place k first next most : ℕ) → place < places → places ≤ most → first ≡ min (place + 1) most → next ≡ min (first + k) most
+    → (next ≡ place + 1 + k) ⊎ ((places ≤ place + 1 + k) × (places ≤ next))
+next_place places place k first next most below fits is then = by (ltb most (place + 1 + k)) refl where
+  by : (b : Bool) → ltb most (place + 1 + k) ≡ b → (next ≡ place + 1 + k) ⊎ ((places ≤ place + 1 + k) × (places ≤ next))
+  by true test = let over = ltb-true most (place + 1 + k) test in inr (omega (arith, over), omega (arith, over))
+  by false test = let within = ltb-false most (place + 1 + k) test in inl (omega (arith, within))
 
 module _ {S E T W C : Type 0} (is_test : E → Bool) (constant : E → C) (item : E → W → C) (goes_on : E → C → Bool) (skip : E → ℕ) (scene : S → W) (has_test : S → ℕ → T → Type 0) (tells : S → ℕ → ℕ → C → Type 0) (follows : S → S → Type 0) (entries : List E) (w : W) where
   -- what a way of more numbers tells from a place on, all of it tells from the first on, and will as outcomes grow
@@ -30,21 +40,28 @@ module _ {S E T W C : Type 0} (is_test : E → Bool) (constant : E → C) (item 
   abbrev Left : S → ℕ → ℕ → List E → List ℕ → Type 0
   Left later place k es more = CameBy is_test constant (tells later) goes_on skip place k es more (run item goes_on skip k es w)
 
-  at_place : (place : ℕ) (es : List E) → place < length es → (e : E) × (drop place es ≡ e ∷ drop (suc place) es)
-  at_place n [] below = absurd (omega (arith, below))
-  at_place zero (e ∷ es) below = (e, refl)
-  at_place (suc n) (e ∷ es) below = at_place n es (omega (arith, below))
+  -- what is left behind entries that are passed is left where they are passed first
+  left_behind : (later : S) (place k : ℕ) (es : List E) (more : List ℕ) → Left later (place + k) 0 (drop k es) more → Left later place k es more
+  left_behind later place zero es more by =
+      let here : place + zero ≡ place = omega arith in
+      subst (λ p. Left later p 0 es more) here by
+  left_behind later place (suc k) [] more by = by
+  left_behind later place (suc k) (e ∷ es) more by =
+      let on : place + suc k ≡ suc place + k = omega arith in
+      left_behind later (suc place) k es more (subst (λ p. Left later p 0 (drop k es) more) on by)
 
-  -- an entry is passed
-  passes_one : (s : S) (place k : ℕ) (way : List ℕ) → place < length entries → IsSigning s place (suc k) way → IsSigning s (suc place) k way
-  passes_one s place k way below is later grows more by =
-      is later grows more (subst (λ es. Left later place (suc k) es more) (sym (at_place place entries below).1) by)
+  -- entries are passed at once, to the one behind them or past the end
+  pub signing_jumps : (s : S) (place k next : ℕ) (way : List ℕ) → (next ≡ place + k) ⊎ ((length entries ≤ place + k) × (length entries ≤ next))
+      → IsSigning s place k way → IsSigning s next 0 way
+  signing_jumps s place k next way to is later grows more by = is later grows more (left_behind later place k (drop place entries) more (at to)) where
+    same : drop k (drop place entries) ≡ drop (place + k) entries
+    same = drop-drop k place entries
 
-  pub signing_passes : (s : S) (place k : ℕ) (way : List ℕ) → place < length entries → 0 < k → IsSigning s place k way → IsSigning s (place + 1) (k - 1) way
-  signing_passes s place k way below left is =
-      let on : place + 1 ≡ suc place = omega arith in
-      let back : suc (k - 1) ≡ k = omega arith in
-      subst (λ p. IsSigning s p (k - 1) way) (sym on) (passes_one s place (k - 1) way below (subst (λ n. IsSigning s place n way) (sym back) is))
+    at : (next ≡ place + k) ⊎ ((length entries ≤ place + k) × (length entries ≤ next)) → Left later (place + k) 0 (drop k (drop place entries)) more
+    at (inl there) = subst (λ es. Left later (place + k) 0 es more) (sym same) (subst (λ p. Left later p 0 (drop p entries) more) there by)
+    at (inr past) =
+        let none : Left later next 0 [] more = subst (λ es. Left later next 0 es more) (drop_all next entries past.1) by in
+        subst (λ es. Left later (place + k) 0 es more) (sym (same ∙ drop_all (place + k) entries past.0)) none
 
   -- an entry is noted
   notes_one : (later : S) (place : ℕ) (e : E) (es : List E) (before after more : List ℕ) (b : Bool) → NotesOne constant (tells later) b place e (item e w) before after

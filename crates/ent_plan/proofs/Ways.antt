@@ -1,5 +1,5 @@
 -- What ways tell.
-use Rattle.std.proofs.Common.{◌≡◌, ℕ, zero, suc, Bool, true, false, List, [], ◌∷◌, refl, sym, ap, ap₂, subst, ◌∙◌}
+use Rattle.std.proofs.Common.{◌≡◌, ℕ, zero, suc, Bool, true, false, List, [], ◌∷◌, sym, ap₂, subst, ◌∙◌}
 use Rattle.ent_plan.specs.Run.{CameBy, Signs, passed}
 
 module _ {E C : Type 0} (is_test : E → Bool) (constant : E → C) (tells : ℕ → ℕ → C → Type 0) (goes_on : E → C → Bool) (skip : E → ℕ) where

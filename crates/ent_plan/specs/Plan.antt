@@ -2,7 +2,6 @@
 use Rattle.std.specs.Prelude.{◌≡◌, ◌≤◌, ℕ, Bool, true, false, List, Option, Some, length, if◌then◌else◌}
 use Rattle.std.specs.List.{AllByRecursion}
 use Rattle.ent_policy.specs.Typing.{condition_is_typed, given_is_typed, target_is_typed}
-use Rattle.ent_policy.specs.declared.key.Reference.{Reference}
 use Rattle.ent_request.specs.Looks.{Looks}
 use Rattle.ent_request.specs.Part.{without_look}
 use Rattle.ent_request.specs.declared.answer.Answer.{Answer}

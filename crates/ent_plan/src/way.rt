@@ -64,13 +64,10 @@ pub fn sign<O: Outcomes>(
     ensures grows { Grows O.scene O.has_test O.tells O.follows outcomes.old outcomes.new }
 {
     way.clear();
-    let mut passing = 0;
-    for place in 0..entries.len() {
-        if passing > 0 {
-            passing -= 1;
-            continue;
-        }
-        passing = sign_one(outcomes, place, &entries[place], way)?;
+    let mut place = 0;
+    while place < entries.len() {
+        let passed = sign_one(outcomes, place, &entries[place], way)?;
+        place = place.saturating_add(1).saturating_add(passed);
     }
     Ok(())
 }

@@ -1,6 +1,4 @@
 use Rattle.std.proofs.Common.{◌≡◌, [], ◌++◌, ap, ◌∙◌}
-use Rattle.ent_request.specs.Part.{Part}
-use Rattle.ent_request.specs.declared.answer.Answer.{Answer}
 use Rattle.ent_walk.proofs.PathKeys.{keys_of_root}
 use Rattle.ent_walk.specs.Given.{finished}
 use Rattle.ent_walk.specs.Rule.{decided}

@@ -1,16 +1,9 @@
-use Rattle.std.proofs.Common.{refl, sym, arith}
+use Rattle.std.proofs.Common.{◌+◌, ◌-◌, ◌^◌, length, refl, arith}
 use Rattle.std.proofs.lemmas.Option.{slice_get_read}
 use Rattle.ent_plan.specs.Plan.{constant, entry_came, goes_on, is_test, skip_of}
 use Rattle.ent_plan.proofs.Noting.{tested_still}
-use Rattle.ent_plan.proofs.Signing.{grows_then, signing_ends, signing_notes, signing_passes}
+use Rattle.ent_plan.proofs.Signing.{grows_then, next_place, signing_ends, signing_jumps, signing_notes}
 use Rattle.ent_plan.proofs.way.sign.Goals as goal
-
-pub loop-place-preserved-then-passing-gt0 : goal.loop-place-preserved-then-passing-gt0
-loop-place-preserved-then-passing-gt0 g c = record {
-  grows = c.loop-place.invariant.grows;
-  signing = signing_passes is_test constant entry_came goes_on skip_of g.O.Outcomes.scene g.O.Outcomes.has_test g.O.Outcomes.tells g.O.Outcomes.follows c.args.entries.now (g.O.Outcomes.scene c.args.outcomes.now)
-      c.loop-place.outcomes c.loop-place.place c.loop-place.passing c.loop-place.way.items (omega arith) (omega arith) c.loop-place.invariant.signing;
-}
 
 pub sign_one-requires : goal.sign_one-requires
 sign_one-requires g c =
@@ -20,16 +13,22 @@ sign_one-requires g c =
 pub loop-place-preserved : goal.loop-place-preserved
 loop-place-preserved g c =
     let w = g.O.Outcomes.scene c.args.outcomes.now in
+    let place = c.loop-place.place in
     record {
       grows = grows_then is_test constant entry_came goes_on skip_of g.O.Outcomes.scene g.O.Outcomes.has_test g.O.Outcomes.tells g.O.Outcomes.follows c.args.entries.now w
           c.args.outcomes.now c.loop-place.outcomes c.sign_one.new.outcomes c.loop-place.invariant.grows c.sign_one.ensures.grows;
-      signing = signing_notes is_test constant entry_came goes_on skip_of g.O.Outcomes.scene g.O.Outcomes.has_test g.O.Outcomes.tells g.O.Outcomes.follows c.args.entries.now w
-          c.loop-place.outcomes c.sign_one.new.outcomes c.loop-place.place c.loop-place.passing c.in_ok-passing.passing c.loop-place.way.items c.sign_one.new.way.items c.index-entries-place.result
-          (g.O.Outcomes.scene c.loop-place.outcomes) (omega arith) (omega arith) c.index-entries-place.is c.sign_one.ensures.grows c.loop-place.invariant.grows.same
-          c.in_ok-passing.ensures.notes c.in_ok-passing.ensures.passed c.loop-place.invariant.signing;
+      signing =
+          let noted = signing_notes is_test constant entry_came goes_on skip_of g.O.Outcomes.scene g.O.Outcomes.has_test g.O.Outcomes.tells g.O.Outcomes.follows c.args.entries.now w
+          c.loop-place.outcomes c.sign_one.new.outcomes place 0 c.in_ok-passed.passed c.loop-place.way.items c.sign_one.new.way.items c.index-entries-place.result
+          (g.O.Outcomes.scene c.loop-place.outcomes) (omega arith) refl c.index-entries-place.is c.sign_one.ensures.grows c.loop-place.invariant.grows.same
+          c.in_ok-passed.ensures.notes c.in_ok-passed.ensures.passed c.loop-place.invariant.signing in
+          signing_jumps is_test constant entry_came goes_on skip_of g.O.Outcomes.scene g.O.Outcomes.has_test g.O.Outcomes.tells g.O.Outcomes.follows c.args.entries.now w
+          c.sign_one.new.outcomes (place + 1) c.in_ok-passed.passed c.saturating_add-place.result c.sign_one.new.way.items
+          (next_place (length c.args.entries.now) place c.in_ok-passed.passed c.saturating_add.result c.saturating_add-place.result (2 ^ 64 - 1) (omega arith) (omega arith)
+          c.saturating_add.ensures c.saturating_add-place.ensures) noted;
     }
 
 pub returns-clause-came : goal.returns-clause-came
 returns-clause-came g c =
     signing_ends is_test constant entry_came goes_on skip_of g.O.Outcomes.scene g.O.Outcomes.has_test g.O.Outcomes.tells g.O.Outcomes.follows c.args.entries.now (g.O.Outcomes.scene c.args.outcomes.now)
-    c.loop-place.outcomes c.loop-place.place c.loop-place.passing c.loop-place.way.items (omega arith) c.loop-place.invariant.signing
+    c.loop-place.outcomes c.loop-place.place 0 c.loop-place.way.items (omega arith) c.loop-place.invariant.signing

@@ -1,7 +1,6 @@
 use Rattle.std.proofs.Common.{refl, ap, ◌∙◌}
-use Rattle.std.proofs.lemmas.Result.{IfOk-weaker}
 use Rattle.ent_plan.specs.Plan.{item_is_test}
-use Rattle.ent_plan.proofs.Noting.{nothing_noted, nothing_passed, test_noted, test_passed}
+use Rattle.ent_plan.proofs.Noting.{nothing_noted, nothing_passed}
 use Rattle.ent_plan.proofs.way.sign_one.Goals as goal
 
 pub returns-in-Named-clause-notes : goal.returns-in-Named-clause-notes
