@@ -1,7 +1,6 @@
 -- Whether what a plan rests on is equal.
 use Rattle.std.proofs.Common.{◌≡◌, Bool, true, Option, Some, None, refl, ap}
 use Rattle.std.specs.Option.{option_eq}
-use Rattle.std.specs.List.{AllByRecursion}
 use Rattle.ent_values.specs.Calendar.{Day, TimeOfDay}
 use Rattle.ent_values.specs.Same.{same_date, same_date_time, same_time}
 use Rattle.ent_values.specs.declared.date_time.DateTime.{DateTime}

@@ -55,8 +55,8 @@ pub struct Names {
 }
 
 impl Names {
-    ghost use Rattle.ent_found.specs.proofs_only.Ready.{AddsRows, ForgetsName, HasNone, IsAt, KnowsLatest, LearnsLatest};
-    ghost use Rattle.ent_found.specs.proofs_only.Ready.{StandsAt};
+    ghost use Rattle.ent_found.specs.proofs_only.Ready.{AddsRows, ForgetsName, HasNone, IsAt, KnowsLatest};
+    ghost use Rattle.ent_found.specs.proofs_only.Ready.{LearnsLatest, StandsAt};
 
     // No names, for which nothing is allocated.
     pub(crate) fn new(alloc: Global) -> Names

@@ -1,5 +1,5 @@
 -- Tests ask for attributes alone.
-use Rattle.std.proofs.Common.{◌≡◌, ℕ, zero, suc, Bool, true, false, List, [], ◌∷◌, ◌++◌, length, map, refl, subst, sym, Option, Some, None}
+use Rattle.std.proofs.Common.{◌≡◌, ℕ, zero, suc, Bool, true, false, List, [], ◌∷◌, ◌++◌, length, map, subst, sym, Option, Some, None}
 use Rattle.std.specs.Prelude.{find, if◌then◌else◌, Result, Ok, Err, is_err}
 use Rattle.std.specs.List.{AllByRecursion}
 use Rattle.ent_combine.specs.Seen.{up_to_first}
@@ -15,7 +15,6 @@ use Rattle.ent_policy.specs.declared.document.AllOf.{AllOf}
 use Rattle.ent_policy.specs.declared.document.AnyOf.{AnyOf}
 use Rattle.ent_policy.specs.declared.document.Designator.{Designator}
 use Rattle.ent_policy.specs.declared.document.Effect.{Effect}
-use Rattle.ent_policy.specs.declared.document.Match.{Match}
 use Rattle.ent_policy.specs.declared.document.Target.{Target}
 use Rattle.ent_policy.specs.declared.expression.Expression.{Expression}
 use Rattle.ent_policy.specs.declared.expression.Expression.TheFolds.{fold-roll-Expression, ind-Expression, map-Expression}
@@ -34,9 +33,9 @@ use Rattle.ent_request.specs.declared.answer.Answer.{Answer}
 use Rattle.ent_request.specs.declared.answer.Status.{Status}
 use Rattle.ent_request.specs.declared.given.Given.{Given}
 use Rattle.ent_request.specs.declared.request.Request.{Request}
-use Rattle.ent_walk.specs.Expression.{application, arguments_of, bag_of, defined_part, fault_unless, faults, is_result, meaning, meaning_step, meaning_with, result_of, variable_part}
-use Rattle.ent_walk.specs.Given.{advice_after, assigned, assignment_part, effect_of, finished, given_in_turn, given_of, given_part, given_with, givens_part, goes_with, together, unfit_assignment, with_own}
-use Rattle.ent_walk.specs.Rule.{condition_part, truth_of, unfit_condition}
+use Rattle.ent_walk.specs.Expression.{application, arguments_of, defined_part, fault_unless, faults, is_result, meaning, meaning_step, meaning_with, variable_part}
+use Rattle.ent_walk.specs.Given.{advice_after, assignment_part, effect_of, finished, given_in_turn, given_of, given_part, given_with, givens_part, goes_with, together, unfit_assignment}
+use Rattle.ent_walk.specs.Rule.{condition_part, unfit_condition}
 use Rattle.ent_walk.specs.Target.{all_match, all_of_part, any_of_part, is_indeterminate, is_match, is_no_match, match_part, one_matches, target_part}
 use Rattle.ent_walk.specs.declared.evaluated.Evaluated.{Evaluated}
 use Rattle.ent_walk.specs.declared.evaluated.Evaluated.TheVariants as evaluated

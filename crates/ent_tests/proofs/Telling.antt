@@ -14,7 +14,7 @@ use Rattle.ent_heard.specs.Heard.{Came}
 use Rattle.ent_found.specs.declared.finding.Finding.{Finding}
 use Rattle.ent_found.specs.Findings.{IsFinding}
 use Rattle.ent_found.specs.Found.{IsAtTime, IsAttribute}
-use Rattle.ent_found.specs.Ways.{AsksAbout, FindsWay, Nodes, Way, way_of}
+use Rattle.ent_found.specs.Ways.{AsksAbout, Nodes, Way, way_of}
 use Rattle.ent_found.specs.proofs_only.Led.{TellsEnd}
 use Rattle.ent_found.specs.proofs_only.Ready.{Begins, TellsAttributes}
 use Rattle.ent_found.proofs.Growing.{starts_get, starts_itself}

@@ -1,4 +1,4 @@
-use Rattle.std.proofs.Common.{ap, refl, subst, sym}
+use Rattle.std.proofs.Common.{ap, subst, sym}
 use Rattle.std.specs.Prelude.{IfSome}
 use Rattle.ent_eval.specs.Tests.{IsSigned}
 use Rattle.ent_eval.specs.declared.tests.Tests.{Tests}

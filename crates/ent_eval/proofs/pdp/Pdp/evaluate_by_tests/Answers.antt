@@ -1,4 +1,4 @@
-use Rattle.std.proofs.Common.{refl, subst, sym}
+use Rattle.std.proofs.Common.{subst, sym}
 use Rattle.ent_eval.specs.LooksOf.{looks_of}
 use Rattle.ent_eval.specs.proofs_only.Remembered.{AreNamed}
 use Rattle.ent_eval.proofs.Remembering.{begins_then}

@@ -4,7 +4,7 @@ use Rattle.ent_walk.specs.Answer.{answer, asked, has_cause}
 use Rattle.ent_request.specs.Listed.{listed}
 use Rattle.ent_request.specs.Looks.{Looks}
 use Rattle.ent_eval.specs.LooksOf.{looks_of}
-use Rattle.ent_eval.specs.Memory.{IsKnown, Remembers, cases_in}
+use Rattle.ent_eval.specs.Memory.{IsKnown, Remembers}
 use Rattle.ent_request.specs.Questions.{AreNumbers, asked_once, at_numbers}
 use Rattle.ent_eval.specs.declared.pdp.ListedEvaluation.{ListedEvaluation}
 use Rattle.ent_eval.specs.proofs_only.Remembered.{IsEvaluated}

@@ -1,8 +1,7 @@
-use Rattle.std.proofs.Common.{ap, refl, subst, sym}
+use Rattle.std.proofs.Common.{subst}
 use Rattle.std.specs.Prelude.{IfSome}
 use Rattle.ent_request.specs.Listed.{listed}
 use Rattle.ent_eval.specs.LooksOf.{looks_of}
-use Rattle.ent_eval.specs.Tests.{IsSigned}
 use Rattle.ent_eval.specs.proofs_only.Remembered.{IsEvaluated}
 use Rattle.ent_eval.proofs.TestsKept.{signed_more}
 use Rattle.ent_eval.proofs.pdp.Pdp.evaluate_signed.Goals as goal

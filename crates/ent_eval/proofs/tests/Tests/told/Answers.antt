@@ -1,4 +1,4 @@
-use Rattle.std.proofs.Common.{◌≡◌, ap, refl, subst}
+use Rattle.std.proofs.Common.{◌≡◌, refl, subst}
 use Rattle.std.specs.Prelude.{IfSome}
 use Rattle.ent_told.specs.Told.{HasWay}
 use Rattle.ent_eval.proofs.TestsKept.{evaluated_as, way_tells}
