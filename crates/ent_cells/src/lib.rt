@@ -9,6 +9,7 @@ mod cell;
 mod confirm;
 mod evaluate;
 mod live;
+mod names;
 mod old;
 mod phases;
 mod sharing;

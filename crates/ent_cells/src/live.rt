@@ -4,12 +4,13 @@ ghost use Rattle.std.specs.Prelude.{◌≡◌, ◌<◌, ◌≤◌, ◌+◌, ◌+
 ghost use Rattle.std.specs.Prelude.{IfOk, IfSome, MatchOption, OnErr, OnOk, option_copied, option_map, vec_capacity};
 ghost use Rattle.std.specs.List.{AllByRecursion};
 ghost use Rattle.ent_eval.specs.LooksOf.{looks_of};
+ghost use Rattle.ent_walk.specs.Answer.{answer};
 ghost use Rattle.ent_index.specs.Asked.{asks_policy, asks_row};
 ghost use Rattle.ent_log.specs.Tables.{IsSameLog, room_of};
 ghost use Rattle.ent_cells.specs.Cell.{HasReadKeys, IsRightBut, Knows, answers_in, cell_of, failures_in};
 ghost use Rattle.ent_cells.specs.Cell.{reads_any, renewed};
 ghost use Rattle.ent_cells.specs.Cell.{unlike_count};
-ghost use Rattle.ent_cells.specs.Count.{Counts, CountsAtMost};
+ghost use Rattle.ent_cells.specs.Count.{Counts, CountsAtMost, raised};
 ghost use Rattle.ent_cells.specs.Old.{AreOld, IsLogged};
 ghost use Rattle.ent_cells.specs.Shape.{without, woven};
 ghost use Rattle.ent_cells.specs.proofs_only.Grouping.{shown, shown_kept};
@@ -17,10 +18,11 @@ ghost use Rattle.ent_cells.specs.proofs_only.Grouping.{shown, shown_kept};
 use crate::added::push_all;
 use crate::blocks::{Blocks, keep_present, remove_blocks, remove_from, weave};
 use crate::cell::Cell;
+use crate::names::names_in;
 use crate::phases::{commit_all, give_up_all, prepare};
 use crate::store::Store;
 use crate::who::Who;
-use ent_eval::{Answer, Memory, Pdp, ReadKey};
+use ent_eval::{Answer, Memory, Pdp, ReadKey, Request};
 use ent_finder::{Attributes, Policies, RowKey};
 use ent_log::{Log, OldAnswer};
 use ent_policy::Kind;
@@ -203,6 +205,30 @@ impl Live {
             Err(error) => {
                 self.truncate(start);
                 Err(error)
+            }
+        }
+    }
+
+    /// The answer to any request, of a cell or not. One that has three ids and nothing else is answered by what is
+    /// remembered, where that serves. The cells are as before, and one evaluation is counted, also after a refusal.
+    pub fn answer_to<A: Attributes, P: Policies>(
+        &mut self,
+        pdp: &mut Pdp<A, P>,
+        memory: &mut Memory,
+        request: &Request,
+    ) -> Result<Answer, AllocError>
+        requires { Knows (looks_of pdp.old) self.old memory.old }
+        ensures answer { IfOk result (λ a. a ≡ answer (looks_of pdp.old) request.now) }
+        ensures kept { self.new.kept ≡ self.old.kept }
+        ensures knows { Knows (looks_of pdp.old) self.new memory.new }
+        ensures counted { pdp.new.evaluations ≡ raised pdp.old.evaluations 1 }
+        ensures rest { pdp.new ≡ record pdp.old { evaluations = pdp.new.evaluations } }
+    {
+        match names_in(request) {
+            None => pdp.answer(request),
+            Some(names) => {
+                self.store
+                    .answer_to(pdp, memory, names.person, names.action, names.resource)
             }
         }
     }

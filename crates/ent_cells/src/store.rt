@@ -5,9 +5,11 @@ ghost use Rattle.std.specs.Prelude.{option_and_then, option_copied, option_map};
 ghost use Rattle.slab.specs.Slab.{Updates, get};
 ghost use Rattle.ent_eval.specs.LooksOf.{looks_of};
 ghost use Rattle.ent_eval.specs.Memory.{Remembers};
+ghost use Rattle.ent_request.specs.Listed.{listed};
+ghost use Rattle.ent_walk.specs.Answer.{answer};
 ghost use Rattle.ent_index.specs.Asked.{asks_policy, asks_row};
 ghost use Rattle.ent_cells.specs.Cell.{says};
-ghost use Rattle.ent_cells.specs.Count.{Counts, CountsAtMost};
+ghost use Rattle.ent_cells.specs.Count.{Counts, CountsAtMost, raised};
 ghost use Rattle.ent_cells.specs.Grid.{times};
 ghost use Rattle.ent_cells.specs.proofs_only.Asked.{HasKeysOf};
 ghost use Rattle.ent_cells.specs.proofs_only.Entries.{Becomes, Inserts, IsFree, entry_of_cell, given_up};
@@ -29,7 +31,7 @@ use ent_finder::{Attributes, Policies, RowKey};
 use ent_index::{Groups, Wanted};
 use ent_log::OldAnswer;
 use ent_policy::Kind;
-use ent_values::{Items, Shared};
+use ent_values::{Items, Shared, Text};
 use slab::Slab;
 use std::alloc::{AllocError, Global};
 use std::marker::Model;
@@ -185,6 +187,35 @@ impl Store {
         };
         let next = None;
         Ok(self.slab.insert_reserved(Cell { who, said, next }))
+    }
+
+    /// The answer to the request of three names, which has no cell of its own. The cells are as before, also after a
+    /// refusal.
+    pub(crate) fn answer_to<A: Attributes, P: Policies>(
+        &mut self,
+        pdp: &mut Pdp<A, P>,
+        memory: &mut Memory,
+        person: &Text,
+        action: &Text,
+        resource: &Text,
+    ) -> Result<Answer, AllocError>
+        requires { Remembers (looks_of pdp.old) self.old.questions memory.old }
+        ensures answer { IfOk result (λ a. a
+            ≡ answer (looks_of pdp.old) (listed person.now action.now resource.now)) }
+        ensures cells { self.new.cells ≡ self.old.cells }
+        ensures remembers { Remembers (looks_of pdp.old) self.new.questions memory.new }
+        ensures counted { pdp.new.evaluations ≡ raised pdp.old.evaluations 1 }
+        ensures rest { pdp.new ≡ record pdp.old { evaluations = pdp.new.evaluations } }
+    {
+        memory.forget_much(self.alloc);
+        let evaluation = pdp.evaluate_listed(
+            memory,
+            &mut self.questions,
+            person,
+            action,
+            resource,
+        )?;
+        evaluation.answer.get().copy(self.alloc)
     }
 
     /// Takes the cell under a key out, if there is one, and gives its answer. It takes no memory.

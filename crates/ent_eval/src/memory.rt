@@ -22,15 +22,15 @@ use ent_request::{LookUps, Questions};
 use ent_values::Text;
 use std::alloc::{AllocError, Global};
 
-/// Beyond so many values in bags all is forgotten at the next edit of values.
+/// Beyond so many values in bags all is forgotten at the next edit of values, or the next question beside the table.
 const MOST_VALUES: usize = 131_072;
 
 /// Beyond so many names too.
 const MOST_NAMES: usize = 131_072;
 
-/// What is remembered over evaluations of listed requests: what questions found for names, and cases by that, as long
-/// as nothing that is held changes; and what came of tests, and cases by that, over edits. It is of use where many
-/// requests find the same.
+/// What is remembered over evaluations of listed requests: what questions found for names, until values of the name
+/// change, and cases by that, until documents or the time change; and what came of tests, and cases by that, over all
+/// edits. It is of use where many requests find the same.
 #[derive(Drop)]
 pub struct Memory {
     pub(crate) findings: Findings,
@@ -72,6 +72,16 @@ impl Memory {
     {
         self.cases = Cases::new(alloc);
         self.tests.close();
+    }
+
+    /// Forgets all, where more is remembered than is to be kept.
+    pub fn forget_much(&mut self, alloc: Global)
+        ensures { (looks : Looks) (questions : List Question) → Remembers looks questions self.old
+            → Remembers looks questions self.new }
+    {
+        if self.is_much() {
+            self.forget(alloc);
+        }
     }
 
     // Whether more is remembered than is to be kept.

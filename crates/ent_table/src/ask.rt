@@ -10,7 +10,8 @@ use ent_finder::{Attributes, Policies};
 use std::alloc::AllocError;
 
 impl<A: Attributes, P: Policies> Review<A, P> {
-    /// The answer to any request, listed or not, by what is held alone (section 7): the table has no part in it.
+    /// The answer to any request, listed or not, by what is held alone (section 7): the table has no part in it. Where
+    /// it has three ids and nothing else, what is remembered of such requests may serve it.
     ///
     /// Each call counts as one evaluation, also one that is refused for want of memory. It changes nothing but the
     /// count, which stays at its greatest value.
@@ -22,6 +23,8 @@ impl<A: Attributes, P: Policies> Review<A, P> {
         ensures answer { IfOk result (λ a. a ≡ answer_in self.old.state request.now) }
         ensures rest { self.new ≡ record self.old { evaluations = raised self.old.evaluations 1 } }
     {
-        self.parts.pdp.answer(request)
+        let parts = &mut self.parts;
+        let (cells, memory) = (&mut parts.table.cells, &mut parts.memory);
+        cells.answer_to(&mut parts.pdp, memory, request)
     }
 }
