@@ -107,9 +107,10 @@ def table_in_the_log():
 
 
 def evaluations():
-    yield from found(r'\.evaluate(?:_listed)?\(|Pdp::evaluate', but=['ent_eval/', 'ent_cells/src/evaluate.rt'] + TRIALS)
+    cells = [f'ent_cells/src/{name}.rt' for name in ('evaluate', 'store')]
+    yield from found(r'\.evaluate(?:_listed)?\(|Pdp::evaluate', but=['ent_eval/', *cells] + TRIALS)
     yield from found(r'pdp\.explain\(|Pdp::explain', but=['ent_eval/', 'ent_table/src/explain.rt'] + TRIALS)
-    yield from found(r'pdp\.answer\(|Pdp::answer', but=['ent_eval/', 'ent_table/src/ask.rt'] + TRIALS)
+    yield from found(r'pdp\.answer\(|Pdp::answer', but=['ent_eval/', 'ent_cells/src/live.rt'] + TRIALS)
 
 
 def unchecked_documents():
