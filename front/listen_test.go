@@ -58,7 +58,7 @@ func (f *front) hear(last, query string) (*hearing, error) {
 	return h, nil
 }
 
-// read reads events as they come.
+// read reads events as they come. A beat, which says nothing, is none.
 func (h *hearing) read(from io.Reader) {
 	defer close(h.events)
 	lines := bufio.NewReaderSize(from, 1<<20)
@@ -77,7 +77,9 @@ func (h *hearing) read(from io.Reader) {
 		case "data":
 			e.data = value
 		case "":
-			h.events <- e
+			if e != (event{}) {
+				h.events <- e
+			}
 			e = event{}
 		}
 	}

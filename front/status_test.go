@@ -44,7 +44,8 @@ func TestSecondLine(t *testing.T) {
 		_ = s.send(long + strings.Repeat(" ", 1<<20-len(long)))
 		_ = s.send(`{"do":"person.add","name":"ben"}`)
 	}()
-	time.Sleep(500 * time.Millisecond)
+	// The front has the first line by then, on a busy machine too.
+	time.Sleep(2 * time.Second)
 	f.killProgram()
 	first, err := s.receive()
 	if err != nil || !strings.Contains(first, `"status":503`) {
