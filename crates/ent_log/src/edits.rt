@@ -1,6 +1,7 @@
 //! Edits that are logged, and forgotten.
 
 ghost use Rattle.std.specs.Prelude.{◌≡◌, ◌+◌, ◌-◌, ◌<◌, ◌≤◌, ◌^◌, ◌∷◌, [], length, max, OnOk};
+ghost use Rattle.std.specs.VecDeque.{deque_capacity, deque_len};
 ghost use Rattle.ent_log.specs.Entries.{entries_since};
 ghost use Rattle.ent_log.specs.Tables.{IsClosed, IsSameLog, KeepsFrom, KeepsTables, room_of};
 
@@ -9,6 +10,7 @@ use crate::log::Log;
 use ent_values::Items;
 use std::alloc::{AllocError, Global};
 use std::collections::VecDeque;
+use std::mem;
 
 impl<K: Ord + Drop, A: Drop> Log<K, A> {
     /// The log of a table that wasn't edited yet, for which nothing is allocated.
@@ -110,6 +112,22 @@ impl<K: Ord + Drop, A: Drop> Log<K, A> {
             }
             self.entries.pop_front();
         }
+        begin_again(&mut self.entries);
         self.from = serial.max(self.from);
     }
+}
+
+// Where none is left, the next one stands at the start of the block again: a ring that goes on comes to touch all for
+// which it has room.
+fn begin_again<T: Drop>(entries: &mut VecDeque<T>)
+    ensures items { entries.new.items ≡ entries.old.items }
+    ensures len { deque_len entries.new ≡ deque_len entries.old }
+    ensures capacity { deque_capacity entries.new ≡ deque_capacity entries.old }
+{
+    if !entries.is_empty() {
+        return;
+    }
+    let alloc = *entries.allocator();
+    let held = mem::replace(entries, VecDeque::new(alloc));
+    *entries = VecDeque::from_vec(held.into_vec());
 }

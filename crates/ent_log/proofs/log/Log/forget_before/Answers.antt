@@ -10,21 +10,25 @@ invariant_of-self-clause-in_order g c =
 
 pub returns-clause-kept : goal.returns-clause-kept
 returns-clause-kept g c = λ present n above k.
-    let new = c.loop-first.self.entries.items in
+    let new = c.begin_again.new.entries.items in
+    let left = c.loop-first.self.entries.items in
     let old = c.args.self.now.entries.items in
     let later : c.args.serial ≤ n = omega (arith, c.max-self.ensures) in
     let same : entries_since n new ≡ entries_since n old =
-    sym (entries_since-twice c.args.serial n new later) ∙ ap (entries_since n) c.loop-first.invariant.entries
+    ap (entries_since n) c.begin_again.ensures.items
+    ∙ sym (entries_since-twice c.args.serial n left later) ∙ ap (entries_since n) c.loop-first.invariant.entries
     ∙ entries_since-twice c.args.serial n old later in
     ap (λ es. table_before g.K.Ord.cmp (answers_of es) present k) same
 
 pub returns-clause-closed : goal.returns-clause-closed
 returns-clause-closed g c = λ closed.
-    let new = c.loop-first.self.entries.items in
+    let new = c.begin_again.new.entries.items in
+    let left = c.loop-first.self.entries.items in
     let old = c.args.self.now.entries.items in
     let top = c.args.self.now.serial in
     let same : entries_since top new ≡ entries_since top old =
-    sym (entries_since-twice c.args.serial top new c.requires) ∙ ap (entries_since top) c.loop-first.invariant.entries
+    ap (entries_since top) c.begin_again.ensures.items
+    ∙ sym (entries_since-twice c.args.serial top left c.requires) ∙ ap (entries_since top) c.loop-first.invariant.entries
     ∙ entries_since-twice c.args.serial top old c.requires in
     ap (λ n. entries_since n new) c.loop-first.invariant.serial ∙ same ∙ closed
 
@@ -38,7 +42,8 @@ returns-clause-nothing g c = λ low.
       from = omega (arith, c.max-self.ensures, c.loop-first.invariant.from);
       serial = c.loop-first.invariant.serial;
       entries =
-          sym (entries_since-low new.from new.entries.items new.serial n new.in_order still)
+          c.begin_again.ensures.items
+          ∙ sym (entries_since-low new.from new.entries.items new.serial n new.in_order still)
           ∙ c.loop-first.invariant.entries
           ∙ entries_since-low old.from old.entries.items old.serial n old.in_order low;
     }
