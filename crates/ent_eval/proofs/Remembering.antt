@@ -11,8 +11,10 @@ use Rattle.ent_request.specs.declared.request.Request.{Request}
 use Rattle.ent_eval.specs.declared.shelf.Shelf.{Shelf}
 use Rattle.ent_request.specs.Listed.{listed}
 use Rattle.ent_request.specs.Looks.{Looks}
+use Rattle.ent_eval.specs.declared.tests.Tests.{Tests}
 use Rattle.ent_eval.specs.Held.{HaveSameDocuments}
 use Rattle.ent_eval.specs.Memory.{AreShelves, Fits, IsCase, IsShelf, Remembers}
+use Rattle.ent_eval.specs.Tests.{AreTests}
 use Rattle.ent_request.specs.Questions.{BeginsWith}
 use Rattle.ent_found.specs.proofs_only.Ready.{Begins}
 use Rattle.ent_eval.specs.proofs_only.Remembered.{NoneFits}
@@ -92,6 +94,11 @@ remembers_more looks questions more memory begins has =
       cases = shelves_more looks questions more bags bags begins same memory.cases has.cases;
       tests = tests_more questions more bags bags begins same memory.tests looks has.tests;
     }
+
+-- and where what is known of tests is counted otherwise
+pub remembers_tests : (looks : Looks) (questions : List Question) (old : Memory) (t : Tests) → AreTests looks questions old.findings.bags t → Remembers looks questions old
+    → Remembers looks questions (record { findings = old.findings; cases = old.cases; front = old.front; tests = t })
+remembers_tests looks questions old t are has = record { findings = has.findings; cases = has.cases; tests = are }
 
 -- questions that have numbers keep them, over two steps
 pub begins_then : (first second third : List Question) → BeginsWith second first → BeginsWith third second → BeginsWith third first

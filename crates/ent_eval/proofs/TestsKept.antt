@@ -11,11 +11,11 @@ use Rattle.ent_request.specs.declared.answer.Answer.{Answer}
 use Rattle.ent_request.specs.declared.question.Question.{Question}
 use Rattle.ent_request.specs.declared.request.Request.{Request}
 use Rattle.ent_walk.specs.Answer.{answer as answer_of, answer_part, asked}
-use Rattle.ent_heard.specs.Heard.{Came, Heard, heard}
+use Rattle.ent_heard.specs.Heard.{Came, Heard, came, heard}
 use Rattle.ent_found.specs.proofs_only.Ready.{Begins}
 use Rattle.ent_found.proofs.Growing.{all_by_place, all_map, some_same, starts_itself}
 use Rattle.ent_request.proofs.Numbering.{all_at}
-use Rattle.ent_plan.specs.Plan.{ItemFits, constant, goes_on, is_test, skip_of}
+use Rattle.ent_plan.specs.Plan.{IsPlan, ItemFits, constant, goes_on, is_test, skip_of}
 use Rattle.ent_plan.specs.declared.task.Entry.{Entry}
 use Rattle.ent_plan.specs.declared.task.Item.{Item}
 use Rattle.ent_plan.specs.declared.task.Item.TheVariants as item
@@ -23,6 +23,8 @@ use Rattle.ent_told.specs.Known.{AreTestsOf, TellsIn}
 use Rattle.ent_told.specs.Told.{HasWay, IsPut, IsTold, Signs, comes_of, heard_case}
 use Rattle.ent_told.specs.declared.tests.Tests.{Tests as Learnt}
 use Rattle.ent_told.specs.declared.told.Told.{Told}
+use Rattle.ent_joined.specs.Joined.{IsJoined}
+use Rattle.ent_joined.specs.declared.joined.Joined.{Joined}
 use Rattle.ent_plan.proofs.AtEnd.{any_once}
 use Rattle.ent_plan.proofs.Ways.{way_still}
 use Rattle.ent_told.proofs.ByWays.{answers_told, cases_told, stay_told}
@@ -127,6 +129,18 @@ signed_more looks questions more request t u begins same signed =
       ),
     )
 
+-- the root of the plan that a way signs is the root, and the way tells what comes of the tests of the answer
+pub root_signed : (looks : Looks) (questions : List Question) (request : Request) (t : Tests) (p : Plan) → t.plan ≡ Some p → IsSigned looks questions request t → looks.root ≡ Some p.root
+root_signed looks questions request t p at signed = signed.1.1.0.root ∙ ap (λ (q : Plan). Some q.root) (some_same signed.0 p (sym signed.1.0 ∙ at))
+
+pub came_signed : (looks : Looks) (questions : List Question) (bags : List Contents) (request : Request) (t : Tests) (p : Plan) → t.plan ≡ Some p → AreTests looks questions bags t
+    → IsSigned looks questions request t → Signs p.entries (TellsIn questions t.learnt.list.items) t.way.items (came looks request)
+came_signed looks questions bags request t p at are signed =
+    let stands : Stands looks signed.0 = signed.1.1.0 in
+    let plan : IsPlan looks signed.0.entries = (are.told signed.0 signed.1.0 looks stands).plan in
+    subst (λ (q : Plan). Signs q.entries (TellsIn questions t.learnt.list.items) t.way.items (came looks request)) (some_same signed.0 p (sym signed.1.0 ∙ at))
+    (subst (Signs signed.0.entries (TellsIn questions t.learnt.list.items) t.way.items) (plan.lists (record { looks = looks; request = request }) refl stands.fits) signed.1.1.1)
+
 -- what is known stays so where the tries are counted otherwise, or another way is signed
 pub tests_alike : (looks : Looks) (questions : List Question) (bags : List Contents) (t u : Tests) → u.plan ≡ t.plan → u.is_compared ≡ t.is_compared → u.learnt ≡ t.learnt → u.cases ≡ t.cases
     → AreTests looks questions bags t → AreTests looks questions bags u
@@ -141,6 +155,13 @@ tests_alike looks questions bags t u plan compared learnt cases are = record {
     cases = subst (λ (x : Learnt). AllByRecursion (IsTold s questions p.entries (TellsIn questions x.list.items)) u.cases) (sym learnt)
         (subst (AllByRecursion (IsTold s questions p.entries (TellsIn questions t.learnt.list.items))) (sym cases) told.cases);
   }
+
+pub tests_counted : (looks : Looks) (questions : List Question) (bags : List Contents) (t u : Tests) → u ≡ record t { worth = u.worth } → AreTests looks questions bags t → AreTests looks questions bags u
+tests_counted looks questions bags t u is are =
+    tests_alike looks questions bags t u (ap (λ (x : Tests). x.plan) is) (ap (λ (x : Tests). x.is_compared) is) (ap (λ (x : Tests). x.learnt) is) (ap (λ (x : Tests). x.cases) is) are
+
+pub signed_counted : (looks : Looks) (questions : List Question) (request : Request) (t u : Tests) → u ≡ record t { worth = u.worth } → IsSigned looks questions request t → IsSigned looks questions request u
+signed_counted looks questions request t u is signed = subst (IsSigned looks questions request) (sym is) signed
 
 -- where the plan is compared, or isn't
 pub tests_compared : (looks : Looks) (questions : List Question) (bags : List Contents) (t : Tests) (b : Bool) → (b ≡ true → HasPlan looks t) → AreTests looks questions bags t
@@ -202,6 +223,16 @@ module _ (looks : Looks) (questions : List Question) (request : Request) (c : To
   pub heard_as : IsEvaluated looks questions request e → c.answer ≡ e.answer → c.asked ≡ e.asked → c.failed ≡ e.failed → heard (answer_part looks request) ≡ heard_case questions c
   heard_as is answer questions_same failed =
       same_heard (answer_of looks request) c.answer (asked_once [] (asked looks request)) (at_numbers questions c.asked) (are_any (causes_in (answer_part looks request).notes)) c.failed (sym (answer ∙ is.answer)) (sym (ap (at_numbers questions) questions_same ∙ is.asked)) (any_once (causes_in (answer_part looks request).notes) ∙ sym (failed ∙ is.failed))
+
+-- what is joined, as an evaluation has it
+pub evaluated_joined : (looks : Looks) (questions : List Question) (request : Request) (j : Joined) (e : ListedEvaluation) → IsJoined looks request questions j
+    → e.answer ≡ j.answer → e.asked ≡ j.asked → e.failed ≡ j.failed → IsEvaluated looks questions request e
+evaluated_joined looks questions request j e is answer asked failed = record {
+  answer = answer ∙ sym (ap (λ (h : Heard Answer). h.value) is.is_heard);
+  asked = ap (at_numbers questions) asked ∙ sym (ap (λ (h : Heard Answer). h.gist.questions) is.is_heard);
+  within = subst (AreNumbers questions) (sym asked) is.within;
+  failed = failed ∙ sym (ap (λ (h : Heard Answer). h.gist.failed) is.is_heard) ∙ any_once (causes_in (answer_part looks request).notes);
+}
 
 module _ (looks : Looks) (questions : List Question) (bags : List Contents) (request : Request) (t : Tests) where
   -- the case that the way tells

@@ -21,7 +21,8 @@ impl<A: Attributes, P: Policies> Pdp<A, P> {
     /// The answer to the request of three names (section 7), and the questions that were asked for it, each once, by
     /// their numbers among those of the caller. One that has none there gets one; the others keep theirs, whatever
     /// comes. The look-ups that the answer rests on are those of these questions. For the rest it is as `evaluate`.
-    /// A case that is remembered and that has its answer is taken over; else the request is evaluated, and is a case.
+    /// A case that is remembered and that has its answer is taken over; else its answer is joined of what came of
+    /// tests, or the request is evaluated, and it is a case.
     pub fn evaluate_listed(
         &mut self,
         memory: &mut Memory,
@@ -135,8 +136,8 @@ impl<A: Attributes, P: Policies> Pdp<A, P> {
         }
     }
 
-    // The answer and the questions of the case that the way of tests tells, if there is one; else the request is
-    // evaluated, and is such a case then.
+    // The answer and the questions of the case that the way of tests tells, if there is one; else they are joined, or
+    // the request is evaluated, and it is such a case then.
     fn evaluate_signed(
         &mut self,
         memory: &mut Memory,
@@ -160,11 +161,68 @@ impl<A: Attributes, P: Policies> Pdp<A, P> {
                 Ok(evaluation)
             }
             None => {
-                let evaluation = self.evaluate_anew(memory, questions, person, action, resource)?;
+                let evaluation = self.evaluate_untold(memory, questions, person, action, resource)?;
                 memory.put(self.alloc(), &evaluation)?;
                 Ok(evaluation)
             }
         }
+    }
+
+    // The answer and the questions are joined of what came of tests, or else the request is evaluated.
+    fn evaluate_untold(
+        &mut self,
+        memory: &mut Memory,
+        questions: &mut Questions,
+        person: &Text,
+        action: &Text,
+        resource: &Text,
+    ) -> Result<ListedEvaluation, AllocError>
+        requires remembers { Remembers (looks_of self.old) questions.old memory.old }
+        requires signed { IsSigned (looks_of self.old) questions.old
+            (listed person.now action.now resource.now) memory.old.tests }
+        ensures evaluated { IfOk result (IsEvaluated (looks_of self.old) questions.new
+            (listed person.now action.now resource.now)) }
+        ensures numbers { BeginsWith questions.new questions.old }
+        ensures remembers { Remembers (looks_of self.old) questions.new memory.new }
+        ensures signed { IsSigned (looks_of self.old) questions.new
+            (listed person.now action.now resource.now) memory.new.tests }
+        ensures rest { self.new ≡ self.old }
+    {
+        match self.joined(memory, questions, person, action, resource)? {
+            None => self.evaluate_anew(memory, questions, person, action, resource),
+            Some(evaluation) => {
+                self.keep(memory, questions, person, action, resource, &evaluation)?;
+                Ok(evaluation)
+            }
+        }
+    }
+
+    // The answer and the questions that are joined of what came of tests, if they can be.
+    fn joined(
+        &self,
+        memory: &mut Memory,
+        questions: &Questions,
+        person: &Text,
+        action: &Text,
+        resource: &Text,
+    ) -> Result<Option<ListedEvaluation>, AllocError>
+        requires remembers { Remembers (looks_of self.now) questions.now memory.old }
+        requires signed { IsSigned (looks_of self.now) questions.now
+            (listed person.now action.now resource.now) memory.old.tests }
+        ensures evaluated { IfOk result (λ o. IfSome o (IsEvaluated (looks_of self.now) questions.now
+            (listed person.now action.now resource.now))) }
+        ensures remembers { Remembers (looks_of self.now) questions.now memory.new }
+        ensures signed { IsSigned (looks_of self.now) questions.now
+            (listed person.now action.now resource.now) memory.new.tests }
+    {
+        memory.joined(&Scene {
+            alloc: self.alloc(),
+            held: self,
+            questions,
+            person,
+            action,
+            resource,
+        })
     }
 
     // Evaluates the request and remembers its case.

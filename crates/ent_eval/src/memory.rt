@@ -9,6 +9,7 @@ ghost use Rattle.ent_eval.specs.Memory.{Gives, HasCase, Remembers, cases_in};
 ghost use Rattle.ent_eval.specs.Tests.{HasPlan, IsSigned};
 ghost use Rattle.ent_eval.specs.proofs_only.Remembered.{AreNamed, IsEvaluated, NoneFits};
 ghost use Rattle.ent_found.specs.proofs_only.Ready.{in_scene, request_of};
+ghost use Rattle.ent_joined.specs.Joined.{IsJoined};
 ghost use Rattle.ent_request.specs.declared.question.Question.{Question};
 ghost use Rattle.ent_request.specs.declared.request.Request.{Request};
 
@@ -18,8 +19,9 @@ use crate::front::Front;
 use crate::pdp::ListedEvaluation;
 use crate::tests::Tests;
 use ent_found::{Findings, Scene, findings_of};
+use ent_joined::Joined;
 use ent_request::{LookUps, Questions};
-use ent_values::Text;
+use ent_values::{Shared, Text};
 use std::alloc::{AllocError, Global};
 
 /// Beyond so many values in bags all is forgotten at the next edit of values, or the next question beside the table.
@@ -190,6 +192,27 @@ impl Memory {
         }
     }
 
+    // The same that is joined of the outcomes, if it can be.
+    pub(crate) fn joined<L: LookUps>(
+        &mut self,
+        scene: &Scene<'_, L>,
+    ) -> Result<Option<ListedEvaluation>, AllocError>
+        requires remembers { in_scene L.looks scene.now Remembers self.old }
+        requires signed { in_scene L.looks scene.now IsSigned (request_of scene.now) self.old.tests }
+        ensures evaluated { IfOk result (λ o. IfSome o
+            (in_scene L.looks scene.now IsEvaluated (request_of scene.now))) }
+        ensures remembers { in_scene L.looks scene.now Remembers self.new }
+        ensures signed { in_scene L.looks scene.now IsSigned (request_of scene.now) self.new.tests }
+    {
+        match self.tests.joined(scene)? {
+            None => Ok(None),
+            Some(joined) => {
+                self.tests.count_hit();
+                Ok(Some(evaluated(scene.alloc, joined)?))
+            }
+        }
+    }
+
     // Puts an evaluation as the case that the way of tests tells.
     pub(crate) fn put(
         &mut self,
@@ -228,4 +251,18 @@ impl Memory {
         };
         self.cases.put(scene.alloc, case)
     }
+}
+
+// An evaluation that has what was joined.
+fn evaluated(alloc: Global, joined: Joined) -> Result<ListedEvaluation, AllocError>
+    ensures { (looks : Looks) (questions : List Question) (request : Request)
+        → IsJoined looks request questions joined → IfOk result (IsEvaluated looks questions request) }
+{
+    let answer = Shared::new(alloc, joined.answer)?;
+    let asked = Shared::new(alloc, joined.asked)?;
+    Ok(ListedEvaluation {
+        answer,
+        asked,
+        failed: joined.failed,
+    })
 }

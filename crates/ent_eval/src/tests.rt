@@ -7,14 +7,16 @@ ghost use Rattle.ent_request.specs.Looks.{Looks};
 ghost use Rattle.ent_request.specs.Questions.{BeginsWith};
 ghost use Rattle.ent_request.specs.declared.question.Question.{Question};
 ghost use Rattle.ent_request.specs.declared.request.Request.{Request};
-ghost use Rattle.ent_found.specs.proofs_only.Ready.{Begins};
+ghost use Rattle.ent_found.specs.proofs_only.Ready.{Begins, in_scene, request_of};
+ghost use Rattle.ent_joined.specs.Joined.{IsJoined};
 ghost use Rattle.ent_eval.specs.Tests.{AreTests, HasPlan, IsSigned};
-ghost use Rattle.ent_eval.specs.proofs_only.Remembered.{AreNamed, IsEvaluated};
+ghost use Rattle.ent_eval.specs.proofs_only.Remembered.{AreNamed, HasTests, IsEvaluated};
 
 use crate::pdp::ListedEvaluation;
 use crate::plan::Plan;
 use crate::worth::Worth;
-use ent_found::Findings;
+use ent_found::{Findings, Scene};
+use ent_joined::{Joined, Pad, join};
 use ent_request::{LookUps, Questions};
 use ent_told::{Told, ToldCases, way_of};
 use ent_values::{Items, Text};
@@ -32,6 +34,7 @@ pub(crate) struct Tests {
     pub(crate) learnt: ent_told::Tests,
     pub(crate) cases: ToldCases,
     pub(crate) way: Vec<u32>,
+    pub(crate) pad: Pad,
     pub(crate) worth: Worth,
 }
 
@@ -46,6 +49,7 @@ impl Tests {
             learnt: ent_told::Tests::new(alloc),
             cases: ToldCases::new(alloc),
             way: Vec::new(alloc),
+            pad: Pad::new(alloc),
             worth: Worth::new(),
         }
     }
@@ -190,7 +194,31 @@ impl Tests {
         }
     }
 
-    // A try found a case.
+    // The answer that is joined of the outcomes of tests, if it can be.
+    pub(crate) fn joined<L: LookUps>(
+        &mut self,
+        scene: &Scene<'_, L>,
+    ) -> Result<Option<Joined>, AllocError>
+        requires tests { in_scene L.looks scene.now HasTests self.old }
+        requires signed { in_scene L.looks scene.now IsSigned (request_of scene.now) self.old }
+        ensures joined { IfOk result (λ o. IfSome o
+            (IsJoined (L.looks scene.now.held.now) (request_of scene.now) scene.now.questions.now)) }
+        ensures same { self.new ≡ self.old }
+    {
+        match &self.plan {
+            None => Ok(None),
+            Some(plan) => join(
+                scene,
+                &plan.root,
+                plan.entries.as_slice(),
+                self.learnt.list.as_slice(),
+                self.way.as_slice(),
+                &mut self.pad,
+            ),
+        }
+    }
+
+    // A try found a case, or its answer was joined.
     pub(crate) fn count_hit(&mut self)
         ensures { self.new ≡ record self.old { worth = self.new.worth } }
     {
@@ -225,7 +253,7 @@ impl Tests {
         self.is_compared = false;
     }
 
-    // Forgets all of them.
+    // Forgets all of them. The way and the pad stay, which have no meaning.
     pub(crate) fn forget(&mut self, alloc: Global)
         ensures plan { self.new.plan ≡ None }
         ensures cases { self.new.cases ≡ [] }

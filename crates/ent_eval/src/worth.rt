@@ -1,10 +1,10 @@
 //! Whether tests are worth their search.
 
-/// So many evaluations go without tests at first, and after what was known was forgotten before it served so many.
-const FIRST: usize = 1024;
-
-/// So many where it served as many.
+/// So many evaluations go without tests at first, and after what was known was forgotten and had served.
 const WAIT: usize = 64;
+
+/// So many evaluations go without where it served fewer than so many.
+const SERVES: usize = 1024;
 
 /// So many tries are counted before it is told whether they are of use.
 const TRIES: usize = 512;
@@ -12,8 +12,8 @@ const TRIES: usize = 512;
 /// So many evaluations go without, where they aren't.
 const PAUSE: usize = 4096;
 
-/// How many evaluations go without tests yet; of how many tries with them so many found a case with nothing learnt for
-/// it; how many found one since what is known was begun; and how much was known before the latest.
+/// How many evaluations go without tests yet; of how many tries with them so many were answered by what was known, with
+/// nothing learnt for them; how many were answered since that was begun; and how much was known before the latest.
 #[derive(Clone, Copy)]
 pub(crate) struct Worth {
     pause: usize,
@@ -27,7 +27,7 @@ impl Worth {
     // Before the first evaluation.
     pub(crate) fn new() -> Worth {
         Worth {
-            pause: FIRST,
+            pause: WAIT,
             tries: 0,
             hits: 0,
             served: 0,
@@ -48,7 +48,7 @@ impl Worth {
         true
     }
 
-    // After some tries: of these a quarter is to have found a case, else there is a pause.
+    // After some tries: of these a quarter is to have been answered so, else there is a pause.
     fn goes_on(&mut self) -> bool {
         if self.hits < TRIES / 4 {
             self.rest();
@@ -68,7 +68,7 @@ impl Worth {
 
     // A pause after what was known was forgotten, which is short where it served.
     pub(crate) fn wait(&mut self) {
-        self.pause = if self.served < FIRST { FIRST } else { WAIT };
+        self.pause = if self.served < SERVES { SERVES } else { WAIT };
         self.served = 0;
     }
 
@@ -77,7 +77,8 @@ impl Worth {
         self.known = known;
     }
 
-    // It found a case, and so much is known then. Where that is more, it served as little as an evaluation.
+    // It found a case, or its answer was joined, and so much is known then. Where that is more, it served as little
+    // as an evaluation.
     pub(crate) fn hit(&mut self, known: usize) {
         self.served = self.served.saturating_add(1);
         if known == self.known {

@@ -52,7 +52,7 @@ once_with before questions q true there =
     sym (ap (λ b. if b then asked_once before questions else asked_once before questions ++ q ∷ []) (asked_behind before questions q there))
 once_with before questions q false there = once_append before questions (q ∷ [])
 
-once_behind : (before questions more : List Question) → asked_once before (asked_once questions more) ≡ asked_once (asked_once before questions) more
+pub once_behind : (before questions more : List Question) → asked_once before (asked_once questions more) ≡ asked_once (asked_once before questions) more
 once_behind before questions [] = refl
 once_behind before questions (q ∷ more) =
     once_behind before (with_question questions q) more ∙ ap (λ qs. asked_once qs more) (once_with before questions q (is_asked questions q) refl)

@@ -8,10 +8,10 @@ ghost use Rattle.ent_notes.specs.proofs_only.Marks.{HasRoom, is_stamp};
 use std::alloc::{AllocError, Global};
 use std::marker::Model;
 
-// Numbers, each once, in the order in which they were noted first since the last beginning. For each number there is a
-// mark, the stamp of the beginning behind which it was noted last: so one comparison tells whether a number is there.
+/// Numbers, each once, in the order in which they were noted first since the last beginning. For each number there is a
+/// mark, the stamp of the beginning behind which it was noted last: so one comparison tells whether a number is there.
 #[derive(Drop)]
-pub(crate) struct Marked {
+pub struct Marked {
     numbers: Vec<usize>,
     marks: Vec<u64>,
     stamp: u64,
@@ -29,8 +29,8 @@ impl Model for Marked {
 }
 
 impl Marked {
-    // No numbers, for which nothing is allocated.
-    pub(crate) fn new(alloc: Global) -> Marked
+    /// No numbers, for which nothing is allocated.
+    pub fn new(alloc: Global) -> Marked
         ensures { result ≡ [] }
     {
         Marked {
@@ -40,8 +40,8 @@ impl Marked {
         }
     }
 
-    // Begins anew: no number is there.
-    pub(crate) fn begin(&mut self, alloc: Global)
+    /// Begins anew: no number is there.
+    pub fn begin(&mut self, alloc: Global)
         ensures { self.new ≡ [] }
     {
         match self.stamp.checked_add(1) {
@@ -53,15 +53,15 @@ impl Marked {
         }
     }
 
-    // The numbers, in their order.
-    pub(crate) fn as_slice(&self) -> &[usize]
+    /// The numbers, in their order.
+    pub fn as_slice(&self) -> &[usize]
         ensures { result.now ≡ self.now }
     {
         self.numbers.as_slice()
     }
 
-    // Notes a number, if it isn't there yet.
-    pub(crate) fn note(&mut self, number: usize) -> Result<(), AllocError>
+    /// Notes a number, if it isn't there yet.
+    pub fn note(&mut self, number: usize) -> Result<(), AllocError>
         ensures ok { OnOk result (self.new ≡ insert_key eqb self.old number) }
         ensures err { OnErr result (self.new ≡ self.old) }
     {

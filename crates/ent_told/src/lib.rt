@@ -11,6 +11,7 @@ mod way;
 
 pub use cases::ToldCases;
 pub use law::{answers_are_told, cases_stay_told, cases_tell};
+pub use signing::goes_on;
 pub use tests::Tests;
 pub use told::Told;
 pub use way::way_of;

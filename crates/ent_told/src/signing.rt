@@ -202,8 +202,8 @@ impl<L: LookUps> Signing<'_, L> {
     }
 }
 
-// Whether what stands below a test counts, by what it came to.
-fn goes_on(task: &Task, tested: &Tested) -> bool
+/// Whether what stands below a test counts, by what it came to.
+pub fn goes_on(task: &Task, tested: &Tested) -> bool
     ensures { (g : Gist) → result ≡ task_goes_on task.now (came_by tested.now g) }
 {
     match task {

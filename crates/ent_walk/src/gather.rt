@@ -13,18 +13,18 @@ use ent_notes::{Notes, Path};
 use ent_request::{Answer, Status};
 use std::alloc::{AllocError, Global};
 
-// The children that were seen: what they come to, the first status that isn't `Okay`, and what those of each decision
-// tell.
+/// The children that were seen: what they come to, the first status that isn't `Okay`, and what those of each decision
+/// tell.
 #[derive(Drop)]
-pub(crate) struct Gathering {
-    pub(crate) combiner: Combiner,
-    pub(crate) status: Option<Status>,
-    pub(crate) permitted: Told,
-    pub(crate) denied: Told,
+pub struct Gathering {
+    pub combiner: Combiner,
+    pub status: Option<Status>,
+    pub permitted: Told,
+    pub denied: Told,
 }
 
-// No children.
-pub(crate) fn gather(alloc: Global, algorithm: RuleAlg) -> Gathering
+/// No children.
+pub fn no_children(alloc: Global, algorithm: RuleAlg) -> Gathering
     ensures { HasGathered algorithm result [] }
 {
     Gathering {
@@ -36,8 +36,8 @@ pub(crate) fn gather(alloc: Global, algorithm: RuleAlg) -> Gathering
 }
 
 impl Gathering {
-    // One more child, and whether it fixes the decision.
-    pub(crate) fn take(&mut self, answer: Option<Answer>) -> Result<Progress, AllocError>
+    /// One more child, and whether it fixes the decision.
+    pub fn take(&mut self, answer: Option<Answer>) -> Result<Progress, AllocError>
         ensures gathered { OnOk result (Gathers self.old self.new (or_nothing answer)) }
         ensures progress { IfOk result (Tells self.old (or_nothing answer)) }
     {
@@ -47,8 +47,8 @@ impl Gathering {
         }
     }
 
-    // One more child, which isn't applicable.
-    pub(crate) fn pass(&mut self) -> Progress
+    /// One more child, which isn't applicable.
+    pub fn pass(&mut self) -> Progress
         ensures gathered { Gathers self.old self.new nothing }
         ensures progress { Tells self.old nothing result }
     {
@@ -88,8 +88,8 @@ impl Gathering {
         }
     }
 
-    // What the children of the element at the end of the path come to.
-    pub(crate) fn finish(
+    /// What the children of the element at the end of the path come to.
+    pub fn finish(
         self,
         alloc: Global,
         notes: &mut Notes,

@@ -24,6 +24,7 @@ mod values;
 mod walk;
 
 pub use evaluated::{Evaluated, Truth};
+pub use gather::{Gathering, no_children};
 pub use law::{
     a_decided_answer_names_no_cause, an_indeterminate_answer_has_its_cause,
     each_key_is_recorded_once, equal_findings_give_equal_answers,
@@ -31,5 +32,7 @@ pub use law::{
     equal_findings_give_equal_rules, equal_findings_give_equal_targets,
     equal_look_ups_give_equal_answers, what_is_looked_up_is_recorded,
 };
+pub use node::under;
+pub use own_given::indeterminate_of;
 pub use target::Targeted;
 pub use walk::Walk;

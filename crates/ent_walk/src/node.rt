@@ -11,7 +11,7 @@ ghost use Rattle.ent_walk.specs.proofs_only.Node.{in_policy, policy_after, polic
 ghost use Rattle.ent_notes.specs.proofs_only.Path.{keys_of};
 ghost use Rattle.ent_request.specs.Part.{settled};
 
-use crate::gather::gather;
+use crate::gather::no_children;
 use crate::rule::Within;
 use crate::target::Targeted;
 use crate::walk::Walk;
@@ -140,7 +140,7 @@ impl<'a, L: LookUps> Walk<'a, L> {
             (keys_of within.entry.path.now) algorithm rules.now)
             self.old self.new (or_nothing a)) }
     {
-        let mut gathering = gather(self.alloc, algorithm);
+        let mut gathering = no_children(self.alloc, algorithm);
         for rule in rules {
             let progress = self.next_rule(&mut gathering, within, rule)?;
             if let Progress::Stop = progress {
@@ -171,8 +171,8 @@ fn is_ind(decision: Outcome) -> bool
     }
 }
 
-// What an element comes to with a target that is Indeterminate.
-pub(crate) fn under(alloc: Global, status: Status, answer: Option<Answer>) -> Option<Answer>
+/// What an element comes to with a target that is Indeterminate.
+pub fn under(alloc: Global, status: Status, answer: Option<Answer>) -> Option<Answer>
     ensures { or_nothing result ≡ under_target status (or_nothing answer).decision }
 {
     let decision = answer?.decision;

@@ -194,8 +194,8 @@ fn effect_of(decision: Outcome) -> Option<Effect>
     }
 }
 
-// The Indeterminate of an effect.
-pub(crate) fn indeterminate_of(effect: Effect) -> IndKind
+/// The Indeterminate of an effect.
+pub fn indeterminate_of(effect: Effect) -> IndKind
     ensures { result ≡ indeterminate_of effect }
 {
     match effect {

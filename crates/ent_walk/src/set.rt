@@ -15,7 +15,7 @@ ghost use Rattle.ent_notes.specs.proofs_only.Path.{keys_of};
 ghost use Rattle.ent_request.specs.Part.{settled};
 ghost use Rattle.ent_walk.specs.proofs_only.Typed.{is_fit};
 
-use crate::gather::{Gathering, gather};
+use crate::gather::{Gathering, no_children};
 use crate::node::{has_failed, under};
 use crate::only::Only;
 use crate::opened::Opened;
@@ -230,7 +230,7 @@ impl<'a, L: LookUps> Walk<'a, L> {
             (in_walk L.looks self.old children_combined hops (keys_of path.now) algorithm children.now)
             self.old self.new (or_nothing a)) }
     {
-        let mut gathering = gather(self.alloc, algorithm);
+        let mut gathering = no_children(self.alloc, algorithm);
         for child in children {
             let progress = self.next_child(&mut gathering, hops, path, child)?;
             if let Progress::Stop = progress {

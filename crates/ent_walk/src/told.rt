@@ -12,19 +12,19 @@ use ent_request::{Answer, Given, Status, WhyEntry};
 use ent_values::Items;
 use std::alloc::{AllocError, Global};
 
-// What the children with one decision tell of it, in document order.
+/// What the children with one decision tell of it, in document order.
 #[derive(Drop)]
-pub(crate) struct Told {
+pub struct Told {
     /// Whether there is such a child.
-    pub(crate) any: bool,
-    pub(crate) why: Items<WhyEntry>,
-    pub(crate) obligations: Items<Given>,
-    pub(crate) advice: Items<Given>,
+    pub any: bool,
+    pub why: Items<WhyEntry>,
+    pub obligations: Items<Given>,
+    pub advice: Items<Given>,
 }
 
 impl Told {
-    // No children.
-    pub(crate) fn nothing(alloc: Global) -> Told
+    /// No children.
+    pub fn nothing(alloc: Global) -> Told
         ensures { result ≡ record { any = false; why = []; obligations = []; advice = [] } }
     {
         Told {
@@ -35,8 +35,8 @@ impl Told {
         }
     }
 
-    // One child more. Its lists are moved, not copied.
-    pub(crate) fn add(&mut self, more: Told) -> Result<(), AllocError>
+    /// One child more. Its lists are moved, not copied.
+    pub fn add(&mut self, more: Told) -> Result<(), AllocError>
         ensures { OnOk result (self.new ≡ told_more self.old more) }
     {
         self.any = true;
@@ -45,8 +45,8 @@ impl Told {
         self.advice.append(more.advice)
     }
 
-    // The same with the entry of the element at the end of the path behind it, where that decides by default.
-    pub(crate) fn with_default(
+    /// The same with the entry of the element at the end of the path behind it, where that decides by default.
+    pub fn with_default(
         self,
         alloc: Global,
         notes: &mut Notes,
@@ -77,8 +77,8 @@ impl Told {
         })
     }
 
-    // An element with that decision, of which this is told.
-    pub(crate) fn decided(self, decision: Outcome) -> Answer
+    /// An element with that decision, of which this is told.
+    pub fn decided(self, decision: Outcome) -> Answer
         ensures { result ≡ record {
           decision = decision;
           status = Okay;

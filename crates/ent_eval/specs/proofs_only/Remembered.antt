@@ -5,6 +5,7 @@ use Rattle.ent_values.specs.Bags.{Contents}
 use Rattle.ent_eval.specs.declared.case.Case.{Case}
 use Rattle.ent_eval.specs.declared.cases.Cases.{Cases}
 use Rattle.ent_eval.specs.declared.pdp.ListedEvaluation.{ListedEvaluation}
+use Rattle.ent_eval.specs.declared.tests.Tests.{Tests}
 use Rattle.ent_request.specs.declared.question.Question.{Question}
 use Rattle.ent_request.specs.declared.request.Request.{Request}
 use Rattle.ent_found.specs.Findings.{AreFindings, IsAt}
@@ -12,6 +13,7 @@ use Rattle.ent_found.specs.declared.findings.Findings.{Findings}
 use Rattle.ent_walk.specs.Answer.{answer, asked, has_cause}
 use Rattle.ent_request.specs.Looks.{Looks}
 use Rattle.ent_eval.specs.Memory.{AreShelves, Fits, IsCase, cases_in}
+use Rattle.ent_eval.specs.Tests.{AreTests}
 use Rattle.ent_request.specs.Questions.{AreNumbers, asked_once, at_numbers}
 
 -- an evaluation has the answer to a request, the numbers of the questions that are asked for it, and whether a part of it failed
@@ -27,6 +29,10 @@ pub record AreNamed (looks : Looks) (questions : List Question) (found : Finding
   pub person : IsAt found.people who
   pub action : IsAt found.actions what
   pub resource : IsAt found.resources which
+
+-- what is known of tests is so, by some bags
+abbrev pub HasTests : Looks → List Question → Tests → Type 0
+HasTests looks questions t = (bags : List Contents) × AreTests looks questions bags t
 
 -- none of these cases fits a request
 abbrev pub NoneFits : Looks → List Question → List Contents → Request → List Case → Type 0
