@@ -16,7 +16,7 @@ COMMANDS = (r'"(?:(?:person|action|resource)\.(?:add|drop)|(?:attr|day|moment|ro
             r'|policy\.(?:add|replace|withdraw))')
 PROGRAMS = ['conformance', 'faults_told', 'attributes_told', 'together_told', 'review', 'review_with_options']
 EVALUATING = ['ent_request', 'ent_notes', 'ent_walk', 'ent_heard', 'ent_plan', 'ent_found', 'ent_tests', 'ent_told',
-              'ent_eval']
+              'ent_joined', 'ent_eval']
 BELOW_LINES = ['ent_values', 'ent_functions', 'ent_combine', 'ent_policy', 'ent_copies', 'ent_meaning', 'ent_finder',
                *EVALUATING, 'ent_tree', 'ent_reach', 'ent_index', 'ent_log', 'ent_cells', 'ent_table', 'ent_rebuild']
 
@@ -144,7 +144,7 @@ def memory_at_commit():
 
 
 def unseen():
-    known = ['ent_finder/src/hints.rt', 'ent_notes/src/paths.rt', 'ent_notes/src/notes.rt']
+    known = ['ent_finder/src/hints.rt', 'ent_notes/src/paths.rt', 'ent_notes/src/notes.rt', 'ent_joined/src/state.rt']
     units = [where(path) for path in files() if re.search(r'ghost Value = \{ Unit\b', code(path))]
     yield from (f'{place} has a model that says nothing' for place in units if place not in known)
     yield from found(r'\bCell(?:<|::)', but=['ent_finder/src/hints.rt'])
@@ -212,7 +212,7 @@ def unsafe():
 def libraries():
     yield from named(['jiff', 'jiff_core'], but=['ent_values'])
     yield from named(['slab'], but=['ent_index', 'ent_cells'])
-    yield from named(['indexmap'], but=['ent_table', 'ent_request', 'ent_notes', 'ent_found'])
+    yield from named(['indexmap'], but=['ent_table', 'ent_request', 'ent_notes', 'ent_found', 'ent_joined'])
 
 
 CHECKS = {
