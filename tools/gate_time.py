@@ -3,17 +3,21 @@
 
     gate_time.py [--write] [-- COMMAND ..]      the command is `bash .ci/run` unless one is named
 
-Every two seconds it looks at the processes below the command, and adds up the time of each by crate and by what it
-does: proofs, tests (a crate once more with its tests), wrong bodies. At the end it prints a row a crate in processor
-minutes, and how much there was to do, and with --write puts both into CONTRIBUTING.md. What begins and ends between two
-looks is missed: a percent or two. The lines that say how many passed are kept in out/gate.txt, for what says of a
-package what was proved of it (tools/release.sh). It ends as the command does."""
+First it proves what is always the same, a small example of the kit, and so tells what a processor minute of this run
+was worth. Then, every two seconds, it looks at the processes below the command, and adds up the time of each by crate
+and by what it does: proofs, tests (a crate once more with its tests), wrong bodies. At the end it prints a row a crate
+in processor minutes, with what was kept from an earlier run and how much there was to do. With --write it puts all of
+that into CONTRIBUTING.md, if nothing was kept. What begins and ends between two looks is missed: a percent or two. The
+lines that say how many passed are kept in out/gate.txt, for what says of a package what was proved of it
+(tools/release.sh). It ends as the command does."""
 import collections
 import os
 import pathlib
 import re
+import resource
 import subprocess
 import sys
+import tempfile
 import threading
 import time
 
@@ -24,6 +28,9 @@ TICKS = os.sysconf('SC_CLK_TCK')
 KINDS = ['proof', 'tests', 'edits', 'other']
 KEPT = TOP / 'out' / 'gate.txt'
 PASSED = re.compile(rb'.*\d+ passed, \d+ failed')
+# The kit's example by which runs are compared: a small library.
+SMALL = 'start_lib'
+TAKEN = re.compile(rb'rt: (\w+) is kept\b')
 
 
 def processes_below(root):
@@ -68,8 +75,36 @@ def counted():
     return f'{len(list(crates.glob("*/src")))} crates, {functions:,} functions, {bodies} wrong bodies'
 
 
-def table(spent, seconds):
-    """The rows of what was spent, most first."""
+def used():
+    """The processor seconds of all commands that have ended."""
+    spent = resource.getrusage(resource.RUSAGE_CHILDREN)
+    return spent.ru_utime + spent.ru_stime
+
+
+def worth():
+    """The processor seconds of a proof that is always the same, the middle one of three; none if it fails."""
+    took = []
+    for _ in range(3):
+        with tempfile.TemporaryDirectory(prefix='worth-') as room:
+            subprocess.run(['git', 'init', '-q', room], check=True)
+            subprocess.run(['rt', 'new', f'{room}/{SMALL}', SMALL], capture_output=True, check=False)
+            before = used()
+            words = ['rt', 'check', '--jobs', '1']
+            if subprocess.run(words, cwd=f'{room}/{SMALL}', capture_output=True, check=False).returncode:
+                return None
+            took.append(used() - before)
+    return sorted(took)[1]
+
+
+def compared(seconds):
+    """What is said of a small proof, by which two runs can be compared."""
+    if seconds is None:
+        return f'What a processor minute was worth is not known: {SMALL} of the kit is not proved.'
+    return f"What a processor minute was worth: the kit's {SMALL} took {seconds:.1f} processor seconds right before."
+
+
+def table(spent, seconds, small, taken):
+    """The rows of what was spent, most first, and what they were of."""
     total = collections.Counter()
     for (crate, _), ticks in spent.items():
         total[crate] += ticks
@@ -80,26 +115,30 @@ def table(spent, seconds):
         lines.append(f'    {crate:20}' + ''.join(f'{ticks / TICKS / 60:9.1f}' for ticks in [*row, sum(row)]))
     processors = len(os.sched_getaffinity(0))
     clock = f'{seconds / 60:.0f} minutes by the clock on {processors} processors'
-    lines.append(f'\nIn processor minutes; {clock}; {counted()}.')
+    kept = f'{len(taken)} crates kept from an earlier run' if taken else 'nothing kept from an earlier run'
+    lines += ['', f'In processor minutes; {clock};', f'{counted()}; {kept}.', compared(small)]
     return '\n'.join(lines) + '\n'
 
 
-def passed_on(source, kept):
-    """Passes on what is said, and keeps the lines that say how many passed."""
+def passed_on(source, kept, taken):
+    """Passes on what is said, and keeps the lines that say how many passed, and which crates were kept."""
     for line in source:
         sys.stdout.buffer.write(line)
         sys.stdout.buffer.flush()
         if PASSED.match(line):
             kept.append(line)
+        if said := TAKEN.match(line):
+            taken.add(said[1])
 
 
 def main():
     words = sys.argv[1:]
     writes = words[:1] == ['--write']
     command = words[words.index('--') + 1:] if '--' in words else ['bash', '.ci/run']
+    small = worth()
     began, spent, last = time.time(), collections.Counter(), {}
-    process, kept = subprocess.Popen(command, cwd=TOP, stdout=subprocess.PIPE), []
-    passing = threading.Thread(target=passed_on, args=(process.stdout, kept))
+    process, kept, taken = subprocess.Popen(command, cwd=TOP, stdout=subprocess.PIPE), [], set()
+    passing = threading.Thread(target=passed_on, args=(process.stdout, kept, taken))
     passing.start()
     while process.poll() is None:
         for number, ticks in processes_below(process.pid):
@@ -109,11 +148,13 @@ def main():
     passing.join()
     KEPT.parent.mkdir(exist_ok=True)
     KEPT.write_bytes(b''.join(kept))
-    text = table(spent, time.time() - began)
+    text = table(spent, time.time() - began, small, taken)
     print(text)
-    if writes and process.returncode == 0:
+    if writes and process.returncode == 0 and not taken:
         page = PAGE.read_text(encoding='utf-8')
-        PAGE.write_text(TABLE.sub(lambda found: f'{found[1]}\n{text}\n{found[2]}', page), encoding='utf-8')
+        PAGE.write_text(TABLE.sub(lambda found: f'{found[1]}{text}{found[2]}', page), encoding='utf-8')
+    elif writes:
+        print('gate_time.py: the table was not written, since the run failed or took what an earlier one kept')
     return process.returncode
 
 

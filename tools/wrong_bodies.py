@@ -4,18 +4,20 @@
     wrong_bodies.py [CRATE ..]          tries those of these crates, or of all; over libraries that stand built
     wrong_bodies.py --only NAME ..      tries these alone
     wrong_bodies.py --changed [BASE]    those of crates that differ from a commit (main), and of those they stand on
+    wrong_bodies.py --sample            those that the gate tries at this commit (tools/wrong/chosen.py)
+    wrong_bodies.py --controls          seeks a control for those that have none, and writes it where it is proved
     wrong_bodies.py --check             tries none: each can be applied, says by what it is refused, and is on the pages
     wrong_bodies.py --pages             writes WRONG_BODIES.md and the goals in the pages of crates
 
     --jobs N      so many checks side by side, else as many as RT_JOBS says or as fit    --anew   takes nothing kept
     --json FILE   the verdicts as JSON                                           --heads  writes `by:` where none stands
-    --behind COMMAND ..   runs a command that proves crates (rt ci), and tries the wrong bodies of each as soon as it says
-                          that the crate is proved; where the command fails, so does this, with its status
+    --behind COMMAND ..   runs a command that proves crates (rt ci), and tries the wrong bodies of each as soon as it
+                          says that the crate is proved; where the command fails, so does this, with its status
 
 crates/NAME/wrong/PLAIN-NAME.edit has lines `by: GOAL`, `file: PATH`, `old: TEXT`, `new: TEXT`, and may have a
-`control: TEXT`: what stands there in a right body of the same shape, which must not be refused. The last line is
-`wrong bodies: N passed, M failed`; the status is 1 where one isn't refused, or by another goal than its head says, or
-wasn't tried."""
+`control: TEXT`: what stands there in a right body of another text, which must not be refused. `by hand: GOAL` in place
+of `by` says that the goal is answered in proofs/, where other texts are refused too. The last line is `wrong bodies: N
+passed, M failed`; the status is 1 where one isn't refused, or by another goal than its head says, or wasn't tried."""
 import argparse
 import concurrent.futures
 import contextlib
@@ -25,7 +27,7 @@ import pathlib
 import subprocess
 import sys
 
-from wrong import behind, edits, pages, trial, trying
+from wrong import behind, chosen, controls, edits, pages, trial, trying
 
 TOP = pathlib.Path(__file__).resolve().parents[1]
 
@@ -88,7 +90,7 @@ def try_all(found, options):
 
 def bodies_in(found):
     """How many bodies there are in edits, controls among them."""
-    return sum(1 + edit.has_control for edit in found)
+    return sum(1 for _ in trial.asked_of(found))
 
 
 def counted(told, found, options):
@@ -97,12 +99,27 @@ def counted(told, found, options):
         for body, verdict in told:
             if not body.edit.by and not body.as_control and verdict.by:
                 pages.write_head(body.edit, verdict)
+    if options.controls:
+        return controls_found(told, found)
     if options.json:
         pathlib.Path(options.json).write_text(json.dumps(as_rows(told), indent=1), encoding='utf-8')
     passed = sum(trial.is_right(*one) for one in told)
     failed = bodies_in(found) - passed
     print(f'wrong bodies: {passed} passed, {failed} failed')
     return 1 if failed else 0
+
+
+def controls_found(told, found):
+    """Writes the first control of each edit that was proved, and counts; the status of the program."""
+    proved = {}
+    for body, verdict in sorted(told, key=lambda one: found.index(one[0].edit)):
+        if trial.is_right(body, verdict):
+            proved.setdefault(body.edit.label, body.edit)
+    for edit in proved.values():
+        controls.write(edit)
+    names = sorted({edit.label for edit in found} - proved.keys())
+    print('\n'.join([*(f'no control is proved of {name}' for name in names), f'{len(proved)} controls written']))
+    return 0
 
 
 def main():
@@ -113,7 +130,7 @@ def main():
     parser.add_argument('--jobs', type=int)
     parser.add_argument('--json')
     parser.add_argument('--behind', nargs=argparse.REMAINDER)
-    for name in ['--check', '--pages', '--anew', '--heads']:
+    for name in ['--check', '--pages', '--anew', '--heads', '--sample', '--controls']:
         parser.add_argument(name, action='store_true')
     options = parser.parse_args()
     there = all_edits()
@@ -130,6 +147,10 @@ def main():
     if told:
         print('\n'.join(told))
         return 2
+    if options.sample:
+        found = chosen.chosen(found, TOP)
+    if options.controls:
+        found = [sought for edit in found if not edit.has_control for sought in controls.of(edit)]
     untried = [edit for edit in found if not edit.by]
     if untried and not options.only and not options.heads:
         print(f'{len(untried)} wrong bodies name no goal yet and are not tried: --heads tries them')

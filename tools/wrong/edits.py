@@ -21,12 +21,19 @@ class Pair:
 
 @dataclasses.dataclass
 class Edit:
-    """A wrong body: the goal that has to refuse it, and the pairs that make it, applied one after the other."""
+    """A wrong body: the goal that has to refuse it, the pairs that make it, applied one after the other, and the first
+    session, document, call or trial that shows it, or why none can. Where that goal is answered by hand, its refusal
+    shows nothing. The gate tries some at each commit, and of one that is sought only the control is tried."""
     crate: pathlib.Path
     name: str
     by: str
     why: str
     pairs: list[Pair]
+    shown: str = ''
+    unseen: str = ''
+    by_hand: bool = False
+    is_always: bool = False
+    is_sought: bool = False
 
     @property
     def label(self):
@@ -51,13 +58,20 @@ class Edit:
 
 
 def read(path):
-    """The edit that a file holds; its first line says by what it has to be refused."""
+    """The edit that a file holds; its first lines say by what it has to be refused, and what shows it when it runs."""
     edit, place, old = Edit(path.parents[1], path.stem, '', '', []), None, None
     for line in path.read_text(encoding='utf-8').split('\n'):
         word, _, rest = line.partition(':')
         rest = rest.removeprefix(' ')
-        if word == 'by':
+        if word in ('by', 'by hand'):
             edit.by, _, edit.why = (part.strip() for part in rest.partition(';'))
+            edit.by_hand = word == 'by hand'
+        elif word == 'always':
+            edit.is_always = True
+        elif word == 'shown':
+            edit.shown = rest.strip()
+        elif word == 'unseen':
+            edit.unseen = rest.strip()
         elif word == 'file':
             place = rest.strip()
             if not place.startswith(PARTS):

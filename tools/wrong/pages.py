@@ -4,16 +4,20 @@ import re
 
 from .edits import Fault, changed_lines, texts_of
 from .functions import HEAD
+from .hand import is_by_hand
 
 TABLE = 'WRONG_BODIES.md'
 INTRODUCTION = '''# Wrong bodies
 
-Each of these edits turns the meaning of one function, and the prover refuses it by the goal that is named: a clause of
-the function's contract (`returns-clause-NAME`, or `returns` where the contract has one clause), the invariant of a type
-or a loop, or what a callee requires. `tools/wrong_bodies.py` tries them and fails where another goal refuses one, and
-`--pages` writes this page from the heads of the edits ([Contributing](CONTRIBUTING.md#wrong-bodies)). Where *not tried
-yet* stands, what refuses the edit hasn't been seen on the code as it is, and the gate doesn't try it; on the pages of
-crates such a name has no goal behind it.
+Each of these edits turns the meaning of one function. What tells them apart from a right body stands beside their names
+([Contributing](CONTRIBUTING.md#wrong-bodies)); `tools/wrong_bodies.py --pages` writes this page from their heads.
+
+- *Refused by*: the goal by which the prover refuses the edit: a clause of the function's contract
+  (`returns-clause-NAME`, or `returns` where the contract has one clause), the invariant of a type or a loop, or what a
+  callee requires. Where *a right body passes* stands behind it, the same check proves a body of another text that is
+  right, so the refusal is the doing of the contract. Without one it may be another reason. *By hand*: the goal is
+  answered in `proofs/` for the text that stands there, so any other text is refused, and nothing is claimed of that.
+- *Shown by*: the first stored session, document, call or trial whose answer is another one under the edit.
 '''
 
 
@@ -34,18 +38,30 @@ def table(found):
     for edit in sorted(found, key=lambda edit: (edit.crate.name, edit.name)):
         if edit.crate != crate:
             crate = edit.crate
-            text.append(f'\n## `{crate.name}`\n\n| Wrong body | Function | Refused by |\n|---|---|---|\n')
-        why = f': {edit.why}' if edit.why else ''
-        control = '; a right body of its shape passes' if edit.has_control else ''
-        by = f'`{edit.by}`{why}{control}' if edit.by else 'not tried yet'
-        text.append(f'| `{edit.name}` | `{function_of(edit)}` | {by} |\n')
+            text.append(f'\n## `{crate.name}`\n\n| Wrong body | Function | Refused by | Shown by |\n|---|---|---|---|\n')
+        text.append(f'| `{edit.name}` | `{function_of(edit)}` | {refused_by(edit)} | {shown_by(edit)} |\n')
     return ''.join(text)
 
 
+def refused_by(edit):
+    """What is said of an edit's refusal."""
+    if not edit.by:
+        return 'not tried'
+    why = f': {edit.why}' if edit.why else ''
+    if edit.by_hand:
+        return f'by hand: `{edit.by}`{why}'
+    return f'`{edit.by}`{why}{"; a right body passes" if edit.has_control else ""}'
+
+
+def shown_by(edit):
+    """What is said of a run that shows an edit."""
+    return edit.shown or (f'nothing: {edit.unseen}' if edit.unseen else '')
+
+
 def named(text, found):
-    """A crate's page with the goal behind the name of each of its wrong bodies."""
+    """A crate's page with the goal behind the name of each of its wrong bodies that a right one stands beside."""
     for edit in found:
-        by = f' by `{edit.by.removeprefix("returns-clause-")}`' if edit.by else ''
+        by = f' by `{edit.by.removeprefix("returns-clause-")}`' if edit.has_control and not edit.by_hand else ''
         text = re.sub(rf'`{re.escape(edit.name)}`(?: by `[^`]*`)?', f'`{edit.name}`{by}', text)
     return text
 
@@ -63,6 +79,8 @@ def faults_of(there, top):
                 told.append(f'{place}: it changes no function')
         except Fault as fault:
             told.append(f'{place}: {fault}')
+        if edit.by and not edit.by_hand and not edit.has_control and is_by_hand(edit):
+            told.append(f'{place}: `{edit.by}` is answered by hand, so its head has to say `by hand`, or has a control')
         if edit.by and not edit.by.startswith('returns') and not edit.why:
             told.append(f'{place}: its head does not say why `{edit.by}` is the doing of a contract')
         if f'`{edit.name}`' not in (edit.crate / 'README.md').read_text(encoding='utf-8'):
@@ -87,9 +105,18 @@ def check(top, there):
         made = pages_of(there, top)
         stale = [path for path in made if not path.is_file() or path.read_text(encoding='utf-8') != made[path]]
         told += [f'{path.relative_to(top)} is not up to date: tools/wrong_bodies.py --pages' for path in sorted(stale)]
-    untried = sum(not isinstance(edit, Fault) and not edit.by for edit in there.values())
-    print('\n'.join([*told, f'{len(there)} wrong bodies, {untried} of them not tried yet, {len(told)} faults']))
+    print('\n'.join([*told, f'{counts(there)}, {len(told)} faults']))
     return 1 if told else 0
+
+
+def counts(there):
+    """How many wrong bodies there are, and what tells them apart."""
+    found = [edit for edit in there.values() if not isinstance(edit, Fault)]
+    refused = {edit.label for edit in found if edit.by and edit.has_control and not edit.by_hand}
+    shown = {edit.label for edit in found if edit.shown}
+    return (f'{len(there)} wrong bodies, {len(shown)} shown by running, {len(refused)} refused with a control, '
+            f'{len(found) - len(shown | refused)} neither, '
+            f'{sum(not edit.by and not edit.shown for edit in found)} of them not tried yet')
 
 
 def write(top, there):

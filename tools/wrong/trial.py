@@ -23,6 +23,7 @@ class Trial:
         by = f' ({", ".join(verdict.by)})' if verdict.by else f': {verdict.said}' if verdict.said else ''
         right = is_right(body, verdict)
         asked = '' if right or body.as_control or not verdict.by else f'; its head says {body.edit.by or "nothing"}'
+        asked += '; answered by hand, so it shows nothing' if right and body.edit.by_hand else ''
         place = body.function or 'no function'
         self.say(f'{"ok    " if right else "FAILED"} {body.label} in {place}: {verdict.kind}{by}{asked}')
         with self.alone:
@@ -43,18 +44,17 @@ class Trial:
                 self.tell(batches.Body(edit, False, ''), verdicts.Verdict(verdicts.NOT_TRIED, [], str(fault)))
             return
         fresh = []
-        for edit in found:
-            for as_control in [False, True][:1 + edit.has_control]:
-                try:
-                    body = batches.body_of(edit, named, as_control)
-                except Fault as fault:
-                    self.tell(batches.Body(edit, as_control, ''), verdicts.Verdict(verdicts.BAD, [], str(fault)))
-                    continue
-                known = memory.get(body)
-                if known:
-                    self.tell(body, verdicts.Verdict(*known))
-                else:
-                    fresh.append(body)
+        for edit, as_control in asked_of(found):
+            try:
+                body = batches.body_of(edit, named, as_control)
+            except Fault as fault:
+                self.tell(batches.Body(edit, as_control, ''), verdicts.Verdict(verdicts.BAD, [], str(fault)))
+                continue
+            known = memory.get(body)
+            if known:
+                self.tell(body, verdicts.Verdict(*known))
+            else:
+                fresh.append(body)
         for batch in batches.in_batches(crate, fresh, named):
             # (each check reads the whole crate, and so takes as long as some bodies before it comes to the first)
             length = len(named.written) * (len(batch.bodies) + 4)
@@ -65,7 +65,8 @@ class Trial:
         status, lines = self.check(named, batch)
         unseen = []
         for body in batch.bodies:
-            verdict = verdicts.of(lines, named.crate.name, *named.proved_with(body.function), status)
+            proved = (body.tried, [body.tried]) if body.is_beside else named.proved_with(body.function)
+            verdict = verdicts.of(lines, named.crate.name, *proved, status)
             if verdict.kind in (verdicts.BAD, verdicts.NOT_TRIED) and len(batch.bodies) > 1:
                 unseen.append(body)
                 continue
@@ -91,6 +92,15 @@ class Trial:
             if status != -signal.SIGKILL:
                 break
         return status, lines
+
+
+def asked_of(found):
+    """Each body that edits make: the wrong one and its control, or one that is to be seen to be a control alone."""
+    for edit in found:
+        if not edit.is_sought:
+            yield edit, False
+        if edit.has_control:
+            yield edit, True
 
 
 def is_right(body, verdict):

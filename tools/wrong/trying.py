@@ -1,13 +1,14 @@
-"""Tries wrong bodies: many in one check, over a copy of their crate that takes each other function by its contract.
+"""Tries wrong bodies: many in one check, over a copy of their crate that takes each function by its contract.
 
 Whether a body is refused rests on its own clauses and on what the functions that it calls promise. So in the copy the
 proof of each function that isn't edited is a hole, which `rattle check --allow-holes` takes by its statement: nothing is
-proved again but what is edited."""
+proved again but what is edited. A body stands beside its function, under another name, where it can."""
 import os
 import pathlib
 import subprocess
 import tempfile
 
+from . import beside
 from .functions import CYCLE, body_at
 
 KIT = pathlib.Path(subprocess.run(['rt', 'doc'], capture_output=True, text=True, check=True).stdout.strip()).parent
@@ -53,24 +54,36 @@ class Libraries:
 
 def copied(functions, batch):
     """The texts of a copy of a crate in which bodies are tried, by path: all that their check reads of the crate."""
-    edited = {functions.proof_of(body.function) for body in batch.bodies}
+    edited = {functions.proof_of(body.function) for body in batch.bodies if not body.is_beside}
     others = [name for name in functions.written if functions.proof_of(name) not in edited]
-    proofs = {'/'.join(['proofs', *functions.proof_of(name).split('::')]) for name in others}
+    proofs = {beside.folder_of(functions.proof_of(name)) for name in others}
     texts = {path: text for path, text in (functions.texts() | batch.made).items()
              if not any(str(above) in proofs for above in pathlib.PurePosixPath(path).parents)}
+    copies = {}
+    for body in batch.beside():
+        made = body.edit.applied(functions.texts().__getitem__, body.as_control)
+        copies.setdefault(body.function, []).extend(beside.lines_of(functions, body, made))
+        texts |= beside.proofs_of(functions, body, made)
     for path, names in in_files(functions, others).items():
-        lines = texts[path].split('\n')
-        for name in names:
-            _, head, before = functions.heads[name]
-            same = [at for at, line in enumerate(lines) if line == head]
-            if before < len(same):
-                empty(lines, same[before])
-        texts[path] = '\n'.join(lines)
+        texts[path] = emptied(texts[path].split('\n'), [functions.heads[name] for name in names],
+                              [copies.get(name, []) for name in names])
     for name in others:
         parts = name.split('::')
         hole = HOLE.format(crate=functions.crate.name, place='.'.join(parts), name=parts[-1])
         texts['/'.join(['proofs', *parts, 'Proof.antt'])] = hole
     return texts
+
+
+def emptied(lines, heads, copies):
+    """The text of a file in which functions have no body, with what is to stand behind each."""
+    for (_, head, before), copy in zip(heads, copies):
+        at = beside.place_of(lines, head, before)
+        if at is not None:
+            empty(lines, at)
+        if copy:
+            behind = body_at(lines, at)[1] + 1
+            lines[behind:behind] = copy
+    return '\n'.join(lines)
 
 
 def in_files(functions, names):
@@ -92,7 +105,7 @@ def check(functions, libraries, batch, is_beside=False):
         # (No work is kept from check to check: where it is, what fails is tried twice.)
         words = [f'{KIT}/bin/rattle', 'check', *libraries.words(crate), '--allow-holes']
         for body in batch.bodies:
-            words += ['--only', body.function]
+            words += ['--only', body.tried]
         ran = subprocess.run(words, cwd=room, stdin=subprocess.DEVNULL, stdout=subprocess.PIPE, text=True,
                              errors='replace', stderr=subprocess.STDOUT, preexec_fn=lambda: first_to_go(is_beside))
         return ran.returncode, ran.stdout.split('\n')
