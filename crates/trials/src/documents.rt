@@ -1,7 +1,8 @@
 //! The JSON of documents: what is written of it as a value, which no line asks for.
 
-use ent_polform::{read_document, write_document};
+use ent_polform::{read_document, write_document, write_value};
 use ent_policy::Document;
+use ent_values::Value;
 use serde_json::Value as Json;
 use std::alloc::Global;
 use std::test::Fail;
@@ -133,5 +134,12 @@ fn documents_are_written(rt: HostRuntime) -> Result<(), Fail> {
     for &(text, written) in WRITTEN {
         assert!(rt; is_written_as(rt.alloc(), text, written)?, "{text}");
     }
+    Ok(())
+}
+
+#[test]
+fn an_integer_is_written_as_a_number(rt: HostRuntime) -> Result<(), Fail> {
+    let written = write_value(rt.alloc(), &Value::Integer(7))?;
+    assert!(rt; written.as_number().is_some());
     Ok(())
 }

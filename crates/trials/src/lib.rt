@@ -21,11 +21,17 @@ mod lines;
 #[cfg(test)]
 mod machine;
 #[cfg(test)]
+mod members;
+#[cfg(test)]
 mod program;
 #[cfg(test)]
 mod responses;
 #[cfg(test)]
+mod rows;
+#[cfg(test)]
 mod serving;
+#[cfg(test)]
+mod split;
 #[cfg(test)]
 mod states;
 #[cfg(test)]
