@@ -49,6 +49,7 @@ web/opening.go . TestNoneAccepted s/g\.closed = g\.closed || g\.taken == 1/g.clo
 keeper/settle.go . TestKeyed s/use != nil && !line/use == nil \&\& !line/
 keys/file.go keys TestBehind s/if r\.Serial > last {/if false {/
 web/names.go . TestCertificates s/if name == "" {/if false {/
+web/names.go . TestProxyTokens s/^\treturn !s\.Certified$/\treturn !s.Certified || name == ""/
 web/questions.go web TestQuestions s/"faults", nil}/"fault", nil}/
 web/questions.go . TestPaths s/"faults", nil}/"fault", nil}/
 line/line.go line TestKinds s/"moment\.set": Edit,//

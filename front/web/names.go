@@ -49,15 +49,15 @@ func (s *Server) named(r *http.Request) (string, *problem) {
 	return said[0], nil
 }
 
-// believes says whether a client is one who says for whom he asks: one without a certificate, where none is asked
-// for, or one of those that were named.
+// believes says whether a client is one who says for whom he asks, by the name in his certificate: where certificates
+// are asked for, one of those that were named, and nobody who shows none; where they aren't, everybody.
 func (s *Server) believes(name string) bool {
 	for _, trusted := range s.Trusted {
 		if name == trusted {
 			return true
 		}
 	}
-	return name == ""
+	return !s.Certified
 }
 
 // nobody is the problem of who has no name, and why.

@@ -48,12 +48,15 @@ func TestWho(t *testing.T) {
 		{"", nil, with("eve"), "eve"},
 		{"", nil, with(""), ""},
 		{"", nil, &tls.ConnectionState{}, "192.0.2.1"},
+		{"X-User", []string{"max"}, &tls.ConnectionState{}, "192.0.2.1"},
 		{"X-User", []string{"max"}, with("eve"), "eve"},
 		{"X-User", []string{"max"}, with(""), ""},
 		{"X-User", []string{"max"}, with("proxy"), "max"},
 		{"X-User", []string{""}, with("proxy"), ""},
 	} {
-		s := &Server{Options: Options{ByHeader: one.byHeader, Trusted: []string{"proxy"}}}
+		s := &Server{Options: Options{
+			ByHeader: one.byHeader, Certified: one.secured != nil, Trusted: []string{"proxy"},
+		}}
 		r := &http.Request{Header: http.Header{"X-User": one.said}, RemoteAddr: "192.0.2.1:99", TLS: one.secured}
 		if name, nobody := s.who(r); name != one.want || (nobody != nil) != (one.want == "") {
 			t.Errorf("%v is %q, %v", one, name, nobody)

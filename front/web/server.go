@@ -29,7 +29,8 @@ type Options struct {
 	Authzen     *authzen.Mapping // what AuthZEN's types are; nil: its paths aren't served
 	Hosts       *Hosts           // as which it is asked; else this machine
 	ByHeader    string           // the head's field that says who asks, set by what stands before the front
-	Trusted     []string         // names in certificates of clients who are believed in that; without certificates all are
+	Certified   bool             // clients are asked for certificates, which they may have to show
+	Trusted     []string         // names in certificates of clients who are believed in ByHeader; not Certified: all are
 	SessionIdle time.Duration    // after so long without use a session is given back
 	BodyTime    time.Duration    // how long a body may take, for each page of it
 	StreamIdle  time.Duration    // how long a stream of lines may say nothing
