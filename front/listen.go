@@ -14,26 +14,22 @@ import (
 	"review-front/web"
 )
 
-// listen opens the address, with TLS if there is a certificate. What TLS works with is read again whenever `again`
-// says so.
-func listen(
-	ctx context.Context, again <-chan os.Signal, o options, who *who, log *logs.Log,
-) (net.Listener, error) {
+// listen opens the address, with TLS if there is a certificate, and gives what TLS works with.
+func listen(o options, who *who) (net.Listener, *secrets, error) {
 	listener, err := o.open()
 	if err != nil {
-		return nil, fmt.Errorf("the address: %w", err)
+		return nil, nil, fmt.Errorf("the address: %w", err)
 	}
 	listener = web.Limit(listener, o.connections, o.most())
 	s := &secrets{options: o, who: who}
 	if o.certificate != "" {
 		if err := s.read(); err != nil {
 			listener.Close()
-			return nil, err
+			return nil, nil, err
 		}
 		listener = tls.NewListener(listener, s.config())
 	}
-	go s.follow(ctx, again, log)
-	return listener, nil
+	return listener, s, nil
 }
 
 // most is how many connections one address has at most. Who holds that many leaves some to others, also where it is a
@@ -101,15 +97,16 @@ func (s *secrets) config() *tls.Config {
 	return &tls.Config{GetConfigForClient: func(*tls.ClientHelloInfo) (*tls.Config, error) { return s.now.Load(), nil }}
 }
 
-// follow reads the certificates again when it is told to. Where they can't be read those before stay.
-func (s *secrets) follow(ctx context.Context, again <-chan os.Signal, log *logs.Log) {
+// follow reads the certificates, and who may what, again whenever `again` says so. Where they can't be read those before
+// stay.
+func (s *secrets) follow(ctx context.Context, again <-chan os.Signal, site *web.Server, log *logs.Log) {
 	for {
 		select {
 		case <-ctx.Done():
 			return
 		case <-again:
 		}
-		s.who.again(log)
+		s.who.again(site, log)
 		if s.certificate == "" {
 			log.Info("there are no certificates to be read again")
 		} else if err := s.read(); err != nil {

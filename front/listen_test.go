@@ -36,14 +36,17 @@ func (f *front) listenBehind(last string) *hearing {
 	return h
 }
 
-// hear listens to notices, behind an event if one is named, and to those that a query tells.
-func (f *front) hear(last, query string) (*hearing, error) {
+// hear listens to notices, behind an event if one is named, and to those that a query tells, as whoever has a token.
+func (f *front) hear(last, query string, tokens ...string) (*hearing, error) {
 	request, err := http.NewRequest(http.MethodGet, f.url("/notices"+query), nil)
 	if err != nil {
 		return nil, err
 	}
 	if last != "" {
 		request.Header.Set("Last-Event-ID", last)
+	}
+	for _, token := range tokens {
+		request.Header.Add("Authorization", "Bearer "+token)
 	}
 	answer, err := http.DefaultClient.Do(request)
 	if err != nil {

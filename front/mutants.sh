@@ -67,6 +67,12 @@ keeper/edits.go . TestTwoEditors s/if k\.edits\.idle(limit) != nil {/if false \&
 folder/writing.go folder TestTogether s/if together > 1 {/if together > len(entries) {/
 web/how.go . TestWhole s/ || values\[0\] != "1" {/ {/
 line/scan.go . TestReadAsTheProgram s/^\t\t\tr\.do, _, named = text(l\[:to\], from)$/\t\t\tif r.do == "" {\n\t\t\t\tr.do, _, named = text(l[:to], from)\n\t\t\t}/
+web/visit.go web TestVisit s/^\tif v\.known == known \&\& .*{$/\tif v.who != nil {/
+web/visit.go . TestGoneByTime s/(v\.until\.IsZero() || time\.Now()\.Before(v\.until))/true/
+web/visit.go web TestVisit s/^\tif !wrong \&\& s\.allowed != known {$/\tif false {/
+web/lines.go . TestGone$ s/, gone: in\.visit\.gone(ctx),/,/
+web/notices.go . TestGone$ s/stay := s\.stays(r, "notices")/var stay *stay/
+web/keyed.go . TestGoneKeyed s/^\terr := s\.still(ctx, l)$/\tvar err error/
 web/access.go . TestRoles s/^\tif !who\.May(command) {$/\tif false {/
 web/access.go . TestGivenAttributes s/^\t} else if err != nil {$/\t} else if false {/
 access/issuer.go access TestIssuer s/ \&\& k\.algorithm == algorithm//

@@ -72,7 +72,7 @@ func serve(ctx context.Context, again <-chan os.Signal, o options, log *logs.Log
 		return err
 	}
 	defer who.close()
-	listener, err := listen(ctx, again, o, who, log)
+	listener, secrets, err := listen(o, who)
 	if err != nil {
 		return err
 	}
@@ -83,6 +83,7 @@ func serve(ctx context.Context, again <-chan os.Signal, o options, log *logs.Log
 		StreamIdle: o.streamIdle, WriteTime: o.writeTime, DryTime: o.dryTime, Access: who.gate, Rights: who.rights,
 	})
 	k.Edited = site.Edited
+	go secrets.follow(ctx, again, site, log)
 	server := &http.Server{
 		Handler: site, ConnContext: web.KeepConnection, ErrorLog: log.Standard(),
 		ReadHeaderTimeout: headTime, ReadTimeout: o.bodyTime, IdleTimeout: idleTime, MaxHeaderBytes: headBytes,

@@ -17,21 +17,22 @@ type stream struct {
 	replies *bufio.Reader
 }
 
-// open connects and sends the head of a stream of lines.
-func (f *front) open(path string) (*stream, error) {
+// open connects and sends the head of a stream of lines, with fields of its own.
+func (f *front) open(path string, fields ...string) (*stream, error) {
 	conn, err := net.Dial("tcp", f.address)
 	if err != nil {
 		return nil, err
 	}
 	_ = conn.SetDeadline(time.Now().Add(2 * patient))
-	_, err = fmt.Fprintf(conn, "POST %s HTTP/1.1\r\nHost: localhost\r\nTransfer-Encoding: chunked\r\n\r\n", path)
+	head := append([]string{"Host: localhost", "Transfer-Encoding: chunked"}, fields...)
+	_, err = fmt.Fprintf(conn, "POST %s HTTP/1.1\r\n%s\r\n\r\n", path, strings.Join(head, "\r\n"))
 	return &stream{conn: conn}, err
 }
 
 // connect is open, or the end of the test.
-func (f *front) connect(path string) *stream {
+func (f *front) connect(path string, fields ...string) *stream {
 	f.t.Helper()
-	s, err := f.open(path)
+	s, err := f.open(path, fields...)
 	if err != nil {
 		f.t.Fatal(err)
 	}

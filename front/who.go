@@ -4,6 +4,7 @@ import (
 	"review-front/access"
 	"review-front/logs"
 	"review-front/rights"
+	"review-front/web"
 )
 
 // who is what says who may what, if anything does.
@@ -26,12 +27,13 @@ func (o options) who(log *logs.Log) (*who, error) {
 	return w, err
 }
 
-// again reads it again. Where that fails what was read before stays.
-func (w *who) again(log *logs.Log) {
+// again reads it again, and has streams look then whether they may go on. Where it can't be read all of what was read
+// before stays.
+func (w *who) again(site *web.Server, log *logs.Log) {
 	if w.gate == nil {
 		return
 	}
-	err := w.gate.Read()
+	take, err := w.gate.Read()
 	if err == nil && w.rights != nil {
 		err = w.rights.Read()
 	}
@@ -39,6 +41,8 @@ func (w *who) again(log *logs.Log) {
 		log.Error("who may what can't be read again, and what was read before stays", "error", err)
 		return
 	}
+	take()
+	site.ReadAgain()
 	log.Info("who may what was read again")
 }
 

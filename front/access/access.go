@@ -25,6 +25,7 @@ type Identity struct {
 	Name   string              // as it is written down
 	Claims map[string][]string // what is known of him, as the token of an issuer says it
 	Gives  *Gives              // what his requests may say; nil: everything
+	Until  time.Time           // when the time of his token is over; zero: it has none
 	may    map[string]bool
 }
 
@@ -62,23 +63,28 @@ type known struct {
 // Open reads who may what.
 func Open(options Options) (*Gate, error) {
 	g := &Gate{options: options, slow: newSlowing()}
-	return g, g.Read()
+	take, err := g.Read()
+	if err != nil {
+		return g, err
+	}
+	take()
+	return g, nil
 }
 
-// Read reads it again. Where that fails what was read before stays.
-func (g *Gate) Read() error {
+// Read reads it again, and gives what has it count. Until that is called, and where reading fails, what was read before
+// stays.
+func (g *Gate) Read() (take func(), err error) {
 	users, err := readUsers(g.options.File)
 	if err != nil {
-		return err
+		return nil, err
 	}
 	read := &known{users: users}
 	if g.options.Issuer != "" {
 		if read.issuer, err = readIssuer(g.options); err != nil {
-			return err
+			return nil, err
 		}
 	}
-	g.now.Store(read)
-	return nil
+	return func() { g.now.Store(read) }, nil
 }
 
 // Of says who asks: by his token if he has one, else by his certificate, and else by his user.
@@ -106,11 +112,11 @@ func (k *known) byToken(field string) (*Identity, error) {
 		return nil, ErrScheme
 	}
 	if k.issuer != nil && strings.Count(token, ".") == 2 {
-		claims, err := k.issuer.verify(token, time.Now())
+		claims, until, err := k.issuer.verify(token, time.Now())
 		if err != nil {
 			return nil, err
 		}
-		return k.byClaims(claims)
+		return k.byClaims(claims, until)
 	}
 	sum, found := sha256.Sum256([]byte(token)), -1
 	for i, u := range k.users {
@@ -135,10 +141,10 @@ func (k *known) named(is func(user) bool) (*Identity, error) {
 	return nil, ErrName
 }
 
-// byClaims is who has a token of the issuer: he may what each does who is known by his subject or a claim, and his
-// requests may say what each of these may give.
-func (k *known) byClaims(claims map[string][]string) (*Identity, error) {
-	who := &Identity{Name: claims["sub"][0], Claims: claims, may: map[string]bool{}}
+// byClaims is who has a token of the issuer until some time: he may what each does who is known by his subject or a
+// claim, and his requests may say what each of these may give.
+func (k *known) byClaims(claims map[string][]string, until time.Time) (*Identity, error) {
+	who := &Identity{Name: claims["sub"][0], Claims: claims, Until: until, may: map[string]bool{}}
 	found := false
 	for _, u := range k.users {
 		if !u.isMeant(claims) {

@@ -31,32 +31,40 @@ func readIssuer(options Options) (*issuer, error) {
 	return &issuer{name: options.Issuer, audience: options.Audience, keys: keys}, nil
 }
 
-// verify reads the claims of a token that the issuer signed for this audience and this time. By which algorithm it is
-// signed the key says, and not the token.
-func (i *issuer) verify(token string, now time.Time) (map[string][]string, error) {
+// verify reads the claims of a token that the issuer signed for this audience and this time, and until when it is so. By
+// which algorithm it is signed the key says, and not the token.
+func (i *issuer) verify(token string, now time.Time) (claims map[string][]string, until time.Time, err error) {
 	parts := strings.Split(token, ".")
 	if len(parts) != 3 {
-		return nil, ErrIssued
+		return nil, until, ErrIssued
 	}
+	if err := i.authentic(parts); err != nil {
+		return nil, until, err
+	}
+	said, err := members(parts[1])
+	if err != nil {
+		return nil, until, err
+	}
+	return i.judge(said, now)
+}
+
+// authentic sees that the issuer signed the parts of a token.
+func (i *issuer) authentic(parts []string) error {
 	head, err := members(parts[0])
 	if err != nil {
-		return nil, err
+		return err
 	}
 	if _, there := head["crit"]; there {
-		return nil, fmt.Errorf("%w: it has a field crit, of which nothing is known", ErrIssued)
+		return fmt.Errorf("%w: it has a field crit, of which nothing is known", ErrIssued)
 	}
 	signature, err := decode(parts[2])
 	if err != nil {
-		return nil, err
+		return err
 	}
 	if !i.signed(textOf(head["alg"]), textOf(head["kid"]), parts[0]+"."+parts[1], signature) {
-		return nil, fmt.Errorf("%w: no key of it signed it", ErrIssued)
+		return fmt.Errorf("%w: no key of it signed it", ErrIssued)
 	}
-	claims, err := members(parts[1])
-	if err != nil {
-		return nil, err
-	}
-	return i.judge(claims, now)
+	return nil
 }
 
 // signed says whether one of the keys signed a text by an algorithm.
@@ -70,30 +78,32 @@ func (i *issuer) signed(algorithm, id, text string, signature []byte) bool {
 }
 
 // judge sees that claims are of the issuer, for the audience, and of this time (RFC 7519, 4.1).
-func (i *issuer) judge(claims map[string]json.RawMessage, now time.Time) (map[string][]string, error) {
-	texts := map[string][]string{}
+func (i *issuer) judge(
+	claims map[string]json.RawMessage, now time.Time,
+) (texts map[string][]string, until time.Time, err error) {
+	texts = map[string][]string{}
 	for name, written := range claims {
 		if some := textsOf(written); some != nil {
 			texts[name] = some
 		}
 	}
 	if len(texts["iss"]) != 1 || texts["iss"][0] != i.name {
-		return nil, fmt.Errorf("%w: it is another one's", ErrIssued)
+		return nil, until, fmt.Errorf("%w: it is another one's", ErrIssued)
 	}
 	if !has(texts["aud"], i.audience) {
-		return nil, fmt.Errorf("%w: it is for somebody else", ErrIssued)
+		return nil, until, fmt.Errorf("%w: it is for somebody else", ErrIssued)
 	}
 	if len(texts["sub"]) != 1 || texts["sub"][0] == "" {
-		return nil, fmt.Errorf("%w: it has no subject", ErrIssued)
+		return nil, until, fmt.Errorf("%w: it has no subject", ErrIssued)
 	}
 	ends, ok := timeOf(claims["exp"])
 	if !ok || !now.Before(ends) {
-		return nil, fmt.Errorf("%w: its time is over", ErrIssued)
+		return nil, until, fmt.Errorf("%w: its time is over", ErrIssued)
 	}
 	if begins, ok := timeOf(claims["nbf"]); claims["nbf"] != nil && (!ok || now.Add(skew).Before(begins)) {
-		return nil, fmt.Errorf("%w: its time hasn't come", ErrIssued)
+		return nil, until, fmt.Errorf("%w: its time hasn't come", ErrIssued)
 	}
-	return texts, nil
+	return texts, ends, nil
 }
 
 // decode reads base64url without padding.

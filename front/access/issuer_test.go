@@ -122,11 +122,11 @@ func TestIssuer(t *testing.T) {
 	}
 	head := func(algorithm, id string) map[string]any { return map[string]any{"alg": algorithm, "kid": id} }
 	for algorithm, id := range map[string]string{"RS256": "r", "PS256": "p", "ES256": "e", "EdDSA": "d"} {
-		told, err := i.verify(s.token(t, head(algorithm, id), claims("groups", []string{"a", "b"})), now)
-		if err != nil || told["sub"][0] != "ann" || !has(told["groups"], "b") {
-			t.Errorf("%s: %v, %v", algorithm, told, err)
+		told, until, err := i.verify(s.token(t, head(algorithm, id), claims("groups", []string{"a", "b"})), now)
+		if err != nil || told["sub"][0] != "ann" || !has(told["groups"], "b") || until.Unix() != now.Add(time.Hour).Unix() {
+			t.Errorf("%s: %v until %v, %v", algorithm, told, until, err)
 		}
-		if _, err := i.verify(s.token(t, map[string]any{"alg": algorithm}, claims("nbf", now.Unix(), "aud", "review")), now); err != nil {
+		if _, _, err := i.verify(s.token(t, map[string]any{"alg": algorithm}, claims("nbf", now.Unix(), "aud", "review")), now); err != nil {
 			t.Errorf("%s, without a key's id: %v", algorithm, err)
 		}
 		for what, token := range map[string]string{
@@ -145,13 +145,13 @@ func TestIssuer(t *testing.T) {
 			"alg: HS256":         s.token(t, head("HS256", id), claims()),
 			"no algorithm":       s.token(t, map[string]any{"kid": id}, claims()),
 		} {
-			if _, err := i.verify(token, now); !errors.Is(err, ErrIssued) {
+			if _, _, err := i.verify(token, now); !errors.Is(err, ErrIssued) {
 				t.Errorf("%s, %s: %v", algorithm, what, err)
 			}
 		}
 	}
 	confused := s.token(t, map[string]any{"alg": "PS256", "kid": "r", "by": "RS256"}, claims())
-	if _, err := i.verify(confused, now); !errors.Is(err, ErrIssued) {
+	if _, _, err := i.verify(confused, now); !errors.Is(err, ErrIssued) {
 		t.Errorf("signed by another algorithm than it says: %v", err)
 	}
 	good := s.token(t, head("RS256", "r"), claims())
@@ -160,7 +160,7 @@ func TestIssuer(t *testing.T) {
 		if changed[at] = 'A'; good[at] == 'A' {
 			changed[at] = 'B'
 		}
-		if _, err := i.verify(string(changed), now); err == nil {
+		if _, _, err := i.verify(string(changed), now); err == nil {
 			t.Errorf("with another byte %d it is taken", at)
 		}
 	}

@@ -44,6 +44,9 @@ func (c *Call) IsLong() bool {
 	return !c.own && (c.kind == line.Report || c.kind == line.Notices || c.kind == line.Changes)
 }
 
+// IsLong says whether the reply to a line may be as long as the table.
+func IsLong(l []byte) bool { return question(l).IsLong() }
+
 // turn waits until it is known what a line asks, and of a long reply until no other is due, and there is room to keep
 // one: others come between two of them.
 func (k *Keeper) turn(ctx context.Context, call *Call) error {

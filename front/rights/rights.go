@@ -25,6 +25,7 @@ type Judge struct {
 	path    string
 	time    time.Duration // how long a decision may take; 0: for ever
 	mutex   sync.Mutex
+	state   []byte // the lines of the state, as they were read last
 	now     *program.Program
 }
 
@@ -36,7 +37,11 @@ func Open(command program.Command, path string, time time.Duration) (*Judge, err
 
 // Read starts another program with the state as it is now. Where a line of it is refused the one before goes on.
 func (j *Judge) Read() error {
-	started, err := j.start()
+	state, err := os.ReadFile(j.path)
+	if err != nil {
+		return fmt.Errorf("who may what: %w", err)
+	}
+	started, err := j.start(state)
 	if err != nil {
 		return err
 	}
@@ -45,7 +50,7 @@ func (j *Judge) Read() error {
 	if j.now != nil {
 		j.now.Discard()
 	}
-	j.now = started
+	j.state, j.now = state, started
 	return nil
 }
 
@@ -59,12 +64,8 @@ func (j *Judge) Close() {
 	}
 }
 
-// start starts a program, which has to accept each line of the state.
-func (j *Judge) start() (*program.Program, error) {
-	state, err := os.ReadFile(j.path)
-	if err != nil {
-		return nil, fmt.Errorf("who may what: %w", err)
-	}
+// start starts a program, which has to accept each line of a state.
+func (j *Judge) start(state []byte) (*program.Program, error) {
 	p, err := j.command.Start()
 	if err != nil {
 		return nil, err
@@ -114,7 +115,7 @@ func (j *Judge) May(who Subject, command string, l []byte) (bool, error) {
 	j.mutex.Lock()
 	defer j.mutex.Unlock()
 	if j.now == nil {
-		if j.now, err = j.start(); err != nil {
+		if j.now, err = j.start(j.state); err != nil {
 			return false, ErrUndecided
 		}
 	}

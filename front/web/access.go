@@ -32,26 +32,16 @@ var forKnown = map[string]bool{
 // forAll are the paths that whoever reaches the front may ask for.
 var forAll = map[string]bool{"/healthz": true, "/readyz": true, "/.well-known/authzen-configuration": true}
 
-// asking is the key of who asks in a request's context.
-type asking struct{}
-
-// whoAsks is who asks, or nil where everybody may everything.
-func whoAsks(r *http.Request) *access.Identity { return whoIn(r.Context()) }
-
-// whoIn is who asks by the context of a request.
-func whoIn(ctx context.Context) *access.Identity {
-	who, _ := ctx.Value(asking{}).(*access.Identity)
-	return who
-}
-
 // admit finds out who asks. Where he isn't known it answers itself, the later the more often that was so.
 func (s *Server) admit(w *answered, r *http.Request) (*http.Request, bool) {
 	if s.Access == nil || forAll[r.URL.Path] {
 		return r, true
 	}
-	who, err := s.Access.Of(r.Header, wayOf(r))
+	visit := &visit{server: s}
+	visit.request = r.WithContext(context.WithValue(r.Context(), visiting{}, visit))
+	_, err := visit.now()
 	if err == nil {
-		return r.WithContext(context.WithValue(r.Context(), asking{}, who)), true
+		return visit.request, true
 	}
 	address := addressOfRequest(r)
 	s.Log.Error("somebody was refused", "address", address, "path", r.URL.Path, "why", err)
@@ -120,8 +110,11 @@ func (s *Server) mayAsk(w http.ResponseWriter, r *http.Request, route route) boo
 
 // may says whether who asks may send a command about nothing in particular, and answers itself where he may not.
 func (s *Server) may(w http.ResponseWriter, r *http.Request, command string) bool {
-	return s.mayAll(w, r, []byte(`{"do":`+quoted(command)+`}`))
+	return s.mayAll(w, r, commanded(command))
 }
+
+// commanded is the line of a command about nothing in particular.
+func commanded(command string) []byte { return []byte(`{"do":` + quoted(command) + `}`) }
 
 // forbidden is the problem of who may not send a command.
 func forbidden(who *access.Identity, command string) problem {
@@ -129,10 +122,14 @@ func forbidden(who *access.Identity, command string) problem {
 	return problem{Title: "not allowed", Status: http.StatusForbidden, Detail: detail}
 }
 
-// judge says why somebody may not send a line, if he may not: the command counts that the program reads.
-func (s *Server) judge(who *access.Identity, l []byte) (problem, bool) {
-	if who == nil {
+// judge says why who asks may not send a line, if he may not: the command counts that the program reads.
+func (s *Server) judge(v *visit, l []byte) (problem, bool) {
+	if v == nil {
 		return problem{}, false
+	}
+	who, err := v.now()
+	if err != nil {
+		return problemFor(err), true
 	}
 	command, ok := line.Do(l)
 	if !ok {
@@ -161,10 +158,18 @@ func (s *Server) judge(who *access.Identity, l []byte) (problem, bool) {
 	return problem{}, false
 }
 
+// still says why who asks may not send a line any more that he could when his body was read.
+func (s *Server) still(ctx context.Context, l []byte) error {
+	if told, wrong := s.judge(visitIn(ctx), l); wrong {
+		return &forbids{told}
+	}
+	return nil
+}
+
 // mayAll says whether who asks may send all of some lines, and answers itself where he may not.
 func (s *Server) mayAll(w http.ResponseWriter, r *http.Request, lines ...[]byte) bool {
 	for _, l := range lines {
-		if told, wrong := s.judge(whoAsks(r), l); wrong {
+		if told, wrong := s.judge(visitIn(r.Context()), l); wrong {
 			told.send(w)
 			return false
 		}

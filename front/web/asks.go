@@ -74,7 +74,7 @@ func (s *Server) askAll(ctx context.Context, lines [][]byte) ([]keeper.Reply, *p
 			told, _ := problemOf([]byte(line.TooLong))
 			return nil, &told
 		}
-		if told, wrong := s.judge(whoIn(ctx), l); wrong {
+		if told, wrong := s.judge(visitIn(ctx), l); wrong {
 			return nil, &told
 		}
 	}

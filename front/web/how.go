@@ -129,6 +129,10 @@ func (s *Server) together(r *http.Request, by string, edits [][]byte, use *keys.
 	calls := make([]*keeper.Call, 0, len(edits))
 	for _, l := range edits {
 		s.Meter.Line()
+		err := s.still(r.Context(), l)
+		if err != nil {
+			return []keeper.Reply{{Err: err}}
+		}
 		call, err := keeper.Prepare(l, by, (*sessions.Client)(nil))
 		if err != nil {
 			return []keeper.Reply{{Err: err}}

@@ -150,6 +150,10 @@ func (s *Server) inOrder(ctx context.Context, by string, edits [][]byte, use *ke
 // remembered nobody else may have the key.
 func (s *Server) edit(ctx context.Context, by string, l []byte, use *keys.Use, known *uint64) keeper.Reply {
 	s.Meter.Line()
+	err := s.still(ctx, l)
+	if err != nil {
+		return keeper.Reply{Err: err}
+	}
 	call, err := keeper.Prepare(l, by, nil)
 	if err != nil {
 		return keeper.Reply{Err: err}

@@ -8,7 +8,6 @@ import (
 	"sync/atomic"
 	"time"
 
-	"review-front/access"
 	"review-front/keeper"
 	"review-front/line"
 	"review-front/sessions"
@@ -72,7 +71,7 @@ func (s *Server) lines(w *answered, r *http.Request, client *sessions.Client) {
 	ctx, cancel := context.WithCancel(context.Background())
 	defer cancel()
 	in := &stream{
-		server: s, client: client, by: by, who: whoAsks(r), out: make(chan pending, window), long: make(chan struct{}, 1),
+		server: s, client: client, by: by, visit: visitIn(r.Context()), out: make(chan pending, window), long: make(chan struct{}, 1),
 		freed: make(chan struct{}, 1), gate: newGate(),
 	}
 	if s.Decisions != nil {
@@ -89,7 +88,9 @@ func (s *Server) lines(w *answered, r *http.Request, client *sessions.Client) {
 	} else {
 		// Replies leave while lines come: such a connection can't be used again.
 		w.Header().Set("Connection", "close")
-		body := &timed{from: r.Body, request: r, idle: s.StreamIdle, stopping: s.stopping}
+		body := &timed{
+			from: r.Body, request: r, idle: s.StreamIdle, stopping: s.stopping, gone: in.visit.gone(ctx),
+		}
 		defer func() { w.unread = !body.ended }()
 		in.from = line.NewReader(body)
 	}
@@ -186,7 +187,7 @@ type stream struct {
 	server *Server
 	client *sessions.Client
 	by     string
-	who    *access.Identity // nil: he may everything
+	visit  *visit // nil: he may everything
 	from   *line.Reader
 	out    chan pending
 	long   chan struct{} // holds something while a long reply is due: there is one of them at a time
@@ -230,16 +231,19 @@ func (in *stream) send(ctx context.Context) {
 		switch err {
 		case nil:
 			in.server.Meter.Line()
-			if told, wrong := in.server.judge(in.who, l); wrong {
-				in.put(ctx, pending{there: told.line()})
-				continue
+			next := in.submit(ctx, l)
+			if in.put(ctx, next); next.isUnknown() {
+				return
 			}
-			in.put(ctx, in.submit(ctx, l))
 		case line.ErrTooLong:
 			in.server.Meter.Line()
 			in.put(ctx, pending{there: []byte(line.TooLong)})
 		case errStopping:
 			told := problemFor(keeper.ErrStopping)
+			in.put(ctx, pending{problem: &told})
+			return
+		case errGone:
+			told := problemFor(notKnown{errGone})
 			in.put(ctx, pending{problem: &told})
 			return
 		default:
@@ -250,18 +254,9 @@ func (in *stream) send(ctx context.Context) {
 	}
 }
 
-// submit puts a line on its way.
+// submit puts a line on its way once there is room for it, if whoever sends it may then: waiting may take long.
 func (in *stream) submit(ctx context.Context, l []byte) pending {
-	call, err := keeper.Prepare(l, in.by, in.client)
-	if err != nil {
-		in.gate.failed()
-		told := problemFor(err)
-		return pending{problem: &told}
-	}
-	next := pending{call: call, long: call.IsLong(), bytes: int64(len(l))}
-	if in.keep != nil {
-		next.keep = func(reply keeper.Reply) { in.keep(l, reply) }
-	}
+	next := pending{long: keeper.IsLong(l), bytes: int64(len(l))}
 	in.room(ctx, next.bytes)
 	if next.long {
 		select {
@@ -269,12 +264,50 @@ func (in *stream) submit(ctx context.Context, l []byte) pending {
 		case <-ctx.Done():
 		}
 	}
-	if next.replies, err = in.server.Keeper.Submit(ctx, call); err != nil {
+	told, wrong := in.server.judge(in.visit, l)
+	if wrong && told.Status == http.StatusUnauthorized {
+		next.problem = &told
+		return next
+	}
+	if wrong {
+		next.there = told.line()
+		return next
+	}
+	return in.pass(ctx, l, next)
+}
+
+// pass puts a line on its way that there is room for.
+func (in *stream) pass(ctx context.Context, l []byte, next pending) pending {
+	var err error
+	if next.call, err = keeper.Prepare(l, in.name(), in.client); err == nil {
+		if in.keep != nil {
+			next.keep = func(reply keeper.Reply) { in.keep(l, reply) }
+		}
+		next.replies, err = in.server.Keeper.Submit(ctx, next.call)
+	}
+	if err != nil {
 		in.gate.failed()
 		told := problemFor(err)
 		next.problem = &told
 	}
 	return next
+}
+
+// name is by whom a line is written down: he may have got another name since the first.
+func (in *stream) name() string {
+	if in.visit == nil {
+		return in.by
+	}
+	by, nobody := in.server.who(in.visit.request)
+	if nobody != nil {
+		return in.by
+	}
+	return by
+}
+
+// isUnknown says that the line wasn't taken since who sent it isn't known any more.
+func (p pending) isUnknown() bool {
+	return p.problem != nil && p.problem.Status == http.StatusUnauthorized
 }
 
 func (in *stream) put(ctx context.Context, next pending) {

@@ -31,8 +31,8 @@ func (s *Server) named(r *http.Request) (string, *problem) {
 		}
 	}
 	believed := s.believes(name)
-	if who := whoAsks(r); who != nil {
-		name = who.Name
+	if v := visitIn(r.Context()); v != nil {
+		name = v.last().Name
 	}
 	if s.ByHeader == "" || !believed {
 		return name, nil

@@ -35,21 +35,26 @@ func (s *Server) notices(w *answered, r *http.Request, _ map[string]string) {
 	s.tell(w, r, listener, hears)
 }
 
-// tell tells a listener what happens, until one of both ends it.
+// tell tells a listener what happens, until one of both ends it, or he may not listen any more.
 func (s *Server) tell(w *answered, r *http.Request, listener *notices.Listener, hears *wanted) {
 	tick := time.NewTicker(s.Beat)
 	defer tick.Stop()
-	for {
+	stay := s.stays(r, "notices")
+	defer stay.end()
+	for stay.may() {
 		var err error
+		again, over := stay.again()
 		select {
 		case event, open := <-listener.Events():
-			if !open {
+			if !open || !stay.may() {
 				return
 			}
 			err = sendEvent(w, event, hears)
 			listener.Took(event)
 		case <-tick.C:
 			_, err = w.Write([]byte(":\n\n"))
+		case <-again:
+		case <-over:
 		case <-r.Context().Done():
 			return
 		case <-s.stopping:

@@ -69,6 +69,11 @@ func problemOf(reply []byte) (problem, bool) {
 	return problem{Title: known.title, Status: known.status, Detail: known.sentence, Refused: number, Sub: sub}, true
 }
 
+// forbids says why who asks may not send a line.
+type forbids struct{ problem problem }
+
+func (f *forbids) Error() string { return f.problem.Title }
+
 // problemFor is what stands in the place of a reply that there is none of.
 func problemFor(err error) problem {
 	after := 1
@@ -76,7 +81,13 @@ func problemFor(err error) problem {
 	var tried *keeper.Tried
 	var otherwise *keeper.Otherwise
 	var part *keeper.Part
+	var nobody notKnown
+	var no *forbids
 	switch {
+	case errors.As(err, &no):
+		return no.problem
+	case errors.As(err, &nobody):
+		return problem{Title: "not known", Status: http.StatusUnauthorized, Detail: err.Error()}
 	case errors.As(err, &tried):
 		return problem{Title: "it takes too long", Status: http.StatusUnprocessableEntity, Detail: err.Error()}
 	case errors.As(err, &otherwise):

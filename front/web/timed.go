@@ -7,16 +7,34 @@ import (
 	"time"
 )
 
-// errStopping says that a stream ends since the front does.
-var errStopping = errors.New("the front is stopping")
+var (
+	// errStopping says that a stream ends since the front does.
+	errStopping = errors.New("the front is stopping")
+	// errGone says that a stream ends since who sends it isn't known any more.
+	errGone = errors.New("who sends isn't known any more")
+)
 
-// timed reads a body that may take its time, but for so long may say nothing. It ends when the front stops.
+// timed reads a body that may take its time, but for so long may say nothing. It ends when the front stops, and when who
+// sends it isn't known any more.
 type timed struct {
 	from     io.Reader
 	request  *http.Request
 	idle     time.Duration
 	stopping <-chan struct{}
-	ended    bool // it was read to its end
+	gone     <-chan struct{} // closed when who sends isn't known any more
+	ended    bool            // it was read to its end
+}
+
+// over says why no more is read, if that is so.
+func (t *timed) over() error {
+	select {
+	case <-t.stopping:
+		return errStopping
+	case <-t.gone:
+		return errGone
+	default:
+		return nil
+	}
 }
 
 // Read reads what comes.
@@ -25,10 +43,8 @@ func (t *timed) Read(to []byte) (int, error) {
 	if conn == nil {
 		return t.from.Read(to)
 	}
-	select {
-	case <-t.stopping:
-		return 0, errStopping
-	default:
+	if err := t.over(); err != nil {
+		return 0, err
 	}
 	ended := make(chan struct{})
 	watched := make(chan struct{})
@@ -40,6 +56,8 @@ func (t *timed) Read(to []byte) (int, error) {
 		select {
 		case <-t.stopping:
 			_ = conn.SetReadDeadline(time.Unix(1, 0))
+		case <-t.gone:
+			_ = conn.SetReadDeadline(time.Unix(1, 0))
 		case <-ended:
 		}
 	}()
@@ -47,10 +65,8 @@ func (t *timed) Read(to []byte) (int, error) {
 	close(ended)
 	<-watched
 	if err != nil && err != io.EOF {
-		select {
-		case <-t.stopping:
-			err = errStopping
-		default:
+		if over := t.over(); over != nil {
+			err = over
 		}
 	} else {
 		t.ended = err == io.EOF
