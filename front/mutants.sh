@@ -75,6 +75,12 @@ web/notices.go . TestGone$ s/stay := s\.stays(r, "notices")/var stay *stay/
 web/keyed.go . TestGoneKeyed s/^\terr := s\.still(ctx, l)$/\tvar err error/
 web/access.go . TestRoles s/^\tif !who\.May(command) {$/\tif false {/
 web/access.go . TestGivenAttributes s/^\t} else if err != nil {$/\t} else if false {/
+rights/told.go rights TestSpellings s/{"category", categoryName}/{"category", asWritten}/
+rights/told.go rights TestTold s/{"version", plainVersion}/{"version", asWritten}/
+rights/told.go rights TestTold s/{"moment", withoutZone}/{"moment", asWritten}/
+rights/told.go rights TestTold s/^\t\tif text, is := textOf(members\[one\.key\]); is \&\&/\t\tif text, is := textOf(members[one.key]); is \&\& texts["id"] == "" \&\&/
+rights/request.go rights TestManyClaims s/^\t\tif len(id) > mostValues {$/\t\tif len(id) > mostValues || len(values) > mostValues {/
+rights/rights.go rights TestDies s/j\.start(j\.state)/j.start(func() []byte { s, _ := os.ReadFile(j.path); return s }())/
 access/issuer.go access TestIssuer s/ \&\& k\.algorithm == algorithm//
 access/issuer.go access TestIssuer s/!ok || !now\.Before(ends)/!ok \&\& !now.Before(ends)/
 access/gives.go access TestGives s/; there {$/; there \&\& false {/

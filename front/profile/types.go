@@ -76,6 +76,12 @@ func CategoryOf(name string) string {
 	return name
 }
 
+// TypeOf is the URI that a name of a data type stands for: that of the short name which it is, or else itself.
+func TypeOf(name string) string {
+	uri, _ := typeOf(name)
+	return uri
+}
+
 // IsHere says whether a name is that of a type that is here.
 func IsHere(name string) bool {
 	uri, ok := typeOf(name)

@@ -2,6 +2,7 @@ package rights
 
 import (
 	"encoding/json"
+	"fmt"
 	"sort"
 )
 
@@ -13,8 +14,11 @@ const (
 	claimID    = "claim:" // and behind it the name of a claim
 )
 
-// mostValues is how many values an attribute has at most.
+// mostValues is how many values an attribute has at most, how many attributes a category, and how many bytes an id.
 const mostValues = 256
+
+// ErrClaims says that somebody has more claims than policies can be told.
+var ErrClaims = fmt.Errorf("of so many claims policies can't be told: there are at most %d", mostValues-1)
 
 // Subject is who asks.
 type Subject struct {
@@ -33,25 +37,15 @@ type category struct {
 	Attribute []attribute `json:"Attribute"`
 }
 
-// named are the keys of a line that name what it is about, in the order in which one of them is the resource's id.
-var named = []string{"id", "entity", "name", "policy", "resource", "person", "action", "category", "attribute", "kind", "version", "rule"}
-
 // request is the line that asks whether somebody may send a line.
 func request(who Subject, command string, l []byte) ([]byte, error) {
 	var members map[string]json.RawMessage
 	if err := json.Unmarshal(l, &members); err != nil {
 		return nil, err
 	}
-	subject := []attribute{{subjectID, who.Name}}
-	var names []string
-	for name := range who.Claims {
-		names = append(names, name)
-	}
-	sort.Strings(names)
-	for _, name := range names {
-		if values := who.Claims[name]; len(claimID+name) <= mostValues && len(values) <= mostValues {
-			subject = append(subject, attribute{claimID + name, values})
-		}
+	subject, err := who.told()
+	if err != nil {
+		return nil, err
 	}
 	return json.Marshal(map[string]any{"do": "ask", "request": map[string]any{"Request": map[string]category{
 		"AccessSubject": {subject},
@@ -60,50 +54,28 @@ func request(who Subject, command string, l []byte) ([]byte, error) {
 	}}})
 }
 
-// resource is what a line names: its keys that are texts, the id of its document, and its module.
-func resource(command string, members map[string]json.RawMessage) []attribute {
-	texts := map[string]string{}
-	for _, key := range named {
-		var text string
-		if json.Unmarshal(members[key], &text) == nil && text != "" {
-			texts[key] = text
+// told is who asks, with his claims. One of more values than an attribute has is several attributes, whose values count
+// together. A claim whose id would be too long no policy can name.
+func (who Subject) told() ([]attribute, error) {
+	subject := []attribute{{subjectID, who.Name}}
+	var names []string
+	for name := range who.Claims {
+		names = append(names, name)
+	}
+	sort.Strings(names)
+	for _, name := range names {
+		values, id := who.Claims[name], claimID+name
+		if len(id) > mostValues {
+			continue
 		}
-	}
-	for _, at := range []string{"document", "reference"} {
-		if id := idIn(members[at]); id != "" {
-			texts["id"] = id
+		for len(values) > mostValues {
+			subject = append(subject, attribute{id, values[:mostValues]})
+			values = values[mostValues:]
 		}
+		subject = append(subject, attribute{id, values})
 	}
-	id := command
-	for i := len(named) - 1; i >= 0; i-- {
-		if text := texts[named[i]]; text != "" {
-			id = text
-		}
+	if len(subject) > mostValues {
+		return nil, ErrClaims
 	}
-	about := []attribute{{resourceID, id}}
-	for _, key := range named {
-		if text := texts[key]; text != "" {
-			about = append(about, attribute{key, text})
-		}
-	}
-	module := 0
-	_ = json.Unmarshal(members["module"], &module)
-	return append(about, attribute{"module", module})
-}
-
-// idIn is the id of a document, or of that to which a reference leads.
-func idIn(written json.RawMessage) string {
-	var document map[string]map[string]json.RawMessage
-	if json.Unmarshal(written, &document) != nil || len(document) != 1 {
-		return ""
-	}
-	for _, inner := range document {
-		for _, key := range []string{"PolicyId", "PolicySetId", "Id"} {
-			var id string
-			if json.Unmarshal(inner[key], &id) == nil && id != "" {
-				return id
-			}
-		}
-	}
-	return ""
+	return subject, nil
 }

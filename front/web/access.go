@@ -148,6 +148,9 @@ func (s *Server) judge(v *visit, l []byte) (problem, bool) {
 		return problem{}, false
 	}
 	permitted, err := s.Rights.May(rights.Subject{Name: who.Name, Claims: who.Claims}, command, l)
+	if errors.Is(err, rights.ErrClaims) {
+		return problem{Title: "not allowed", Status: http.StatusForbidden, Detail: err.Error()}, true
+	}
 	if err != nil {
 		return problemFor(err), true
 	}
