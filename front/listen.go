@@ -97,8 +97,8 @@ func (s *secrets) config() *tls.Config {
 	return &tls.Config{GetConfigForClient: func(*tls.ClientHelloInfo) (*tls.Config, error) { return s.now.Load(), nil }}
 }
 
-// follow reads the certificates, and who may what, again whenever `again` says so. Where they can't be read those before
-// stay.
+// follow reads the certificates, and who may what, again whenever `again` says so. Where they can't be read those
+// before stay.
 func (s *secrets) follow(ctx context.Context, again <-chan os.Signal, site *web.Server, log *logs.Log) {
 	for {
 		select {

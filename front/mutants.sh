@@ -70,8 +70,8 @@ line/scan.go . TestReadAsTheProgram s/^\t\t\tr\.do, _, named = text(l\[:to\], fr
 web/visit.go web TestVisit s/^\tif v\.known == known \&\& .*{$/\tif v.who != nil {/
 web/visit.go . TestGoneByTime s/(v\.until\.IsZero() || time\.Now()\.Before(v\.until))/true/
 web/visit.go web TestVisit s/^\tif !wrong \&\& s\.allowed != known {$/\tif false {/
-web/lines.go . TestGone$ s/, gone: in\.visit\.gone(ctx),/,/
-web/notices.go . TestGone$ s/stay := s\.stays(r, "notices")/var stay *stay/
+web/lines.go . TestGone s/, gone: in\.visit\.gone(ctx),/,/
+web/notices.go . TestGone s/stay := s\.stays(r, "notices")/var stay *stay/
 web/keyed.go . TestGoneKeyed s/^\terr := s\.still(ctx, l)$/\tvar err error/
 web/access.go . TestRoles s/^\tif !who\.May(command) {$/\tif false {/
 web/access.go . TestGivenAttributes s/^\t} else if err != nil {$/\t} else if false {/
@@ -88,6 +88,9 @@ profile/values.go . TestTranslated s/return moment\.UTC()\.Format(momentForm) + 
 profile/request.go . TestTranslated s/^\tif references == nil {$/\tif true {/
 profile/attribute.go . TestPlaces s/^\t\tif found\.Included {$/\t\tif false {/
 profile/elements.go . TestXMLShapes s/return nil, now\.fault("there is no document type here")/continue/
+authzen/seconds.go . TestAuthzenSeconds s/if !clocks\[profile\.TypeOf(datatype)\] {/if !clocks[profile.TypeOf(datatype)] || true {/
+web/problem.go . TestAuthzenRules s/; ok \&\& a\.authzen {/; ok \&\& a.authzen \&\& false {/
+places/places.go . TestAuthzenRules s/if f\.Place == "" {/if false {/
 web/asks.go . TestOneState s/= s\.Keeper\.DecideAll(ctx, lines)$/= []keeper.Reply{}; for _, l := range lines { replies = append(replies, s.Keeper.Decide(ctx, l)) }/
 web/listing.go . TestAuthzenShapes s/^\t\tl\.change(edits)$//
 authzen/search.go . TestAuthzenShapes s/if string(read\[:sha256\.Size\]) != string(s\.identity\[:\]) {/if false {/

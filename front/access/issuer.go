@@ -31,8 +31,8 @@ func readIssuer(options Options) (*issuer, error) {
 	return &issuer{name: options.Issuer, audience: options.Audience, keys: keys}, nil
 }
 
-// verify reads the claims of a token that the issuer signed for this audience and this time, and until when it is so. By
-// which algorithm it is signed the key says, and not the token.
+// verify reads the claims of a token that the issuer signed for this audience and this time, and until when it is so.
+// By which algorithm it is signed the key says, and not the token.
 func (i *issuer) verify(token string, now time.Time) (claims map[string][]string, until time.Time, err error) {
 	parts := strings.Split(token, ".")
 	if len(parts) != 3 {

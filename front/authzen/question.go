@@ -113,6 +113,7 @@ func (g *given) properties(n places.Node, key string) error {
 		if known == nil {
 			continue
 		}
+		at.Value = inSeconds(known.datatype, at.Value)
 		attribute, isHere, err := profile.Given(at, known.attribute, known.datatype)
 		if err != nil {
 			return err

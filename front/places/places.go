@@ -20,11 +20,16 @@ const (
 
 // Fault says what is wrong, and where.
 type Fault struct {
-	Place string // a JSON pointer; of XML the path of an element
+	Place string // a JSON pointer, which of the whole is empty; of XML the path of an element
 	What  string
 }
 
-func (f *Fault) Error() string { return fmt.Sprintf("%s: %s", f.Place, f.What) }
+func (f *Fault) Error() string {
+	if f.Place == "" {
+		return f.What
+	}
+	return fmt.Sprintf("%s: %s", f.Place, f.What)
+}
 
 // Node is a value of JSON and its place, a JSON pointer.
 type Node struct {

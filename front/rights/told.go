@@ -20,8 +20,8 @@ var read = []struct {
 	reading
 }{
 	{"id", asWritten}, {"entity", asWritten}, {"name", asWritten}, {"policy", asWritten}, {"resource", asWritten},
-	{"person", asWritten}, {"action", asWritten}, {"category", categoryName}, {"attribute", asWritten}, {"kind", asWritten},
-	{"version", plainVersion}, {"rule", asWritten},
+	{"person", asWritten}, {"action", asWritten}, {"category", categoryName}, {"attribute", asWritten},
+	{"kind", asWritten}, {"version", plainVersion}, {"rule", asWritten},
 	{"type", profile.TypeOf}, {"issuer", asWritten}, {"list", asWritten}, {"day", withoutZone}, {"moment", withoutZone},
 }
 

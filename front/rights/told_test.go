@@ -300,7 +300,8 @@ func (s spelling) spelled(word string, keys []string) (string, map[string]string
 				members[key] = told[key]
 			}
 		case "document", "reference":
-			told["kind"], told["id"], told["version"] = s.one("Policy", "PolicySet"), s.one("p", "q", "r/s"), s.one("1", "0", "1.0", "1.2", "10.0.3")
+			told["kind"], told["id"] = s.one("Policy", "PolicySet"), s.one("p", "q", "r/s")
+			told["version"] = s.one("1", "0", "1.0", "1.2", "10.0.3")
 			if key == "reference" {
 				told["version"] = s.one("", "1", "1.*", "+")
 			}
@@ -336,8 +337,8 @@ type comparison struct {
 	taken       map[string]int
 }
 
-// compare sends a line, and where it is taken sees that what policies are told of it is what the program does with it: by
-// a line that says just that in the program's own spelling, and by the lines that a dump has more then.
+// compare sends a line, and where it is taken sees that what policies are told of it is what the program does with it:
+// by a line that says just that in the program's own spelling, and by the lines that a dump has more then.
 func (c *comparison) compare(l string, want map[string]string) {
 	c.t.Helper()
 	reply := c.told.ask(l)

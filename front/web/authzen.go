@@ -5,14 +5,30 @@ import (
 	"errors"
 	"net/http"
 	"strconv"
+	"strings"
 
 	"review-front/authzen"
 	"review-front/places"
 	"review-front/profile"
 )
 
-// requestID is the field by which who asks AuthZEN's paths knows the answer again.
-const requestID = "X-Request-ID"
+const (
+	// authzenPrefix begins the paths at which AuthZEN's requests are answered.
+	authzenPrefix = "/access/v1/"
+	// requestID is the field by which who asks there knows the answer again.
+	requestID = "X-Request-ID"
+)
+
+// asAuthzen has a request to AuthZEN's paths be answered by its rules, whatever is wrong with it.
+func (s *Server) asAuthzen(w *answered, r *http.Request) {
+	if s.Authzen == nil || !strings.HasPrefix(r.URL.Path, authzenPrefix) {
+		return
+	}
+	w.authzen = true
+	if id := r.Header.Get(requestID); id != "" {
+		w.Header().Set(requestID, id)
+	}
+}
 
 // authzenRoutes are AuthZEN's paths, where a file says what its types are.
 func (s *Server) authzenRoutes() []route {
@@ -47,9 +63,6 @@ func (s *Server) authzenConfiguration(w *answered, r *http.Request, _ map[string
 
 // authzenBody is the body of a request to AuthZEN's paths. Where there is none it answers why.
 func (s *Server) authzenBody(w *answered, r *http.Request) (places.Node, []byte, bool) {
-	if id := r.Header.Get(requestID); id != "" {
-		w.Header().Set(requestID, id)
-	}
 	if requestType(r.Header.Get("Content-Type")) != profileType {
 		sendAuthzenError(w, http.StatusUnsupportedMediaType, "a request is application/json")
 		return places.Node{}, nil, false
@@ -204,6 +217,9 @@ func sendAuthzenProblem(w http.ResponseWriter, told *problem) {
 		w.Header().Set("Retry-After", strconv.Itoa(told.after))
 	}
 	message := told.Detail
+	if message == "" {
+		message = told.Title
+	}
 	if told.Place != "" {
 		message = told.Place + ": " + message
 	}

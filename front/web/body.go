@@ -43,8 +43,8 @@ func (s *Server) body(w *answered, r *http.Request) ([]byte, error) {
 	return body, w.whole()
 }
 
-// taken is the body of a request that one reply answers, of whoever was known by its end. Where there is none it answers
-// why.
+// taken is the body of a request that one reply answers, whose sender is known by its end too. Where there is none it
+// answers why.
 func (s *Server) taken(w *answered, r *http.Request) ([]byte, bool) {
 	body, err := s.body(w, r)
 	if v := visitIn(r.Context()); err == nil && v != nil {

@@ -71,8 +71,8 @@ func (s *Server) lines(w *answered, r *http.Request, client *sessions.Client) {
 	ctx, cancel := context.WithCancel(context.Background())
 	defer cancel()
 	in := &stream{
-		server: s, client: client, by: by, visit: visitIn(r.Context()), out: make(chan pending, window), long: make(chan struct{}, 1),
-		freed: make(chan struct{}, 1), gate: newGate(),
+		server: s, client: client, by: by, visit: visitIn(r.Context()), out: make(chan pending, window),
+		long: make(chan struct{}, 1), freed: make(chan struct{}, 1), gate: newGate(),
 	}
 	if s.Decisions != nil {
 		in.keep = func(l []byte, reply keeper.Reply) { s.keepLine(r, l, reply) }

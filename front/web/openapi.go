@@ -13,6 +13,7 @@ const jsonType = "application/json"
 // operation is what the OpenAPI document says of a path beside its method and keys.
 type operation struct {
 	does  string
+	about string   // more of it, or nothing
 	takes []string // the types of a body; none: there is none
 	gives []string // the types of the answer where it is what was asked for; none: it is empty
 	done  int      // the status then; 0: 200
@@ -64,6 +65,10 @@ func telling(does, has string) operation {
 func taking(does, has string) operation {
 	return operation{does: does, takes: []string{jsonType}, gives: []string{jsonType}, has: has}
 }
+
+// inWholeSeconds is told of AuthZEN's requests.
+const inWholeSeconds = "Properties of the types dateTime and time are taken in whole seconds: a fraction of a second " +
+	"is cut, and absent seconds are 00. X-Request-ID comes back, and what goes wrong is told as one text."
 
 // object is one of the document.
 type object = map[string]any
@@ -159,7 +164,10 @@ func (o operation) written(path string, keys []key) object {
 		status = http.StatusOK
 	}
 	wrong := object{problemType: object{"schema": object{"$ref": "#/components/schemas/Problem"}}}
-	if strings.HasPrefix(path, "/access/") {
+	if strings.HasPrefix(path, authzenPrefix) {
+		parameters = append(parameters, object{
+			"name": requestID, "in": "header", "required": false, "schema": object{"type": "string"},
+		})
 		wrong = object{jsonType: object{"schema": object{"type": "string"}}}
 	}
 	told := object{
@@ -167,6 +175,9 @@ func (o operation) written(path string, keys []key) object {
 		"responses": object{
 			strconv.Itoa(status): success, "default": object{"description": "It can't be answered.", "content": wrong},
 		},
+	}
+	if strings.HasPrefix(path, authzenPrefix) {
+		told["description"] = inWholeSeconds
 	}
 	if len(parameters) > 0 {
 		told["parameters"] = parameters

@@ -130,8 +130,12 @@ func (p problem) head(w http.ResponseWriter, kind string) {
 	w.WriteHeader(p.Status)
 }
 
-// send answers with the problem.
+// send answers with the problem, at AuthZEN's paths as these have it.
 func (p problem) send(w http.ResponseWriter) {
+	if a, ok := w.(*answered); ok && a.authzen {
+		sendAuthzenProblem(w, &p)
+		return
+	}
 	p.head(w, problemType)
 	// Who has gone isn't told.
 	_, _ = w.Write(append(p.line(), '\n'))

@@ -118,11 +118,12 @@ var closing = []string{"close"}
 // answered remembers the status of an answer, and gives each write its time.
 type answered struct {
 	http.ResponseWriter
-	status int
-	conn   net.Conn
-	time   time.Duration
-	unread bool         // the body wasn't read to its end
-	last   *atomic.Bool // connections aren't kept
+	status  int
+	conn    net.Conn
+	time    time.Duration
+	unread  bool         // the body wasn't read to its end
+	last    *atomic.Bool // connections aren't kept
+	authzen bool         // what is wrong is told by AuthZEN's rules
 }
 
 // begin says by which status the answer begins. A connection whose body wasn't read isn't kept: what is left of it
@@ -199,6 +200,7 @@ func (s *Server) serve(w http.ResponseWriter, r *http.Request) {
 	if !a.unread && a.whole() != nil {
 		return
 	}
+	s.asAuthzen(a, r)
 	name := s.answer(a, r)
 	a.end()
 	a.allow() // for the end of the answer

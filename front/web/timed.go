@@ -14,8 +14,8 @@ var (
 	errGone = errors.New("who sends isn't known any more")
 )
 
-// timed reads a body that may take its time, but for so long may say nothing. It ends when the front stops, and when who
-// sends it isn't known any more.
+// timed reads a body that may take its time, but for so long may say nothing. It ends when the front stops, and when
+// who sends it isn't known any more.
 type timed struct {
 	from     io.Reader
 	request  *http.Request

@@ -15,9 +15,9 @@ const lookAgain = time.Minute
 // notKnown says why somebody isn't known, or isn't any more.
 type notKnown struct{ error }
 
-// visit is who asks, for as long as his request goes on: each line and each event of it is allowed as a new request would
-// be. So it is found out again who he is where something was read again meanwhile, and where the time is over of what he
-// showed.
+// visit is who asks, for as long as his request goes on: each line and each event of it is allowed as a new request
+// would be. So it is found out again who he is where something was read again meanwhile, and where the time is over of
+// what he showed.
 type visit struct {
 	server  *Server
 	request *http.Request
