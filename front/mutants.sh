@@ -83,6 +83,10 @@ rights/request.go rights TestManyClaims s/^\t\tif len(id) > mostValues {$/\t\tif
 rights/rights.go rights TestDies s/j\.start(j\.state)/j.start(func() []byte { s, _ := os.ReadFile(j.path); return s }())/
 access/issuer.go access TestIssuer s/ \&\& k\.algorithm == algorithm//
 access/issuer.go access TestIssuer s/!ok || !now\.Before(ends)/!ok \&\& !now.Before(ends)/
+access/issuer.go access TestTypes s/^\tif !i\.isOf(head) {$/\tif false {/
+access/issuer.go access TestTypes s/^\twritten = strings\.ToLower(written)$//
+access/access.go access TestLocalNames s/^\tif k\.names\[looks(claims\["sub"\]\[0\])\] {$/\tif false {/
+options.go . TestHelp s/the `name` of those for whom its tokens are, as their claim aud has it/their claim aud `has` it/
 access/gives.go access TestGives s/; there {$/; there \&\& false {/
 profile/values.go . TestTranslated s/return moment\.UTC()\.Format(momentForm) + "Z", ""/return local + "Z", ""/
 profile/request.go . TestTranslated s/^\tif references == nil {$/\tif true {/

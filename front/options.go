@@ -56,6 +56,7 @@ type options struct {
 	issuer           string
 	issuerKeys       string
 	audience         string
+	tokenTypes       list
 	withoutTLS       bool
 	rights           string
 	askers           int
@@ -151,7 +152,9 @@ func (o *options) name(set *flag.FlagSet) {
 	set.StringVar(&o.access, "access", "", "a `file` with those who may ask, and what; without it whoever reaches the front may all")
 	set.StringVar(&o.issuer, "issuer", "", "the `name` of an issuer whose tokens are taken, as their claim iss has it")
 	set.StringVar(&o.issuerKeys, "issuer-keys", "", "a `file` with its keys, as a set of JSON Web Keys")
-	set.StringVar(&o.audience, "audience", "", "for whom its tokens are, as their claim aud `has` it")
+	set.StringVar(&o.audience, "audience", "", "the `name` of those for whom its tokens are, as their claim aud has it")
+	set.Var(&o.tokenTypes, "token-type", "a `type` that its tokens may have, as their field typ has it; may stand several "+
+		"times; else JWT, at+jwt and none")
 	set.StringVar(&o.rights, "rights", "", "a `file` with the lines of a state whose policies decide who may send which line")
 	set.BoolVar(&o.withoutTLS, "without-tls", false, "answers without TLS also at addresses that other machines reach")
 	set.DurationVar(&o.keep, "keep", 0, "how long journals are kept that no start needs; 0: for ever")
@@ -204,8 +207,8 @@ func (o options) wrong(rest []string) string {
 		return "--rights needs --access"
 	case o.issuer != "" && (o.access == "" || o.issuerKeys == "" || o.audience == ""):
 		return "--issuer needs --access, --issuer-keys and --audience"
-	case o.issuer == "" && (o.issuerKeys != "" || o.audience != ""):
-		return "--issuer-keys and --audience need --issuer"
+	case o.issuer == "" && (o.issuerKeys != "" || o.audience != "" || len(o.tokenTypes) > 0):
+		return "--issuer-keys, --audience and --token-type need --issuer"
 	case len(o.trusted) > 0 && (o.clients == "" || o.byHeader == ""):
 		return "--by-header-from needs --by-header and --clients"
 	case o.attributeModules < 1 || o.attributeModules > 4 || o.policyModules < 1 || o.policyModules > 4:

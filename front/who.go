@@ -20,7 +20,9 @@ func (o options) who(log *logs.Log) (*who, error) {
 		return w, nil
 	}
 	var err error
-	w.gate, err = access.Open(access.Options{File: o.access, Issuer: o.issuer, Keys: o.issuerKeys, Audience: o.audience})
+	w.gate, err = access.Open(access.Options{
+		File: o.access, Issuer: o.issuer, Keys: o.issuerKeys, Audience: o.audience, Types: o.tokenTypes,
+	})
 	if err == nil && o.rights != "" {
 		w.rights, err = rights.Open(o.command(log), o.rights, o.replyTime)
 	}

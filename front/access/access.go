@@ -18,6 +18,8 @@ type Options struct {
 	Issuer   string // whose tokens are taken, as their claim `iss` has it; none where it is empty
 	Keys     string // the file with its keys, as a set of JSON Web Keys
 	Audience string // for whom its tokens are, as their claim `aud` has it
+	// Types are those that its tokens have to have, as their field `typ` has it; none: JWT and at+jwt, or they have none.
+	Types []string
 }
 
 // Identity is who asks.
@@ -45,6 +47,7 @@ var (
 	ErrScheme = errors.New("the field Authorization has no bearer token")
 	ErrToken  = errors.New("the token isn't known")
 	ErrName   = errors.New("the name isn't known")
+	ErrTaken  = errors.New("the subject of the token is a name of the front's own")
 )
 
 // Gate knows who may what, as it was read last.
@@ -57,6 +60,7 @@ type Gate struct {
 // known is what was read.
 type known struct {
 	users  []user
+	names  map[string]bool // those that the file gives, as they look
 	issuer *issuer
 }
 
@@ -78,7 +82,7 @@ func (g *Gate) Read() (take func(), err error) {
 	if err != nil {
 		return nil, err
 	}
-	read := &known{users: users}
+	read := &known{users: users, names: namesOf(users)}
 	if g.options.Issuer != "" {
 		if read.issuer, err = readIssuer(g.options); err != nil {
 			return nil, err
@@ -142,8 +146,12 @@ func (k *known) named(is func(user) bool) (*Identity, error) {
 }
 
 // byClaims is who has a token of the issuer until some time: he may what each does who is known by his subject or a
-// claim, and his requests may say what each of these may give.
+// claim, and his requests may say what each of these may give. Nobody is he whose subject looks like a name that the file
+// gives somebody else: what he did would be written down under that.
 func (k *known) byClaims(claims map[string][]string, until time.Time) (*Identity, error) {
+	if k.names[looks(claims["sub"][0])] {
+		return nil, ErrTaken
+	}
 	who := &Identity{Name: claims["sub"][0], Claims: claims, Until: until, may: map[string]bool{}}
 	found := false
 	for _, u := range k.users {

@@ -19,8 +19,13 @@ var ErrIssued = errors.New("the token isn't one of the issuer")
 type issuer struct {
 	name     string
 	audience string
+	types    map[string]bool // those of its tokens, as typeOf has them; nothing: a token that tells none
 	keys     []key
 }
+
+// usualTypes are those that tokens have which let somebody in, if none are named: others are for something else, as to
+// log somebody out or to prove a key (RFC 8725, 3.11).
+var usualTypes = []string{"", "JWT", "at+jwt"}
 
 // readIssuer reads the keys of an issuer.
 func readIssuer(options Options) (*issuer, error) {
@@ -28,7 +33,35 @@ func readIssuer(options Options) (*issuer, error) {
 	if err != nil {
 		return nil, err
 	}
-	return &issuer{name: options.Issuer, audience: options.Audience, keys: keys}, nil
+	i := &issuer{name: options.Issuer, audience: options.Audience, types: map[string]bool{}, keys: keys}
+	types := options.Types
+	if len(types) == 0 {
+		types = usualTypes
+	}
+	for _, one := range types {
+		i.types[typeOf(one)] = true
+	}
+	return i, nil
+}
+
+// typeOf is a type of media as it is compared: in lower case, and without the `application/` that need not be written
+// where nothing else has a slash (RFC 7515, 4.1.9).
+func typeOf(written string) string {
+	written = strings.ToLower(written)
+	if short := strings.TrimPrefix(written, "application/"); !strings.Contains(short, "/") {
+		return short
+	}
+	return written
+}
+
+// isOf says whether the head of a token tells a type that is taken, or none where that is.
+func (i *issuer) isOf(head map[string]json.RawMessage) bool {
+	written, there := head["typ"]
+	if !there {
+		return i.types[""]
+	}
+	told := textOf(written)
+	return told != "" && i.types[typeOf(told)]
 }
 
 // verify reads the claims of a token that the issuer signed for this audience and this time, and until when it is so.
@@ -56,6 +89,9 @@ func (i *issuer) authentic(parts []string) error {
 	}
 	if _, there := head["crit"]; there {
 		return fmt.Errorf("%w: it has a field crit, of which nothing is known", ErrIssued)
+	}
+	if !i.isOf(head) {
+		return fmt.Errorf("%w: it is of a type that isn't taken", ErrIssued)
 	}
 	signature, err := decode(parts[2])
 	if err != nil {

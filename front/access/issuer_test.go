@@ -17,6 +17,7 @@ import (
 	"net/http"
 	"os"
 	"path/filepath"
+	"strings"
 	"testing"
 	"time"
 )
@@ -260,6 +261,82 @@ func TestUsers(t *testing.T) {
 		}
 		if users, err := readUsers(path); err == nil {
 			t.Errorf("%s is read as %v", content, users)
+		}
+	}
+}
+
+// TestTypes takes tokens by the type that their head tells, and not those that are for something else.
+func TestTypes(t *testing.T) {
+	path := filepath.Join(t.TempDir(), "keys")
+	s := newSigning(t, path)
+	claims := map[string]any{"iss": "i", "aud": "a", "sub": "ann", "exp": time.Now().Add(time.Hour).Unix()}
+	for _, one := range []struct {
+		types []string
+		taken []any // what may stand at `typ`; nothing stands there for untold
+		not   []any
+	}{
+		{nil, []any{untold, "JWT", "jwt", "at+jwt", "application/at+jwt", "Application/AT+JWT"},
+			[]any{"", "logout+jwt", "dpop+jwt", "secevent+jwt", "at+jwt ", "x/at+jwt", 7, nil, []string{"JWT"}}},
+		{[]string{"at+jwt"}, []any{"at+jwt", "application/at+jwt"}, []any{untold, "JWT", "", nil}},
+		{[]string{"application/at+jwt", "own/x"}, []any{"AT+jwt", "own/x"}, []any{untold, "x", "JWT", "application/own/x"}},
+	} {
+		i, err := readIssuer(Options{Issuer: "i", Keys: path, Audience: "a", Types: one.types})
+		if err != nil {
+			t.Fatal(err)
+		}
+		for at, typ := range append(append([]any(nil), one.taken...), one.not...) {
+			head := map[string]any{"alg": "EdDSA", "kid": "d", "typ": typ}
+			if typ == untold {
+				delete(head, "typ")
+			}
+			_, _, err := i.verify(s.token(t, head, claims), time.Now())
+			if isTaken := at < len(one.taken); (err == nil) != isTaken || err != nil && !errors.Is(err, ErrIssued) {
+				t.Errorf("with the types %q, a token of type %v: %v", one.types, typ, err)
+			}
+		}
+	}
+}
+
+// untold stands for a head that tells no type.
+const untold = "no type"
+
+// TestLocalNames shows tokens of an issuer whose subjects are names that the file gives to others, or look like them.
+func TestLocalNames(t *testing.T) {
+	folder := t.TempDir()
+	s := newSigning(t, filepath.Join(folder, "keys"))
+	file := `{"name":"Root","roles":["edit"],"unix":"root"}
+{"claim":{"group":"desk"},"roles":["ask"]}
+{"subject":"ben","roles":["ask"]}
+`
+	write := func(content string) {
+		if err := os.WriteFile(filepath.Join(folder, "access"), []byte(content), 0o600); err != nil {
+			t.Fatal(err)
+		}
+	}
+	write(file)
+	options := Options{
+		File: filepath.Join(folder, "access"), Issuer: "i", Keys: filepath.Join(folder, "keys"), Audience: "a",
+	}
+	g, err := Open(options)
+	if err != nil {
+		t.Fatal(err)
+	}
+	for subject, want := range map[string]error{
+		"Root": ErrTaken, "root": ErrTaken, "ROOT": ErrTaken, " root": ErrTaken, "ro\u200bot": ErrTaken, "root\n": ErrTaken,
+		"ro\u00adot": ErrTaken, "roo": nil, "root2": nil, "ben": nil,
+	} {
+		token := s.token(t, map[string]any{"alg": "EdDSA", "kid": "d"}, map[string]any{
+			"iss": "i", "aud": "a", "sub": subject, "group": "desk", "exp": time.Now().Add(time.Hour).Unix(),
+		})
+		who, err := g.Of(http.Header{"Authorization": {"Bearer " + token}}, Way{})
+		if !errors.Is(err, want) || err == nil && who.Name != subject {
+			t.Errorf("whose subject is %q is %+v, %v", subject, who, err)
+		}
+	}
+	for _, more := range []string{`{"subject":"root","roles":["read"]}`, `{"name":"BEN","roles":["read"],"certificate":"b"}`} {
+		write(file + more)
+		if _, err := Open(options); err == nil || !strings.Contains(err.Error(), "is the name of somebody else here") {
+			t.Errorf("with %s it is read: %v", more, err)
 		}
 	}
 }

@@ -8,6 +8,7 @@ import (
 	"fmt"
 	"os"
 	"strings"
+	"unicode"
 )
 
 // user is somebody who is known, as a line of the file says it.
@@ -21,6 +22,7 @@ type user struct {
 	Claim       map[string]string   `json:"claim"`
 	Gives       *Gives              `json:"gives"`
 	Claims      map[string][]string `json:"claims"` // what policies of rights see of him
+	place       string              // his line
 	token       []byte
 	may         map[string]bool
 }
@@ -52,13 +54,42 @@ func readUsers(path string) ([]user, error) {
 			err = addRole(known, one)
 		} else if err == nil {
 			err = one.user.settle(known)
+			one.user.place = fmt.Sprintf("%s:%d", path, number+1)
 			users = append(users, one.user)
 		}
 		if err != nil {
 			return nil, fmt.Errorf("%s:%d: %w", path, number+1, err)
 		}
 	}
+	names := namesOf(users)
+	for _, one := range users {
+		if one.Subject != "" && names[looks(one.Subject)] {
+			return nil, fmt.Errorf("%s: the subject %q is the name of somebody else here", one.place, one.Subject)
+		}
+	}
 	return users, nil
+}
+
+// namesOf are the names that a file gives, as they look.
+func namesOf(users []user) map[string]bool {
+	names := map[string]bool{}
+	for _, one := range users {
+		if one.Name != "" {
+			names[looks(one.Name)] = true
+		}
+	}
+	return names
+}
+
+// looks is a name as a reader takes it: in one case, without blanks and what isn't seen.
+func looks(name string) string {
+	seen := func(r rune) rune {
+		if unicode.IsSpace(r) || !unicode.IsPrint(r) {
+			return -1
+		}
+		return r
+	}
+	return strings.ToLower(strings.ToUpper(strings.Map(seen, name)))
 }
 
 // readLine reads a line, in which each key has to be known.

@@ -1,0 +1,58 @@
+package main
+
+import (
+	"bytes"
+	"net/http"
+	"regexp"
+	"strings"
+	"testing"
+	"time"
+)
+
+// TestIssuedTokens shows tokens of an issuer to a front that takes one type of them, and knows others by name.
+func TestIssuedTokens(t *testing.T) {
+	s := newSigner(t)
+	words := append(s.options(), "--token-type", "at+jwt", "--access",
+		accessFile(t, entry("boss", "edit"), `{"claim":{"group":"desk"},"roles":["read"]}`))
+	f := begin(t, t.TempDir(), words...)
+	for _, one := range []struct {
+		subject, kind string
+		status        int
+		log           string
+	}{
+		{"ann", "at+jwt", http.StatusOK, ""}, {"ann", "application/at+jwt", http.StatusOK, ""},
+		{"ann", "JWT", http.StatusUnauthorized, "it is of a type that isn't taken"},
+		{"ann", "logout+jwt", http.StatusUnauthorized, "it is of a type that isn't taken"},
+		{"boss", "at+jwt", http.StatusUnauthorized, "the subject of the token is a name of the front's own"},
+		{"Boss", "at+jwt", http.StatusUnauthorized, "the subject of the token is a name of the front's own"},
+	} {
+		token := s.token(t, one.subject, time.Now().Add(time.Hour), map[string]any{"typ": one.kind}, map[string]any{"group": "desk"})
+		got := f.send(t, http.MethodGet, "/counts", "", "Authorization", "Bearer "+token)
+		if got.status != one.status || !strings.Contains(f.log(), one.log) {
+			t.Errorf("%s by a token of type %s is answered %+v", one.subject, one.kind, got)
+		}
+	}
+}
+
+// TestHelp reads the help: what stands behind an option is what is to be given, a word in quotes of its sentence.
+func TestHelp(t *testing.T) {
+	var said bytes.Buffer
+	if _, status, served := parse([]string{"--help"}, &said); status != 0 || served {
+		t.Errorf("the help ends with %d", status)
+	}
+	for _, want := range []string{"-audience name\n", "-token-type type\n", "-issuer name\n", "-by-header field\n"} {
+		if !strings.Contains(said.String(), want) {
+			t.Errorf("the help has no %q", want)
+		}
+	}
+	if found := regexp.MustCompile("(?m)^  -[a-z-]+ (has|it|of|is|and)$").FindString(said.String()); found != "" {
+		t.Errorf("the help says %q", found)
+	}
+	for _, words := range [][]string{{"--token-type", "JWT"}, {"--audience", "a"}} {
+		said.Reset()
+		all := append([]string{"--program", "p", "--journal", "j", "--access", "a"}, words...)
+		if _, status, served := parse(all, &said); status != 2 || served || !strings.Contains(said.String(), "need --issuer") {
+			t.Errorf("%v is answered %d %s", words, status, said.String())
+		}
+	}
+}
