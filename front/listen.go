@@ -112,6 +112,7 @@ func (s *secrets) follow(ctx context.Context, again <-chan os.Signal, site *web.
 		} else if err := s.read(); err != nil {
 			log.Error("the certificates can't be read again, and those before stay", "error", err)
 		} else {
+			site.ReadAgain()
 			log.Info("the certificates were read again")
 		}
 	}
@@ -140,4 +141,22 @@ func (s *secrets) read() error {
 	}
 	s.now.Store(config)
 	return nil
+}
+
+// signed says why a certificate that a client showed isn't signed by what was read last, if it isn't. It is nil where no
+// certificates are asked for.
+func (s *secrets) signed() web.Signing {
+	if s.clients == "" {
+		return nil
+	}
+	return func(shown []*x509.Certificate) error {
+		between := x509.NewCertPool()
+		for _, one := range shown[1:] {
+			between.AddCert(one)
+		}
+		_, err := shown[0].Verify(x509.VerifyOptions{
+			Roots: s.now.Load().ClientCAs, Intermediates: between, KeyUsages: []x509.ExtKeyUsage{x509.ExtKeyUsageClientAuth},
+		})
+		return err
+	}
 }

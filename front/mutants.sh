@@ -49,7 +49,7 @@ web/opening.go . TestNoneAccepted s/g\.closed = g\.closed || g\.taken == 1/g.clo
 keeper/settle.go . TestKeyed s/use != nil && !line/use == nil \&\& !line/
 keys/file.go keys TestBehind s/if r\.Serial > last {/if false {/
 web/names.go . TestCertificates s/if name == "" {/if false {/
-web/names.go . TestProxyTokens s/^\treturn !s\.Certified$/\treturn !s.Certified || name == ""/
+web/names.go . TestProxyTokens s/^\treturn s\.Signed == nil$/\treturn s.Signed == nil || name == ""/
 web/questions.go web TestQuestions s/"faults", nil}/"fault", nil}/
 web/questions.go . TestPaths s/"faults", nil}/"fault", nil}/
 line/line.go line TestKinds s/"moment\.set": Edit,//
@@ -73,6 +73,8 @@ web/visit.go web TestVisit s/^\tif !wrong \&\& s\.allowed != known {$/\tif false
 web/lines.go . TestGone s/, gone: in\.visit\.gone(ctx),/,/
 web/notices.go . TestGone s/stay := s\.stays(r, "notices")/var stay *stay/
 web/keyed.go . TestGoneKeyed s/^\terr := s\.still(ctx, l)$/\tvar err error/
+web/certified.go . TestGoneCertificates s/connection\.known != known || /false || /
+web/certified.go . TestGoneCertificates s/ || !time\.Now()\.Before(until) {/ {/
 web/access.go . TestRoles s/^\tif !who\.May(command) {$/\tif false {/
 web/access.go . TestGivenAttributes s/^\t} else if err != nil {$/\t} else if false {/
 rights/told.go rights TestSpellings s/{"category", categoryName}/{"category", asWritten}/

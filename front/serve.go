@@ -79,9 +79,9 @@ func serve(ctx context.Context, again <-chan os.Signal, o options, log *logs.Log
 	site := web.New(web.Options{
 		Keeper: k, Meter: meter, Log: log, Authzen: mapping, Decisions: book,
 		Hosts:    web.NewHosts(o.hosts, o.listen, listener.Addr()),
-		ByHeader: o.byHeader, Certified: o.clients != "", Trusted: o.trusted,
+		ByHeader: o.byHeader, Trusted: o.trusted,
 		SessionIdle: o.sessionIdle, BodyTime: o.bodyTime, StreamIdle: o.streamIdle, WriteTime: o.writeTime,
-		DryTime: o.dryTime, Access: who.gate, Rights: who.rights,
+		DryTime: o.dryTime, Access: who.gate, Rights: who.rights, Signed: secrets.signed(),
 	})
 	k.Edited = site.Edited
 	go secrets.follow(ctx, again, site, log)

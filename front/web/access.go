@@ -34,7 +34,7 @@ var forAll = map[string]bool{"/healthz": true, "/readyz": true, "/.well-known/au
 
 // admit finds out who asks. Where he isn't known it answers itself, the later the more often that was so.
 func (s *Server) admit(w *answered, r *http.Request) (*http.Request, bool) {
-	if s.Access == nil || forAll[r.URL.Path] {
+	if s.Access == nil && !s.hasShown(r) || forAll[r.URL.Path] {
 		return r, true
 	}
 	visit := &visit{server: s}
@@ -45,18 +45,20 @@ func (s *Server) admit(w *answered, r *http.Request) (*http.Request, bool) {
 	}
 	address := addressOfRequest(r)
 	s.Log.Error("somebody was refused", "address", address, "path", r.URL.Path, "why", err)
-	wait, soon := s.Access.Refused(address)
-	timer := time.NewTimer(wait)
-	defer timer.Stop()
-	select {
-	case <-timer.C:
-	case <-r.Context().Done():
+	if s.Access != nil {
+		wait, soon := s.Access.Refused(address)
+		timer := time.NewTimer(wait)
+		defer timer.Stop()
+		select {
+		case <-timer.C:
+		case <-r.Context().Done():
+		}
+		if !soon {
+			problem{Title: "too many attempts", Status: http.StatusTooManyRequests, after: int(wait.Seconds())}.send(w)
+			return r, false
+		}
+		w.Header().Set("WWW-Authenticate", "Bearer")
 	}
-	if !soon {
-		problem{Title: "too many attempts", Status: http.StatusTooManyRequests, after: int(wait.Seconds())}.send(w)
-		return r, false
-	}
-	w.Header().Set("WWW-Authenticate", "Bearer")
 	problem{Title: "not known", Status: http.StatusUnauthorized, Detail: err.Error()}.send(w)
 	return r, false
 }
@@ -130,6 +132,9 @@ func (s *Server) judge(v *visit, l []byte) (problem, bool) {
 	who, err := v.now()
 	if err != nil {
 		return problemFor(err), true
+	}
+	if who == nil {
+		return problem{}, false
 	}
 	command, ok := line.Do(l)
 	if !ok {

@@ -31,7 +31,7 @@ func (s *Server) named(r *http.Request) (string, *problem) {
 		}
 	}
 	believed := s.believes(name)
-	if v := visitIn(r.Context()); v != nil {
+	if v := visitIn(r.Context()); v != nil && v.last() != nil {
 		name = v.last().Name
 	}
 	if s.ByHeader == "" || !believed {
@@ -57,7 +57,7 @@ func (s *Server) believes(name string) bool {
 			return true
 		}
 	}
-	return !s.Certified
+	return s.Signed == nil
 }
 
 // nobody is the problem of who has no name, and why.

@@ -54,9 +54,10 @@ func TestWho(t *testing.T) {
 		{"X-User", []string{"max"}, with("proxy"), "max"},
 		{"X-User", []string{""}, with("proxy"), ""},
 	} {
-		s := &Server{Options: Options{
-			ByHeader: one.byHeader, Certified: one.secured != nil, Trusted: []string{"proxy"},
-		}}
+		s := &Server{Options: Options{ByHeader: one.byHeader, Trusted: []string{"proxy"}}}
+		if one.secured != nil {
+			s.Signed = func([]*x509.Certificate) error { return nil }
+		}
 		r := &http.Request{Header: http.Header{"X-User": one.said}, RemoteAddr: "192.0.2.1:99", TLS: one.secured}
 		if name, nobody := s.who(r); name != one.want || (nobody != nil) != (one.want == "") {
 			t.Errorf("%v is %q, %v", one, name, nobody)

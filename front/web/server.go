@@ -29,12 +29,12 @@ type Options struct {
 	Authzen     *authzen.Mapping // what AuthZEN's types are; nil: its paths aren't served
 	Hosts       *Hosts           // as which it is asked; else this machine
 	ByHeader    string           // the head's field that says who asks, set by what stands before the front
-	Certified   bool             // clients are asked for certificates, which they may have to show
-	Trusted     []string         // names in certificates of clients who are believed in ByHeader; not Certified: all are
+	Trusted     []string         // names in certificates of clients who are believed in that; without certificates all are
 	SessionIdle time.Duration    // after so long without use a session is given back
 	BodyTime    time.Duration    // how long a body may take, for each page of it
 	StreamIdle  time.Duration    // how long a stream of lines may say nothing
 	WriteTime   time.Duration    // how long a client may read nothing
+	Signed      Signing          // whether the certificates of clients count; nil: they aren't asked for any
 	Access      *access.Gate     // who may what; nil: everybody everything
 	Rights      *rights.Judge    // who may send which line, beside his roles; nil: his roles alone count
 	DryTime     time.Duration    // how long it may take to tell what lines would change
@@ -103,6 +103,7 @@ type connection struct{}
 
 // KeepConnection puts a connection where its requests find it, so that each read and each write has its time.
 func KeepConnection(ctx context.Context, c net.Conn) context.Context {
+	ctx = context.WithValue(ctx, certifying{}, &certified{})
 	return keepPeer(context.WithValue(ctx, connection{}, c), c)
 }
 

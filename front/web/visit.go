@@ -25,6 +25,7 @@ type visit struct {
 	known   <-chan struct{} // closed once something was read behind which he may be another
 	who     *access.Identity
 	until   time.Time // when the time is over of what he showed; zero: never
+	begun   bool      // he was let in
 	err     error
 }
 
@@ -37,8 +38,8 @@ func visitIn(ctx context.Context) *visit {
 	return v
 }
 
-// now is who asks as he is known now. It fails where he isn't known any more; the name by which what he did is written
-// down stays.
+// now is who asks as he is known now, or nil where everybody may everything. It fails where he isn't known any more; the
+// name by which what he did is written down stays.
 func (v *visit) now() (*access.Identity, error) {
 	v.mutex.Lock()
 	defer v.mutex.Unlock()
@@ -47,13 +48,30 @@ func (v *visit) now() (*access.Identity, error) {
 		return v.who, v.err
 	}
 	v.known = known
-	who, err := v.server.Access.Of(v.request.Header, wayOf(v.request))
-	if err != nil {
-		v.err = notKnown{err}
-		return v.who, v.err
+	who, until, err := v.server.identify(v.request)
+	if err == nil {
+		v.who, v.until, v.begun, v.err = who, until, true, nil
+		return who, nil
 	}
-	v.who, v.until, v.err = who, who.Until, nil
-	return who, nil
+	if v.err == nil && v.begun {
+		v.server.Log.Error("somebody isn't known any more", "path", v.request.URL.Path, "why", err)
+	}
+	v.err = notKnown{err}
+	return v.who, v.err
+}
+
+// identify finds out who asks, and until when that is so; it is nobody where everybody may everything.
+func (s *Server) identify(r *http.Request) (who *access.Identity, until time.Time, err error) {
+	if until, err = s.counts(r); err != nil || s.Access == nil {
+		return nil, until, err
+	}
+	if who, err = s.Access.Of(r.Header, wayOf(r)); err != nil {
+		return nil, until, err
+	}
+	if until.IsZero() || !who.Until.IsZero() && who.Until.Before(until) {
+		until = who.Until
+	}
+	return who, until, nil
 }
 
 // last is who asks as he was known last.
