@@ -10,6 +10,7 @@ import (
 	"regexp"
 	"strconv"
 	"strings"
+	"syscall"
 	"testing"
 	"time"
 )
@@ -17,13 +18,16 @@ import (
 // slowTime is how long a slow edit takes.
 const slowTime = 20 * time.Millisecond
 
+// loadTime is how long an edit of a load takes.
+const loadTime = 100 * time.Millisecond
+
 // busyTime is longer than a line has in tests of it.
 const busyTime = 3 * time.Second
 
 // fake stands before the program, and answers some lines itself: of `memory` each tenth line of a process is answered
 // 15 once, of `short` a line that says so as long as its file is there, of `astray` such a line is taken for another
 // one, of `dump` a process that is told the lines of a dump tells another one, of `busy` a line that says so takes
-// long, of `slow` a while, of `otherwise` an edit of the rota is refused where requests were asked.
+// long, of `slow` a while, of `load` each edit, of which replies leave when no more lines are there, of `otherwise` an edit of the rota is refused where requests were asked.
 func fake(how string, words []string) int {
 	behind := exec.Command(os.Getenv("REVIEW_PROGRAM"), words...)
 	behind.Stderr = os.Stderr
@@ -40,6 +44,7 @@ func fake(how string, words []string) int {
 		return 0
 	}
 	lines, replies := bufio.NewReaderSize(os.Stdin, 1<<21), bufio.NewReaderSize(output, 1<<21)
+	told := bufio.NewWriter(os.Stdout)
 	second, asked := false, false
 	for count := 1; ; count++ {
 		l, err := lines.ReadString('\n')
@@ -62,6 +67,9 @@ func fake(how string, words []string) int {
 		if how == "busy" && strings.Contains(l, "busy") {
 			work(l)
 		}
+		if how == "load" && strings.Contains(l, "load") {
+			workFor(loadTime)
+		}
 		if how == "astray" && strings.Contains(l, "astray") && isScarce() {
 			l = strings.Replace(l, `"values":[1]`, `"values":[2]`, 1)
 		}
@@ -73,7 +81,10 @@ func fake(how string, words []string) int {
 		if how == "dump" && second && strings.Contains(l, `"dump"`) {
 			reply = strings.Replace(reply, `extra-`+"1", `extra-2`, 1)
 		}
-		fmt.Print(reply)
+		_, _ = told.WriteString(reply)
+		if how != "load" || lines.Buffered() == 0 {
+			_ = told.Flush()
+		}
 	}
 }
 
@@ -89,8 +100,20 @@ func work(l string) {
 	if strings.Contains(l, `"can"`) {
 		while *= 10
 	}
-	for began := time.Now(); time.Since(began) < while; {
+	workFor(while)
+}
+
+// workFor works until a processor has worked for it for a while.
+func workFor(while time.Duration) {
+	for began := worked(); worked()-began < while; {
 	}
+}
+
+// worked is how long processors have worked for this process.
+func worked() time.Duration {
+	var used syscall.Rusage
+	_ = syscall.Getrusage(syscall.RUSAGE_SELF, &used)
+	return time.Duration(used.Utime.Nano() + used.Stime.Nano())
 }
 
 // faked is a program that fakes.

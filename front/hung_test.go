@@ -33,7 +33,7 @@ func TestHung(t *testing.T) {
 	s.ask(t, `{"do":"mark"}`)
 	f.accept(`{"do":"person.add","name":"extra"}`)
 	table := f.must("/table")
-	for round, lines := range [][]string{{`{"do":"counts"}`, `{"do":"person.add","name":"more"}`, `{"do":"table"}`}, nil} {
+	for round, lines := range [][]string{{`{"do":"person.add","name":"more"}`, `{"do":"table"}`, `{"do":"counts"}`}, nil} {
 		f.halt()
 		replies := make(chan string, len(lines))
 		for _, l := range lines {
@@ -64,6 +64,53 @@ func TestHung(t *testing.T) {
 		if reply := s.ask(t, `{"do":"notices"}`); strings.Count(reply, `"person":"extra"`) != 60 {
 			t.Errorf("round %d: notices are %.300s", round, reply)
 		}
+	}
+}
+
+// TestHungBehind stops the program over a question: an edit behind it wasn't sent yet, and the next program makes it.
+func TestHungBehind(t *testing.T) {
+	f := begin(t, t.TempDir(), "--reply-time", "2s")
+	f.halt()
+	replies := make(chan string, 2)
+	for _, l := range []string{`{"do":"counts"}`, `{"do":"person.add","name":"more"}`} {
+		go func(l string) {
+			answer, err := http.Post(f.url("/lines"), "", strings.NewReader(l))
+			if err != nil {
+				replies <- err.Error()
+				return
+			}
+			_, body := bodyOf(t, answer)
+			replies <- body
+		}(l)
+		time.Sleep(200 * time.Millisecond)
+	}
+	const made = `{"changes":0,"serial":1}`
+	asked, edited := <-replies, <-replies
+	if edited != made {
+		asked, edited = edited, asked
+	}
+	if !strings.Contains(asked, "ask again") || edited != made {
+		t.Errorf("a question and an edit behind it are answered %s and %s", asked, edited)
+	}
+}
+
+// TestLoad has a program that works for a while on each edit, and holds replies back while there are lines behind: over
+// none of its lines it hangs, though all together take longer than one may.
+func TestLoad(t *testing.T) {
+	theProgram(t)
+	f := begin(t, t.TempDir(), "--reply-time", "500ms", "--program", faked(t, "load"))
+	lines := []string{`{"do":"mark"}`}
+	for i := 0; i < 60; i++ {
+		lines = append(lines, fmt.Sprintf(`{"do":"person.add","name":"load-%d"}`, i))
+	}
+	lines = append(lines, `{"do":"counts"}`, `{"do":"work"}`)
+	for i, reply := range f.lines(lines...) {
+		if _, made := accepted(reply); made != strings.Contains(lines[i], "load") || strings.Contains(reply, "status") {
+			t.Errorf("%s is answered %s", lines[i], reply)
+		}
+	}
+	if got := f.metric(tooLong); got != 0 {
+		t.Errorf("%v programs were ended", got)
 	}
 }
 

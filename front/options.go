@@ -177,8 +177,8 @@ func (o *options) name(set *flag.FlagSet) {
 	set.DurationVar(&o.bodyTime, "body-time", 30*time.Second, "how long a body may take to come, for each 64 KiB of it")
 	set.DurationVar(&o.streamIdle, "stream-idle", time.Hour, "how long a stream of lines may say nothing")
 	set.DurationVar(&o.writeTime, "write-time", 30*time.Second, "how long a client may read nothing of what he is sent")
-	set.DurationVar(&o.replyTime, "reply-time", 30*time.Second, "how long the program may take for a line, or stand "+
-		"still over an edit or a report, before another takes its place; 0: for ever")
+	set.DurationVar(&o.replyTime, "reply-time", 30*time.Second, "how long a line may take of a processor, or the "+
+		"program stand still over it, as it may over an edit or a report alone, before another takes its place; 0: for ever")
 	set.IntVar(&o.askers, "askers", 0, "how many programs beside the table's answer requests")
 	set.DurationVar(&o.tryTime, "try-time", 0, "an edit is told first to a spare program of the same state, and refused "+
 		"where it takes longer there; 0: there is none")

@@ -295,7 +295,7 @@ func (a *asker) again(call *Call) {
 	case call == nil:
 		return
 	case call.run || call.ended >= mostEnded:
-		call.finish(Reply{Err: ErrEnded})
+		call.finish(Reply{Err: ErrAsked})
 		return
 	}
 	a.pass(call)

@@ -34,6 +34,7 @@ func (u *Unavailable) Error() string { return u.Why }
 // The reasons why a line has no reply.
 var (
 	ErrEnded    = &Unavailable{Why: "the program ended before it answered; an edit may have been lost", After: time.Second}
+	ErrAsked    = &Unavailable{Why: "the program ended before it answered; ask again", After: time.Second}
 	ErrJournal  = &Unavailable{Why: "the edit can't be kept: the journal can't be written", After: 5 * time.Second}
 	ErrAfter    = &Unavailable{Why: "an earlier edit couldn't be kept; the program is started anew", After: time.Second}
 	ErrNotReady = &Unavailable{Why: "the program hasn't its state yet", After: time.Second}
@@ -98,6 +99,7 @@ type Call struct {
 	asks    bool
 	unknown bool
 	own     bool // it is the front's own, whose reply isn't kept in a file
+	lasting bool // it is the front's own, and may take long
 	// settle, if there is one, sees the reply when it is handed out, in the order of replies, and may change it.
 	settle  func(*Reply)
 	context context.Context
@@ -303,6 +305,24 @@ func (k *Keeper) Listen() *notices.Listener {
 func (k *Keeper) Return(heard uint64) *notices.Listener {
 	defer k.changed()
 	return k.Notices.Return(heard)
+}
+
+// mayTakeLong says whether the reply may take longer than its time while the program moves: that to an edit, or one that
+// may be as long as the table or what changed.
+func (c *Call) mayTakeLong() bool {
+	switch c.kind {
+	case line.Edit, line.Report, line.Notices, line.Changes:
+		return true
+	}
+	return c.lasting
+}
+
+// lost is what is told of a line to which the program, which ended, gave no reply.
+func (c *Call) lost() error {
+	if c.kind == line.Edit {
+		return ErrEnded
+	}
+	return ErrAsked
 }
 
 // end tells why a line isn't sent, and those behind it.

@@ -38,6 +38,9 @@ type serving struct {
 	over      atomic.Bool // no line is sent any more: the program ended or is being killed
 	telling   atomic.Bool // notices are on their way
 	sent      bool        // a line was sent since it was looked
+	// timed counts the lines on their way whose replies have their time, and answered says that none is left.
+	timed    atomic.Int64
+	answered chan struct{}
 	// unkept and unanswered are edits of a stream whose replies couldn't be kept, and that have none.
 	unkept, unanswered []*Call
 	stopping           <-chan struct{} // closed when the front ends
@@ -58,7 +61,7 @@ func (k *Keeper) serve(ctx, limit context.Context, r *running) reason {
 	defer stop()
 	s := &serving{
 		keeper: k, program: r, flight: make(chan *Call, inFlight), replies: make(chan settled, inFlight),
-		stopping: ctx.Done(),
+		answered: make(chan struct{}, 1), stopping: ctx.Done(),
 	}
 	var both sync.WaitGroup
 	both.Add(2)
@@ -162,12 +165,36 @@ func (s *serving) take(call *Call) {
 		call.end(ErrJournal)
 		return
 	}
+	if call.mayTakeLong() && !s.awaitTimed() {
+		s.keeper.held = append(s.keeper.held, call)
+		return
+	}
 	s.send(call)
 	for _, next := range call.behind {
 		s.send(next)
 	}
 	if call.sequence != 0 && s.keeper.streamed.sums.isDue(call.sequence) {
 		s.own(dumping, func(reply *Reply) { s.keeper.streamed.sums.add(call.sequence, reply.Body) })
+	}
+}
+
+// awaitTimed waits until each line on its way whose reply has its time has it: what may take long isn't sent behind one
+// before, since the program holds a reply back while there are lines behind. It is false where the program ended.
+func (s *serving) awaitTimed() bool {
+	for s.timed.Load() > 0 {
+		_ = s.program.Flush()
+		<-s.answered
+	}
+	return !s.over.Load()
+}
+
+// gone says that a line isn't on its way any more.
+func (s *serving) gone(call *Call) {
+	if !call.mayTakeLong() && s.timed.Add(-1) == 0 {
+		select {
+		case s.answered <- struct{}{}:
+		default:
+		}
 	}
 }
 
@@ -216,6 +243,11 @@ func (k *Keeper) mayEdit() bool {
 // send puts a call among those that wait for replies, and its line into the pipe.
 func (s *serving) send(call *Call) {
 	s.address(call)
+	if call.mayTakeLong() {
+		s.awaitTimed()
+	} else {
+		s.timed.Add(1)
+	}
 	select {
 	case s.flight <- call:
 	default:
@@ -229,7 +261,8 @@ func (s *serving) send(call *Call) {
 
 // own sends a line of the front itself.
 func (s *serving) own(l []byte, settle func(*Reply)) {
-	s.send(&Call{Line: l, settle: settle, reply: make(chan Reply, 1)})
+	kind, _ := line.Read(l)
+	s.send(&Call{Line: l, settle: settle, reply: make(chan Reply, 1), lasting: kind == line.Report})
 }
 
 // changed says that there is something to tell.

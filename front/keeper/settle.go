@@ -19,6 +19,7 @@ func (s *serving) receive() {
 	for call := range s.flight {
 		if dead {
 			s.lose(call)
+			s.gone(call)
 			continue
 		}
 		s.program.call.Store(call)
@@ -38,13 +39,14 @@ func (s *serving) receive() {
 			}
 			s.lose(call)
 		}
+		s.gone(call)
 	}
 }
 
 // lose is for a line to which the program gives no reply. An edit of a stream is told to the next program.
 func (s *serving) lose(call *Call) {
 	if call.sequence == 0 {
-		call.finish(Reply{Err: ErrEnded})
+		call.finish(Reply{Err: call.lost()})
 		return
 	}
 	s.unanswered = anew(s.unanswered, call)

@@ -4,7 +4,6 @@ import (
 	"sync/atomic"
 	"time"
 
-	"review-front/line"
 	"review-front/program"
 	"review-front/spool"
 )
@@ -12,13 +11,18 @@ import (
 // looksInTime is how often it is looked at a program within the time of a reply.
 const looksInTime = 8
 
+// mostAtOnce is of how many lines that are on their way the time counts together at most.
+const mostAtOnce = 8
+
 // watched is a program of which each reply has its time. One that hangs is killed.
 type watched struct {
 	*program.Program
 	keeper *Keeper
+	work   func() program.Work  // what processors do for it
 	time   time.Duration        // how long a reply may take
 	call   atomic.Pointer[Call] // whose reply is due, where that is a client's
 	due    atomic.Bool          // a reply is due
+	sent   atomic.Uint64        // how many lines were sent
 	count  atomic.Uint64        // how many replies came
 	stuck  atomic.Bool          // the program hasn't moved for a while, and a reply is due
 	late   atomic.Bool          // it was killed for that
@@ -30,11 +34,17 @@ func (k *Keeper) start() (*watched, error) {
 	if err != nil {
 		return nil, err
 	}
-	w := &watched{Program: p, keeper: k, time: k.ReplyTime}
+	w := &watched{Program: p, keeper: k, work: p.Work, time: k.ReplyTime}
 	if w.time > 0 {
 		go w.watch()
 	}
 	return w, nil
+}
+
+// Send puts a line into the pipe, or into what is flushed with it later.
+func (w *watched) Send(l []byte) error {
+	w.sent.Add(1)
+	return w.Program.Send(l)
 }
 
 // Receive waits for the next reply.
@@ -60,9 +70,10 @@ func (w *watched) came() {
 // look is what was seen of a program while one reply was due.
 type look struct {
 	count uint64
-	since time.Time // from when on it was due, or the program moved last and that counts
-	busy  uint64    // 0 if the program wasn't looked at yet
-	moved time.Time // when it had moved last
+	at    time.Time
+	took  time.Duration // how long processors had worked for it
+	spent time.Duration // how much of its time the reply has had
+	still time.Duration // how long the program has stood still
 }
 
 // watch looks at the program until it ends. A reply that takes long is waited for while the program moves, if it is
@@ -84,11 +95,11 @@ func (w *watched) watch() {
 			continue
 		}
 		if last == nil || last.count != count {
-			last = &look{count: count, since: time.Now(), moved: time.Now()}
+			last = &look{count: count, at: time.Now(), took: w.work().Took}
 			w.stuck.Store(false)
 			continue
 		}
-		if w.hangs(last) {
+		if w.hangs(last, time.Now()) {
 			w.late.Store(true)
 			w.keeper.Log.Error("a line took too long, and the program is ended", "process", w.ID(), "line", w.shown())
 			w.Kill()
@@ -100,28 +111,46 @@ func (w *watched) watch() {
 // pause is how long it isn't looked.
 func (w *watched) pause() time.Duration { return w.time/looksInTime + 1 }
 
-// hangs looks once more, and says whether the reply has had its time.
-func (w *watched) hangs(last *look) bool {
-	now := time.Now()
-	if busy := w.Busy(); busy > last.busy {
-		last.busy, last.moved = busy, now
-		if w.mayTakeLong() {
-			last.since = now
-		}
+// hangs looks once more, and says whether the reply has had its time. That counts what processors work for the program,
+// and the clock while none does and it doesn't wait for one: on a machine that is busy a reply may take as long as the
+// program comes to no processor. A program that moves takes nothing of the time of a reply that may take long.
+func (w *watched) hangs(last *look, now time.Time) bool {
+	work := w.work()
+	passed, worked := now.Sub(last.at), work.Took-last.took
+	if most := 2 * w.pause(); passed > most {
+		passed = most // the front itself didn't come to look
 	}
-	w.stuck.Store(now.Sub(last.moved) > 2*w.pause())
-	return now.Sub(last.since) >= w.time
+	last.at, last.took = now, work.Took
+	switch {
+	case worked <= 0 && !work.Runs:
+		last.still += passed
+		last.spent += passed
+	case w.mayTakeLong():
+		last.still, last.spent = 0, 0
+	default:
+		last.still = 0
+		last.spent += worked / w.atOnce()
+	}
+	w.stuck.Store(last.still > 3*w.pause()/2)
+	return last.spent >= w.time
 }
 
-// mayTakeLong says whether the reply that is due may take longer than its time while the program moves: that to an
-// edit, a report, or a line of a replay.
+// atOnce is how many lines the program may be working on: it holds a reply back while there are lines behind.
+func (w *watched) atOnce() time.Duration {
+	switch due := w.sent.Load() - w.count.Load(); {
+	case due == 0:
+		return 1 // it is just being sent
+	case due < mostAtOnce:
+		return time.Duration(due)
+	}
+	return mostAtOnce
+}
+
+// mayTakeLong says whether the reply that is due may take longer than its time while the program moves, as those to the
+// lines of a replay.
 func (w *watched) mayTakeLong() bool {
 	call := w.call.Load()
-	if call == nil {
-		return true
-	}
-	kind, _ := line.Read(call.Line)
-	return kind == line.Edit || kind == line.Report || kind == line.Notices
+	return call == nil || call.mayTakeLong()
 }
 
 // shown is the beginning of the line whose reply is due.
