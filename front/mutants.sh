@@ -32,7 +32,12 @@ web/body.go . TestSlowBody s/_ = p\.conn\.SetReadDeadline(.*$//
 web/server.go . TestUnread s/_ = a\.conn\.SetWriteDeadline(.*$//
 web/lines.go . TestWindow s/^\tin\.room(ctx, next\.bytes)$//
 sessions/sessions.go sessions TestDue s/if due == 0 {/if due >= 0 {/
-sessions/sessions.go sessions TestMarks s/if s\.marked && s\.at == t\.oldest {/if false {/
+sessions/order.go sessions TestMarks s/^\tif s\.marked {$/\tif false {/
+sessions/order.go sessions TestOldest s/^\tif o\.none++; o\.none <= len(o\.counts)\/2 {$/\tif true {/
+sessions/sessions.go sessions TestOldest s/^\tif from < t\.order\.from {$/\tif false {/
+sessions/sessions.go sessions TestMany s/^\tif from < t\.order\.from {$/\tif true {/
+sessions/leases.go sessions TestIdle s/l\.idles\.PushBack(held)/l.idles.PushFront(held)/
+sessions/leases.go sessions TestLeases s/^\tif held\.users++; held\.place != nil {$/\tif held.users++; false {/
 keeper/settle.go . TestMarksStay s/^\tk\.mark(batch)$//
 marks/marks.go marks TestTorn s/ || knownBehind(rest, place) {/ {/
 ladder/ladder.go ladder TestNeeded s/ && floor > need && / \&\& /

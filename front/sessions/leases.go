@@ -1,6 +1,7 @@
 package sessions
 
 import (
+	"container/list"
 	"crypto/rand"
 	"encoding/hex"
 	"fmt"
@@ -15,12 +16,15 @@ type Leases struct {
 	kept  Memory
 	mutex sync.Mutex
 	held  map[string]*lease
+	idles *list.List // the leases that nobody uses, in the order in which that began
 }
 
 type lease struct {
+	name   string
 	client *Client
 	users  int
 	used   time.Time
+	place  *list.Element // among those that nobody uses; nil while somebody does
 }
 
 // Memory is told who comes and goes.
@@ -31,7 +35,7 @@ type Memory interface {
 
 // NewLeases are leases that end when nobody used them for a while.
 func NewLeases(table *Table, idle time.Duration, kept Memory) *Leases {
-	return &Leases{table: table, idle: idle, kept: kept, held: map[string]*lease{}}
+	return &Leases{table: table, idle: idle, kept: kept, held: map[string]*lease{}, idles: list.New()}
 }
 
 // Open begins a lease with a session for number 0, and gives its name.
@@ -48,7 +52,7 @@ func (l *Leases) Open() (string, error) {
 	if _, err := client.Take(0); err != nil {
 		return "", err
 	}
-	l.held[name] = &lease{client: client, used: time.Now()}
+	l.hold(name, client, time.Now())
 	l.kept.Remember(name)
 	return name, nil
 }
@@ -62,13 +66,33 @@ func (l *Leases) Use(name string) (client *Client, done func(), ok bool) {
 	if held == nil {
 		return nil, nil, false
 	}
-	held.users++
-	return held.client, func() {
-		l.mutex.Lock()
-		defer l.mutex.Unlock()
-		held.users--
-		held.used = time.Now()
-	}, true
+	if held.users++; held.place != nil {
+		l.idles.Remove(held.place)
+		held.place = nil
+	}
+	return held.client, func() { l.leave(held) }, true
+}
+
+// leave says that somebody doesn't use a lease any more.
+func (l *Leases) leave(held *lease) {
+	l.mutex.Lock()
+	defer l.mutex.Unlock()
+	if held.users--; held.users == 0 && l.held[held.name] == held {
+		l.rest(held, time.Now())
+	}
+}
+
+// hold has a lease that nobody uses.
+func (l *Leases) hold(name string, client *Client, now time.Time) {
+	held := &lease{name: name, client: client}
+	l.held[name] = held
+	l.rest(held, now)
+}
+
+// rest says from when on nobody uses a lease.
+func (l *Leases) rest(held *lease, now time.Time) {
+	held.used = now
+	held.place = l.idles.PushBack(held)
 }
 
 // End ends a lease, and is false where there is none of that name.
@@ -80,7 +104,7 @@ func (l *Leases) End(name string) bool {
 	if held == nil {
 		return false
 	}
-	l.end(name, held)
+	l.end(held)
 	return true
 }
 
@@ -91,20 +115,27 @@ func (l *Leases) Sweep() {
 	l.sweep(time.Now())
 }
 
-// sweep takes over the clients of before a start, for whom time begins anew, and ends leases.
+// sweep takes over the clients of before a start, for whom time begins anew, and ends leases: it looks at those alone
+// that it ends.
 func (l *Leases) sweep(now time.Time) {
 	for name, client := range l.table.Restored() {
-		l.held[name] = &lease{client: client, used: now}
+		l.hold(name, client, now)
 	}
-	for name, held := range l.held {
-		if held.users == 0 && now.Sub(held.used) > l.idle {
-			l.end(name, held)
+	for first := l.idles.Front(); first != nil; first = l.idles.Front() {
+		held := first.Value.(*lease)
+		if now.Sub(held.used) <= l.idle {
+			return
 		}
+		l.end(held)
 	}
 }
 
-func (l *Leases) end(name string, held *lease) {
-	delete(l.held, name)
+func (l *Leases) end(held *lease) {
+	if held.place != nil {
+		l.idles.Remove(held.place)
+		held.place = nil
+	}
+	delete(l.held, held.name)
 	held.client.Close()
-	l.kept.Forget(name)
+	l.kept.Forget(held.name)
 }

@@ -5,7 +5,6 @@ package sessions
 import (
 	"context"
 	"errors"
-	"math"
 	"sync"
 )
 
@@ -21,14 +20,12 @@ type Table struct {
 	most  int
 	held  map[*Session]struct{}
 	back  map[string]*Client // who was there before a start, and hasn't been asked for since
-	// oldest is the serial of the oldest mark, if that is known: looking for it takes time with the sessions.
-	oldest uint64
-	known  bool
+	order *order             // the serials of marks
 }
 
 // NewTable is a table without a mark, which has so many marks, and sessions that may mark, at most.
 func NewTable(most int) *Table {
-	return &Table{most: most, held: map[*Session]struct{}{}, back: map[string]*Client{}}
+	return &Table{most: most, held: map[*Session]struct{}{}, back: map[string]*Client{}, order: newOrder()}
 }
 
 // Client is somebody whose lines name sessions by numbers of his own.
@@ -63,12 +60,11 @@ func (t *Table) Restore(clients map[string]map[int]uint64) {
 		client := t.NewNamed(name)
 		_, _ = client.Take(0) // where there are too many, he has none before others go
 		for number, at := range marks {
-			if session, err := client.Take(number); err == nil {
-				session.marked, session.at = true, at
+			if session, err := client.Marking(number); err == nil {
+				session.Settled(at, true)
 			}
 		}
 		t.mutex.Lock()
-		t.known = false
 		t.back[name] = client
 		t.mutex.Unlock()
 	}
@@ -78,6 +74,9 @@ func (t *Table) Restore(clients map[string]map[int]uint64) {
 func (t *Table) Restored() map[string]*Client {
 	t.mutex.Lock()
 	defer t.mutex.Unlock()
+	if len(t.back) == 0 {
+		return nil
+	}
 	back := t.back
 	t.back = map[string]*Client{}
 	return back
@@ -95,25 +94,18 @@ func (t *Table) Taken() int {
 func (t *Table) Oldest(from, otherwise uint64) uint64 {
 	t.mutex.Lock()
 	defer t.mutex.Unlock()
-	if !t.known || t.oldest < from {
-		t.known, t.oldest = true, math.MaxUint64
+	if from < t.order.from {
+		t.order = newOrder() // some may be missing there
 		for session := range t.held {
-			if session.marked && session.at >= from && session.at < t.oldest {
-				t.oldest = session.at
+			if session.marked {
+				t.order.add(session.at)
 			}
 		}
 	}
-	if t.oldest < otherwise {
-		return t.oldest
+	if oldest := t.order.oldest(from); oldest < otherwise {
+		return oldest
 	}
 	return otherwise
-}
-
-// leave says that a session's mark goes or moves.
-func (t *Table) leave(s *Session) {
-	if s.marked && s.at == t.oldest {
-		t.known = false
-	}
 }
 
 // Take gets a session for a number of the client, if he has none.
@@ -163,7 +155,9 @@ func (c *Client) Close() {
 	defer c.table.mutex.Unlock()
 	c.gone = true
 	for number, session := range c.own {
-		c.table.leave(session)
+		if session.marked {
+			c.table.order.drop(session.at)
+		}
 		delete(c.own, number)
 		delete(c.table.held, session)
 	}
@@ -183,11 +177,10 @@ func (s *Session) Settled(at uint64, marked bool) {
 	defer s.client.table.mutex.Unlock()
 	s.marks--
 	if marked {
-		s.client.table.leave(s)
-		s.marked, s.at = true, at
-		if _, held := s.client.table.held[s]; held && at < s.client.table.oldest {
-			s.client.table.oldest = at
+		if _, held := s.client.table.held[s]; held {
+			s.client.table.order.move(s, at)
 		}
+		s.marked, s.at = true, at
 	}
 	if s.marks == 0 {
 		close(s.moved)

@@ -3,6 +3,7 @@ package sessions
 import (
 	"context"
 	"errors"
+	"reflect"
 	"testing"
 	"time"
 )
@@ -157,5 +158,26 @@ func TestLeases(t *testing.T) {
 	}
 	if !leases.End(other) || leases.End(other) || table.Taken() != 0 || len(kept.came) != 2 || len(kept.gone) != 2 {
 		t.Errorf("a lease isn't ended once, %v", kept)
+	}
+}
+
+// TestIdle opens three leases and uses the first: they end in the order in which they were used last.
+func TestIdle(t *testing.T) {
+	var kept memory
+	leases := NewLeases(NewTable(99), time.Hour, &kept)
+	for i := 0; i < 3; i++ {
+		if _, err := leases.Open(); err != nil {
+			t.Fatal(err)
+		}
+	}
+	_, done, _ := leases.Use(kept.came[0])
+	done()
+	leases.sweep(time.Now())
+	if len(kept.gone) > 0 {
+		t.Errorf("%v have ended", kept.gone)
+	}
+	leases.sweep(time.Now().Add(2 * time.Hour))
+	if want := []string{kept.came[1], kept.came[2], kept.came[0]}; !reflect.DeepEqual(kept.gone, want) {
+		t.Errorf("%v end, and not %v", kept.gone, want)
 	}
 }
