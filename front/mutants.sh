@@ -57,6 +57,20 @@ web/notices.go . TestComesBack s/s\.listener(r\.Header\.Get("Last-Event-ID"))/s.
 web/notices.go . TestBeat s/_, err = w\.Write(\[\]byte(":\\n\\n"))/continue/
 web/opening.go web TestBegin s/accepted = accepted || ok/accepted = accepted \&\& ok/
 web/opening.go . TestNoneAccepted s/g\.closed = g\.closed || g\.taken == 1/g.closed = false/
+web/tally.go . TestCount s/^\tif lines > seen {$/\tif false {/
+web/lines.go . TestCount s/^\t\tin\.ended = err == io\.EOF$/\t\tin.ended = true/
+web/tally.go . TestCount s/^\t\tw\.Header()\.Set("Trailer", countField)$//
+web/tally.go . TestStrict s/case t\.accepted == 0:/case true:/
+web/strict.go . TestStrict s/case strict \&\& asksLong(body):/case false:/
+web/tally.go . TestStrict s/^\tif !t\.how\.strict || t\.wrong == nil {$/\tif true {/
+web/why.go . TestWhy s/; list\.Taken >= list\.Most {/; list.Taken < 0 {/
+web/why.go . TestWhy s/^\tif !r\.raised\[word\] {$/\tif true {/
+web/keyed.go . TestRefusedLog s/^\ts\.refuses(by, l, reply\.Body)$//
+web/how.go . TestRefusedLog s/^\t\ts\.refuses(by, edits.*$//
+web/sessions.go . TestRefusedLog s/^\ts\.refuses(by, \[\]byte(l), reply\.Body)$//
+serve.go . TestRefusedLog s/^\tdefer site\.TellRefused(true)$//
+web/server.go web TestRefusedEvery s/^\t\t\ts\.TellRefused(false)$//
+web/refused.go web TestRefusedEvery s/^\tif row == nil \&\& len(c\.rows) >= mostRefused {$/\tif false {/
 keeper/settle.go . TestKeyed s/use != nil && !line/use == nil \&\& !line/
 keys/file.go keys TestBehind s/if r\.Serial > last {/if false {/
 web/names.go . TestCertificates s/if name == "" {/if false {/

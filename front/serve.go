@@ -85,6 +85,7 @@ func serve(ctx context.Context, again <-chan os.Signal, o options, log *logs.Log
 	})
 	k.Edited = site.Edited
 	go secrets.follow(ctx, again, site, log)
+	defer site.TellRefused(true)
 	server := &http.Server{
 		Handler: site, ConnContext: web.KeepConnection, ErrorLog: log.Standard(),
 		ReadHeaderTimeout: headTime, ReadTimeout: o.bodyTime, IdleTimeout: idleTime, MaxHeaderBytes: headBytes,

@@ -47,6 +47,19 @@ func (l *Limits) Name(option func(place *int, word string, without int, usage st
 	}
 }
 
+// Of is the limit of a word, or 0 where it is none.
+func (l Limits) Of(word string) int {
+	for _, it := range l.each() {
+		if it.word == word {
+			return *it.place
+		}
+	}
+	return 0
+}
+
+// Most is the largest that a program takes of the limit of a word.
+func Most(word string) int { return most.Of(word) }
+
 // Wrong says which of them no program takes, or nothing.
 func (l Limits) Wrong() string {
 	greatest := most.each()

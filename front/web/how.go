@@ -1,6 +1,7 @@
 package web
 
 import (
+	"errors"
 	"fmt"
 	"net/http"
 	"net/url"
@@ -21,9 +22,12 @@ const (
 
 // how is in which way lines are answered.
 type how struct {
-	dry   bool    // it is only told what they would change
-	whole bool    // they are made all together, or none of them
-	known *uint64 // how many edits there are to be before them, if that is said
+	dry    bool    // it is only told what they would change
+	whole  bool    // they are made all together, or none of them
+	strict bool    // the answer is 200 only where each of them was accepted, or answered
+	count  bool    // behind the replies it is told what became of them
+	words  bool    // a refusal says why
+	known  *uint64 // how many edits there are to be before them, if that is said
 }
 
 // howOf reads it from the query and the head, and answers itself where that can't be done: what is meant to change
@@ -32,7 +36,7 @@ func howOf(w http.ResponseWriter, r *http.Request) (how, bool) {
 	var asked how
 	query, err := url.ParseQuery(r.URL.RawQuery)
 	for name, values := range query {
-		known := map[string]*bool{"dry": &asked.dry, "whole": &asked.whole}[name]
+		known := asked.flags()[name]
 		if known == nil || len(values) != 1 || values[0] != "1" {
 			err = fmt.Errorf("the query has the key %q", name)
 			break
@@ -40,7 +44,7 @@ func howOf(w http.ResponseWriter, r *http.Request) (how, bool) {
 		*known = true
 	}
 	if err != nil {
-		bad("lines have a query of dry=1 or whole=1").send(w)
+		bad("lines have a query of dry=1, whole=1, strict=1, count=1 or words=1").send(w)
 		return asked, false
 	}
 	var ok bool
@@ -55,7 +59,16 @@ func howOf(w http.ResponseWriter, r *http.Request) (how, bool) {
 		bad("dry=1 makes nothing, whole or not").send(w)
 		return asked, false
 	}
+	if asked.dry && (asked.strict || asked.count || asked.words) {
+		bad("dry=1 has no replies to lines").send(w)
+		return asked, false
+	}
 	return asked, true
+}
+
+// flags has those that a query may have, by their keys.
+func (h *how) flags() map[string]*bool {
+	return map[string]*bool{"dry": &h.dry, "whole": &h.whole, "strict": &h.strict, "count": &h.count, "words": &h.words}
 }
 
 // knownOf is the serial that a request says in `If-Match`, with or without quotes, or nil.
@@ -73,7 +86,7 @@ func knownOf(w http.ResponseWriter, r *http.Request) (*uint64, bool) {
 }
 
 // whole makes all edits of a body, or none.
-func (s *Server) whole(w *answered, r *http.Request, given []string, known *uint64) {
+func (s *Server) whole(w *answered, r *http.Request, given []string, how how) {
 	body, ok := s.taken(w, r)
 	if !ok {
 		return
@@ -87,11 +100,11 @@ func (s *Server) whole(w *answered, r *http.Request, given []string, known *uint
 		return
 	}
 	make := func(by string, edits [][]byte, use *keys.Use) []keeper.Reply {
-		return s.together(r, by, edits, use, known)
+		return s.together(r, by, edits, use, how.known)
 	}
 	if len(given) > 0 {
 		if replies, told, ok := s.once(w, r, given, edits, make); ok {
-			sendWhole(w, replies, told)
+			s.sendWhole(w, r, how, edits, replies, told)
 		}
 		return
 	}
@@ -112,16 +125,16 @@ func (s *Server) whole(w *answered, r *http.Request, given []string, known *uint
 		}
 		replies = append(replies, reply.Body)
 	}
-	sendWhole(w, replies, nil)
+	s.sendWhole(w, r, how, edits, replies, nil)
 }
 
 // sendWhole answers with the replies to all edits, or the problem for which none is made.
-func sendWhole(w *answered, replies [][]byte, told *problem) {
+func (s *Server) sendWhole(w *answered, r *http.Request, how how, edits, replies [][]byte, told *problem) {
 	if told != nil {
 		told.send(w)
 		return
 	}
-	sendLines(w, replies, nil)
+	s.sendLines(w, r, how, edits, replies, nil)
 }
 
 // together makes edits all together. Where they aren't made the one reply says why.
@@ -141,6 +154,10 @@ func (s *Server) together(r *http.Request, by string, edits [][]byte, use *keys.
 		calls = append(calls, call)
 	}
 	replies, err := s.Keeper.Whole(r.Context(), calls, known)
+	var part *keeper.Part
+	if errors.As(err, &part) {
+		s.refuses(by, edits[part.Number-1], part.Reply)
+	}
 	if err != nil {
 		return []keeper.Reply{{Err: err}}
 	}

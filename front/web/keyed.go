@@ -21,7 +21,7 @@ const (
 )
 
 // keyed answers lines that are edits and have a key.
-func (s *Server) keyed(w *answered, r *http.Request, given []string) {
+func (s *Server) keyed(w *answered, r *http.Request, given []string, how how) {
 	body, ok := s.taken(w, r)
 	if !ok {
 		return
@@ -40,21 +40,34 @@ func (s *Server) keyed(w *answered, r *http.Request, given []string) {
 	if !ok {
 		return
 	}
-	sendLines(w, replies, told)
+	s.sendLines(w, r, how, edits, replies, told)
 }
 
 // sendLines answers with replies as lines, and a problem in the place of that which there is none of.
-func sendLines(w *answered, replies [][]byte, told *problem) {
+func (s *Server) sendLines(w *answered, r *http.Request, how how, edits, replies [][]byte, told *problem) {
+	by, _ := s.who(r)
+	tally := s.newTally(how, by)
+	var body bytes.Buffer
+	for i, reply := range replies {
+		seen := keeper.Reply{Body: reply}
+		tally.sees(edits[i], &seen, nil)
+		body.Write(append(seen.Body, '\n'))
+	}
+	if told != nil {
+		seen := keeper.Reply{Body: told.line()}
+		tally.sees(nil, &seen, told)
+		body.Write(append(seen.Body, '\n'))
+	}
+	tally.ends(len(edits))
+	tally.announce(w)
 	if len(replies) == 0 && told != nil {
 		told.head(w, linesType)
 	} else {
-		w.Header().Set("Content-Type", linesType)
-	}
-	if told != nil {
-		replies = append(replies, told.line())
+		tally.head(w)
 	}
 	// Who has gone isn't told.
-	_, _ = w.Write(append(bytes.Join(replies, []byte("\n")), '\n'))
+	_, _ = w.Write(body.Bytes())
+	tally.tell(w)
 }
 
 // keyedOne answers a line that is an edit and has a key.
@@ -163,5 +176,7 @@ func (s *Server) edit(ctx context.Context, by string, l []byte, use *keys.Use, k
 	if err != nil {
 		return keeper.Reply{Err: err}
 	}
-	return <-answer
+	reply := <-answer
+	s.refuses(by, l, reply.Body)
+	return reply
 }

@@ -26,6 +26,7 @@ const (
 // pending is a line whose reply is due: it comes, or is there.
 type pending struct {
 	call    *keeper.Call
+	line    []byte
 	replies <-chan keeper.Reply
 	there   []byte
 	problem *problem
@@ -52,10 +53,10 @@ func (s *Server) lines(w *answered, r *http.Request, client *sessions.Client) {
 		s.dry(w, r)
 		return
 	case how.whole:
-		s.whole(w, r, given, how.known)
+		s.whole(w, r, given, how)
 		return
 	case len(given) > 0:
-		s.keyed(w, r, given)
+		s.keyed(w, r, given, how)
 		return
 	}
 	by, nobody := s.who(r)
@@ -72,19 +73,19 @@ func (s *Server) lines(w *answered, r *http.Request, client *sessions.Client) {
 	defer cancel()
 	in := &stream{
 		server: s, client: client, by: by, visit: visitIn(r.Context()), out: make(chan pending, window),
-		long: make(chan struct{}, 1), freed: make(chan struct{}, 1), gate: newGate(),
+		long: make(chan struct{}, 1), freed: make(chan struct{}, 1), gate: newGate(), tally: s.newTally(how, by),
 	}
 	if s.Decisions != nil {
 		in.keep = func(l []byte, reply keeper.Reply) { s.keepLine(r, l, reply) }
 	}
-	whole := r.ContentLength >= 0 && r.ContentLength <= shortBody
+	whole := how.strict || r.ContentLength >= 0 && r.ContentLength <= shortBody
+	lines := 0
 	if whole {
-		body, err := s.body(w, r)
-		if err != nil {
-			brokenOff(err).send(w)
+		body, ok := s.short(w, r, how.strict)
+		if !ok {
 			return
 		}
-		in.from = line.NewReader(bytes.NewReader(body))
+		in.from, lines = line.NewReader(bytes.NewReader(body)), linesIn(body)
 	} else {
 		// Replies leave while lines come: such a connection can't be used again.
 		w.Header().Set("Connection", "close")
@@ -94,17 +95,30 @@ func (s *Server) lines(w *answered, r *http.Request, client *sessions.Client) {
 		defer func() { w.unread = !body.ended }()
 		in.from = line.NewReader(body)
 	}
+	in.answer(ctx, cancel, w, r, whole)
+	in.tally.ends(lines)
+	in.tally.unread = !whole && !in.ended
+	in.close(w)
+}
+
+// answer sends lines and writes replies, until there are no more of them.
+func (in *stream) answer(ctx context.Context, cancel func(), w *answered, r *http.Request, whole bool) {
 	done := make(chan struct{})
 	go func() {
 		defer close(done)
 		defer close(in.out)
 		in.send(ctx)
 	}()
-	if err := in.reply(ctx, w); err != nil {
+	in.tally.announce(w)
+	to := w
+	if in.tally.how.strict {
+		to, in.kept = keep(w)
+	}
+	if in.failed = in.reply(ctx, to); in.failed != nil {
 		// The client has gone, or has his answer: what he still sends isn't read.
 		in.gate.end()
 		cancel()
-		if conn := connOf(r); conn != nil && !(whole && err == errOver) {
+		if conn := connOf(r); conn != nil && !(whole && (in.failed == errOver || in.kept != nil)) {
 			_ = conn.SetReadDeadline(time.Unix(1, 0))
 		}
 	}
@@ -112,6 +126,16 @@ func (s *Server) lines(w *answered, r *http.Request, client *sessions.Client) {
 		next.leave()
 	}
 	<-done
+}
+
+// close ends the answer by what became of the lines, and begins it where it was kept until then.
+func (in *stream) close(w *answered) {
+	switch {
+	case in.kept != nil:
+		in.kept.send(w, in.tally, in.failed)
+	case in.failed == nil || in.failed == errOver:
+		in.tally.tell(w)
+	}
 }
 
 // reply writes replies in the order of their lines, and sends them on whenever none is ready.
@@ -127,11 +151,12 @@ func (in *stream) reply(ctx context.Context, w *answered) error {
 	}
 	in.flush(w)
 	for next := range in.out {
-		reply, _ := next.wait(ctx)
+		reply, told := next.wait(ctx)
 		if err := ctx.Err(); err != nil {
 			reply.Drop()
 			return err
 		}
+		in.tally.see(next.line, &reply, told)
 		if _, err := reply.WriteTo(w); err != nil {
 			return err
 		}
@@ -194,6 +219,10 @@ type stream struct {
 	bytes  atomic.Int64  // of lines that are on their way
 	freed  chan struct{} // says that there is more room
 	gate   *gate
+	tally  *tally
+	ended  bool                       // the client's end came; once nothing more is sent
+	kept   *kept                      // the answer, where its status waits for all replies
+	failed error                      // why it has no end, or ended with its first line
 	keep   func([]byte, keeper.Reply) // writes down what a line decided; may be nil
 }
 
@@ -225,7 +254,8 @@ func (in *stream) free(written pending) {
 func (in *stream) send(ctx context.Context) {
 	for ctx.Err() == nil {
 		l, err := in.from.Next()
-		if err == io.EOF || !in.gate.pass() {
+		in.ended = err == io.EOF
+		if in.ended || !in.gate.pass() {
 			return
 		}
 		switch err {
@@ -256,7 +286,7 @@ func (in *stream) send(ctx context.Context) {
 
 // submit puts a line on its way once there is room for it, if whoever sends it may then: waiting may take long.
 func (in *stream) submit(ctx context.Context, l []byte) pending {
-	next := pending{long: keeper.IsLong(l), bytes: int64(len(l))}
+	next := pending{line: l, long: keeper.IsLong(l), bytes: int64(len(l))}
 	in.room(ctx, next.bytes)
 	if next.long {
 		select {

@@ -30,8 +30,11 @@ var operations = map[string]operation{
 	"GET /":             telling("Lists the paths.", "paths"),
 	"GET /openapi.json": telling("Describes the paths.", "openapi"),
 	"POST /lines": {
-		does:  "Answers commands, one in each line; with dry tells what they change, with whole makes all or none.",
-		takes: []string{linesType}, gives: []string{linesType}, query: []string{"dry", "whole"},
+		does: "Answers commands, one in each line. With dry it tells what they change, with whole it makes all or none. " +
+			"With strict the status says whether each was accepted, with count a last line and the field Review-Count behind " +
+			"it how many were, and with words a refusal says why.",
+		takes: []string{linesType}, gives: []string{linesType},
+		query: []string{"dry", "whole", "strict", "count", "words"},
 	},
 	"POST /commands/{command}": taking("Sends one command.", ""),
 	"GET /notices":             {does: "Tells what edits change, as it happens.", gives: []string{"text/event-stream"}},

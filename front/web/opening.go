@@ -83,6 +83,7 @@ func (in *stream) begin(ctx context.Context, w *answered, first pending) error {
 		reply.Drop()
 		return err
 	}
+	in.tally.see(first.line, &reply, told)
 	if told == nil {
 		w.Header().Set("Content-Type", linesType)
 		_, err := reply.WriteTo(w)
@@ -125,8 +126,11 @@ func drop(replies []keeper.Reply) {
 func (in *stream) behind(ctx context.Context) (replies []keeper.Reply, accepted bool) {
 	for due := in.gate.shut() - 1; due > 0 && ctx.Err() == nil; due-- {
 		next := <-in.out
-		reply, _ := next.wait(ctx)
+		reply, told := next.wait(ctx)
 		in.free(next)
+		if ctx.Err() == nil {
+			in.tally.see(next.line, &reply, told)
+		}
 		_, ok := line.ReadAccepted(reply.Body)
 		accepted = accepted || ok
 		replies = append(replies, reply)

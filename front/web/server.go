@@ -39,6 +39,8 @@ type Options struct {
 	Rights      *rights.Judge    // who may send which line, beside his roles; nil: his roles alone count
 	DryTime     time.Duration    // how long it may take to tell what lines would change
 	Beat        time.Duration    // how often a listener hears something; 0: as Beat says
+	// RefusedEvery is how often it is logged what was refused; 0: each minute.
+	RefusedEvery time.Duration
 }
 
 // Server answers requests.
@@ -54,6 +56,7 @@ type Server struct {
 	stopping chan struct{}   // closed when streams have to end
 	stopped  sync.Once
 	leaving  atomic.Bool // the front ends soon
+	refusals refusalCount
 }
 
 // New makes a server.
@@ -64,6 +67,9 @@ func New(options Options) *Server {
 	s := &Server{Options: options, metrics: options.Meter.Handler()}
 	if s.Beat == 0 {
 		s.Beat = Beat
+	}
+	if s.RefusedEvery == 0 {
+		s.RefusedEvery = refusedEvery
 	}
 	s.leases = sessions.NewLeases(options.Keeper.Sessions, options.SessionIdle, options.Keeper)
 	s.known = s.routes()
@@ -84,16 +90,20 @@ func (s *Server) Leave() { s.leaving.Store(true) }
 // Stop ends streams: lines that came whole are answered, and no more are read.
 func (s *Server) Stop() { s.stopped.Do(func() { close(s.stopping) }) }
 
-// Sweep gives back sessions that nobody uses, until the context is done.
+// Sweep gives back sessions that nobody uses, and logs what was refused, until the context is done.
 func (s *Server) Sweep(ctx context.Context) {
 	tick := time.NewTicker(time.Second)
 	defer tick.Stop()
+	told := time.NewTicker(s.RefusedEvery)
+	defer told.Stop()
 	for {
 		select {
 		case <-ctx.Done():
 			return
 		case <-tick.C:
 			s.leases.Sweep()
+		case <-told.C:
+			s.TellRefused(false)
 		}
 	}
 }

@@ -97,5 +97,6 @@ func (s *Server) one(w *answered, r *http.Request, client *sessions.Client, l st
 	call.Known = known
 	reply := s.Keeper.Send(r.Context(), call)
 	s.keepLine(r, []byte(l), reply)
+	s.refuses(by, []byte(l), reply.Body)
 	sendReply(w, reply)
 }
