@@ -85,10 +85,8 @@ func TestOldest(t *testing.T) {
 				clients = append(clients[:at], clients[at+1:]...)
 			}
 		case 2:
-			from += uint64(random.Intn(3))
-		case 3:
-			if random.Intn(50) == 0 {
-				from /= 2
+			if before := uint64(random.Intn(30)); before < serial {
+				from = serial - before // which may be before what it was
 			}
 		default:
 			if len(clients) > 0 {
