@@ -58,7 +58,7 @@ web/notices.go . TestBeat s/_, err = w\.Write(\[\]byte(":\\n\\n"))/continue/
 web/opening.go web TestBegin s/accepted = accepted || ok/accepted = accepted \&\& ok/
 web/opening.go . TestNoneAccepted s/g\.closed = g\.closed || g\.taken == 1/g.closed = false/
 web/tally.go . TestCount s/^\tif lines > seen {$/\tif false {/
-web/lines.go . TestCount s/^\t\tin\.ended = err == io\.EOF$/\t\tin.ended = true/
+web/lines.go . TestCount s/^\tin\.tally\.unread = .*$/\tin.tally.unread = false/
 web/tally.go . TestCount s/^\t\tw\.Header()\.Set("Trailer", countField)$//
 web/tally.go . TestStrict s/case t\.accepted == 0:/case true:/
 web/strict.go . TestStrict s/case strict \&\& asksLong(body):/case false:/
