@@ -69,7 +69,7 @@ web/keyed.go . TestRefusedLog s/^\ts\.refuses(by, l, reply\.Body)$//
 web/how.go . TestRefusedLog s/^\t\ts\.refuses(by, edits.*$//
 web/sessions.go . TestRefusedLog s/^\ts\.refuses(by, \[\]byte(l), reply\.Body)$//
 serve.go . TestRefusedLog s/^\tdefer site\.TellRefused(true)$//
-web/server.go web TestRefusedEvery s/^\t\t\ts\.TellRefused(false)$//
+web/refused.go web TestRefusedEvery s/^\t\t\ts\.TellRefused(false)$//
 web/refused.go web TestRefusedEvery s/^\tif row == nil \&\& len(c\.rows) >= mostRefused {$/\tif false {/
 keeper/settle.go . TestKeyed s/use != nil && !line/use == nil \&\& !line/
 keys/file.go keys TestBehind s/if r\.Serial > last {/if false {/

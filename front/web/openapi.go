@@ -43,7 +43,8 @@ var operations = map[string]operation{
 	},
 	"DELETE /sessions/{session}": {does: "Ends a session.", done: http.StatusNoContent},
 	"POST /sessions/{session}/lines": {
-		does: "Answers commands within a session.", takes: []string{linesType}, gives: []string{linesType},
+		does: "Answers commands within a session, as /lines does.", takes: []string{linesType}, gives: []string{linesType},
+		query: []string{"dry", "whole", "strict", "count", "words"},
 	},
 	"POST /sessions/{session}/mark":          telling("Marks the table for a session.", "mark"),
 	"GET /sessions/{session}/notices":        telling("Tells what changed since a session's mark.", "notices"),

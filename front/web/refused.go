@@ -1,6 +1,7 @@
 package web
 
 import (
+	"context"
 	"sync"
 	"time"
 
@@ -96,5 +97,19 @@ func (s *Server) TellRefused(ended bool) {
 	}
 	if more > 0 {
 		s.Log.Info("lines of others were refused", "lines", more)
+	}
+}
+
+// tellRefusals does so from time to time, until the context is done.
+func (s *Server) tellRefusals(ctx context.Context) {
+	tick := time.NewTicker(s.RefusedEvery)
+	defer tick.Stop()
+	for {
+		select {
+		case <-ctx.Done():
+			return
+		case <-tick.C:
+			s.TellRefused(false)
+		}
 	}
 }

@@ -94,16 +94,13 @@ func (s *Server) Stop() { s.stopped.Do(func() { close(s.stopping) }) }
 func (s *Server) Sweep(ctx context.Context) {
 	tick := time.NewTicker(time.Second)
 	defer tick.Stop()
-	told := time.NewTicker(s.RefusedEvery)
-	defer told.Stop()
+	go s.tellRefusals(ctx)
 	for {
 		select {
 		case <-ctx.Done():
 			return
 		case <-tick.C:
 			s.leases.Sweep()
-		case <-told.C:
-			s.TellRefused(false)
 		}
 	}
 }
