@@ -35,19 +35,14 @@ try:
 except ImportError:
     sys.exit('xacml.py: it needs lxml (python3-lxml of Debian)')
 from xacml_form import back, bringing, cautions, checked, places, requests
+from xacml_form.shown import indented, reference_to, shown, write_lines
 
 SCHEMA = pathlib.Path(__file__).resolve().parent / 'xacml_form' / 'xacml.rng'
-MOST_OF_A_LINE = 1048576
 
 
 def say(*lines):
     for line in lines:
         print(line, file=sys.stderr)
-
-
-def shown(value):
-    """JSON on one line, as short as it can be."""
-    return json.dumps(value, ensure_ascii=False, separators=(',', ':'))
 
 
 def bytes_of(file):
@@ -78,17 +73,6 @@ def declared_in(file):
     """The list of declared attributes of a file."""
     with open(file, encoding='utf-8') as source:
         return cautions.Declared(json.load(source)['Attributes'])
-
-
-def reference_to(found, documents):
-    """The reference to the document of an id, by the kind of the one that has it."""
-    kinds = [kind for document in documents for kind, body in document.items() if body.get(f'{kind}Id') == found]
-    return {f'{kinds[-1]}IdReference': {'Id': found}} if kinds else None
-
-
-def indented(document):
-    """A document as it stands in a file."""
-    return json.dumps(document, ensure_ascii=False, indent=2) + '\n'
 
 
 def policy(options):
@@ -130,12 +114,8 @@ def write(options, kept):
     root = options.root and reference_to(options.root, documents)
     if options.root and root is None:
         say(f'xacml.py: no file has a policy or a set with the id {options.root}')
-    lines = [{'do': 'policy.add', 'document': document} for document in documents]
-    lines += [{'do': 'root.set', 'reference': root}] if root else []
-    for line in lines if options.lines else []:
-        print(shown(line))
-        if len(shown(line).encode()) > MOST_OF_A_LINE:
-            say(f'xacml.py: a line of more than {MOST_OF_A_LINE} bytes, which the service refuses')
+    if options.lines:
+        write_lines(documents, root, lambda what: say(f'xacml.py: {what}'))
     return root is not None if options.root else True
 
 

@@ -1,5 +1,6 @@
 """Documents of the service, from JSON to XML whose elements stand in the order of the standard's schema."""
 from . import literals, names, requests, schema
+from .normal import full_literal, full_type, normal  # noqa: F401
 from .requests import Unwritten
 
 
@@ -20,39 +21,6 @@ def element(parent, name, text=None, **attributes):
         if known.form == 'uri' and value is not None and schema.value(known, value) != value:
             raise Unwritten(f'{name}: the white space of {value[:40]!r} stands in no URI')
     return requests.element(parent, name, text, **attributes)
-
-
-def normal(json):
-    """A document as the service writes it: types in full, MustBePresent always, booleans and integers as JSON, no empty
-    lists."""
-    if isinstance(json, list):
-        return [normal(each) for each in json]
-    if not isinstance(json, dict):
-        return json
-    if set(json) <= {'DataType', 'Value'} and 'Value' in json:
-        return _literal(json)
-    made = {key: normal(value) for key, value in json.items()}
-    if 'DataType' in made:
-        made['DataType'] = _full(made['DataType'])
-        made.setdefault('MustBePresent', False)
-    if 'Target' in made and not made['Target'].get('AnyOf'):
-        del made['Target']
-    return {key: value for key, value in made.items() if value != []}
-
-
-def _full(name):
-    return names.XML_SCHEMA + name if name in names.TYPES else name
-
-
-def _literal(json):
-    value = json['Value']
-    kind = 'boolean' if isinstance(value, bool) else 'integer' if isinstance(value, int) else 'string'
-    uri = _full(json.get('DataType', kind))
-    if isinstance(value, str) and uri == names.XML_SCHEMA + 'boolean':
-        value = value in ('true', '1')
-    elif isinstance(value, str) and uri == names.XML_SCHEMA + 'integer':
-        value = int(value)
-    return {'DataType': uri, 'Value': value}
 
 
 def _only(json, pointer, allowed):
@@ -162,7 +130,7 @@ def _expression(parent, json, pointer):
     if name == 'AttributeValue':
         if not isinstance(body, dict) or not isinstance(body.get('Value'), (str, bool, int)):
             raise NoDocument(f'{inner}/Value: a text, true, false or a whole number')
-        found = _literal(body)
+        found = full_literal(body)
         element(parent, name, literals.text_of(found['DataType'], found['Value']), DataType=found['DataType'])
     elif name == 'AttributeDesignator':
         element(
@@ -170,7 +138,7 @@ def _expression(parent, json, pointer):
             name,
             Category=_part(body, 'Category', inner),
             AttributeId=_part(body, 'AttributeId', inner),
-            DataType=_full(_part(body, 'DataType', inner)),
+            DataType=full_type(_part(body, 'DataType', inner)),
             Issuer=body.get('Issuer'),
             MustBePresent='true' if body.get('MustBePresent') else 'false',
         )

@@ -5,8 +5,7 @@ import re
 import subprocess
 import tempfile
 
-from .elements import Placed
-from .places import FAULT, WARNING
+from .told import FAULT, WARNING, Placed
 
 LINE = re.compile(r'(?:(/\S*): (?:line \d+, column \d+: )?)?(.*)', re.DOTALL)
 

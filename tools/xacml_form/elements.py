@@ -1,18 +1,9 @@
-"""What the readers of policies and requests share: elements that the grammar has passed, and objects that know where
-they stood."""
+"""What the readers of policies and requests share: elements that the grammar has passed."""
 from lxml import etree
 
 from . import schema
 from .grammar import SILENT, XML
-from .places import BY_HAND, IMPOSSIBLE, REWRITTEN
-
-
-class Placed(dict):
-    """An object of a document, which knows the place of the element that it was made of, and of its attributes."""
-
-    def __init__(self, place, place_of, parts):
-        super().__init__(parts)
-        self.place, self.place_of = place, place_of
+from .told import BY_HAND, IMPOSSIBLE, REWRITTEN, Placed
 
 
 class Elements:

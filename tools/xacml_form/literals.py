@@ -3,7 +3,7 @@ import datetime
 import re
 
 from . import names
-from .places import BY_HAND, IMPOSSIBLE, REWRITTEN
+from .told import BY_HAND, IMPOSSIBLE, REWRITTEN
 
 XS = names.XML_SCHEMA
 # What becomes of a value, where that is known: it is compared, or given back in obligations, advice or a response.
@@ -49,7 +49,7 @@ def value(uri, text, place, told, use=None):
             told.times.append((place, text))
         elif text.endswith('Z'):
             told.tell(REWRITTEN, place, f'the {kind} {text[:60]}', 'a Z means nothing here: it is given back without')
-    why = _READERS.get(kind, lambda _: None)(text)
+    why = why_not(kind, text)
     if kind == 'dateTime' and why == NO_OFFSETS and use == COMPARED:
         moment = in_utc(text)
         if moment is not None:
@@ -67,6 +67,11 @@ def value(uri, text, place, told, use=None):
     if kind == 'boolean':
         return text in ('true', '1')
     return int(text) if kind == 'integer' else text
+
+
+def why_not(kind, text):
+    """Why a text is no value of a type here; None where it is one."""
+    return _READERS.get(kind, lambda _: None)(text)
 
 
 def text_of(uri, json_value):

@@ -1,9 +1,10 @@
-"""XML read safely, and where each of its elements begins; what is told of a file."""
-import collections
+"""XML read safely, and where each of its elements begins."""
 import pyexpat
 import re
 
 from lxml import etree
+
+from .told import BY_HAND, FAULT, IMPOSSIBLE, INVALID, REWRITTEN, TIMES, UNREAD, WARNING, Told  # noqa: F401
 
 MOST_BYTES = 16 * 1024 * 1024
 MOST_LEVELS = 200
@@ -12,53 +13,12 @@ MOST_TEXT = 32 * 1024 * 1024
 TAG = re.compile(rb'<[^\s/>]+')
 ATTRIBUTE = re.compile(rb'\s+([^\s=>/]+)\s*=\s*(?:"[^"]*"|\'[^\']*\')')
 
-# What is told is one of these; of a file with one of the second line no document is written.
-REWRITTEN, TIMES, WARNING = 'rewritten', 'times', 'warning'
-BY_HAND, IMPOSSIBLE, INVALID, UNREAD, FAULT = 'by hand', 'impossible', 'not XACML 3.0', 'not read', 'fault'
-
-
 class NotRead(Exception):
     """A file that can't be read as XML, with the place where that shows."""
 
     def __init__(self, why, line=1, column=1):
         super().__init__(why)
         self.why, self.line, self.column = why, line, column
-
-
-class Told:
-    """What is told of one file: each thing once, with how often and where it stands; and the places of the dates and
-    times that aren't only given back, each with its text."""
-
-    def __init__(self, file):
-        self.file = file
-        self.things = collections.OrderedDict()
-        self.times = []
-
-    def tell(self, weight, place, what, how=''):
-        """Notes a thing at a place, and what can be done. The same thing at another place is counted."""
-        self.things.setdefault((weight, what, how), {})[place] = None
-
-    def holds(self, *weights):
-        """Whether something of one of these weights was told."""
-        return any(weight in weights for weight, _, _ in self.things)
-
-    def stops(self):
-        """Whether something stands there that isn't here, so that no document is written."""
-        return self.holds(BY_HAND, IMPOSSIBLE, INVALID, UNREAD, FAULT)
-
-    def lines(self):
-        """A line for each thing, by the place where it stands first: the file, that place, what it is, how often, and
-        what can be done."""
-        told = []
-        for (weight, what, how), found in self.things.items():
-            places = list(found)
-            line, column = places[0]
-            most = 6 if weight in (REWRITTEN, BY_HAND, IMPOSSIBLE) else len(places)
-            also = ', '.join(f'{a}:{b}' for a, b in places[1:most]) + (' ..' if len(places) > most else '')
-            often = f' ({len(places)} times: also {also})' if len(places) > 1 else ''
-            said = f'{self.file}:{line}:{column}: {weight}: {what}{often}' + (f': {how}' if how else '')
-            told.append((places[0], said))
-        return [line for _, line in sorted(told, key=lambda each: each[0])]
 
 
 class Places(dict):
