@@ -11,6 +11,7 @@ EFFECTS = {'permit': 'Permit', 'deny': 'Deny'}
 # sign is turned.
 TURNED = {'==': '==', '>': '<', '>=': '<=', '<': '>', '<=': '>='}
 TAG = re.compile(r'@(version|earliest|latest)\s+(\S+)\s*')
+TAGS = re.compile(rf'({TAG.pattern})+')
 GIVEN = {'obligation': ('ObligationExpressions', 'ObligationId', 'FulfillOn'),
          'advice': ('AdviceExpressions', 'AdviceId', 'AppliesTo')}
 TO_CONDITION = 'a target compares an attribute with a literal; the rest is for `condition`'
@@ -30,12 +31,12 @@ class Documents(Meaning):
             return None, {}
         lines = [re.sub(r'^[ \t]*\*? ?', '', line).rstrip() for line in re.split(r'\r\n|\r|\n', ' ' + doc[0])]
         tags = {}
-        for found in filter(None, map(TAG.fullmatch, lines)):
-            if found[1] not in keys:
-                self.told.error(doc[1], f'`@{found[1]}` says nothing here')
-            tags[found[1]] = found[2]
-            self.told.note(doc[1], f'`@{found[1]}` in a comment is taken as it stands: a form of this tool alone')
-        text = '\n'.join(line for line in lines if not TAG.fullmatch(line)).strip()
+        for key, value in (found for line in lines if TAGS.fullmatch(line) for found in TAG.findall(line)):
+            if key not in keys:
+                self.told.error(doc[1], f'`@{key}` says nothing here')
+            tags[key] = value
+            self.told.note(doc[1], f'`@{key}` in a comment is taken as it stands: a form of this tool alone')
+        text = '\n'.join(line for line in lines if not TAGS.fullmatch(line)).strip()
         return text or None, tags
 
     def described(self, node, parts, keys=()):
@@ -221,7 +222,8 @@ class Documents(Meaning):
         name = library.camel(f'{attribute.kind}-{ORDERS[sign]}')
         if literal.kind != attribute.kind or name not in library.FUNCTIONS:
             what = f'no function compares {literal.kind} with {attribute.kind} so'
-            return self.told.error(node.place, what)
+            return self.told.error(node.place, what + (f': {library.instead(library.F1(f"{attribute.kind}-equal"))}'
+                                                       if attribute.kind not in names.BAGGED else ''))
         return self.matched(node.place, library.FUNCTIONS[name].uri, literal, attribute)
 
     def match_by_function(self, node, block):

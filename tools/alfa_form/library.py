@@ -98,6 +98,11 @@ def _missing():
 MISSING = _missing()
 
 
+def instead(function):
+    """What can be done about a function that isn't here."""
+    return names.how_without(function).removeprefix('by hand: ').removeprefix(names.IMPOSSIBLE + ': ')
+
+
 def _algorithms():
     found = {}
     for kind, uris in names.HERE_ALGORITHMS.items():

@@ -69,7 +69,7 @@ class Meaning:
             return self.valued(node.place, 'boolean', node.text == 'true')
         if node.kind == 'number':
             if '.' in node.text:
-                return self.missing_type(node.place, f'`{node.text}` is a double', library.TYPES['double'])
+                return self.missing_type(node.place, f'`{node.text}` is a double, which', library.TYPES['double'])
             if why := literals.why_not('integer', node.text):
                 return self.wrong(node.place, why.removeprefix('by hand: '))
             return self.valued(node.place, 'integer', int(node.text))
@@ -89,7 +89,7 @@ class Meaning:
     def missing_type(self, place, what, uri):
         """Tells of a type that isn't here what can be done."""
         how = names.MISSING_TYPES.get(uri, 'store what it finds as an attribute')
-        return self.wrong(place, f'{what}, which isn\'t here: {how}')
+        return self.wrong(place, f'{what} isn\'t here: {how}')
 
     def type(self, name, block):
         """The type that a name means; None, and told, where it isn't here."""
@@ -115,7 +115,7 @@ class Meaning:
         if uri in names.HERE_TYPES:
             category = self.world.uri('category', found.category, found.block)
             return names.HERE_TYPES[uri], category, found.id.text
-        self.missing_type(name.place, f'`{name.text}` is of the type `{found.type.text}`', uri)
+        self.missing_type(name.place, f'`{name.text}` is of the type `{found.type.text}`, which', uri)
         return None
 
     def is_uri(self, found):
@@ -151,13 +151,13 @@ class Meaning:
             uri = found.uri.text
             known = {**library.NAME_OF, **{uri: each for each, uri in library.REWRITTEN.items()}}
             if uri not in known:
-                what = f'the function `{name.text}` ({uri}) isn\'t here: '
-                self.told.error(name.place, what + names.how_without(uri).removeprefix('by hand: '))
+                what = f'the function `{name.text}` ({uri}) isn\'t here: {library.instead(uri)}'
+                self.told.error(name.place, what)
             return known.get(uri)
         if found in library.MISSING:
             uri = library.MISSING[found]
-            what = f'the function {uri.rpartition(":")[2]} isn\'t here: '
-            self.told.error(name.place, what + names.how_without(uri).removeprefix('by hand: '))
+            what = f'the function {uri.rpartition(":")[2]} isn\'t here: {library.instead(uri)}'
+            self.told.error(name.place, what)
             return None
         return found
 
@@ -267,7 +267,7 @@ class Meaning:
             return self.wrong(place, f'`{sign}` compares values of one type, not {left.kind} with {right.kind}')
         name, kind = f'{left.kind}-{ORDERS[sign]}', left.kind
         if library.camel(name) not in library.FUNCTIONS:
-            how = '' if kind in names.BAGGED else ': ' + names.how_without(name).removeprefix('by hand: ')
+            how = '' if kind in names.BAGGED else f': {library.instead(library.F1(name))}'
             return self.wrong(place, f'no function compares {kind} with {kind} by `{sign}`{how}')
         uri = library.F1(name)
         if not left.is_bag and not right.is_bag:

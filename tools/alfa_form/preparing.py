@@ -4,11 +4,12 @@ import re
 
 from xacml_form import names
 
+from .documents import TAGS
+
 # What changes a document and not what it means, and what ALFA can't say.
 OTHERWISE, UNSAID = 'otherwise', 'not in ALFA'
 MOST_NODES = 65536
 GIVEN = {'ObligationExpressions': 'FulfillOn', 'AdviceExpressions': 'AppliesTo'}
-TAG = re.compile(r'@(version|earliest|latest)\s+\S+\s*')
 
 
 class Unsayable(Exception):
@@ -60,10 +61,10 @@ class Preparing:
     def described(self, made, pointer):
         """A Description that a comment can hold."""
         text = made.get('Description')
-        if text is not None and sayable(text) != text:
+        if text is not None and (sayable(text) != text or not text):
             made['Description'] = sayable(text)
-            self.tell(OTHERWISE, pointer, 'the Description comes back otherwise: a comment has no `*/`, no white space'
-                      ' around its lines, and no line that begins with @version')
+            self.tell(OTHERWISE, pointer, 'the Description comes back otherwise: a comment isn\'t empty, and has no'
+                      ' `*/`, no white space around its lines and no line that begins with @version')
         if made.get('Description') == '':
             del made['Description']
 
@@ -132,7 +133,7 @@ class Variables:
 def sayable(text):
     """A Description as a comment can hold it."""
     lines = [line.strip() for line in re.split(r'\r\n|\r|\n', text.replace('*/', '* /'))]
-    return '\n'.join(line for line in lines if not TAG.fullmatch(line)).strip()
+    return '\n'.join(line for line in lines if not TAGS.fullmatch(line)).strip()
 
 
 def kind_of(uri):

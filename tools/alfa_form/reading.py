@@ -14,7 +14,8 @@ class Reader:
     """Tokens, and which of them is next."""
 
     def __init__(self, tokens, told):
-        self.tokens, self.told, self.at, self.levels, self.is_ended = tokens, told, 0, 0, False
+        self.tokens, self.told, self.at, self.levels = tokens, told, 0, 0
+        self.is_ended, self.last = False, None
 
     @property
     def here(self):
@@ -42,8 +43,10 @@ class Reader:
         return 'a text' if self.sees(TEXT) else f'`{self.here.text}`'
 
     def fault(self, what):
-        """Tells a fault at the next token."""
-        self.told.error(self.here.place, what)
+        """Tells a fault at the next token, where none was told."""
+        if self.here.place != self.last:
+            self.told.error(self.here.place, what)
+        self.last = self.here.place
 
     def fail(self, what):
         """Tells a fault, and gives up the part that is being read."""

@@ -4,7 +4,7 @@ from .reading import MOST_LEVELS, Reader
 from .tokens import KEYWORD, NAME, NUMBER, SIGN, TEXT
 
 COMPARISONS = ('==', '>', '>=', '<', '<=')
-NEXT = ('rule', 'policy', 'policyset', 'target', 'apply', 'condition', 'permit', 'deny', 'on', 'obligation', 'advice')
+NAMELIKE = ('category', 'type', 'clause', 'infix')
 
 
 class Expressions(Reader):
@@ -82,17 +82,19 @@ class Expressions(Reader):
             return self.named_function()
         if token.kind == NAME or token.text in ('and', 'or') and self.tokens[self.at + 1].text == '(':
             return self.named()
-        return self.none(token)
+        return self.nothing(token)
 
-    def none(self, token):
-        """Where no expression begins."""
+    def nothing(self, token):
+        """Where no expression begins; a keyword that was perhaps meant as a name is passed over."""
         if self.sees(SIGN, '!'):
             self.fail('there is no `!`: write not(..)')
         if self.sees(SIGN, '-'):
             self.fail('only a number has a sign in front: write 0 - x')
-        if token.kind == KEYWORD and token.text not in NEXT:
-            self.fail(f'an expression is expected, and `{token.text}` is a keyword: `^{token.text}` is a name')
-        self.fail(f'an expression is expected, and not {self.shown()}')
+        if token.kind == KEYWORD and token.text in NAMELIKE:
+            self.fault(f'an expression is expected, and `{token.text}` is a keyword: `^{token.text}` is a name')
+            self.take()
+            return tree.Unread(token.place)
+        return self.fail(f'an expression is expected, and not {self.shown()}')
 
     def of_text(self):
         """A text, perhaps with its type behind a colon."""

@@ -7,7 +7,7 @@ OF_POLICY = {'target', 'apply', 'rule', 'policy', 'policyset', 'on', 'condition'
 OF_RULE = {'target', 'permit', 'deny', 'condition', 'on'}
 # What stands in a namespace alone, and what stands in no rule and in nothing that is given.
 OUTER = {'namespace', 'import', 'attribute', 'category', 'type', 'infix'}
-NO_RULE = OUTER | {'policy', 'policyset', 'rule', 'apply'}
+NO_RULE = OUTER | {'policy', 'policyset', 'rule'}
 NOT_GIVEN = NO_RULE | {'target', 'permit', 'deny', 'condition', 'on'}
 
 

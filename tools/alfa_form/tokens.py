@@ -13,6 +13,10 @@ KEYWORDS = {
 }
 SIGNS = ['->', '==', '!=', '>=', '<=', '&&', '||', *'{}[]().,:=<>+-*/%!']
 WORD = re.compile(r'[A-Za-z_][A-Za-z0-9_]*')
+SPACE = re.compile(r'\s+')
+LINE = re.compile(r'[^\r\n]*')
+# What stands in a text up to its quote, a backslash or the end of its line.
+PLAIN = {quote: re.compile(rf'[^{quote}\\\r\n]*') for quote in '"\''}
 DIGITS = re.compile(r'\d+(\.\d+)?', re.ASCII)
 # What Java, and so other tools, read behind a backslash as a sign of another kind.
 OTHERWISE = 'bfnrtu'
@@ -54,20 +58,20 @@ class Tokens:
     def next(self):
         """Takes what stands at this place."""
         start, text = self.at, self.text
-        if text[start].isspace():
-            self.at += 1
+        first = text[start]
+        if first.isspace():
+            self.at = SPACE.match(text, start).end()
+        elif found := WORD.match(text, start + (first == '^')):
+            self.word(found[0], start)
+        elif first in '"\'':
+            self.quoted(start)
         elif text.startswith('//', start):
-            found = re.compile(r'[\r\n]').search(text, start)
-            self.at = found.start() if found else len(text)
+            self.at = LINE.match(text, start).end()
         elif text.startswith('/*', start):
             self.comment(start)
-        elif text[start] in '"\'':
-            self.quoted(start)
         elif found := DIGITS.match(text, start):
             self.at = found.end()
             self.add(NUMBER, found[0], start)
-        elif found := WORD.match(text, start + (text[start] == '^')):
-            self.word(found[0], start)
         else:
             self.sign(start)
 
@@ -102,21 +106,20 @@ class Tokens:
     def quoted(self, start):
         """A text up to its quote; a backslash takes what stands behind it as it is, also the end of a line."""
         quote, made, at = self.text[start], [], start + 1
-        while at < len(self.text) and self.text[at] not in (quote, '\r', '\n'):
-            if self.text[at] == '\\' and at + 1 < len(self.text):
-                at += 1
-                if self.text[at] in OTHERWISE:
-                    what = f'`\\{self.text[at]}` in a text is taken as the letter `{self.text[at]}` alone'
-                    self.told.note(self.place(at - 1), what)
-                if self.text.startswith('\r\n', at):
-                    made.append('\r')
-                    at += 1
-            made.append(self.text[at])
-            at += 1
+        while True:
+            end = PLAIN[quote].match(self.text, at).end()
+            made.append(self.text[at:end])
+            at = end
+            if self.text[at:at + 1] != '\\' or at + 1 == len(self.text):
+                break
+            length = 2 if self.text.startswith('\r\n', at + 1) else 1
+            made.append(self.text[at + 1:at + 1 + length])
+            if made[-1] in OTHERWISE:
+                what = f'`\\{made[-1]}` in a text is taken as the letter `{made[-1]}` alone'
+                self.told.note(self.place(at), what)
+            at += 1 + length
         if self.text[at:at + 1] != quote:
             self.told.error(self.place(start), f'this text has no end: {quote} is missing (a text goes on in the next'
                             ' line behind a backslash alone)')
-            self.at = at
-        else:
-            self.at = at + 1
+        self.at = at + (self.text[at:at + 1] == quote)
         self.add(TEXT, ''.join(made), start)
