@@ -10,7 +10,7 @@ EFFECTS = {'permit': 'Permit', 'deny': 'Deny'}
 # A match applies its function to the literal and a value, in this order: where the attribute stands at the left, the
 # sign is turned.
 TURNED = {'==': '==', '>': '<', '>=': '<=', '<': '>', '<=': '>='}
-TAG = re.compile(r'@(version|earliest|latest)\s+(\S+)\s*')
+TAG = re.compile(r'@(version|earliest|latest)[ \t]+([^ \t]+)[ \t]*')
 TAGS = re.compile(rf'({TAG.pattern})+')
 GIVEN = {'obligation': ('ObligationExpressions', 'ObligationId', 'FulfillOn'),
          'advice': ('AdviceExpressions', 'AdviceId', 'AppliesTo')}
@@ -29,14 +29,14 @@ class Documents(Meaning):
         some keys."""
         if doc is None:
             return None, {}
-        lines = [re.sub(r'^[ \t]*\*? ?', '', line).rstrip() for line in re.split(r'\r\n|\r|\n', ' ' + doc[0])]
+        lines = [re.sub(r'^[ \t]*\*? ?', '', line).rstrip(' \t') for line in re.split(r'\r\n|\r|\n', ' ' + doc[0])]
         tags = {}
         for key, value in (found for line in lines if TAGS.fullmatch(line) for found in TAG.findall(line)):
             if key not in keys:
                 self.told.error(doc[1], f'`@{key}` says nothing here')
             tags[key] = value
             self.told.note(doc[1], f'`@{key}` in a comment is taken as it stands: a form of this tool alone')
-        text = '\n'.join(line for line in lines if not TAGS.fullmatch(line)).strip()
+        text = '\n'.join(line for line in lines if not TAGS.fullmatch(line)).strip(' \t\n')
         return text or None, tags
 
     def described(self, node, parts, keys=()):

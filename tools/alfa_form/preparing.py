@@ -132,8 +132,8 @@ class Variables:
 
 def sayable(text):
     """A Description as a comment can hold it."""
-    lines = [line.strip() for line in re.split(r'\r\n|\r|\n', text.replace('*/', '* /'))]
-    return '\n'.join(line for line in lines if not TAGS.fullmatch(line)).strip()
+    lines = [line.strip(' \t') for line in re.split(r'\r\n|\r|\n', text.replace('*/', '* /'))]
+    return '\n'.join(line for line in lines if not TAGS.fullmatch(line)).strip(' \t\n')
 
 
 def kind_of(uri):
