@@ -5,26 +5,26 @@
 
 It compiles what stands in alfa_form/examples/told.txt, where something is wrong, of which each fault is told with its
 place; compares decisions that were written by hand; makes random policies as trees, whose own meaning is compared with
-what the program decides of the documents (N requests: 8,000, and no more than in 15 seconds), and takes their documents
-back; and takes the clinic, forty ordinary policies and all that sessions store to ALFA and back, by the script of pages
-too. With --mutants it takes away, one by one, what those trials have to miss, and sees that they do.
+what the program decides of the documents (N requests: 6,000, in no more than 10 processor seconds), and takes their
+documents back; and takes the clinic, forty ordinary policies and all that sessions store to ALFA and back, by the script
+of pages too. With --mutants it takes away, one by one, what those trials have to miss, and sees that they do.
 The status is 0 where all is as it should be, 1 where something isn't, 3 where something that it needs isn't there."""
 import argparse
 import os
 import pathlib
 import sys
 
-from alfa_form import try_back, try_hand, try_mutants, try_random, try_told
+from alfa_form import try_back, try_hand, try_mutants, try_pages, try_random, try_told
 
 HERE = pathlib.Path(__file__).resolve().parent
 TOOL = str(HERE / 'alfa.py')
-SECONDS = 15
+SECONDS = 10
 
 
 def main():
     parser = argparse.ArgumentParser(description=__doc__, formatter_class=argparse.RawDescriptionHelpFormatter)
     parser.add_argument('program', metavar='PROGRAM', type=os.path.abspath)
-    parser.add_argument('--requests', type=int, default=8000, metavar='N')
+    parser.add_argument('--requests', type=int, default=6000, metavar='N')
     parser.add_argument('--seed', type=int, default=0, metavar='N')
     parser.add_argument('--mutants', action='store_true')
     options = parser.parse_args()
@@ -32,14 +32,16 @@ def main():
         return try_mutants.run(HERE, options.program)
     told, wrong = try_told.run(TOOL, options.program)
     decisions, more = try_hand.run(options.program)
-    seconds = SECONDS if options.requests <= 8000 else float('inf')
+    seconds = SECONDS if options.requests <= 6000 else float('inf')
     asked, seen, others = try_random.run(options.program, options.requests, seconds, options.seed)
     back, unseen, rest = try_back.run(options.program)
-    wrong += more + others + rest
+    blocks, of_pages = try_pages.run()
+    wrong += more + others + rest + of_pages
     print('\n'.join(wrong[:20]))
     counts = ', '.join(f'{count} {decision}' for decision, count in sorted(seen.items()))
     print(f'tools/alfa.py: {told} files with faults and notes, {decisions} decisions written by hand, {asked} requests'
-          f' of random policies beside the meaning of their trees ({counts}), {back}: {len(wrong)} wrong')
+          f' of random policies beside the meaning of their trees ({counts}), {back}, {blocks} examples of pages:'
+          f' {len(wrong)} wrong')
     print('\n'.join(f'not tried: {each}' for each in unseen), end='\n' if unseen else '')
     return 1 if wrong else 3 if unseen else 0
 

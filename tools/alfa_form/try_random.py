@@ -97,8 +97,8 @@ class Trial:
 
 def run(program, requests, seconds, seed=0):
     """How many requests were asked, what was decided how often, and what was wrong."""
-    trial, until = Trial(program, seed), time.monotonic() + seconds
-    while trial.asked < requests and len(trial.wrong) < 5 and time.monotonic() < until:
+    trial, until = Trial(program, seed), time.process_time() + seconds
+    while trial.asked < requests and len(trial.wrong) < 5 and time.process_time() < until:
         trial.world()
     trial.service.close()
     return trial.asked, trial.seen, trial.wrong

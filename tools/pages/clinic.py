@@ -1,16 +1,18 @@
 #!/usr/bin/env python3
 """Puts the policies of examples/clinic, each a file that people write, into the lines that are sent: into clinic.jsonl
-and into the sessions of docs/TUTORIAL.md.
+and into the sessions of docs/TUTORIAL.md; and those of clinic.alfa into the pages.
 
     clinic.py [--check]
 
-Each line that adds a document of the kind, id and version of a file gets what stands in that file. With --check nothing
-is written; the status is then 1 where a line is another. It is 1 too where clinic.jsonl isn't what the tutorial sends
+Each line that adds a document of the kind, id and version of a file gets what stands in that file, and each block of
+ALFA in the tutorial the policy of its name. With --check nothing is written; the status is then 1 where a line is another. It is 1 too where clinic.jsonl isn't what the tutorial sends
 first, or README.md hasn't the tutorial's reply to its last line.
 """
 import json
 import pathlib
+import re
 import sys
+import textwrap
 
 ROOT = pathlib.Path(__file__).resolve().parents[2]
 CLINIC = ROOT / 'examples' / 'clinic'
@@ -40,11 +42,27 @@ def renewed(line, mark, held):
     return mark + json.dumps(command, separators=(',', ':'), ensure_ascii=False)
 
 
+def in_alfa():
+    """The text of each policy and set of clinic.alfa, by its name, with the comment before it."""
+    text = (CLINIC / 'clinic.alfa').read_text(encoding='utf-8')
+    found = re.findall(r'(?ms)^((?:    /\*\*(?:(?!\*/).)*\*/\n)?    policy(?:set)? (\w+) .*?^    }\n)', text)
+    return {name: textwrap.dedent(policy) for policy, name in found}
+
+
+def with_alfa(text, found):
+    """A page in which each block of ALFA has the policy of its name."""
+    def renew(block):
+        name = re.search(r'(?m)^policy(?:set)? (\w+)', block[1])
+        return f'```alfa\n{found.get(name[1], block[1]) if name else block[1]}```\n'
+
+    return re.sub(r'(?ms)^```alfa\n(.*?)^```\n', renew, text)
+
+
 def main():
     held, stale = policies(), False
     for path, mark in ((LINES, ''), (TUTORIAL, '> ')):
         text = path.read_text(encoding='utf-8')
-        made = ''.join(renewed(line, mark, held) + '\n' for line in text.splitlines())
+        made = with_alfa(''.join(renewed(line, mark, held) + '\n' for line in text.splitlines()), in_alfa())
         if made != text and sys.argv[1:] == ['--check']:
             print(f'{path.name} has another policy than {CLINIC.name}/policies')
             stale = True

@@ -1,0 +1,41 @@
+"""The ALFA of the pages: each block makes documents, and where JSON stands below it that document."""
+import json
+import pathlib
+import re
+
+from xacml_form.normal import normal
+
+from .compiling import Compiler
+from .told import ERROR
+
+DOCS = pathlib.Path(__file__).resolve().parents[2] / 'docs'
+BLOCK = re.compile(r'(?ms)^```alfa\n(.*?)^```\n(?:\n```json\n(.*?)^```\n)?')
+
+
+def compiled(name, text):
+    """The documents of a text, and what is wrong with it."""
+    compiler = Compiler([(name, text.encode())])
+    made = [each.document for each in compiler.made()]
+    return made, [line for line in compiler.told.lines() if f': {ERROR}: ' in line]
+
+
+def of_policies():
+    """Those of Writing policies: the first declares the names of the others."""
+    (names, _), *blocks = BLOCK.findall((DOCS / 'POLICIES.md').read_text(encoding='utf-8'))
+    wrong = []
+    for text, beside in blocks:
+        whole = f'{names}namespace policies {{ import attributes.*\n{text}}}'
+        made, faults = compiled('POLICIES.md', whole)
+        wrong += faults
+        if [normal(each) for each in made] != [normal(json.loads(beside))]:
+            wrong.append(f'POLICIES.md has another document below this: {text}')
+    return len(blocks), wrong
+
+
+def run():
+    """How many blocks were tried, and what was wrong."""
+    count, wrong = of_policies()
+    for text, _ in BLOCK.findall((DOCS / 'ALFA.md').read_text(encoding='utf-8')):
+        made, faults = compiled('ALFA.md', text)
+        count, wrong = count + 1, wrong + faults + ([] if made else [f'ALFA.md: no document: {text}'])
+    return count, wrong
