@@ -1,15 +1,17 @@
 #!/usr/bin/python3
 """Tries xacml.py with the review program.
 
-    try_xacml.py PROGRAM [--documents N] [--mutants N]
+    try_xacml.py PROGRAM [--documents N] [--mutants N] [--older N] [--wrong]
 
 It brings in the three policies of xacml_form/examples and asks them what was reckoned, the forty, of which the page
 says what becomes, and forty ordinary ones, which have to decide as meant, without a warning of `review check`; gives it
 files that are no XACML 3.0, and N that are nearly as these, the forty and random policies (3,000; no more than in a
 minute), where what isn't told has to decide as an evaluator of the XML does; compares each rewriting with a direct
-reading of the standard's function; takes documents with each function, those of the repository's sessions and N random
-ones (1,000) to XML and back; takes requests and responses over; and gives it files that are made to hurt. The status is
-0 where all is as it should be, 1 where something isn't, and 3 where lxml (python3-lxml of Debian) isn't there."""
+reading of the standard's function; asks forty policies of XACML 1.0 to 2.0 N requests each (25), which have to decide
+as an evaluator of these versions does; takes documents with each function, those of the repository's sessions and N
+random ones (1,000) to XML and back; takes requests and responses over; and gives it files that are made to hurt. With
+--wrong it tries alone whether wrong forms of what is rewritten are seen (a minute). The status is 0 where all is as it
+should be, 1 where something isn't, and 3 where lxml (python3-lxml of Debian) isn't there."""
 import argparse
 import json
 import os
@@ -31,9 +33,12 @@ from xacml_form import (
     try_grammar,
     try_hostile,
     try_mutants,
+    try_older,
     try_ordinary,
     try_rewriting,
     try_told,
+    try_words,
+    try_wrong,
 )
 
 HERE = pathlib.Path(__file__).resolve().parent
@@ -47,7 +52,7 @@ RESOURCE_ID = 'urn:oasis:names:tc:xacml:1.0:resource:resource-id'
 RECORD = (RESOURCE, 'kind', 'string', ['record'])
 TOLD = {
     'records': {'rewritten': 5, 'times': 1, 'not looked at': 1},
-    'market': {'by hand': 4, 'not looked at': 1},
+    'market': {'by hand': 3, 'warning': 1, 'not looked at': 1},
     'night': {'rewritten': 3, 'by hand': 2, 'times': 1, 'not looked at': 1},
 }
 ANSWERS = {
@@ -234,7 +239,13 @@ def main():
     parser.add_argument('program', metavar='PROGRAM', type=os.path.abspath)
     parser.add_argument('--documents', type=int, default=1000, metavar='N')
     parser.add_argument('--mutants', type=int, default=3000, metavar='N')
+    parser.add_argument('--older', type=int, default=25, metavar='N')
+    parser.add_argument('--wrong', action='store_true')
     options = parser.parse_args()
+    if options.wrong:
+        number, unseen = try_wrong.run(options.program)
+        print(*unseen, f'tools/xacml.py: {number} wrong forms tried: {len(unseen)} unseen', sep='\n')
+        return 1 if unseen else 0
     files = sorted((HERE.parent / 'crates' / 'conformance' / 'sessions').glob('*')) + sorted(
         (HERE.parent / 'examples').glob('*/*.jsonl')
     )
@@ -244,6 +255,8 @@ def main():
     violations, told = try_grammar.run(SCHEMA)
     wrong += told
     warned, told = try_told.run(TOOL, options.program)
+    wrong += told
+    worded, told = try_words.run(TOOL, options.program, HERE.parent / 'docs' / 'MIGRATING.md')
     wrong += told
     over, told = try_forty.run(TOOL, options.program, EXAMPLES / 'forty', HERE.parent / 'docs' / 'MIGRATING.md')
     wrong += told
@@ -258,6 +271,8 @@ def main():
     compared, told = try_rewriting.run(service)
     service.close()
     wrong += told
+    older, told = try_older.run(options.program, options.older)
+    wrong += told
     counts, told = try_documents.run(options.program, files, SCHEMA, options.documents)
     wrong += told
     taken, told = asked(options.program)
@@ -268,9 +283,10 @@ def main():
     print(
         f'tools/xacml.py: 3 policies brought in and asked {number} requests, {len(over)} of forty came over,'
         f' {meant} requests of forty ordinary ones answered as meant and nothing told of any by `check`,'
-        f' {violations} files and elements beside the schema, {warned} with faults and warnings,'
+        f' {violations} files and elements beside the schema, {warned + worded} with faults and warnings,'
         f' {try_mutants.said(mutants)},'
-        f' {compared} decisions of what is rewritten compared, to XML and back {", ".join(counts)}, {taken} requests,'
+        f' {compared} decisions of what is rewritten compared, {try_older.said(older)},'
+        f' to XML and back {", ".join(counts)}, {taken} requests,'
         f' {tried} hostile files: {len(wrong)} wrong'
     )
     return 1 if wrong else 0

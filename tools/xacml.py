@@ -2,10 +2,11 @@
 """Policies, requests and responses of XACML 3.0 in XML, to and from the JSON of the service.
 
     xacml.py policy FILE.xml .. [-o FOLDER] [--lines] [--root ID] [--program REVIEW [--stored STATE]]
-                    [--attributes DECLARED] [--strict] [--as-modern] [--keep-going]
+                    [--attributes DECLARED] [--strict] [--as-modern] [--split] [--keep-going]
     xacml.py request FILE.xml
     xacml.py response [FILE.json]
     xacml.py back FILE.json
+    xacml.py survey FOLDER [--as-modern] [--program REVIEW [--stored STATE]]
 
 policy    Each file's policy as a document of the service: FOLDER/FILE.json with -o, else on standard output; with
           --lines as lines for `review serve` that store them, and with --root one more that makes the policy of that
@@ -15,12 +16,15 @@ policy    Each file's policy as a document of the service: FOLDER/FILE.json with
           document is written either, unless --keep-going. What was rewritten with the same meaning is told too, and as
           a warning what may not do what was meant; --strict gives status 1 for a warning. --as-modern takes legacy
           combining algorithms as the newer ones. --attributes compares attributes and values with a list of declared
-          ones.
+          ones. --split makes documents of their own of policies and sets that stand inside a set and that references
+          name, since references find stored documents alone: FOLDER/FILE.ID.json.
           With --program the documents go through `review check`, alone and together, and with --stored together with
           the lines of a dump; its faults and warnings are told at the lines of the XML.
 request   The request as JSON that `ask` takes; --line writes the whole line.
 response  The JSON of a response as XML.
 back      A document as XML.
+survey    Of all files of XML in a folder and below it: how many come over, and as a table of Markdown which constructs
+          stop the others, in how many files each, in how many by itself, where it stands first, and what can be done.
 
 The status is 0 where all is written, 1 where something isn't here, and 2 where a file can't be read or written.
 It needs python3-lxml of Debian."""
@@ -34,7 +38,8 @@ try:
     from lxml import etree
 except ImportError:
     sys.exit('xacml.py: it needs lxml (python3-lxml of Debian)')
-from xacml_form import back, bringing, cautions, checked, places, requests
+from xacml_form import back, bringing, cautions, checked, inside, places, requests
+from xacml_form import survey as surveys
 from xacml_form.shown import indented, reference_to, shown, write_lines
 
 SCHEMA = pathlib.Path(__file__).resolve().parent / 'xacml_form' / 'xacml.rng'
@@ -86,12 +91,13 @@ def policy(options):
         say(f'{options.attributes}: no list of declared attributes')
         return 1
     found = [bringing.brought(file, bytes_of(file), options.as_modern) for file in options.files]
+    found = inside.split(found) if options.split else found
     try:
         beside = bringing.judge(found, options, declared, shown if options.lines else indented)
     except checked.NoAnswer as fault:
         say(f'xacml.py: {fault}')
         return 2
-    say(*(line for each in found for line in each.told.lines()), *beside)
+    say(*(line for each in found if not each.part for line in each.told.lines()), *beside)
     kept = [each for each in found if each.document is not None and (options.keep_going or not each.told.stops())]
     is_whole = write(options, kept)
     say(*(f'xacml.py: {line}' for line in bringing.unseen(found, options)))
@@ -106,7 +112,8 @@ def write(options, kept):
     if options.folder:
         os.makedirs(options.folder, exist_ok=True)
         for each in kept:
-            file = pathlib.Path(options.folder) / f'{pathlib.Path(each.file).stem}.json'
+            stem = pathlib.Path(each.file).stem + (f'.{each.part}' if each.part else '')
+            file = pathlib.Path(options.folder) / f'{stem}.json'
             file.write_text(indented(each.document), encoding='utf-8')
     elif not options.lines:
         for document in documents:
@@ -129,6 +136,17 @@ def request(options):
     if found is None or told.stops():
         return 1
     print(shown({'do': 'ask', 'request': found} if options.line else found))
+    return 0
+
+
+def survey(options):
+    files = surveys.files_below(pathlib.Path(options.folder))
+    options.text_of, options.keep_going = indented, False
+    try:
+        print(*surveys.run(files, bytes_of, options), sep='\n')
+    except checked.NoAnswer as fault:
+        say(f'xacml.py: {fault}')
+        return 2
     return 0
 
 
@@ -160,6 +178,9 @@ def main():
     one.add_argument('--attributes', metavar='DECLARED', help='compare with a list of declared attributes')
     one.add_argument('--strict', action='store_true', help='status 1 for a warning too')
     one.add_argument('--as-modern', action='store_true', help='take legacy combining algorithms as the newer ones')
+    one.add_argument(
+        '--split', action='store_true', help='documents of their own of what stands inside and is referred to'
+    )
     one.add_argument('--keep-going', action='store_true', help='write documents also where something isn\'t here')
     one.set_defaults(run=policy)
     one = commands.add_parser('request', help='a request from XML to JSON')
@@ -172,8 +193,14 @@ def main():
     one = commands.add_parser('back', help='a document from JSON to XML')
     one.add_argument('file', metavar='FILE.json')
     one.set_defaults(run=lambda options: from_json(options, back.document))
+    one = commands.add_parser('survey', help='what of a folder comes over, and what stops the rest')
+    one.add_argument('folder', metavar='FOLDER')
+    one.add_argument('--as-modern', action='store_true', help='take legacy combining algorithms as the newer ones')
+    one.add_argument('--program', metavar='REVIEW', help='see by `review check` whether the documents can be used')
+    one.add_argument('--stored', metavar='STATE', help='with --program: together with the lines of a dump')
+    one.set_defaults(run=survey)
     options = parser.parse_args()
-    if options.command == 'policy' and options.stored and not options.program:
+    if options.command in ('policy', 'survey') and options.stored and not options.program:
         parser.error('--stored needs --program')
     try:
         return options.run(options)

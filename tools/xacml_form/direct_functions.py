@@ -156,6 +156,13 @@ def _functions():
         '3.0:function:date-subtract-yearMonthDuration': lambda day, months: moved(day, -months),
         '2.0:function:time-in-range': lambda a, b, c: truth(in_range(a, b, c)),
     }
+    # A pattern of XML Schema that is made of words means the same to Python, but in texts with a line break.
+    for uri in (
+        '1.0:function:string-regexp-match',
+        '1.0:function:regexp-string-match',
+        '2.0:function:anyURI-regexp-match',
+    ):
+        of_values[uri] = lambda pattern, text: truth(re.search(pattern, text))
     of_values['1.0:function:date-add-yearMonthDuration'] = of_values['3.0:function:date-add-yearMonthDuration']
     of_values['1.0:function:date-subtract-yearMonthDuration'] = of_values[
         '3.0:function:date-subtract-yearMonthDuration'

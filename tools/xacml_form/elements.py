@@ -3,6 +3,7 @@ from lxml import etree
 
 from . import schema
 from .grammar import SILENT, XML
+from .names import XPATH_TYPE
 from .told import BY_HAND, IMPOSSIBLE, REWRITTEN, Placed
 
 
@@ -35,7 +36,7 @@ class Elements:
                 if known[key].form == 'uri' and found[key] != text:
                     what, how = f'the white space in {key}', 'left out: by the schema it is no part of a URI'
                     self.told.tell(REWRITTEN, self.place(element), what, how)
-            elif key not in SILENT:
+            elif key not in SILENT and (key != 'XPathCategory' or element.get('DataType') != XPATH_TYPE):
                 what = f'the attribute {key} of {self.name(element)}'
                 self.told.tell(BY_HAND, self.place(element), what, 'leave it out: it has no place here')
         return found

@@ -1,10 +1,28 @@
 """Expressions (5.25 to 5.31), from XML to JSON."""
-from . import literals, names, rewriting
-from .places import IMPOSSIBLE, REWRITTEN
+from . import literals, names, patterns, rewriting
+from .places import IMPOSSIBLE, REWRITTEN, WARNING
 
 BAG_RESULTS = ('-bag', '-intersection', '-union')
 PASSING = (*BAG_RESULTS, '-one-and-only', '-yearMonthDuration')
 NO_SELECTOR = 'there is no XPath; store what it finds as an attribute, and use an AttributeDesignator'
+
+
+# What an expression is read for, beside literals.COMPARED and GIVEN: the function of any-of or all-of.
+HIGHER = 'higher'
+# What is rewritten as the function of any-of and all-of.
+OVER = {function: rewriting.regexp_match_over for function in patterns.MATCHES}
+
+
+def not_over(_function, arguments, _is_bag):
+    """A function that is rewritten by itself alone."""
+    raise rewriting.ByHand(names.how_without(arguments[0]['Function']['FunctionId']))
+
+
+def shown(function, arguments):
+    """What is rewritten, in words: a regular expression by its pattern, else the function."""
+    found = [rewriting.literal(each, 'string') for each in arguments[:2]] if function in patterns.MATCHES else []
+    pattern = next((each for each in found if each is not None), None)
+    return f'the function {function}' if pattern is None else f'the regular expression {pattern[:80]}'
 
 
 class Expressions:
@@ -27,7 +45,7 @@ class Expressions:
             'AttributeDesignator': lambda: self.designator(element),
             'AttributeSelector': lambda: self.selector(element),
             'VariableReference': lambda: self.elements.attributes(element),
-            'Function': lambda: {'FunctionId': self.function(element)},
+            'Function': lambda: {'FunctionId': self.function(element, use == HIGHER)},
         }
         return {name: self.elements.placed(element, read[name]())}
 
@@ -80,20 +98,40 @@ class Expressions:
             else:
                 children.append(child)
         inner = literals.COMPARED if self.compares(function, children) else use if function.endswith(PASSING) else None
-        arguments = [self.expression(child, inner) for child in children]
+        over = HIGHER if function in (names.ANY_OF, names.ALL_OF) else inner
+        arguments = [
+            self.expression(child, over if self.elements.name(child) == 'Function' else inner) for child in children
+        ]
         return self.elements.placed(element, self.applied(element, function, arguments))
 
     def applied(self, element, function, arguments):
         """An application, or what says the same where it is rewritten."""
-        if function not in rewriting.REWRITINGS:
+        named = arguments[0].get('Function', {}).get('FunctionId') if arguments else None
+        if function in (names.ANY_OF, names.ALL_OF) and named in rewriting.REWRITINGS:
+            what, rewrite = named, OVER.get(named, not_over)
+        elif function in rewriting.REWRITINGS:
+            what, rewrite = function, rewriting.REWRITINGS[function]
+        else:
             return rewriting.apply(function, *arguments)
         try:
-            rewritten, how = rewriting.REWRITINGS[function](function, arguments, self.is_bag)
+            rewritten = rewrite(function, arguments, self.is_bag)
+        except rewriting.ByHand as why:
+            self.not_here(element, what, str(why))
+            return rewriting.apply(function, *arguments)
+        self.told.tell(rewritten.weight, self.elements.place(element), shown(what, arguments), rewritten.how)
+        return rewritten.expression
+
+    def words(self, element, function, literal):
+        """What finds the words of the regular expression of a Match: of each the function and the literal."""
+        try:
+            kind, found = rewriting.words_of(function, literal)
         except rewriting.ByHand as why:
             self.not_here(element, function, str(why))
-            return rewriting.apply(function, *arguments)
-        self.told.tell(REWRITTEN, self.elements.place(element), f'the function {function}', how)
-        return rewritten
+            return [(function, {})]
+        self.told.tell(WARNING, self.elements.place(element), shown(function, [literal]), patterns.said(kind, found))
+        return [
+            (patterns.function(kind, each), rewriting.a_literal(kind, each.text)['AttributeValue']) for each in found
+        ]
 
     def compares(self, function, children):
         """Whether a function compares dates or times, or applies one that does."""

@@ -1,5 +1,7 @@
 """Whether a file is XACML 3.0: it is walked whole, and each violation of the schema is told, before anything of it is
 converted."""
+import typing
+
 from lxml import etree
 
 from . import names, schema
@@ -22,31 +24,44 @@ OLDER = {
 }
 OLDEST = {'AnySubject', 'AnyResource', 'AnyAction'}
 BRING = f'bring it to 3.0 first, whose namespace is {names.NAMESPACE}'
-CHANGED = 'bring it to 3.0 first: the namespace alone isn\'t enough'
+CHANGED = 'give it back the namespace of its version, by which it is brought to 3.0'
+
+
+class Language(typing.NamedTuple):
+    """A version of XACML: its namespace, its number, the table of its elements, and how a violation of it is told."""
+
+    namespace: str
+    version: str
+    elements: dict
+    weight: str
+
+
+THREE = Language(names.NAMESPACE, '3.0', schema.ELEMENTS, INVALID)
 
 
 class Grammar:
     """Walks the elements of one file."""
 
-    def __init__(self, told, places):
-        self.told, self.places = told, places
+    def __init__(self, told, places, language=THREE):
+        self.told, self.places, self.language = told, places, language
 
     def tell(self, element, what, how, key=None):
         """Tells a violation at an element, or at an attribute of it."""
         place = self.places[element] if key is None else self.places.attribute(element, key)
-        self.told.tell(INVALID, place, what, how)
+        self.told.tell(self.language.weight, place, what, how)
 
     def check(self, root, allowed):
         """Whether a root is one of these elements, and all below it is as the schema has it."""
         name = etree.QName(root).localname
         if self.is_known(root, 'at the root'):
             if name in allowed:
-                self.tell_older(root)
+                if self.language is THREE:
+                    self.tell_older(root)
                 self.walk(root)
             else:
                 stands = ' or '.join(f'a {each}' for each in allowed)
                 self.tell(root, f'{name} at the root', f'{stands} stands there')
-        return not self.told.holds(INVALID)
+        return not self.told.holds(self.language.weight)
 
     def tell_older(self, root):
         """Tells a file of an older version whose namespace was changed, by the first element that is of that
@@ -60,22 +75,23 @@ class Grammar:
                     return
 
     def is_known(self, element, where):
-        """Whether an element has the namespace of 3.0; else it is told."""
+        """Whether an element has the namespace of the version; else it is told."""
         tag = etree.QName(element)
-        if tag.namespace == names.NAMESPACE:
+        if tag.namespace == self.language.namespace:
             return True
         older = names.OLDER.get(tag.namespace)
         if older:
-            self.tell(element, f'{tag.localname} of XACML {older} {where}', BRING)
+            how = BRING if self.language is THREE else 'one version stands in one file'
+            self.tell(element, f'{tag.localname} of XACML {older} {where}', how)
         else:
-            space = tag.namespace or '(none)'
-            self.tell(element, f'{tag.localname} of the namespace {space} {where}', 'it belongs to no XACML 3.0')
+            space, how = tag.namespace or '(none)', f'it belongs to no XACML {self.language.version}'
+            self.tell(element, f'{tag.localname} of the namespace {space} {where}', how)
         return False
 
     def walk(self, element):
         """An element that the table has, and all below it."""
         name = etree.QName(element).localname
-        kind = schema.ELEMENTS[name]
+        kind = self.language.elements[name]
         self.attributes(element, name, kind)
         if kind.holds == schema.ANY:
             return

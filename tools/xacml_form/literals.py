@@ -12,10 +12,17 @@ SPACE = ' \t\r\n'
 DATE = re.compile(r'(-?\d{4,})-(\d\d)-(\d\d)(Z|[+-]\d\d:\d\d)?', re.ASCII)
 TIME = re.compile(r'(\d\d):(\d\d):(\d\d)(\.\d+)?(Z|[+-]\d\d:\d\d)?', re.ASCII)
 MOMENT = re.compile(r'(-?\d{4,}-\d\d-\d\d)T(\d\d:\d\d:\d\d)(\.\d+)?(Z|[+-]\d\d:\d\d)?', re.ASCII)
+# A fraction of a second that is zero, behind the second.
+ZEROS = re.compile(r'(:\d\d)\.0+(?=Z|[+-]\d\d:\d\d|$)', re.ASCII)
 DURATION = re.compile(r'-?P(\d{1,9}Y)?(\d{1,9}M)?', re.ASCII)
 INTEGER = re.compile(r'[+-]?\d+', re.ASCII)
 NO_OFFSETS = 'by hand: there are no time zones here; say the time in one zone, the same in which attributes are stored'
 NO_FRACTIONS = 'by hand: times are whole seconds here'
+TYPES_BY_WORD = {
+    names.last_word(uri): uri
+    for uri in (*names.MISSING_TYPES, names.XPATH_TYPE, *names.HERE_TYPES)
+    if uri != names.OLD_DAYS
+}
 
 
 def data_type(uri, place, told):
@@ -28,12 +35,10 @@ def data_type(uri, place, told):
     elif uri in names.MISSING_TYPES:
         told.tell(BY_HAND, place, f'the data type {uri}', names.MISSING_TYPES[uri])
     elif uri not in names.HERE_TYPES:
-        told.tell(
-            IMPOSSIBLE,
-            place,
-            f'the data type {uri}',
-            'no type of the standard; docs/POLICIES.md lists those that are here',
-        )
+        mistaken = names.meant(uri, TYPES_BY_WORD)
+        weight = IMPOSSIBLE if mistaken is None else BY_HAND
+        how = mistaken or 'no type of the standard; docs/POLICIES.md lists those that are here'
+        told.tell(weight, place, f'the data type {uri}', how.removeprefix('by hand: '))
     return uri
 
 
@@ -44,6 +49,11 @@ def value(uri, text, place, told, use=None):
     if kind == 'string' or kind is None:
         return text
     text = text.strip(SPACE)
+    if kind in ('time', 'dateTime'):
+        whole = ZEROS.sub(r'\1', text)
+        if whole != text:
+            told.tell(REWRITTEN, place, f'the {kind} {text[:60]}', 'a fraction of zero is no part of a time: cut')
+        text = whole
     if kind in ('date', 'time', 'dateTime'):
         if use != GIVEN:
             told.times.append((place, text))

@@ -1,11 +1,16 @@
 """The identifiers of XACML 3.0: those that are here, those that aren't with what can be done, and older ones."""
+import re
 
 NAMESPACE = 'urn:oasis:names:tc:xacml:3.0:core:schema:wd-17'
-OLDER = {
+OLDER_POLICIES = {
     'urn:oasis:names:tc:xacml:2.0:policy:schema:os': '2.0',
+    'urn:oasis:names:tc:xacml:2.0:policy:schema:cd:04': '2.0',
+    'urn:oasis:names:tc:xacml:1.0:policy': '1.x',
+}
+OLDER = {
+    **OLDER_POLICIES,
     'urn:oasis:names:tc:xacml:2.0:context:schema:os': '2.0',
-    'urn:oasis:names:tc:xacml:1.0:policy': '1.0',
-    'urn:oasis:names:tc:xacml:1.0:context': '1.0',
+    'urn:oasis:names:tc:xacml:1.0:context': '1.x',
 }
 XML_SCHEMA = 'http://www.w3.org/2001/XMLSchema#'
 FUNCTION = 'urn:oasis:names:tc:xacml:{}:function:{}'
@@ -93,30 +98,77 @@ TIMES_COMPARED = {TIME_IN_RANGE} | {
     for one in ['equal', *ORDERS, 'is-in', 'at-least-one-member-of', 'subset', 'set-equals']
 }
 
-# Names that the standard calls deprecated (A.4), of functions that are the same under the newer name.
+# Names that the standard calls deprecated (A.4), of functions that are the same under the newer name; and the name that
+# a regular expression had in XACML 1.x.
+REGEXP_MATCH = FUNCTION.format('1.0', 'string-regexp-match')
 OLD_FUNCTIONS = {
     FUNCTION.format('1.0', 'any-of'): FUNCTION.format('3.0', 'any-of'),
     FUNCTION.format('1.0', 'all-of'): FUNCTION.format('3.0', 'all-of'),
     FUNCTION.format('1.0', 'any-of-any'): FUNCTION.format('3.0', 'any-of-any'),
-    FUNCTION.format('1.0', 'all-of-any'): FUNCTION.format('3.0', 'all-of-any'),
-    FUNCTION.format('1.0', 'any-of-all'): FUNCTION.format('3.0', 'any-of-all'),
-    FUNCTION.format('1.0', 'all-of-all'): FUNCTION.format('3.0', 'all-of-all'),
-    FUNCTION.format('1.0', 'date-add-yearMonthDuration'): FUNCTION.format('3.0', 'date-add-yearMonthDuration'),
-    FUNCTION.format('1.0', 'date-subtract-yearMonthDuration'): FUNCTION.format(
-        '3.0', 'date-subtract-yearMonthDuration'
-    ),
+    FUNCTION.format('1.0', 'regexp-string-match'): REGEXP_MATCH,
+    **{
+        FUNCTION.format('1.0', one): FUNCTION.format('3.0', one)
+        for one in [
+            *(f'{kind}-{one}-yearMonthDuration' for kind in ('date', 'dateTime') for one in ('add', 'subtract')),
+            *(f'dateTime-{one}-dayTimeDuration' for one in ('add', 'subtract')),
+            *('dayTimeDuration-equal', 'yearMonthDuration-equal', 'map'),
+            *(f'xpath-node-{one}' for one in ('count', 'equal', 'match')),
+        ]
+    },
 }
 ANY_OF, ALL_OF = FUNCTION.format('3.0', 'any-of'), FUNCTION.format('3.0', 'all-of')
-ANY_OF_ANY, ALL_OF_ANY = FUNCTION.format('3.0', 'any-of-any'), FUNCTION.format('3.0', 'all-of-any')
+# Of these all-of-any, any-of-all and all-of-all have no name of 3.0.
+ANY_OF_ANY, ALL_OF_ANY = FUNCTION.format('3.0', 'any-of-any'), FUNCTION.format('1.0', 'all-of-any')
 HIGHER_ORDER = {
     ANY_OF,
     ALL_OF,
     ANY_OF_ANY,
     ALL_OF_ANY,
-    *(FUNCTION.format('3.0', one) for one in ['any-of-all', 'all-of-all', 'map']),
-    FUNCTION.format('1.0', 'map'),
+    *(FUNCTION.format('1.0', one) for one in ['any-of-all', 'all-of-all']),
+    FUNCTION.format('3.0', 'map'),
 }
 N_OF = FUNCTION.format('1.0', 'n-of')
+
+# The URIs of the standard by their last word: of what is here, of what is rewritten, and of what isn't here.
+_MISSING = {
+    '1.0': [
+        *(f'{one}-equal' for one in ('double', 'rfc822Name', 'x500Name', 'hexBinary', 'base64Binary')),
+        *(f'double-{one}' for one in ('add', 'subtract', 'multiply', 'divide', 'abs', *ORDERS)),
+        *('round', 'floor', 'double-to-integer', 'integer-to-double'),
+        *('string-normalize-space', 'string-normalize-to-lower-case', 'x500Name-match', 'rfc822Name-match'),
+        *('any-of-all', 'all-of-all'),
+    ],
+    '2.0': [f'{one}-regexp-match' for one in ('anyURI', 'ipAddress', 'dnsName', 'rfc822Name', 'x500Name')],
+    '3.0': [
+        *('string-equal-ignore-case', 'dayTimeDuration-equal', 'yearMonthDuration-equal', 'map', 'access-permitted'),
+        *(f'dateTime-{one}-{kind}Duration' for one in ('add', 'subtract') for kind in ('dayTime', 'yearMonth')),
+        *(f'anyURI-{one}' for one in ('starts-with', 'ends-with', 'contains', 'substring')),
+        *('string-substring', 'xpath-node-count', 'xpath-node-equal', 'xpath-node-match'),
+    ],
+}
+
+
+def last_word(uri):
+    """What a URI ends with, behind its version."""
+    return re.split('[:#/]', uri)[-1]
+
+
+_BY_WORD = {
+    last_word(uri): uri
+    for uri in {
+        *HERE_FUNCTIONS,
+        *(TIME_IN_RANGE, N_OF, ANY_OF_ANY, ALL_OF_ANY, REGEXP_MATCH),
+        *(FUNCTION.format(version, one) for version, listed in _MISSING.items() for one in listed),
+    }
+}
+DID_YOU_MEAN = 'by hand: did you mean {}?'.format
+
+
+def meant(uri, known):
+    """What to do about a URI that the standard hasn't, where it has one that ends with the same word; or None."""
+    found = known.get(last_word(uri))
+    return DID_YOU_MEAN(found) if found not in (None, uri) else None
+
 
 IMPOSSIBLE = 'impossible here'
 _HOW = [
@@ -143,8 +195,8 @@ _HOW = [
     ),
     (
         'any-of-any',
-        'by hand: with an equality and two bags the tool writes at-least-one-member-of; with another function say it by'
-        ' any-of over values that are known',
+        'by hand: with an equality and two bags the tool writes at-least-one-member-of, with another comparison and a'
+        ' bag of literals `or` of any-of; else one-and-only at one side, and any-of',
     ),
     (
         'all-of-any',
@@ -154,8 +206,7 @@ _HOW = [
     ('map', IMPOSSIBLE + ': store the values that come of it as an attribute'),
     (
         'time-in-range',
-        'by hand: with literal bounds the tool writes two comparisons; with computed ones write them under `and`, or'
-        ' under `or` where the range goes over midnight',
+        'by hand: its three arguments have to be single times: one-and-only where one of them is a bag',
     ),
     (
         'n-of',
@@ -211,6 +262,8 @@ def how_without(function):
     name = function.rpartition(':')[2]
     if not function.startswith('urn:oasis:names:tc:xacml:'):
         return IMPOSSIBLE + ': a function of one\'s own; store what it gives as an attribute'
+    if (mistaken := meant(function, _BY_WORD)) is not None:
+        return mistaken
     if name.startswith('xpath') or name.endswith('xpath-node-match'):
         return IMPOSSIBLE + ': there is no XPath; store what it finds as an attribute'
     for end, how in _HOW:
@@ -248,6 +301,7 @@ HERE_ALGORITHMS = {
     for kind in (RULES, POLICIES)
 }
 HERE_ALGORITHMS[POLICIES].add(_ALGORITHM.format('1.0', POLICIES, 'only-one-applicable'))
+ALGORITHMS_BY_WORD = {kind: {last_word(uri): uri for uri in listed} for kind, listed in HERE_ALGORITHMS.items()}
 LEGACY_ALGORITHMS = {
     kind: {
         _ALGORITHM.format(version, kind, one): _ALGORITHM.format('3.0', kind, one)

@@ -4,7 +4,7 @@ import re
 
 from lxml import etree
 
-from .told import BY_HAND, FAULT, IMPOSSIBLE, INVALID, REWRITTEN, TIMES, UNREAD, WARNING, Told  # noqa: F401
+from .told import BY_HAND, FAULT, IMPOSSIBLE, INVALID, INVALIDS, REWRITTEN, TIMES, UNREAD, WARNING, Told  # noqa: F401
 
 MOST_BYTES = 16 * 1024 * 1024
 MOST_LEVELS = 200

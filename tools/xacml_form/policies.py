@@ -1,5 +1,8 @@
 """Policies and policy sets (5.1 to 5.24, 5.39, 5.40), from XML to JSON."""
-from . import literals, names, schema
+import itertools
+import math
+
+from . import literals, names, patterns, schema
 from .elements import Elements
 from .expressions import Expressions
 from .grammar import Grammar
@@ -104,9 +107,10 @@ class Policies:
             self.told.tell(weight, self.place(element), f'the legacy algorithm {given}', how)
             return modern if self.as_modern else given
         if given not in names.HERE_ALGORITHMS[kind]:
-            self.told.tell(
-                IMPOSSIBLE, self.place(element), f'the algorithm {given}', f'none of those of appendix C for a {kind}'
-            )
+            mistaken = names.meant(given, names.ALGORITHMS_BY_WORD[kind])
+            weight = IMPOSSIBLE if mistaken is None else BY_HAND
+            how = mistaken or f'none of those of appendix C for a {kind}'
+            self.told.tell(weight, self.place(element), f'the algorithm {given}', how.removeprefix('by hand: '))
         return given
 
     def reference(self, element):
@@ -127,22 +131,36 @@ class Policies:
         return kept(AnyOf=[self.any_of(child, expressions) for _, child in self.elements.children(element)])
 
     def any_of(self, element, expressions):
-        members = [self.all_of(child, expressions) for _, child in self.elements.children(element)]
-        return self.elements.placed(element, {'AllOf': members})
+        found = [each for _, child in self.elements.children(element) for each in self.all_of(child, expressions)]
+        return self.elements.placed(element, {'AllOf': found})
 
     def all_of(self, element, expressions):
+        """An AllOf; where a Match has several words each of them stands in one by itself, since any of them is enough
+        (7.7)."""
         members = [self.match(child, expressions) for _, child in self.elements.children(element)]
-        return self.elements.placed(element, {'Match': members})
+        ways = math.prod(len(each) for each in members)
+        if ways > patterns.MOST_WORDS:
+            how = f'more than {patterns.MOST_WORDS} ways to match; write them as an AnyOf each'
+            self.told.tell(BY_HAND, self.place(element), 'an AllOf with several lists of words', how)
+            members = [each[:1] for each in members]
+        return [self.elements.placed(element, {'Match': list(way)}) for way in itertools.product(*members)]
 
     def match(self, element, expressions):
+        """The ways in which a Match can be met: one, but where its function looks for one of several words."""
         body = self.elements.attributes(element)
-        given = body['MatchId']
-        if given not in names.HERE_FUNCTIONS:
+        given = names.OLD_FUNCTIONS.get(body['MatchId'], body['MatchId'])
+        if given not in names.HERE_FUNCTIONS and given not in patterns.MATCHES:
             expressions.not_here(element, given)
         use = literals.COMPARED if given in names.TIMES_COMPARED else None
         for _, child in self.elements.children(element):
             body.update(expressions.expression(child, use))
-        return self.elements.placed(element, body)
+        if given not in patterns.MATCHES:
+            return [self.elements.placed(element, body)]
+        literal = body['AttributeValue']
+        return [
+            self.elements.placed(element, {**body, 'MatchId': function, 'AttributeValue': literal.with_parts(value)})
+            for function, value in expressions.words(element, given, {'AttributeValue': literal})
+        ]
 
     # ---- obligations and advice
 

@@ -2,10 +2,25 @@
 
 Each rewriting has its argument by the standard's definitions in the comment above it; tools/try_xacml.py compares each
 over a grid of values, of empty bags and of arguments that fail with a direct reading of the standard's function."""
-from . import names
+import typing
 
-F1 = names.FUNCTION.format('1.0', '{}').format
+from . import names, patterns
+from .places import REWRITTEN, WARNING
+
+F1, F3 = (names.FUNCTION.format(version, '{}').format for version in ('1.0', '3.0'))
 MOST_NODES = 256
+# Comparisons of two values that have no fault of their own, beside the equalities.
+COMPARISONS = {F1(f'{kind}-{order}') for kind in names.COMPARED for order in names.ORDERS} | {
+    F3(f'string-{one}') for one in ('starts-with', 'ends-with', 'contains')
+}
+
+
+class Rewritten(typing.NamedTuple):
+    """What says the same, in words too, and how that is told."""
+
+    expression: dict
+    how: str
+    weight: str = REWRITTEN
 
 
 class ByHand(Exception):
@@ -15,6 +30,16 @@ class ByHand(Exception):
 def apply(function, *arguments):
     """An application, as it stands in a document."""
     return {'Apply': {'FunctionId': function, 'Arguments': list(arguments)} if arguments else {'FunctionId': function}}
+
+
+def a_literal(kind, value):
+    """A literal as it stands in a document."""
+    return {'AttributeValue': {'DataType': names.XML_SCHEMA + kind, 'Value': value}}
+
+
+def either(tests):
+    """Some tests under `or`; one by itself."""
+    return tests[0] if len(tests) == 1 else apply(F1('or'), *tests)
 
 
 def literal(argument, kind):
@@ -39,15 +64,37 @@ def any_of_any(function, arguments, is_bag):
     inner, rest = _function_and_rest(arguments)
     bags = [each for each in rest if is_bag(each)]
     if rest and not bags:
-        return apply(inner, *rest), 'no bag: one application'
+        return Rewritten(apply(inner, *rest), 'no bag: one application')
     if len(bags) == 1:
-        return apply(names.ANY_OF, *arguments), 'one bag: any-of'
+        return Rewritten(apply(names.ANY_OF, *arguments), 'one bag: any-of')
     if len(bags) == len(rest) == 2 and inner in names.EQUALITIES:
-        return (
-            apply(F1(f'{names.EQUALITIES[inner]}-at-least-one-member-of'), *rest),
-            'an equality over two bags: at-least-one-member-of',
-        )
+        member = F1(f'{names.EQUALITIES[inner]}-at-least-one-member-of')
+        return Rewritten(apply(member, *rest), 'an equality over two bags: at-least-one-member-of')
+    if len(bags) == len(rest) == 2 and inner in COMPARISONS:
+        return _over_literals(arguments[0], rest)
     raise ByHand(names.how_without(function))
+
+
+# With another comparison and a bag of literals the combinations are those of each literal with the values of the
+# other bag: `or` of any-of, one for each literal. Where the other bag is Indeterminate the first any-of is, and so
+# `or`; comparisons have no fault of their own.
+def _over_literals(function, rest):
+    for at, each in enumerate(rest):
+        values = bag_of_literals(each)
+        if values and len(values) * (3 + size(rest[1 - at])) < MOST_NODES:
+            placed = [[value, rest[1]] if at == 0 else [rest[0], value] for value in values]
+            tests = [apply(names.ANY_OF, function, *two) for two in placed]
+            return Rewritten(either(tests), 'a bag of literals: any-of for each of them')
+    raise ByHand(names.how_without(names.ANY_OF_ANY))
+
+
+def bag_of_literals(expression):
+    """The literals of which a bag is made; none where it is made of something else."""
+    inner = expression.get('Apply', {})
+    if names.last_word(inner.get('FunctionId', '')) not in (f'{kind}-bag' for kind in names.BAGGED):
+        return []
+    values = inner.get('Arguments', [])
+    return values if all('AttributeValue' in each for each in values) else []
 
 
 # all-of-any (A.3.12): True if for each value of the first bag the function is True with some value of the second.
@@ -56,7 +103,7 @@ def any_of_any(function, arguments, is_bag):
 def all_of_any(function, arguments, is_bag):
     inner, rest = _function_and_rest(arguments)
     if len(rest) == 2 and all(is_bag(each) for each in rest) and inner in names.EQUALITIES:
-        return apply(F1(f'{names.EQUALITIES[inner]}-subset'), *rest), 'an equality over two bags: subset'
+        return Rewritten(apply(F1(f'{names.EQUALITIES[inner]}-subset'), *rest), 'an equality over two bags: subset')
     raise ByHand(names.how_without(function))
 
 
@@ -69,20 +116,32 @@ def _function_and_rest(arguments):
 # time-in-range (A.3.8): the first time lies within the two bounds, both included, the second bound being the same
 # time or one less than 24 hours later. So with bounds in order the time is at or after the first and at or before the
 # second; where the second is the earlier of the two the range goes over midnight, and the time is at or after the
-# first or at or before the second. The two can't both fail to be seen in another way: an argument that is
-# Indeterminate is met in the first comparison, and makes `and` and `or` Indeterminate with its status.
+# first or at or before the second. Bounds that aren't literals are in order where the first is the first second of the
+# day or the second its last one. Else both cases are written: at or after the first bound, and at or before the
+# second or over midnight; or at or before the second, and over midnight. In bounds that are in order that is both
+# comparisons, and over midnight one of them. An argument that is Indeterminate is met in the order of the arguments,
+# in the first comparison or, where that is False, in the next, and makes `and` and `or` Indeterminate with its status.
 def time_in_range(function, arguments, is_bag):
-    bounds = [literal(each, 'time') for each in arguments[1:]]
-    if len(bounds) != 2 or None in bounds or is_bag(arguments[0]):
+    if len(arguments) != 3 or any(is_bag(each) for each in arguments):
         raise ByHand(names.how_without(function))
-    since = apply(F1('time-greater-than-or-equal'), arguments[0], arguments[1])
-    until = apply(F1('time-less-than-or-equal'), arguments[0], arguments[2])
-    first, last = [each.removesuffix('Z') for each in bounds]
-    return (
-        (apply(F1('and'), since, until), 'two comparisons')
-        if first <= last
-        else (apply(F1('or'), since, until), 'two comparisons, over midnight')
-    )
+    time, first, last = arguments
+    since, until = _compared(time, 'greater-than-or-equal', first), _compared(time, 'less-than-or-equal', last)
+    bounds = [(literal(each, 'time') or '').removesuffix('Z') for each in (first, last)]
+    if all(bounds):
+        over = bounds[0] > bounds[1]
+        how = 'two comparisons, over midnight' if over else 'two comparisons'
+        return Rewritten(apply(F1('or' if over else 'and'), since, until), how)
+    if bounds[0] == '00:00:00' or bounds[1] == '23:59:59':
+        return Rewritten(apply(F1('and'), since, until), 'two comparisons, as it never goes over midnight')
+    over = _compared(first, 'greater-than', last)
+    both = apply(F1('or'), apply(F1('and'), since, apply(F1('or'), until, over)), apply(F1('and'), until, over))
+    if size(both) > MOST_NODES:
+        raise ByHand('by hand: its arguments are too long to be written more than once; store what they give')
+    return Rewritten(both, 'two comparisons, for bounds in order and over midnight')
+
+
+def _compared(first, order, second):
+    return apply(F1(f'time-{order}'), first, second)
 
 
 # n-of (A.3.5) looks at its arguments in order: it is True once n are True, and False once those that are left can't
@@ -101,12 +160,12 @@ def n_of(function, arguments, is_bag):
         raise ByHand('by hand: fewer arguments than it asks for, which is always Indeterminate')
     if _nodes_of(count, arguments[1:]) > MOST_NODES:
         raise ByHand('by hand: too many ways to choose; say which sets of them are enough')
-    return _at_least(count, arguments[1:]), f'{count} of {len(arguments) - 1}: `or`, `and` and `not`'
+    return Rewritten(_at_least(count, arguments[1:]), f'{count} of {len(arguments) - 1}: `or`, `and` and `not`')
 
 
 def _at_least(count, rest):
     if count == 0:
-        return apply(F1('or'), {'AttributeValue': {'DataType': names.XML_SCHEMA + 'boolean', 'Value': True}}, *rest)
+        return apply(F1('or'), a_literal('boolean', True), *rest)
     if count == 1:
         return apply(F1('or'), *rest)
     if count == len(rest):
@@ -125,7 +184,68 @@ def _nodes_of(count, rest):
     return 4 + 2 * size(rest[0]) + _nodes_of(count - 1, rest[1:]) + _nodes_of(count, rest[1:])
 
 
+# string-regexp-match (A.3.14) looks for a pattern anywhere in a text, but where it begins with ^ or ends with $. A
+# pattern that is a literal is found as a word is; its alternatives are looked for one by one. The text is one value:
+# where it is Indeterminate the first test is, and so `or`.
+def regexp_match(function, arguments, is_bag):
+    if len(arguments) != 2 or is_bag(arguments[1]):
+        raise ByHand(names.how_without(function))
+    kind, words = words_of(function, arguments[0])
+    listed = all(each.function == 'equal' for each in words) and len(words) > 1
+    tests = [a_test(kind, each, arguments[1]) for each in words]
+    made = apply(F1(f'{kind}-is-in'), arguments[1], a_bag(kind, words)) if listed else either(tests)
+    if size(made) > MOST_NODES:
+        raise ByHand('by hand: too many words; store what it tests as an attribute of its own')
+    return Rewritten(made, patterns.said(kind, words), WARNING)
+
+
+# any-of of it over a bag is True where a word is found in a value: `or` of any-of, one for each word; all-of is
+# written so where there is one word alone.
+def regexp_match_over(higher, arguments, is_bag):
+    inner = arguments[0]['Function']['FunctionId']
+    if len(arguments) != 3 or is_bag(arguments[1]):
+        raise ByHand(names.how_without(inner))
+    kind, words = words_of(inner, arguments[1])
+    if higher != names.ANY_OF and len(words) > 1:
+        raise ByHand('by hand: one word for all values; store what it tests as an attribute of its own')
+    tests = [
+        apply(
+            higher,
+            {'Function': {'FunctionId': patterns.function(kind, each)}},
+            a_literal(kind, each.text),
+            arguments[2],
+        )
+        for each in words
+    ]
+    if sum(size(each) for each in tests) >= MOST_NODES:
+        raise ByHand('by hand: too many words; store what it tests as an attribute of its own')
+    return Rewritten(either(tests), patterns.said(kind, words), WARNING)
+
+
+def a_test(kind, word, text):
+    """A word that is looked for in a text."""
+    return apply(patterns.function(kind, word), a_literal(kind, word.text), text)
+
+
+def a_bag(kind, words):
+    """The words as a bag."""
+    return apply(F1(f'{kind}-bag'), *(a_literal(kind, each.text) for each in words))
+
+
+def words_of(function, pattern):
+    """The words of a pattern that is a literal, and the type of the texts; or what to do by hand."""
+    found = literal(pattern, 'string')
+    if not isinstance(found, str):
+        raise ByHand(names.how_without(function))
+    kind = patterns.MATCHES[function]
+    try:
+        return kind, patterns.words(found, kind)
+    except patterns.NotPlain as why:
+        raise ByHand(f'by hand: {why}') from None
+
+
 REWRITINGS = {
+    **{function: regexp_match for function in patterns.MATCHES},
     names.ANY_OF_ANY: any_of_any,
     names.ALL_OF_ANY: all_of_any,
     names.TIME_IN_RANGE: time_in_range,

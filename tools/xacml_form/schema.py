@@ -65,7 +65,7 @@ def _attributes(text):
     return found
 
 
-def _kind(attributes, holds=''):
+def kind(attributes, holds=''):
     """An element; its children are written as `Name`, `Name?`, `Name*` or `Name+`, and `A|B` where one of these
     stands."""
     if holds in (TEXT, ANY):
@@ -86,57 +86,57 @@ _VERSIONS = 'Version:versions? EarliestVersion:versions? LatestVersion:versions?
 
 ELEMENTS = {
     # Policy sets and policies (5.1 to 5.24)
-    'PolicySet': _kind(
+    'PolicySet': kind(
         'PolicySetId:uri Version:version PolicyCombiningAlgId:uri MaxDelegationDepth:integer?',
         f'Description? PolicyIssuer? PolicySetDefaults? Target {_MEMBERS}|{_OF_SETS}* {_GIVEN}',
     ),
-    'Policy': _kind(
+    'Policy': kind(
         'PolicyId:uri Version:version RuleCombiningAlgId:uri MaxDelegationDepth:integer?',
         f'Description? PolicyIssuer? PolicyDefaults? Target {_OF_POLICIES}* {_GIVEN}',
     ),
-    'Description': _kind('', TEXT),
-    'PolicyIssuer': _kind('', 'Content? Attribute*'),
-    'PolicySetDefaults': _kind('', 'XPathVersion'),
-    'PolicyDefaults': _kind('', 'XPathVersion'),
-    'XPathVersion': _kind('', TEXT),
-    'PolicySetIdReference': _kind(_VERSIONS, TEXT),
-    'PolicyIdReference': _kind(_VERSIONS, TEXT),
-    'CombinerParameters': _kind('', 'CombinerParameter*'),
-    'RuleCombinerParameters': _kind('RuleIdRef:string', 'CombinerParameter*'),
-    'PolicyCombinerParameters': _kind('PolicyIdRef:uri', 'CombinerParameter*'),
-    'PolicySetCombinerParameters': _kind('PolicySetIdRef:uri', 'CombinerParameter*'),
-    'CombinerParameter': _kind('ParameterName:string', 'AttributeValue'),
-    'Target': _kind('', 'AnyOf*'),
-    'AnyOf': _kind('', 'AllOf+'),
-    'AllOf': _kind('', 'Match+'),
-    'Match': _kind('MatchId:uri', 'AttributeValue AttributeDesignator|AttributeSelector'),
-    'VariableDefinition': _kind('VariableId:string', EXPRESSION),
-    'Rule': _kind('RuleId:string Effect:effect', f'Description? Target? Condition? {_GIVEN}'),
+    'Description': kind('', TEXT),
+    'PolicyIssuer': kind('', 'Content? Attribute*'),
+    'PolicySetDefaults': kind('', 'XPathVersion'),
+    'PolicyDefaults': kind('', 'XPathVersion'),
+    'XPathVersion': kind('', TEXT),
+    'PolicySetIdReference': kind(_VERSIONS, TEXT),
+    'PolicyIdReference': kind(_VERSIONS, TEXT),
+    'CombinerParameters': kind('', 'CombinerParameter*'),
+    'RuleCombinerParameters': kind('RuleIdRef:string', 'CombinerParameter*'),
+    'PolicyCombinerParameters': kind('PolicyIdRef:uri', 'CombinerParameter*'),
+    'PolicySetCombinerParameters': kind('PolicySetIdRef:uri', 'CombinerParameter*'),
+    'CombinerParameter': kind('ParameterName:string', 'AttributeValue'),
+    'Target': kind('', 'AnyOf*'),
+    'AnyOf': kind('', 'AllOf+'),
+    'AllOf': kind('', 'Match+'),
+    'Match': kind('MatchId:uri', 'AttributeValue AttributeDesignator|AttributeSelector'),
+    'VariableDefinition': kind('VariableId:string', EXPRESSION),
+    'Rule': kind('RuleId:string Effect:effect', f'Description? Target? Condition? {_GIVEN}'),
     # Expressions (5.25 to 5.31)
-    'Condition': _kind('', EXPRESSION),
-    'VariableReference': _kind('VariableId:string'),
-    'Apply': _kind('FunctionId:uri', f'Description? {EXPRESSION}*'),
-    'Function': _kind('FunctionId:uri'),
-    'AttributeDesignator': _kind('Category:uri AttributeId:uri DataType:uri Issuer:string? MustBePresent:boolean'),
-    'AttributeSelector': _kind('Category:uri ContextSelectorId:uri? Path:string DataType:uri MustBePresent:boolean'),
-    'AttributeValue': _kind('DataType:uri', ANY),
+    'Condition': kind('', EXPRESSION),
+    'VariableReference': kind('VariableId:string'),
+    'Apply': kind('FunctionId:uri', f'Description? {EXPRESSION}*'),
+    'Function': kind('FunctionId:uri'),
+    'AttributeDesignator': kind('Category:uri AttributeId:uri DataType:uri Issuer:string? MustBePresent:boolean'),
+    'AttributeSelector': kind('Category:uri ContextSelectorId:uri? Path:string DataType:uri MustBePresent:boolean'),
+    'AttributeValue': kind('DataType:uri', ANY),
     # Obligations and advice (5.37 to 5.41)
-    'ObligationExpressions': _kind('', 'ObligationExpression+'),
-    'AdviceExpressions': _kind('', 'AdviceExpression+'),
-    'ObligationExpression': _kind('ObligationId:uri FulfillOn:effect', 'AttributeAssignmentExpression*'),
-    'AdviceExpression': _kind('AdviceId:uri AppliesTo:effect', 'AttributeAssignmentExpression*'),
-    'AttributeAssignmentExpression': _kind('AttributeId:uri Category:uri? Issuer:string?', EXPRESSION),
+    'ObligationExpressions': kind('', 'ObligationExpression+'),
+    'AdviceExpressions': kind('', 'AdviceExpression+'),
+    'ObligationExpression': kind('ObligationId:uri FulfillOn:effect', 'AttributeAssignmentExpression*'),
+    'AdviceExpression': kind('AdviceId:uri AppliesTo:effect', 'AttributeAssignmentExpression*'),
+    'AttributeAssignmentExpression': kind('AttributeId:uri Category:uri? Issuer:string?', EXPRESSION),
     # Requests (5.42 to 5.46, 5.58 to 5.60)
-    'Request': _kind(
+    'Request': kind(
         'ReturnPolicyIdList:boolean CombinedDecision:boolean', 'RequestDefaults? Attributes+ MultiRequests?'
     ),
-    'RequestDefaults': _kind('', 'XPathVersion'),
-    'Attributes': _kind('Category:uri {http://www.w3.org/XML/1998/namespace}id:name?', 'Content? Attribute*'),
-    'Content': _kind('', ANY),
-    'Attribute': _kind('AttributeId:uri Issuer:string? IncludeInResult:boolean', 'AttributeValue+'),
-    'MultiRequests': _kind('', 'RequestReference+'),
-    'RequestReference': _kind('', 'AttributesReference+'),
-    'AttributesReference': _kind('ReferenceId:name'),
+    'RequestDefaults': kind('', 'XPathVersion'),
+    'Attributes': kind('Category:uri {http://www.w3.org/XML/1998/namespace}id:name?', 'Content? Attribute*'),
+    'Content': kind('', ANY),
+    'Attribute': kind('AttributeId:uri Issuer:string? IncludeInResult:boolean', 'AttributeValue+'),
+    'MultiRequests': kind('', 'RequestReference+'),
+    'RequestReference': kind('', 'AttributesReference+'),
+    'AttributesReference': kind('ReferenceId:name'),
 }
 
 

@@ -1,9 +1,12 @@
 """What is told of a file, each thing with its place, and objects of documents that know where they stood."""
 import collections
 
-# What is told is one of these; of a file with one of the second line no document is written.
+# What is told is one of these; of a file with one behind the first line no document is written.
 REWRITTEN, TIMES, WARNING = 'rewritten', 'times', 'warning'
-BY_HAND, IMPOSSIBLE, INVALID, UNREAD, FAULT = 'by hand', 'impossible', 'not XACML 3.0', 'not read', 'fault'
+BY_HAND, IMPOSSIBLE, UNREAD, FAULT = 'by hand', 'impossible', 'not read', 'fault'
+# A violation of the schema, by the version of the file.
+INVALIDS = {'3.0': 'not XACML 3.0', '2.0': 'not XACML 2.0', '1.x': 'not XACML 1.x'}
+INVALID = INVALIDS['3.0']
 
 
 class Told:
@@ -25,7 +28,7 @@ class Told:
 
     def stops(self):
         """Whether something stands there that isn't here, so that no document is written."""
-        return self.holds(BY_HAND, IMPOSSIBLE, INVALID, UNREAD, FAULT)
+        return self.holds(BY_HAND, IMPOSSIBLE, UNREAD, FAULT, *INVALIDS.values())
 
     def lines(self):
         """A line for each thing, by the place where it stands first: the file, that place, what it is, how often, and
@@ -48,3 +51,7 @@ class Placed(dict):
     def __init__(self, place, place_of, parts):
         super().__init__(parts)
         self.place, self.place_of = place, place_of
+
+    def with_parts(self, parts):
+        """The same with other parts in place of some of its own."""
+        return Placed(self.place, self.place_of, {**self, **parts})

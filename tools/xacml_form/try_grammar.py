@@ -31,7 +31,7 @@ TOLD = [
     (
         rule(f'<Condition FunctionId="{F1("not")}">{TRUE}</Condition>'),
         [
-            '1: as a file of XACML 1.x whose namespace was changed (Condition at 3:1): bring it to 3.0 first',
+            '1: as a file of XACML 1.x whose namespace was changed (Condition at 3:1): give it back the namespace',
             '3: the attribute FunctionId of Condition: Condition has no attributes',
         ],
     ),

@@ -6,7 +6,7 @@ import time
 
 from lxml import etree
 
-from . import direct, driver, literals, names, places, policies, requests
+from . import direct, driver, literals, names, places, policies, requests, styles
 from .direct_functions import value
 from .mutating import Mutator
 from .try_grammar import Beside
@@ -193,6 +193,7 @@ def run(program, schema, files, request, number, seconds):
     until, service = time.monotonic() + seconds, driver.Service(program)
     trial = Trial(service, schema)
     bases = [(file.stem, file.read_bytes()) for file in files]
+    bases += [(style, text.encode()) for style, text in styles.THREE.items() if style in styles.OVER]
     bases += [(f'typed {seed}', Typed(seed).document().encode()) for seed in range(number // TYPED)]
     bases = [(name, places.read(data)[0]) for name, data in bases]
     seen = set()

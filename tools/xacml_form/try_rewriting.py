@@ -5,13 +5,13 @@ A reading here is of the words of appendix A.3 and knows nothing of what the too
 Python, and FAILS stands for an argument that is Indeterminate."""
 import datetime
 import itertools
+import re
 
-from . import direct_combining, literals, names, places, policies
-from .driver import F1, SUBJECT, apply, bag, function, literal, policy, single
+from . import direct_combining, literals, names, places
+from .driver import F1, apply, bag, function, literal, single
+from .grid import FAILS, Grid, attributes
+from .try_patterns import regular_expressions
 
-F3 = names.FUNCTION.format('3.0', '{}').format
-FAILS = 'Indeterminate'
-DECISION = {True: 'Permit', False: 'NotApplicable', FAILS: 'Indeterminate'}
 VALUES = {
     'string': ['a', 'b', ''],
     'boolean': ['true', 'false'],
@@ -21,42 +21,6 @@ VALUES = {
     'time': ['00:00:00', '23:59:59', '12:00:00'],
     'dateTime': ['2024-02-29T00:00:00', '1999-12-31T23:59:59'],
 }
-
-
-def rewritten(xml, function_name):
-    """The document that the tool makes of a policy; it has to say that it rewrote the function, and nothing else."""
-    root, where = places.read(xml)
-    told = places.Told('trial')
-    document = policies.Policies(told, where).document(root)
-    weights = {weight for weight, _, _ in told.things}
-    assert weights == {places.REWRITTEN} and any(function_name in what for _, what, _ in told.things), told.lines()
-    return document
-
-
-class Grid:
-    """Compares decisions of rewritten policies with what a reading says, and counts."""
-
-    def __init__(self, service):
-        self.service, self.count, self.wrong, self.version = service, 0, [], 0
-
-    def compare(self, name, condition, cases):
-        """Cases are pairs of attributes and what the reading says."""
-        self.version += 1
-        refused = self.service.root(rewritten(policy(condition, version=str(self.version)), name))
-        if refused:
-            self.wrong.append(f'{name}: the document is refused: {refused}')
-            return
-        for (attributes, expected), decision in zip(cases, self.service.decisions([each for each, _ in cases])):
-            self.count += 1
-            if decision != DECISION[expected]:
-                self.wrong.append(
-                    f'{name}: {condition[:300]} of {attributes}: {decision}, and not {DECISION[expected]}'
-                )
-
-
-def attributes(**bags):
-    """Attributes of the subject by id: the type and the values; an empty bag is left out."""
-    return [(SUBJECT, one, kind, values) for one, (kind, values) in bags.items() if values]
 
 
 def bags_of(kind):
@@ -119,6 +83,28 @@ def one_bag(grid):
             grid.compare(names.ANY_OF_ANY, condition, cases[key])
 
 
+def over_literals(grid):
+    """any-of-any with an order, a bag and a bag of literals, in both orders of the two."""
+    for kind in names.COMPARED:
+        literals_ = VALUES[kind][1:]
+        given = apply(F1(f'{kind}-bag'), *(literal(kind, each) for each in literals_))
+        for order, says in [('less-than', lambda a, b: a < b), ('greater-than-or-equal', lambda a, b: a >= b)]:
+            for must, is_first in itertools.product(['false', 'true'], [False, True]):
+                two = [bag('x', kind, must), given]
+                condition = apply(names.ANY_OF_ANY, function(F1(f'{kind}-{order}')), *(two if is_first else two[::-1]))
+                cases = []
+                for values in bags_of(kind):
+                    pairs = itertools.product(values, literals_)
+                    found = any(says(*(map(read(kind), pair if is_first else pair[::-1]))) for pair in pairs)
+                    cases.append((attributes(x=(kind, values)), FAILS if must == 'true' and not values else found))
+                grid.compare(names.ANY_OF_ANY, condition, cases)
+
+
+def read(kind):
+    """How the text of a type is read where it is put in order: numbers as such, the others as they stand."""
+    return int if kind == 'integer' else str
+
+
 # ---- time-in-range (A.3.8): the last bound is the first, or later by less than 24 hours
 
 
@@ -139,6 +125,23 @@ def ranges(grid):
         )
         cases = [(attributes(t=('time', [time])), in_range(time, first, last)) for time in times]
         cases += [(attributes(t=('time', few)), FAILS) for few in ([], ['08:00:00', '09:00:00'])]
+        grid.compare(names.TIME_IN_RANGE, condition, cases)
+
+
+def computed_ranges(grid):
+    """The same where one bound or both aren't literals: each may fail, and so may the time."""
+    times = ['00:00:00', '07:59:59', '08:00:00', '18:00:00', '23:59:59']
+    bounds = [(None, None), ('08:00:00', None), (None, '18:00:00'), ('00:00:00', None), (None, '23:59:59')]
+    for first, last in bounds:
+        given = [single('a', 'time') if first is None else literal('time', first)]
+        given.append(single('b', 'time') if last is None else literal('time', last))
+        condition = apply(names.TIME_IN_RANGE, single('t', 'time'), *given)
+        cases = []
+        for time, one, other in itertools.product([None, *times], repeat=3):
+            if (first is None or one == times[0]) and (last is None or other == times[0]):
+                values = [time, one if first is None else first, other if last is None else last]
+                has = {key: ('time', [value] if value else []) for key, value in zip('tab', [time, one, other])}
+                cases.append((attributes(**has), FAILS if None in values else in_range(*values)))
         grid.compare(names.TIME_IN_RANGE, condition, cases)
 
 
@@ -217,6 +220,19 @@ def moments(grid):
             grid.wrong.append(f'{text} was taken as {literals.in_utc(text)}')
 
 
+def zero_fractions(grid):
+    """Literals with a fraction that is zero."""
+    for kind, text in [('time', '08:00:00.000'), ('dateTime', '2024-02-29T08:00:00.0Z')]:
+        condition = apply(F1(f'{kind}-equal'), single('x', kind), literal(kind, text))
+        whole, other = re.sub(r'\.0+', '', text), '09:00:00' if kind == 'time' else '2024-02-29T08:00:01Z'
+        cases = [(attributes(x=(kind, [each])), each == whole) for each in (whole, other)]
+        grid.compare(f'the {kind} {text}', condition, cases)
+        told = places.Told('trial')
+        literals.value(names.XML_SCHEMA + kind, text.replace('.0', '.5'), (1, 1), told, literals.COMPARED)
+        if not told.holds(places.BY_HAND):
+            grid.wrong.append(f'half a second was cut off a {kind}')
+
+
 def older_names(grid):
     """any-of and all-of under the names of 1.0."""
     for name, says in [('any-of', any), ('all-of', all)]:
@@ -271,9 +287,15 @@ def turns(grid):
             grid.wrong.append(f'{of} {name}: {found}')
 
 
+TRIALS = [
+    *(higher_order, over_literals, regular_expressions, ranges, computed_ranges, numbers, moments, zero_fractions),
+    *(older_names, turns),
+]
+
+
 def run(service):
     """How many decisions were compared, and what was wrong."""
     grid = Grid(service)
-    for trial in (higher_order, ranges, numbers, moments, older_names, turns):
+    for trial in TRIALS:
         trial(grid)
     return grid.count, grid.wrong
