@@ -222,7 +222,7 @@ class Documents(Meaning):
         name = library.camel(f'{attribute.kind}-{ORDERS[sign]}')
         if literal.kind != attribute.kind or name not in library.FUNCTIONS:
             what = f'no function compares {literal.kind} with {attribute.kind} so'
-            return self.told.error(node.place, what + (f': {library.instead(library.F1(f"{attribute.kind}-equal"))}'
+            return self.told.error(node.place, what + (f': {library.instead_of(f"{attribute.kind}-equal")}'
                                                        if attribute.kind not in names.BAGGED else ''))
         return self.matched(node.place, library.FUNCTIONS[name].uri, literal, attribute)
 

@@ -92,7 +92,7 @@ def _missing():
               'string-normalize-to-lower-case', 'string-substring', 'anyURI-substring', 'anyURI-starts-with', 'floor',
               'anyURI-ends-with', 'anyURI-contains', 'double-to-integer', 'integer-to-double', 'any-of-all', 'map',
               'all-of-all', 'xpath-node-count', 'xpath-node-equal', 'xpath-node-match', 'access-permitted']
-    return {camel(name): F1(name) for name in found if camel(name) not in FUNCTIONS}
+    return {camel(name): names.BY_WORD.get(name, F1(name)) for name in found if camel(name) not in FUNCTIONS}
 
 
 MISSING = _missing()
@@ -101,6 +101,11 @@ MISSING = _missing()
 def instead(function):
     """What can be done about a function that isn't here."""
     return names.how_without(function).removeprefix('by hand: ').removeprefix(names.IMPOSSIBLE + ': ')
+
+
+def instead_of(name):
+    """The same of the standard's function of a name."""
+    return instead(names.BY_WORD.get(name, F1(name)))
 
 
 def _algorithms():

@@ -233,7 +233,7 @@ class Meaning:
             return self.wrong(node.place, fault)
         try:
             uri = library.REWRITTEN[name]
-            made, how = rewriting.REWRITINGS[uri](uri, given, lambda each: id(each) in bags)
+            made, how, _ = rewriting.REWRITINGS[uri](uri, given, lambda each: id(each) in bags)
         except rewriting.ByHand as told:
             return self.wrong(node.place, f'{name} isn\'t here: {str(told).removeprefix("by hand: ")}')
         self.told.note(node.place, f'{name} is written as {how}')
@@ -267,7 +267,7 @@ class Meaning:
             return self.wrong(place, f'`{sign}` compares values of one type, not {left.kind} with {right.kind}')
         name, kind = f'{left.kind}-{ORDERS[sign]}', left.kind
         if library.camel(name) not in library.FUNCTIONS:
-            how = '' if kind in names.BAGGED else f': {library.instead(library.F1(name))}'
+            how = '' if kind in names.BAGGED else f': {library.instead_of(name)}'
             return self.wrong(place, f'no function compares {kind} with {kind} by `{sign}`{how}')
         uri = library.F1(name)
         if not left.is_bag and not right.is_bag:

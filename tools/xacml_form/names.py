@@ -153,7 +153,7 @@ def last_word(uri):
     return re.split('[:#/]', uri)[-1]
 
 
-_BY_WORD = {
+BY_WORD = {
     last_word(uri): uri
     for uri in {
         *HERE_FUNCTIONS,
@@ -262,7 +262,7 @@ def how_without(function):
     name = function.rpartition(':')[2]
     if not function.startswith('urn:oasis:names:tc:xacml:'):
         return IMPOSSIBLE + ': a function of one\'s own; store what it gives as an attribute'
-    if (mistaken := meant(function, _BY_WORD)) is not None:
+    if (mistaken := meant(function, BY_WORD)) is not None:
         return mistaken
     if name.startswith('xpath') or name.endswith('xpath-node-match'):
         return IMPOSSIBLE + ': there is no XPath; store what it finds as an attribute'
