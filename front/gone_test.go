@@ -50,6 +50,12 @@ func (h *hearing) heard(t *testing.T, name string) bool {
 // ends reads the rest of a stream of lines, which ends with a line that says that who sent it isn't known.
 func (s *stream) ends(t *testing.T, whose string) {
 	t.Helper()
+	s.endsBy(t, whose, http.StatusUnauthorized)
+}
+
+// endsBy reads the rest of a stream of lines, which ends with a line that has a status.
+func (s *stream) endsBy(t *testing.T, whose string, status int) {
+	t.Helper()
 	_ = s.conn.SetReadDeadline(time.Now().Add(patient))
 	last := ""
 	for {
@@ -62,7 +68,7 @@ func (s *stream) ends(t *testing.T, whose string) {
 		}
 		last = reply
 	}
-	if !strings.Contains(last, `"status":401`) {
+	if !strings.Contains(last, fmt.Sprintf(`"status":%d`, status)) {
 		t.Errorf("the lines of %s end with %q", whose, last)
 	}
 }
@@ -74,7 +80,8 @@ func newcomer(name string) string { return fmt.Sprintf(`{"do":"person.add","name
 // listen: what they send and are told is what a new request would be, and streams of who isn't known end.
 func TestGone(t *testing.T) {
 	boss, ben := entry("boss", "edit", "read", "audit"), entry("ben", "edit", "audit", "read")
-	path := accessFile(t, boss, ben, entry("ann", "edit", "audit", "read"), entry("cal", "edit", "audit", "read"))
+	path := accessFile(t, boss, ben, entry("ann", "edit", "audit", "read"), entry("cal", "edit", "audit", "read"),
+		entry("dan", "read"))
 	f := begin(t, t.TempDir(), "--access", path)
 	for _, l := range clinic(t) {
 		if got := f.as(t, "boss", http.MethodPost, "/lines", l); !strings.HasPrefix(got.body, `{"changes"`) {
@@ -92,10 +99,16 @@ func TestGone(t *testing.T) {
 	if reply := quiet.ask(t, `{"do":"work"}`); !strings.HasPrefix(reply, `{"evaluations"`) {
 		t.Fatalf("a question is answered %s", reply)
 	}
-	if err := os.WriteFile(path, []byte(boss+"\n"+ben+"\n"+entry("cal", "read")+"\n"), 0o600); err != nil {
+	dan := f.connect("/lines", bearer(tokenOf("dan")))
+	if reply := dan.ask(t, `{"do":"work"}`); !strings.HasPrefix(reply, `{"evaluations"`) {
+		t.Fatalf("a question is answered %s", reply)
+	}
+	now := []string{boss, ben, entry("cal", "read"), entry("dan")}
+	if err := os.WriteFile(path, []byte(strings.Join(now, "\n")), 0o600); err != nil {
 		t.Fatal(err)
 	}
 	f.hangUp("who may what was read again")
+	dan.endsBy(t, "who has no role any more", http.StatusForbidden)
 	_ = lines["ann"].send(newcomer("late-ann"))
 	lines["ann"].ends(t, "who isn't known any more")
 	quiet.ends(t, "who isn't known any more, and says nothing")
@@ -119,28 +132,36 @@ func TestGone(t *testing.T) {
 	}
 }
 
+// permitting is a state of rights that permits some commands.
+func permitting(commands ...string) string {
+	var rules []string
+	for _, command := range commands {
+		condition := isGiven(actionCategory, "urn:oasis:names:tc:xacml:1.0:action:action-id", "string", `"`+command+`"`)
+		rules = append(rules, fmt.Sprintf(`{"RuleId":%q,"Effect":"Permit","Condition":%s}`, command, condition))
+	}
+	all := oneRule(`{}`)
+	all[0] = all[0][:strings.Index(all[0], `{"RuleId"`)] + strings.Join(rules, ",") + `]}}}`
+	return strings.Join(all, "\n")
+}
+
 // TestReadTogether takes somebody out while the policies of rights can't be read: all of what was read before stays, until
-// both can be.
+// both can be. Who listens by policies that don't permit it any more is told no more.
 func TestReadTogether(t *testing.T) {
-	boss := entry("boss", "read")
+	boss := entry("boss", "read", "audit")
 	path, state := accessFile(t, boss, entry("ann", "read")), filepath.Join(t.TempDir(), "rights")
 	write := func(path, content string) {
 		if err := os.WriteFile(path, []byte(content), 0o600); err != nil {
 			t.Fatal(err)
 		}
 	}
-	write(state, strings.Join(oneRule(isGiven(actionCategory, "urn:oasis:names:tc:xacml:1.0:action:action-id", "string",
-		`"counts"`)), "\n"))
+	write(state, permitting("counts", "notices"))
 	f := begin(t, t.TempDir(), "--access", path, "--rights", state)
-	sound, err := os.ReadFile(state)
-	if err != nil {
-		t.Fatal(err)
-	}
+	listener := f.hears(tokenOf("boss"))
 	for _, one := range []struct {
 		state, told string
 		status      int
 	}{
-		{"nothing", "can't be read again", http.StatusOK}, {string(sound), "was read again", http.StatusUnauthorized},
+		{"nothing", "can't be read again", http.StatusOK}, {permitting("counts"), "was read again", http.StatusUnauthorized},
 	} {
 		write(path, boss+"\n")
 		write(state, one.state)
@@ -151,6 +172,9 @@ func TestReadTogether(t *testing.T) {
 		if got := f.as(t, "boss", http.MethodGet, "/counts", ""); got.status != http.StatusOK {
 			t.Errorf("once it %s, who stays is answered %+v", one.told, got)
 		}
+	}
+	if listener.heard(t, "nothing") {
+		t.Error("who listens is told of what didn't happen")
 	}
 }
 

@@ -34,6 +34,9 @@ type Identity struct {
 // May says whether he may send a command, or ask for what stands under such a word.
 func (i *Identity) May(command string) bool { return i.may[command] }
 
+// MayNothing says whether he may send no command at all.
+func (i *Identity) MayNothing() bool { return len(i.may) == 0 }
+
 // Way is how somebody shows who he is.
 type Way struct {
 	Certificate string // the name in his certificate, or nothing

@@ -73,10 +73,13 @@ func (a asked) ask(l string) string {
 	return string(reply)
 }
 
-// dump has the lines of a dump.
-func (a asked) dump() []string {
+// dumping is the line that asks for a dump.
+const dumping = `{"do":"dump"}`
+
+// dumped has the lines of a dump.
+func (a asked) dumped(reply string) []string {
 	var said struct{ Dump []string }
-	if err := json.Unmarshal([]byte(a.ask(`{"do":"dump"}`)), &said); err != nil {
+	if err := json.Unmarshal([]byte(reply), &said); err != nil {
 		a.t.Fatal(err)
 	}
 	return said.Dump
@@ -357,10 +360,11 @@ func (c *comparison) compare(l string, want map[string]string) {
 	if !strings.HasPrefix(reply, `{"changes"`) {
 		return
 	}
-	after := c.told.dump()
-	if got := c.plain.dump(); fmt.Sprint(got) != fmt.Sprint(after) {
-		c.t.Fatalf("%s leaves %q, and what is told of it, %s, %q", l, after, as, got)
+	reply = c.told.ask(dumping)
+	if got := c.plain.ask(dumping); got != reply {
+		c.t.Fatalf("%s leaves %s, and what is told of it, %s, %s", l, reply, as, got)
 	}
+	after := c.told.dumped(reply)
 	for _, own := range added(c.before, after) {
 		does := toldOf(c.t, own)
 		if does["do"] == "policy.add" && told["do"] == "policy.replace" {
@@ -377,7 +381,7 @@ func (c *comparison) compare(l string, want map[string]string) {
 // policies are told what it does with it, and of two that it takes as one the same.
 func TestTold(t *testing.T) {
 	c := &comparison{t: t, told: begin(t), plain: begin(t), taken: map[string]int{}}
-	c.before = c.told.dump()
+	c.before = c.told.dumped(c.told.ask(dumping))
 	s := spelling{rand.New(rand.NewSource(5))}
 	table := commands.In(t, "../../tools")
 	var words []string

@@ -273,7 +273,7 @@ func (in *stream) send(ctx context.Context) {
 			in.put(ctx, pending{problem: &told})
 			return
 		case errGone:
-			told := problemFor(notKnown{errGone})
+			told := in.visit.lost()
 			in.put(ctx, pending{problem: &told})
 			return
 		default:

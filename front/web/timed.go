@@ -10,18 +10,18 @@ import (
 var (
 	// errStopping says that a stream ends since the front does.
 	errStopping = errors.New("the front is stopping")
-	// errGone says that a stream ends since who sends it isn't known any more.
-	errGone = errors.New("who sends isn't known any more")
+	// errGone says that a stream ends since who sends it isn't known any more, or may nothing any more.
+	errGone = errors.New("who sends has gone")
 )
 
 // timed reads a body that may take its time, but for so long may say nothing. It ends when the front stops, and when
-// who sends it isn't known any more.
+// who sends it has gone.
 type timed struct {
 	from     io.Reader
 	request  *http.Request
 	idle     time.Duration
 	stopping <-chan struct{}
-	gone     <-chan struct{} // closed when who sends isn't known any more
+	gone     <-chan struct{} // closed when who sends has gone
 	ended    bool            // it was read to its end
 }
 

@@ -92,22 +92,37 @@ func (v *visit) left() (time.Duration, <-chan struct{}) {
 	return left, v.known
 }
 
-// gone is closed once who asks isn't known any more, unless a context is done before.
+// gone is closed once who asks isn't known any more, or may nothing any more, unless a context is done before.
 func (v *visit) gone(ctx context.Context) <-chan struct{} {
 	if v == nil {
 		return nil
 	}
-	gone := make(chan struct{})
+	gone, could := make(chan struct{}), false
 	go func() {
 		for ctx.Err() == nil {
-			if _, err := v.now(); err != nil {
+			who, err := v.now()
+			can := who == nil || !who.MayNothing()
+			if err != nil || could && !can {
 				close(gone)
 				return
 			}
+			could = can
 			v.await(ctx)
 		}
 	}()
 	return gone
+}
+
+// lost is the problem of somebody who isn't known any more, or may nothing any more.
+func (v *visit) lost() problem {
+	who, err := v.now()
+	if err == nil && who == nil {
+		err = notKnown{errGone} // he is known again, since then
+	}
+	if err != nil {
+		return problemFor(err)
+	}
+	return problem{Title: "not allowed", Status: http.StatusForbidden, Detail: who.Name + " has no role any more"}
 }
 
 // await waits until it has to be found out again who asks, or a context is done.
