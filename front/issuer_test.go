@@ -2,7 +2,10 @@ package main
 
 import (
 	"bytes"
+	"fmt"
 	"net/http"
+	"os"
+	"path/filepath"
 	"regexp"
 	"strings"
 	"testing"
@@ -28,8 +31,31 @@ func TestIssuedTokens(t *testing.T) {
 	} {
 		token := s.token(t, one.subject, time.Now().Add(time.Hour), map[string]any{"typ": one.kind}, map[string]any{"group": "desk"})
 		got := f.send(t, http.MethodGet, "/counts", "", "Authorization", "Bearer "+token)
-		if got.status != one.status || !strings.Contains(f.log(), one.log) {
+		if got.status != one.status {
 			t.Errorf("%s by a token of type %s is answered %+v", one.subject, one.kind, got)
+		}
+		eventually(t, "it is told why", func() bool { return strings.Contains(f.log(), one.log) })
+	}
+}
+
+// TestIssuedClaims shows tokens of many claims to a front whose policies decide: of none that is too much for them
+// anything is permitted, and it is told why.
+func TestIssuedClaims(t *testing.T) {
+	s, state := newSigner(t), filepath.Join(t.TempDir(), "rights")
+	if err := os.WriteFile(state, []byte(permitting("counts")), 0o600); err != nil {
+		t.Fatal(err)
+	}
+	f := begin(t, t.TempDir(), append(s.options(), "--rights", state, "--access",
+		accessFile(t, `{"claim":{"group":"desk"},"roles":["read"]}`))...)
+	for count, want := range map[int]int{10: http.StatusOK, 300: http.StatusForbidden} {
+		claims := map[string]any{"group": "desk"}
+		for i := 0; i < count; i++ {
+			claims[fmt.Sprint("c", i)] = "x"
+		}
+		token := s.token(t, "ann", time.Now().Add(time.Hour), nil, claims)
+		got := f.send(t, http.MethodGet, "/counts", "", "Authorization", "Bearer "+token)
+		if got.status != want || (want == http.StatusForbidden) != strings.Contains(got.body, "of so many claims") {
+			t.Errorf("with %d claims it is answered %+v", count, got)
 		}
 	}
 }
