@@ -391,7 +391,7 @@ func TestTold(t *testing.T) {
 	sort.Strings(words)
 	lines := 6_000
 	if os.Getenv("FRONT_ALL") != "" {
-		lines = 100_000
+		lines = 30_000
 	}
 	for i := 0; i < lines; i++ {
 		word := s.one(words...)

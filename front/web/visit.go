@@ -54,10 +54,19 @@ func (v *visit) now() (*access.Identity, error) {
 		return who, nil
 	}
 	if v.err == nil && v.begun {
-		v.server.Log.Error("somebody isn't known any more", "path", v.request.URL.Path, "why", err)
+		v.tell(err)
 	}
 	v.err = notKnown{err}
 	return v.who, v.err
+}
+
+// tell tells the log of somebody who was let in and isn't known any more.
+func (v *visit) tell(why error) {
+	name := "" // that of a certificate, of which nobody is asked who it is
+	if v.who != nil {
+		name = v.who.Name
+	}
+	v.server.Log.Error("somebody isn't known any more", "name", name, "path", v.request.URL.Path, "why", why)
 }
 
 // identify finds out who asks, and until when that is so; it is nobody where everybody may everything.
