@@ -15,9 +15,12 @@ import (
 // TestIssuedTokens shows tokens of an issuer to a front that takes one type of them, and knows others by name.
 func TestIssuedTokens(t *testing.T) {
 	s := newSigner(t)
-	words := append(s.options(), "--token-type", "at+jwt", "--access",
-		accessFile(t, entry("boss", "edit"), `{"claim":{"group":"desk"},"roles":["read"]}`))
+	words := append(s.options(), "--token-type", "at+jwt", "--access", accessFile(t, entry("boss", "edit"),
+		`{"claim":{"group":"desk"},"roles":["read"]}`, `{"subject":"BOSS","roles":["read"]}`))
 	f := begin(t, t.TempDir(), words...)
+	eventually(t, "the line is told by which nobody is known", func() bool {
+		return strings.Contains(f.log(), `the subject \"BOSS\"`)
+	})
 	for _, one := range []struct {
 		subject, kind string
 		status        int

@@ -23,6 +23,9 @@ func (o options) who(log *logs.Log) (*who, error) {
 	w.gate, err = access.Open(access.Options{
 		File: o.access, Issuer: o.issuer, Keys: o.issuerKeys, Audience: o.audience, Types: o.tokenTypes,
 	})
+	if err == nil {
+		w.warn(log)
+	}
 	if err == nil && o.rights != "" {
 		w.rights, err = rights.Open(o.command(log), o.rights, o.replyTime)
 	}
@@ -45,7 +48,15 @@ func (w *who) again(site *web.Server, log *logs.Log) {
 	}
 	take()
 	site.ReadAgain()
+	w.warn(log)
 	log.Info("who may what was read again")
+}
+
+// warn tells what of it can't be meant.
+func (w *who) warn(log *logs.Log) {
+	for _, what := range w.gate.Unknowable() {
+		log.Error("a line says nothing of who may what", "why", what)
+	}
 }
 
 // close ends what decides.

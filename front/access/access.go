@@ -94,6 +94,12 @@ func (g *Gate) Read() (take func(), err error) {
 	return func() { g.now.Store(read) }, nil
 }
 
+// Unknowable tells the lines of the file, as it was read last, by which nobody is known.
+func (g *Gate) Unknowable() []string {
+	now := g.now.Load()
+	return unknowable(now.users, now.names)
+}
+
 // Of says who asks: by his token if he has one, else by his certificate, and else by his user.
 func (g *Gate) Of(head http.Header, way Way) (*Identity, error) {
 	now := g.now.Load()

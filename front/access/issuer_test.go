@@ -17,7 +17,6 @@ import (
 	"net/http"
 	"os"
 	"path/filepath"
-	"strings"
 	"testing"
 	"time"
 )
@@ -333,10 +332,13 @@ func TestLocalNames(t *testing.T) {
 			t.Errorf("whose subject is %q is %+v, %v", subject, who, err)
 		}
 	}
-	for _, more := range []string{`{"subject":"root","roles":["read"]}`, `{"name":"BEN","roles":["read"],"certificate":"b"}`} {
+	for more, count := range map[string]int{
+		"": 0, `{"subject":"root","roles":["read"]}`: 1, `{"name":"BEN","roles":["read"],"certificate":"b"}`: 1,
+	} {
 		write(file + more)
-		if _, err := Open(options); err == nil || !strings.Contains(err.Error(), "is the name of somebody else here") {
-			t.Errorf("with %s it is read: %v", more, err)
+		g, err := Open(options)
+		if err != nil || len(g.Unknowable()) != count {
+			t.Errorf("with %s these lines are told: %q, %v", more, g.Unknowable(), err)
 		}
 	}
 }

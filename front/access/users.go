@@ -61,13 +61,19 @@ func readUsers(path string) ([]user, error) {
 			return nil, fmt.Errorf("%s:%d: %w", path, number+1, err)
 		}
 	}
-	names := namesOf(users)
+	return users, nil
+}
+
+// unknowable are the lines whose subject looks like a name that the file gives: nobody is known by them.
+func unknowable(users []user, names map[string]bool) []string {
+	var all []string
 	for _, one := range users {
 		if one.Subject != "" && names[looks(one.Subject)] {
-			return nil, fmt.Errorf("%s: the subject %q is the name of somebody else here", one.place, one.Subject)
+			why := "%s: the subject %q is a name of the file too, so nobody is known by it"
+			all = append(all, fmt.Sprintf(why, one.place, one.Subject))
 		}
 	}
-	return users, nil
+	return all
 }
 
 // namesOf are the names that a file gives, as they look.
