@@ -40,12 +40,17 @@ func (r Reply) Drop() {
 }
 
 // IsLong says whether the reply may be as long as the table, and waits in a file.
-func (c *Call) IsLong() bool {
-	return !c.own && (c.kind == line.Report || c.kind == line.Notices || c.kind == line.Changes)
+func (c *Call) IsLong() bool { return !c.own && isLong(c.kind) }
+
+func isLong(kind line.Kind) bool {
+	return kind == line.Report || kind == line.Notices || kind == line.Changes
 }
 
 // IsLong says whether the reply to a line may be as long as the table.
-func IsLong(l []byte) bool { return question(l).IsLong() }
+func IsLong(l []byte) bool {
+	kind, _ := line.Read(l)
+	return isLong(kind)
+}
 
 // turn waits until it is known what a line asks, and of a long reply until no other is due, and there is room to keep
 // one: others come between two of them.
