@@ -67,8 +67,8 @@ func fake(how string, words []string) int {
 		if how == "busy" && strings.Contains(l, "busy") {
 			work(l)
 		}
-		if how == "load" && strings.Contains(l, "load") {
-			workFor(loadTime)
+		if how == "load" {
+			workFor(loadOf(l))
 		}
 		if how == "astray" && strings.Contains(l, "astray") && isScarce() {
 			l = strings.Replace(l, `"values":[1]`, `"values":[2]`, 1)
@@ -93,6 +93,17 @@ const scarce = "REVIEW_FRONT_SCARCE"
 
 // isScarce says whether the file is there, and takes it away.
 func isScarce() bool { return os.Remove(os.Getenv(scarce)) == nil }
+
+// loadOf is how long a line of a load takes.
+func loadOf(l string) time.Duration {
+	switch {
+	case strings.Contains(l, "endless"):
+		return 10 * busyTime
+	case strings.Contains(l, "load"):
+		return loadTime
+	}
+	return 0
+}
 
 // work works for long, on a question for very long.
 func work(l string) {

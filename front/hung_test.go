@@ -72,7 +72,7 @@ func TestHungBehind(t *testing.T) {
 	f := begin(t, t.TempDir(), "--reply-time", "2s")
 	f.halt()
 	replies := make(chan string, 2)
-	for _, l := range []string{`{"do":"counts"}`, `{"do":"person.add","name":"more"}`} {
+	for _, l := range []string{`{"do":"can","person":"eve"}`, `{"do":"person.add","name":"more"}`} {
 		go func(l string) {
 			answer, err := http.Post(f.url("/lines"), "", strings.NewReader(l))
 			if err != nil {
@@ -99,11 +99,11 @@ func TestHungBehind(t *testing.T) {
 func TestLoad(t *testing.T) {
 	theProgram(t)
 	f := begin(t, t.TempDir(), "--reply-time", "500ms", "--program", faked(t, "load"))
-	lines := []string{`{"do":"mark"}`}
+	lines := []string{`{"do":"mark"}`, `{"do":"can","person":"eve"}`}
 	for i := 0; i < 60; i++ {
 		lines = append(lines, fmt.Sprintf(`{"do":"person.add","name":"load-%d"}`, i))
 	}
-	lines = append(lines, `{"do":"counts"}`, `{"do":"work"}`)
+	lines = append(lines, `{"do":"counts"}`)
 	for i, reply := range f.lines(lines...) {
 		if _, made := accepted(reply); made != strings.Contains(lines[i], "load") || strings.Contains(reply, "status") {
 			t.Errorf("%s is answered %s", lines[i], reply)
@@ -111,6 +111,18 @@ func TestLoad(t *testing.T) {
 	}
 	if got := f.metric(tooLong); got != 0 {
 		t.Errorf("%v programs were ended", got)
+	}
+}
+
+// TestLoadHung has such a program work without end on a question behind an edit, whose reply it holds back: the question is
+// ended in its time, and the edit stands.
+func TestLoadHung(t *testing.T) {
+	theProgram(t)
+	f := begin(t, t.TempDir(), "--reply-time", "500ms", "--program", faked(t, "load"))
+	replies := f.lines(`{"do":"person.add","name":"load"}`, `{"do":"can","person":"endless"}`, `{"do":"person.add","name":"more"}`)
+	if replies[0] != `{"changes":0,"serial":1}` || !strings.Contains(replies[1], "ask again") ||
+		replies[2] != `{"changes":0,"serial":2}` {
+		t.Errorf("the lines are answered %q", replies)
 	}
 }
 

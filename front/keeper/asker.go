@@ -231,6 +231,9 @@ func (a *asker) follow() {
 
 // send puts a line into the pipe.
 func (a *asker) send(l []byte, due asked) {
+	if due.call != nil {
+		a.timed.Add(1)
+	}
 	select {
 	case a.flight <- due:
 	default:
@@ -252,6 +255,9 @@ func (a *asker) receive() {
 			a.since.Store(time.Now().UnixNano())
 			body, err := a.Receive()
 			a.since.Store(0)
+			if due.call != nil {
+				a.timed.Add(-1)
+			}
 			if err == nil {
 				err = a.read(due, body)
 			}

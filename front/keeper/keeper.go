@@ -99,7 +99,6 @@ type Call struct {
 	asks    bool
 	unknown bool
 	own     bool // it is the front's own, whose reply isn't kept in a file
-	lasting bool // it is the front's own, and may take long
 	// settle, if there is one, sees the reply when it is handed out, in the order of replies, and may change it.
 	settle  func(*Reply)
 	context context.Context
@@ -307,14 +306,23 @@ func (k *Keeper) Return(heard uint64) *notices.Listener {
 	return k.Notices.Return(heard)
 }
 
-// mayTakeLong says whether the reply may take longer than its time while the program moves: that to an edit, or one that
-// may be as long as the table or what changed.
-func (c *Call) mayTakeLong() bool {
+// pace is how long the reply to a line may take.
+type pace int
+
+const (
+	timed   pace = iota // its time
+	light               // hardly any
+	lasting             // as long as the program moves: that to an edit, or one as long as the table or what changed
+)
+
+func (c *Call) pace() pace {
 	switch c.kind {
 	case line.Edit, line.Report, line.Notices, line.Changes:
-		return true
+		return lasting
+	case line.Mark, line.Light:
+		return light
 	}
-	return c.lasting
+	return timed
 }
 
 // lost is what is told of a line to which the program, which ended, gave no reply.

@@ -190,7 +190,7 @@ func (s *serving) returning(heard uint64, event *notices.Event) {
 // all asks what changed since the last time, if anybody listens, and tells it.
 func (s *serving) all(round *notices.Round) {
 	k := s.keeper
-	call := &Call{Line: working, kind: line.Question, own: true, reply: make(chan Reply, 1)}
+	call := &Call{Line: working, kind: line.Light, own: true, reply: make(chan Reply, 1)}
 	if round.All {
 		call.kind, call.since, call.asks = line.Notices, round.Since, true
 	}

@@ -35,12 +35,10 @@ type serving struct {
 	replies chan settled
 	// unsettled counts what is in `replies` or not handed out yet.
 	unsettled atomic.Int64
-	over      atomic.Bool // no line is sent any more: the program ended or is being killed
-	telling   atomic.Bool // notices are on their way
-	sent      bool        // a line was sent since it was looked
-	// timed counts the lines on their way whose replies have their time, and answered says that none is left.
-	timed    atomic.Int64
-	answered chan struct{}
+	over      atomic.Bool   // no line is sent any more: the program ended or is being killed
+	telling   atomic.Bool   // notices are on their way
+	sent      bool          // a line was sent since it was looked
+	answered  chan struct{} // says that all lines of a kind have their replies
 	// unkept and unanswered are edits of a stream whose replies couldn't be kept, and that have none.
 	unkept, unanswered []*Call
 	stopping           <-chan struct{} // closed when the front ends
@@ -113,7 +111,7 @@ func (s *serving) feed(ctx context.Context) reason {
 		case <-k.edited:
 			s.tell()
 		case <-idle:
-			if !s.sent {
+			if !s.sent && !s.program.due.Load() {
 				s.own(working, nil)
 			}
 			s.sent = false
@@ -165,7 +163,7 @@ func (s *serving) take(call *Call) {
 		call.end(ErrJournal)
 		return
 	}
-	if call.mayTakeLong() && !s.awaitTimed() {
+	if !s.apart(call) {
 		s.keeper.held = append(s.keeper.held, call)
 		return
 	}
@@ -178,10 +176,22 @@ func (s *serving) take(call *Call) {
 	}
 }
 
-// awaitTimed waits until each line on its way whose reply has its time has it: what may take long isn't sent behind one
-// before, since the program holds a reply back while there are lines behind. It is false where the program ended.
-func (s *serving) awaitTimed() bool {
-	for s.timed.Load() > 0 {
+// counter is where lines on their way are counted that are like one, and `other` where those are that aren't sent with it.
+func (s *serving) counter(call *Call) (own, other *atomic.Int64) {
+	switch call.pace() {
+	case lasting:
+		return &s.program.lasting, &s.program.timed
+	case timed:
+		return &s.program.timed, &s.program.lasting
+	}
+	return nil, nil
+}
+
+// apart waits until lines that may take long, and those whose replies have their time, aren't on their way together: the
+// program holds a reply back while there are lines behind, and it couldn't be told which of them takes long. It is false
+// where the program ended.
+func (s *serving) apart(call *Call) bool {
+	for _, other := s.counter(call); other != nil && other.Load() > 0; {
 		_ = s.program.Flush()
 		<-s.answered
 	}
@@ -190,7 +200,7 @@ func (s *serving) awaitTimed() bool {
 
 // gone says that a line isn't on its way any more.
 func (s *serving) gone(call *Call) {
-	if !call.mayTakeLong() && s.timed.Add(-1) == 0 {
+	if own, _ := s.counter(call); own != nil && own.Add(-1) == 0 {
 		select {
 		case s.answered <- struct{}{}:
 		default:
@@ -243,10 +253,9 @@ func (k *Keeper) mayEdit() bool {
 // send puts a call among those that wait for replies, and its line into the pipe.
 func (s *serving) send(call *Call) {
 	s.address(call)
-	if call.mayTakeLong() {
-		s.awaitTimed()
-	} else {
-		s.timed.Add(1)
+	s.apart(call)
+	if own, _ := s.counter(call); own != nil {
+		own.Add(1)
 	}
 	select {
 	case s.flight <- call:
@@ -262,7 +271,10 @@ func (s *serving) send(call *Call) {
 // own sends a line of the front itself.
 func (s *serving) own(l []byte, settle func(*Reply)) {
 	kind, _ := line.Read(l)
-	s.send(&Call{Line: l, settle: settle, reply: make(chan Reply, 1), lasting: kind == line.Report})
+	if kind == line.Mark {
+		kind = line.Light // it is no client's
+	}
+	s.send(&Call{Line: l, kind: kind, own: true, settle: settle, reply: make(chan Reply, 1)})
 }
 
 // changed says that there is something to tell.

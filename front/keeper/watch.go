@@ -22,10 +22,11 @@ type watched struct {
 	time   time.Duration        // how long a reply may take
 	call   atomic.Pointer[Call] // whose reply is due, where that is a client's
 	due    atomic.Bool          // a reply is due
-	sent   atomic.Uint64        // how many lines were sent
 	count  atomic.Uint64        // how many replies came
 	stuck  atomic.Bool          // the program hasn't moved for a while, and a reply is due
 	late   atomic.Bool          // it was killed for that
+	// timed counts the lines on their way whose replies have a time, and lasting those whose replies may take long.
+	timed, lasting atomic.Int64
 }
 
 // start starts a program, which holds nothing.
@@ -39,12 +40,6 @@ func (k *Keeper) start() (*watched, error) {
 		go w.watch()
 	}
 	return w, nil
-}
-
-// Send puts a line into the pipe, or into what is flushed with it later.
-func (w *watched) Send(l []byte) error {
-	w.sent.Add(1)
-	return w.Program.Send(l)
 }
 
 // Receive waits for the next reply.
@@ -137,9 +132,9 @@ func (w *watched) hangs(last *look, now time.Time) bool {
 
 // atOnce is how many lines the program may be working on: it holds a reply back while there are lines behind.
 func (w *watched) atOnce() time.Duration {
-	switch due := w.sent.Load() - w.count.Load(); {
-	case due == 0:
-		return 1 // it is just being sent
+	switch due := w.timed.Load(); {
+	case due < 1:
+		return 1 // none has a time, or it is just being sent
 	case due < mostAtOnce:
 		return time.Duration(due)
 	}
@@ -147,10 +142,14 @@ func (w *watched) atOnce() time.Duration {
 }
 
 // mayTakeLong says whether the reply that is due may take longer than its time while the program moves, as those to the
-// lines of a replay.
+// lines of a replay may, and those that are held back for lines behind which take long.
 func (w *watched) mayTakeLong() bool {
 	call := w.call.Load()
-	return call == nil || call.mayTakeLong()
+	if call == nil {
+		return true
+	}
+	how := call.pace()
+	return how == lasting || how == light && w.lasting.Load() > 0
 }
 
 // shown is the beginning of the line whose reply is due.

@@ -22,29 +22,34 @@ func TestHangs(t *testing.T) {
 	for _, one := range []struct {
 		name string
 		kind line.Kind
-		sent uint64
+		sent int64 // how many lines on their way have a time
+		last int64 // and how many may take long
 		seen seen
 		late time.Duration // how late the front comes to look
 		hang int           // 0: never
 	}{
-		{"a question that takes all of a processor", line.Question, 1, seen{eighth, true}, 0, 8},
-		{"a question that gets a tenth of one", line.Question, 1, seen{eighth / 10, true}, 0, 80},
-		{"a question that waits for one", line.Question, 1, seen{0, true}, 0, 0},
-		{"a question over which it stands still", line.Question, 1, seen{0, false}, 0, 8},
-		{"one of four", line.Question, 4, seen{eighth, true}, 0, 32},
-		{"one of many", line.Question, 999, seen{eighth, true}, 0, 8 * mostAtOnce},
-		{"one of many over which it stands still", line.Question, 999, seen{0, false}, 0, 8},
-		{"an edit that takes all of a processor", line.Edit, 9, seen{eighth, true}, 0, 0},
-		{"an edit that waits for one", line.Edit, 9, seen{0, true}, 0, 0},
-		{"an edit over which it stands still", line.Edit, 9, seen{0, false}, 0, 8},
-		{"what changed", line.Changes, 1, seen{eighth, true}, 0, 0},
-		{"a front that comes late to look", line.Question, 1, seen{0, false}, time.Minute, 4},
+		{"a question that takes all of a processor", line.Question, 1, 0, seen{eighth, true}, 0, 8},
+		{"a question that gets a tenth of one", line.Question, 1, 0, seen{eighth / 10, true}, 0, 80},
+		{"a question that waits for one", line.Question, 1, 0, seen{0, true}, 0, 0},
+		{"a question over which it stands still", line.Question, 1, 0, seen{0, false}, 0, 8},
+		{"one of four", line.Question, 4, 0, seen{eighth, true}, 0, 32},
+		{"one of many", line.Question, 999, 0, seen{eighth, true}, 0, 8 * mostAtOnce},
+		{"one of many over which it stands still", line.Question, 999, 0, seen{0, false}, 0, 8},
+		{"an edit that takes all of a processor", line.Edit, 0, 9, seen{eighth, true}, 0, 0},
+		{"an edit that waits for one", line.Edit, 0, 9, seen{0, true}, 0, 0},
+		{"an edit over which it stands still", line.Edit, 0, 9, seen{0, false}, 0, 8},
+		{"a mark with edits behind it", line.Mark, 0, 8, seen{eighth, true}, 0, 0},
+		{"a mark with questions behind it", line.Mark, 2, 0, seen{eighth, true}, 0, 16},
+		{"counts", line.Light, 0, 0, seen{eighth, true}, 0, 8},
+		{"what changed", line.Changes, 0, 1, seen{eighth, true}, 0, 0},
+		{"a front that comes late to look", line.Question, 1, 0, seen{0, false}, time.Minute, 4},
 	} {
 		worked := time.Duration(0)
 		w := &watched{time: time.Second}
 		w.work = func() program.Work { return program.Work{Took: worked, Runs: one.seen.runs} }
 		w.call.Store(&Call{kind: one.kind})
-		w.sent.Store(one.sent)
+		w.timed.Store(one.sent)
+		w.lasting.Store(one.last)
 		now := time.Now()
 		last := &look{at: now}
 		hang := 0

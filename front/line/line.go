@@ -30,6 +30,7 @@ const (
 	Notices              // asks what changed since a session's mark
 	Changes              // asks what changed since a serial
 	Report               // a question whose reply may be as long as the table or all that is held
+	Light                // a question that takes hardly any time
 )
 
 // kinds has the commands that aren't questions. An edit that isn't here is journalled all the same, by its reply.
@@ -41,6 +42,7 @@ var kinds = map[string]Kind{
 	"root.set": Edit, "attr.set": Edit, "day.set": Edit, "moment.set": Edit,
 	"mark": Mark, "notices": Notices, "changes": Changes,
 	"table": Report, "by_rule": Report, "dump": Report,
+	"counts": Light, "work": Light, "format": Light, "limits": Light, "state": Light,
 	"documents": Report, "attributes": Report, "cells": Report, "faults": Report, "names": Report,
 }
 
