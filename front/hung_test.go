@@ -114,12 +114,13 @@ func TestLoad(t *testing.T) {
 	}
 }
 
-// TestLoadHung has such a program work without end on a question behind an edit, whose reply it holds back: the question is
-// ended in its time, and the edit stands.
+// TestLoadHung has such a program work without end on a question behind an edit, whose reply it holds back: the question
+// is ended in its time, and the edit stands.
 func TestLoadHung(t *testing.T) {
 	theProgram(t)
 	f := begin(t, t.TempDir(), "--reply-time", "500ms", "--program", faked(t, "load"))
-	replies := f.lines(`{"do":"person.add","name":"load"}`, `{"do":"can","person":"endless"}`, `{"do":"person.add","name":"more"}`)
+	replies := f.lines(`{"do":"person.add","name":"load"}`, `{"do":"can","person":"endless"}`,
+		`{"do":"person.add","name":"more"}`)
 	if replies[0] != `{"changes":0,"serial":1}` || !strings.Contains(replies[1], "ask again") ||
 		replies[2] != `{"changes":0,"serial":2}` {
 		t.Errorf("the lines are answered %q", replies)

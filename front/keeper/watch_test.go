@@ -14,8 +14,8 @@ type seen struct {
 	runs   bool          // whether it runs or waits for a processor
 }
 
-// TestHangs looks at programs, of which each reply has a second: by how many looks it has had its time, which is told in
-// eighths of a second, or that it has it never.
+// TestHangs looks at programs, of which each reply has a second: by how many looks it has had its time, which is told
+// in eighths of a second, or that it has it never.
 func TestHangs(t *testing.T) {
 	const eighth = time.Second / looksInTime
 	const often = 1000

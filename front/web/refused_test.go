@@ -52,14 +52,16 @@ func TestRefusedEvery(t *testing.T) {
 	ctx, cancel := context.WithCancel(context.Background())
 	defer cancel()
 	go site.Sweep(ctx)
-	for until := time.Now().Add(time.Minute); !strings.Contains(told.String(), "lines of others"); time.Sleep(time.Millisecond) {
+	for until := time.Now().Add(time.Minute); !strings.Contains(told.String(), "lines of others"); {
 		if time.Now().After(until) {
 			t.Fatal("nothing is logged")
 		}
+		time.Sleep(time.Millisecond)
 	}
 	cancel()
 	text := told.String()
-	if strings.Count(text, "\n") != mostRefused+1 || !strings.HasSuffix(text, `"message":"lines of others were refused","lines":5}`+"\n") {
+	const others = `"message":"lines of others were refused","lines":5}` + "\n"
+	if strings.Count(text, "\n") != mostRefused+1 || !strings.HasSuffix(text, others) {
 		t.Errorf("%d lines are logged, the last of them %.300s", strings.Count(text, "\n"), text[len(text)-300:])
 	}
 	const third = `"by":"client-3","refused":6,"sub":3,"lines":2,` +
@@ -73,7 +75,8 @@ func TestRefusedEvery(t *testing.T) {
 func TestFaults(t *testing.T) {
 	var r reasons
 	for number := 1; number <= 15; number++ {
-		if why := r.why("day.set", number, 0); !strings.HasPrefix(why, refusals[number].title+": ") || refusals[number].title == "" {
+		title, why := refusals[number].title, r.why("day.set", number, 0)
+		if title == "" || !strings.HasPrefix(why, title+": ") {
 			t.Errorf("%d is told as %s", number, why)
 		}
 	}

@@ -89,8 +89,8 @@ type extents struct {
 	Limits map[string]struct{ Most, Taken int }
 }
 
-// which is the limit that is passed, of those that may be: a list that is full, or else what is made of all lists. Where
-// the program can't be asked it may be either.
+// which is the limit that is passed, of those that may be: a list that is full, or else what is made of all lists.
+// Where the program can't be asked it may be either.
 func (r *reasons) which(words []string) string {
 	if len(words) == 1 {
 		return words[0]
