@@ -29,7 +29,7 @@ func TestLogJoins(t *testing.T) {
 		fronts[0].accept(numbered(20+30*i, 30)...)
 	}
 	fronts[0].snapshots(1)
-	newest, err := filepath.Glob(filepath.Join(fronts[0].folder, "snapshot-*"))
+	newest, err := filepath.Glob(filepath.Join(fronts[0].folder, "snapshot-*[0-9]"))
 	if err != nil || len(newest) == 0 {
 		t.Fatal("there is no snapshot", err)
 	}

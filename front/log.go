@@ -43,22 +43,37 @@ func (o options) edits(ctx context.Context, log *logs.Log) (replicated.Log, erro
 	return jetstream.Open(ctx, stream, log)
 }
 
-// fetchTime is how long another front may take to give its snapshot.
+// fetchTime is how long another front may take to give a file.
 const fetchTime = 5 * time.Minute
 
 // otherFronts are the fronts of the same stream that were named.
 func (o options) otherFronts() []keeper.Other {
 	var all []keeper.Other
 	for _, address := range o.others {
-		address := address
-		all = append(all, func(ctx context.Context) (io.ReadCloser, error) { return o.fetch(ctx, address) })
+		all = append(all, otherFront{o, address})
 	}
 	return all
 }
 
-// fetch asks another front for its newest snapshot.
-func (o options) fetch(ctx context.Context, address string) (io.ReadCloser, error) {
-	ask, err := http.NewRequestWithContext(ctx, http.MethodGet, strings.TrimSuffix(address, "/")+"/snapshot", nil)
+// otherFront is another front of the same stream, at an address.
+type otherFront struct {
+	options
+	address string
+}
+
+// Snapshot is the file of its newest snapshot.
+func (o otherFront) Snapshot(ctx context.Context) (io.ReadCloser, error) {
+	return o.fetch(ctx, "/snapshot")
+}
+
+// Keys is what it remembers of bodies with keys.
+func (o otherFront) Keys(ctx context.Context) (io.ReadCloser, error) {
+	return o.fetch(ctx, "/snapshot/keys")
+}
+
+// fetch asks another front for a file.
+func (o otherFront) fetch(ctx context.Context, path string) (io.ReadCloser, error) {
+	ask, err := http.NewRequestWithContext(ctx, http.MethodGet, strings.TrimSuffix(o.address, "/")+path, nil)
 	if err != nil {
 		return nil, err
 	}
@@ -75,7 +90,7 @@ func (o options) fetch(ctx context.Context, address string) (io.ReadCloser, erro
 	}
 	if answer.StatusCode != http.StatusOK {
 		answer.Body.Close()
-		return nil, fmt.Errorf("%s answers %s", address, answer.Status)
+		return nil, fmt.Errorf("%s answers %s", o.address, answer.Status)
 	}
 	return answer.Body, nil
 }

@@ -106,7 +106,7 @@ func leads(jet nats.JetStreamContext, servers []*natsServer) (*natsServer, bool)
 func (s *natsServer) empty() {
 	s.t.Helper()
 	s.stop()
-	if err := os.RemoveAll(filepath.Join(filepath.Dir(s.config), "jetstream")); err != nil {
+	if err := os.RemoveAll(filepath.Join(filepath.Dir(s.config), "disk", "jetstream")); err != nil {
 		s.t.Fatal(err)
 	}
 	s.start()

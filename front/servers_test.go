@@ -23,12 +23,20 @@ type natsServer struct {
 	name    string
 	config  string
 	address string
+	user    string // with whose word it is reached, as user:word@, or nothing
+	small   bool   // whether its disk is a small one of its own
 	process *exec.Cmd
 }
 
 // natsServers starts servers of NATS, which are a cluster where they are several, and gives their addresses as --log
 // has them. Where there is none, or the front has no client, it skips the test.
 func natsServers(t testing.TB, count int) []*natsServer {
+	t.Helper()
+	return natsServersWith(t, count, natsServer{}, "")
+}
+
+// natsServersWith are such as one, with more in their configuration.
+func natsServersWith(t testing.TB, count int, like natsServer, more string) []*natsServer {
 	t.Helper()
 	theProgram(t)
 	if _, err := exec.LookPath("nats-server"); err != nil || !jetstream.Built {
@@ -43,8 +51,8 @@ func natsServers(t testing.TB, count int) []*natsServer {
 	for i := range servers {
 		stored := t.TempDir()
 		name := fmt.Sprint("s", i)
-		content := fmt.Sprintf("server_name: %s\nlisten: 127.0.0.1:%s\nmax_payload: 2MB\njetstream { store_dir: %q }\n",
-			name, ports[i], stored)
+		content := fmt.Sprintf("server_name: %s\nlisten: 127.0.0.1:%s\nmax_payload: 2MB\njetstream { store_dir: %q }\n%s",
+			name, ports[i], filepath.Join(stored, "disk"), more)
 		if count > 1 {
 			content += fmt.Sprintf("cluster { name: review, listen: 127.0.0.1:%s, routes: [%s] }\n",
 				ports[count+i], strings.Join(routes, ", "))
@@ -53,7 +61,9 @@ func natsServers(t testing.TB, count int) []*natsServer {
 		if err := os.WriteFile(config, []byte(content), 0o600); err != nil {
 			t.Fatal(err)
 		}
-		servers[i] = &natsServer{t: t, name: name, config: config, address: "127.0.0.1:" + ports[i]}
+		one := like
+		one.t, one.name, one.config, one.address = t, name, config, "127.0.0.1:"+ports[i]
+		servers[i] = &one
 		servers[i].start()
 		t.Cleanup(servers[i].kill)
 	}
@@ -76,10 +86,36 @@ func freePorts(t testing.TB, count int) []string {
 	return ports
 }
 
+// unsharing are words by which a program has file systems of its own.
+var unsharing = []string{"--user", "--map-root-user", "--mount"}
+
+// fill has a server's small disk be full, and gives what makes room again.
+func (s *natsServer) fill() func() {
+	s.t.Helper()
+	path := fmt.Sprintf("/proc/%d/root%s/disk/filled", s.process.Process.Pid, filepath.Dir(s.config))
+	file, err := os.Create(path)
+	if err != nil {
+		s.t.Fatal(err)
+	}
+	defer file.Close()
+	for page := make([]byte, 4096); err == nil; {
+		_, err = file.Write(page)
+	}
+	return func() { _ = os.Remove(path) }
+}
+
 // start starts a server, which goes on with what it stored.
 func (s *natsServer) start() {
 	s.t.Helper()
+	disk := filepath.Join(filepath.Dir(s.config), "disk")
+	if err := os.MkdirAll(disk, 0o700); err != nil {
+		s.t.Fatal(err)
+	}
 	s.process = exec.Command("nats-server", "-c", s.config)
+	if s.small {
+		const mounted = `mount -t tmpfs -o size=64m none "$0" && exec nats-server -c "$1"`
+		s.process = exec.Command("unshare", append(unsharing, "sh", "-c", mounted, disk, s.config)...)
+	}
 	if err := s.process.Start(); err != nil {
 		s.t.Fatal(err)
 	}
@@ -101,7 +137,7 @@ func (s *natsServer) kill() {
 func logOf(servers []*natsServer) string {
 	var all []string
 	for _, s := range servers {
-		all = append(all, "nats://"+s.address)
+		all = append(all, "nats://"+s.user+s.address)
 	}
 	return strings.Join(all, ",")
 }

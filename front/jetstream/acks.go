@@ -58,8 +58,11 @@ func (a *acks) forget(subject string) {
 	delete(a.due, subject)
 }
 
-// errUnsent says that a message wasn't sent.
-var errUnsent = errors.New("no server is reached")
+var (
+	// errUnsent says that a message wasn't sent, and errNobody that nobody heard it: no server leads the stream.
+	errUnsent = errors.New("no server is reached")
+	errNobody = fmt.Errorf("%w that leads the stream", errUnsent)
+)
 
 // publish sends a message once, says so, and waits for its acknowledgement.
 func (l *log) publish(ctx context.Context, message *nats.Msg, sent func()) (uint64, error) {
@@ -77,10 +80,21 @@ func (l *log) publish(ctx context.Context, message *nats.Msg, sent func()) (uint
 	sent()
 	select {
 	case said := <-due:
+		if heardByNobody(said) {
+			l.watched.nobody()
+			return 0, errNobody
+		}
+		l.watched.acknowledges(true)
 		return acknowledged(said)
 	case <-ctx.Done():
+		l.watched.acknowledges(false)
 		return 0, ctx.Err()
 	}
+}
+
+// heardByNobody says whether a server answers that there is nobody to hear a message.
+func heardByNobody(said *nats.Msg) bool {
+	return len(said.Data) == 0 && said.Header.Get("Status") == "503"
 }
 
 // acknowledged is the sequence in an acknowledgement, or why there is none.

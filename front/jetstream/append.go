@@ -21,6 +21,8 @@ const (
 	byHeader = "Review-By"
 	// wholeHeader is that which says that it is several edits, as many lines, which are made all together.
 	wholeHeader = "Review-Whole"
+	// keyHeader is that which says which line of which body with a key it is.
+	keyHeader = "Review-Key"
 )
 
 // Append appends an edit right behind a sequence. Where an acknowledgement is lost it is looked what stands there
@@ -30,6 +32,10 @@ func (l *log) Append(ctx context.Context, behind uint64, edit replicated.Edit, s
 	var once sync.Once
 	said := func() { once.Do(sent) }
 	defer said()
+	if !l.watched.begin() {
+		return 0, fmt.Errorf("%w: %v", replicated.ErrAway, errNobody)
+	}
+	defer l.watched.end()
 	for again := false; ; again = true {
 		message, err := l.message(behind, edit)
 		if err != nil {
@@ -67,6 +73,9 @@ func (l *log) message(behind uint64, edit replicated.Edit) (*nats.Msg, error) {
 	message := &nats.Msg{Subject: l.subject, Data: edit.Line, Header: nats.Header{byHeader: []string{string(by)}}}
 	if edit.Whole {
 		message.Header.Set(wholeHeader, "1")
+	}
+	if edit.Key != "" {
+		message.Header.Set(keyHeader, edit.Key)
 	}
 	message.Header.Set(nats.MsgIdHdr, edit.ID)
 	message.Header.Set(nats.ExpectedStreamHdr, l.Stream)

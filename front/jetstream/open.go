@@ -25,6 +25,8 @@ const (
 	remembered = 24 * time.Hour
 	// askTime is how long one answer of the servers may take.
 	askTime = 2 * time.Second
+	// pingTime is how often a server is asked whether it is there; three times without an answer another one is taken.
+	pingTime = time.Second
 	// makeTime is how long they may take to make the stream.
 	makeTime = 5 * time.Second
 	// ofPrograms begins what a stream says of itself; the limits of its programs follow.
@@ -42,6 +44,8 @@ type log struct {
 	acks       *acks
 	subject    string
 	replicas   atomic.Int64 // how many servers keep the stream
+	watched    *watched
+	closed     chan struct{}
 	log        *logs.Log
 }
 
@@ -54,7 +58,7 @@ func Open(ctx context.Context, options Options, told *logs.Log) (replicated.Log,
 	if err != nil {
 		return nil, fmt.Errorf("the servers of the stream: %w", err)
 	}
-	l := &log{Options: options, connection: connection, log: told}
+	l := &log{Options: options, connection: connection, watched: newWatched(), closed: make(chan struct{}), log: told}
 	if l.jet, err = connection.JetStream(nats.MaxWait(askTime)); err != nil {
 		connection.Close()
 		return nil, fmt.Errorf("the servers of the stream: %w", err)
@@ -66,6 +70,7 @@ func Open(ctx context.Context, options Options, told *logs.Log) (replicated.Log,
 	for pause := firstPause; ; pause = longer(pause) {
 		var final *unfit
 		if err = l.find(ctx); err == nil {
+			go l.watch()
 			return l, nil
 		}
 		if ctx.Err() != nil || errors.As(err, &final) {
@@ -84,7 +89,7 @@ func Open(ctx context.Context, options Options, told *logs.Log) (replicated.Log,
 func (o Options) connecting(told *logs.Log) []nats.Option {
 	how := []nats.Option{
 		nats.Name("review-front"), nats.MaxReconnects(-1), nats.ReconnectWait(firstPause), nats.ReconnectBufSize(-1),
-		nats.RetryOnFailedConnect(true), nats.Timeout(askTime), nats.PingInterval(askTime), nats.MaxPingsOutstanding(2),
+		nats.RetryOnFailedConnect(true), nats.Timeout(askTime), nats.PingInterval(pingTime), nats.MaxPingsOutstanding(3),
 		nats.DisconnectErrHandler(func(_ *nats.Conn, err error) {
 			if err != nil {
 				told.Error("the connection to the stream is gone", "error", err)
@@ -182,7 +187,10 @@ func (l *log) Extent(ctx context.Context) (replicated.Extent, error) {
 }
 
 // Close ends the connection.
-func (l *log) Close() { l.connection.Close() }
+func (l *log) Close() {
+	close(l.closed)
+	l.connection.Close()
+}
 
 // rest waits a while, or until a context is done.
 func rest(ctx context.Context, pause time.Duration) error {

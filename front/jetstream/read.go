@@ -19,7 +19,9 @@ const (
 	// heartbeat is how often a server says that nothing comes.
 	heartbeat = 5 * time.Second
 	// mostShort is how often the stream may say that it ends before what was read: a new leader says so for a while.
+	// Behind fewShort it is asked to let another server lead.
 	mostShort = 30
+	fewShort  = 3
 	// mostTogether and bytesTogether are how many edits are asked of the leader at once, and about how long these are.
 	mostTogether  = 64
 	bytesTogether = 1 << 20
@@ -27,45 +29,155 @@ const (
 	mostAsked = 10
 )
 
+// reading reads a stream for a front. Servers of NATS bring it what is new; where they don't, or none can be told to, the
+// one that leads is asked for it again and again: a server that is stopped, or whose disk is full, may be the one that is
+// to bring it, or the one that has to be told.
+type reading struct {
+	*log
+	behind uint64
+	take   func(replicated.Edit) error
+	from   *nats.Subscription // nil while nothing is brought
+	made   chan *nats.Subscription
+	pause  time.Duration // until a server is told again to bring what is new
+	again  time.Time     // when that is
+	short  int           // how often in a row the stream ended before what was read
+}
+
 // Read hands out all edits behind a sequence.
 func (l *log) Read(ctx context.Context, behind uint64, take func(replicated.Edit) error) error {
+	r := &reading{log: l, behind: behind, take: take, pause: firstPause}
+	defer r.leave()
+	for {
+		r.subscribe()
+		read := r.asked
+		if r.from != nil {
+			read = r.brought
+		}
+		if err := read(ctx); err != nil {
+			return err
+		}
+	}
+}
+
+// subscribe has a server bring what is new, or goes on having it told to.
+func (r *reading) subscribe() {
+	if r.from != nil {
+		return
+	}
+	if r.made == nil && time.Now().After(r.again) {
+		r.made = make(chan *nats.Subscription, 1)
+		go r.make(r.behind, r.made)
+	}
+	select {
+	case r.from = <-r.made:
+		r.made = nil
+		if r.from == nil {
+			r.again = time.Now().Add(r.pause)
+			r.pause = longer(r.pause)
+		}
+	case <-time.After(r.patience()):
+	}
+}
+
+// patience is how long it is waited for that. A stream of one server is read no other way.
+func (r *reading) patience() time.Duration {
+	if r.replicas.Load() > 1 {
+		return 0
+	}
+	return firstPause
+}
+
+// make tells a server to bring what is new, and says so where that can't be done.
+func (r *reading) make(behind uint64, made chan<- *nats.Subscription) {
 	// The client's ordered consumer begins anew by itself, twice at once where the machine stood still. A gap is seen
 	// here.
-	from, err := l.jet.SubscribeSync(l.subject, nats.BindStream(l.Stream), nats.StartSequence(behind+1), nats.AckNone(),
+	from, err := r.jet.SubscribeSync(r.subject, nats.BindStream(r.Stream), nats.StartSequence(behind+1), nats.AckNone(),
 		nats.ConsumerReplicas(1), nats.ConsumerMemoryStorage(), nats.EnableFlowControl(), nats.IdleHeartbeat(heartbeat))
 	if err != nil {
+		r.log.log.Error("no server brings what the stream has", "behind", behind, "error", err)
+		from = nil
+	}
+	made <- from
+}
+
+// drop has nothing be brought any more, and says why.
+func (r *reading) drop(why error) {
+	server := serverOf(r.from)
+	r.log.log.Error("a server of the stream doesn't bring what is new", "server", server, "behind", r.behind, "error", why)
+	go unsubscribe(r.from)
+	r.from, r.again = nil, time.Now().Add(r.pause)
+	r.pause = longer(r.pause)
+}
+
+// leave ends it.
+func (r *reading) leave() {
+	if r.from != nil {
+		go unsubscribe(r.from)
+	}
+	if r.made != nil {
+		go func(made <-chan *nats.Subscription) { unsubscribe(<-made) }(r.made)
+	}
+}
+
+// unsubscribe has a server bring nothing more. That may take a while.
+func unsubscribe(from *nats.Subscription) {
+	if from != nil {
+		_ = from.Unsubscribe()
+	}
+}
+
+// asked asks the server that leads the stream for what it has behind what was read, or waits a while.
+func (r *reading) asked(ctx context.Context) error {
+	if r.replicas.Load() <= 1 {
+		return ctx.Err()
+	}
+	edits, err := r.atLeaderBehind(ctx, r.behind, 1)
+	if err == nil {
+		var more []replicated.Edit
+		more, err = r.atLeaderBehind(ctx, r.behind+1, mostTogether-1)
+		edits = append(edits, more...)
+	}
+	for _, edit := range edits {
+		if err := r.take(edit); err != nil {
+			return err
+		}
+		r.behind++
+	}
+	if len(edits) > 0 {
+		return ctx.Err()
+	}
+	if errors.Is(err, errLacks) {
+		if err := r.missed(ctx); err != nil {
+			return err
+		}
+	}
+	return rest(ctx, firstPause)
+}
+
+// brought waits a while for what is brought, and hands it out.
+func (r *reading) brought(ctx context.Context) error {
+	messages, err := next(ctx, r.from)
+	switch {
+	case ctx.Err() != nil:
+		return ctx.Err()
+	case errors.Is(err, context.DeadlineExceeded):
+		return r.missed(ctx)
+	case err != nil && r.replicas.Load() > 1:
+		r.drop(err)
+		return nil
+	case err != nil:
 		return fmt.Errorf("reading the stream: %w", err)
 	}
-	defer func() { _ = from.Unsubscribe() }()
-	for short := 0; ; {
-		messages, err := next(ctx, from)
-		switch {
-		case ctx.Err() != nil:
-			return ctx.Err()
-		case errors.Is(err, context.DeadlineExceeded):
-			lacks, err := l.missed(ctx, behind)
-			if short++; !lacks {
-				short = 0
-			}
-			if err == nil && short == mostShort {
-				err = fmt.Errorf("the stream ends before sequence %d, which it had: it has lost edits", behind)
-			}
-			if err != nil {
-				return err
-			}
-			continue
-		case err != nil:
-			return fmt.Errorf("reading the stream: %w", err)
-		}
-		edits, err := editsOf(messages, behind)
-		if err != nil {
-			return err
-		}
-		if err := l.handOut(ctx, from, edits, take); err != nil {
-			return err
-		}
-		behind += uint64(len(edits))
+	edits, err := editsOf(messages, r.behind)
+	if err != nil {
+		return err
 	}
+	if err := r.handOut(ctx, r.from, edits, r.take); err != nil {
+		return err
+	}
+	r.behind += uint64(len(edits))
+	r.pause = firstPause
+	return nil
 }
 
 // next waits a while for messages, and gives those that there are.
@@ -135,17 +247,30 @@ func (l *log) handOut(
 	return nil
 }
 
-// missed is an error where the stream has more than was read, and says whether it has less.
-func (l *log) missed(ctx context.Context, behind uint64) (bool, error) {
-	if !l.connection.IsConnected() {
-		return false, nil // it goes on where it was, or that is seen then
+// missed sees, where nothing came, whether the stream has more than was read, or less.
+func (r *reading) missed(ctx context.Context) error {
+	if !r.connection.IsConnected() {
+		return nil // it goes on where it was, or that is seen then
 	}
-	extent, err := l.Extent(ctx)
+	extent, err := r.Extent(ctx)
 	if err != nil {
-		return false, nil
+		return nil
 	}
-	if extent.Last > behind {
-		return false, fmt.Errorf("the stream has sequence %d, and nothing came behind %d", extent.Last, behind)
+	if r.short++; extent.Last >= r.behind {
+		r.short = 0
 	}
-	return extent.Last < behind, nil
+	r.watched.lack(r.short >= fewShort)
+	switch {
+	case r.short == mostShort:
+		return fmt.Errorf("the stream ends at sequence %d, and was read up to %d: it has lost edits", extent.Last, r.behind)
+	case extent.First > r.behind+1:
+		return fmt.Errorf("sequence %d of the stream follows %d", extent.First, r.behind)
+	case extent.Last > r.behind && r.from != nil:
+		why := fmt.Errorf("the stream has sequence %d, and nothing came behind %d", extent.Last, r.behind)
+		if r.replicas.Load() <= 1 {
+			return why
+		}
+		r.drop(why)
+	}
+	return nil
 }

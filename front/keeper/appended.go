@@ -9,8 +9,6 @@ import (
 	"fmt"
 	"time"
 
-	"review-front/folder"
-	"review-front/line"
 	"review-front/replicated"
 )
 
@@ -38,8 +36,12 @@ func (l *streamed) submit(ctx context.Context, call *Call) (<-chan Reply, error)
 	if err != nil {
 		return nil, err
 	}
+	began := time.Now()
 	call.reply, call.fed = make(chan Reply, 1), make(chan struct{})
 	all := call.all() // once it is appended these are the reader's
+	if answer(all, k.remembered(all)) {
+		return call.reply, nil
+	}
 	err = l.append(ctx, id, call)
 	if err != nil && call.differs != nil {
 		l.keeper.spare.differs(call.differs) // it may have what isn't made
@@ -48,16 +50,16 @@ func (l *streamed) submit(ctx context.Context, call *Call) (<-chan Reply, error)
 		call.reply <- Reply{Err: err}
 		return call.reply, nil
 	}
-	if before, is := err.(*appendedBefore); is {
-		for i, reply := range l.repeated(ctx, before.sequence) {
-			all[i].reply <- reply
-		}
+	if err != nil {
+		l.unsent(call)
+	}
+	if answer(all, l.repeats(ctx, all, err)) {
 		return call.reply, nil
 	}
 	if err != nil {
 		return nil, err
 	}
-	timer := time.NewTimer(k.Patience)
+	timer := time.NewTimer(l.left(began))
 	defer timer.Stop()
 	select {
 	case <-call.fed:
@@ -68,34 +70,13 @@ func (l *streamed) submit(ctx context.Context, call *Call) (<-chan Reply, error)
 	return call.reply, nil
 }
 
-// appendedBefore says that a stream has an edit already, which came with a key.
-type appendedBefore struct{ sequence uint64 }
-
-func (a *appendedBefore) Error() string { return fmt.Sprintf("it is that of sequence %d", a.sequence) }
-
-// repeated is the reply to an edit that stands in the stream already, or to each of those that are made all together.
-func (l *streamed) repeated(ctx context.Context, sequence uint64) []Reply {
-	k := l.keeper
-	if k.Reach(ctx, sequence) != nil {
-		return []Reply{{Err: ErrAppended}}
+// left is how long the client of an edit that is appended, or may be, waits until it is read, where it began so long ago.
+func (l *streamed) left(began time.Time) time.Duration {
+	left := appendTime + l.keeper.TryTime - time.Since(began)
+	if left > l.keeper.Patience {
+		return l.keeper.Patience
 	}
-	var replies []Reply
-	err := k.Folder.Each(sequence-1, func(entry folder.Entry, _ folder.Place) error {
-		if entry.Serial != sequence {
-			return errEnough
-		}
-		body := line.Accepted{Changes: entry.Changes, Serial: sequence}.Reply()
-		replies = append(replies, Reply{Body: body, Serial: sequence})
-		return nil
-	})
-	if err != nil && err != errEnough {
-		k.Log.Error("what was answered to an edit can't be read", "sequence", sequence, "error", err)
-		return []Reply{{Err: ErrAppended}}
-	}
-	if replies == nil {
-		return []Reply{{Err: ErrRefused}}
-	}
-	return replies
+	return left
 }
 
 // linesOf is what is appended of an edit, or of several that are made all together.
@@ -105,18 +86,6 @@ func linesOf(call *Call) []byte {
 		lines = append(lines, one.Line)
 	}
 	return bytes.Join(lines, newline)
-}
-
-// idOf is the id of an edit: of one that came with a key the same wherever it is sent again. Several that are made all
-// together have another one than the first of them alone.
-func idOf(call *Call) (string, error) {
-	switch {
-	case call.Remember == nil:
-		return newID()
-	case call.group != nil:
-		return call.Remember.Next() + "-whole", nil
-	}
-	return call.Remember.Next(), nil
 }
 
 // newID is an id that no other edit has.
@@ -136,7 +105,7 @@ func (l *streamed) append(ctx context.Context, id string, call *Call) error {
 	}
 	limit, cancel := context.WithTimeout(context.Background(), appendTime+l.keeper.TryTime)
 	defer cancel()
-	edit := replicated.Edit{ID: id, By: call.By, Line: linesOf(call), Whole: call.group != nil}
+	edit := replicated.Edit{ID: id, By: call.By, Line: linesOf(call), Whole: call.group != nil, Key: call.keyed()}
 	for expected := false; ; {
 		behind, err := l.reserve(limit, call)
 		if err != nil && (!expected || l.forget(id)) {
@@ -150,7 +119,7 @@ func (l *streamed) append(ctx context.Context, id string, call *Call) error {
 			expected = true
 		}
 		sequence, err := l.stream.Append(limit, behind, edit, l.keeper.edits.give)
-		l.landed(sequence, err)
+		l.landed(behind, sequence, err)
 		var moved *replicated.Moved
 		switch {
 		case err == nil && l.passed(id, sequence):
@@ -160,14 +129,42 @@ func (l *streamed) append(ctx context.Context, id string, call *Call) error {
 		case errors.Is(err, replicated.ErrUnsure):
 			l.doubt(call, behind+1)
 			return nil
-		case !errors.As(err, &moved):
-			l.keeper.Log.Error("an edit can't be appended", "error", err)
+		case !errors.As(err, &moved) || l.isRead(moved.Last+1):
 			if !l.forget(id) {
 				return nil
 			}
-			return ErrStream
+			return l.unappended(err)
 		}
 	}
+}
+
+// isRead says whether an edit that was read stands at a sequence.
+func (l *streamed) isRead(sequence uint64) bool {
+	l.mutex.Lock()
+	defer l.mutex.Unlock()
+	return sequence <= l.taken
+}
+
+// unappended is what a client is told whose edit isn't appended. The log has one in a second.
+func (l *streamed) unappended(why error) error {
+	l.mutex.Lock()
+	now := time.Now()
+	isTold := now.Sub(l.told) < tellPause
+	if !isTold {
+		l.told = now
+	}
+	l.mutex.Unlock()
+	if !isTold {
+		l.keeper.Log.Error("an edit can't be appended", "error", why)
+	}
+	var moved *replicated.Moved
+	switch {
+	case errors.As(why, &moved):
+		return ErrLacks
+	case !l.stream.State().Led:
+		return ErrUnled
+	}
+	return ErrStream
 }
 
 // reserve waits for an edit's turn, and gives the sequence behind which it is to stand. Who has it gives the turn
@@ -181,7 +178,7 @@ func (l *streamed) reserve(ctx context.Context, call *Call) (uint64, error) {
 	}
 	for {
 		landed := l.landings.next()
-		behind, ok, err := l.free(waiting, call.Known)
+		behind, ok, err := l.free(waiting, call)
 		if ok {
 			return behind, nil
 		}
@@ -200,14 +197,16 @@ func (l *streamed) reserve(ctx context.Context, call *Call) (uint64, error) {
 
 // free is the place of the next edit, if another one may be on its way. Where one was crossed by another front's,
 // those behind it are waited for first.
-func (l *streamed) free(ctx context.Context, known *uint64) (uint64, bool, error) {
-	if known != nil {
-		behind, err := l.behind(ctx, *known)
-		if err != nil {
+func (l *streamed) free(ctx context.Context, call *Call) (behind uint64, ok bool, err error) {
+	if call.Known != nil {
+		if behind, err = l.behind(ctx, *call.Known); err != nil {
 			return 0, false, err
 		}
 		l.mutex.Lock()
 		defer l.mutex.Unlock()
+		if err := l.owns(call); err != nil {
+			return 0, false, err
+		}
 		l.flying++
 		return behind, true, nil
 	}
@@ -217,13 +216,19 @@ func (l *streamed) free(ctx context.Context, known *uint64) (uint64, bool, error
 	if l.flying >= mostFlying || l.flying > 0 && l.closed || l.flying == 0 && now.Before(l.resumes) {
 		return 0, false, nil
 	}
+	if call.Remember != nil && l.taken < l.foreign {
+		return 0, false, nil
+	}
+	if err := l.owns(call); err != nil {
+		return 0, false, err
+	}
 	if l.flying == 0 {
 		l.began, l.closed, l.failed = now, false, false
 	}
 	if l.flying == 0 || l.tail < l.last.Load() {
 		l.tail = l.last.Load()
 	}
-	behind := l.tail
+	behind = l.tail
 	l.tail++
 	l.flying++
 	return behind, true, nil
@@ -231,7 +236,7 @@ func (l *streamed) free(ctx context.Context, known *uint64) (uint64, bool, error
 
 // landed says what became of an edit that was sent. Where other fronts append, too, those that are on their way are
 // waited for before more are sent, and once all of them have their places others have as long.
-func (l *streamed) landed(sequence uint64, err error) {
+func (l *streamed) landed(behind, sequence uint64, err error) {
 	var moved *replicated.Moved
 	if errors.As(err, &moved) {
 		sequence = moved.Last
@@ -239,6 +244,9 @@ func (l *streamed) landed(sequence uint64, err error) {
 	l.sees(sequence)
 	l.mutex.Lock()
 	defer l.mutex.Unlock()
+	if (err != nil || sequence != behind+1) && sequence > l.foreign {
+		l.foreign = sequence
+	}
 	l.flying--
 	now := time.Now()
 	if err != nil {
@@ -318,6 +326,7 @@ func (l *streamed) settleDoubts(sequence uint64) {
 	for id, call := range l.due {
 		if call.doubted != 0 && call.doubted <= sequence {
 			delete(l.due, id)
+			l.unsent(call)
 			l.wasTried(call, Reply{Err: ErrStream})
 			call.finish(Reply{Err: ErrStream})
 		}

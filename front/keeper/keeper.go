@@ -43,6 +43,8 @@ var (
 	ErrStopping = &Unavailable{Why: "the front is stopping", After: 5 * time.Second}
 	ErrSpare    = &Unavailable{Why: "there is no spare program yet on which an edit can be tried", After: time.Second}
 	ErrStream   = &Unavailable{Why: "the edit can't be appended: the stream can't be reached", After: time.Second}
+	ErrUnled    = &Unavailable{Why: "the edit can't be appended: no server leads the stream", After: time.Second}
+	ErrLacks    = &Unavailable{Why: "the edit can't be appended: the server that leads the stream lacks edits", After: time.Second}
 	ErrBehind   = &Unavailable{Why: "there aren't so many edits", After: time.Second}
 )
 
@@ -80,15 +82,19 @@ type Options struct {
 	CheckEvery    uint64               // after so many edits of a stream fronts compare their states; 0: never
 }
 
-// Other is another front, which gives the file of its newest snapshot.
-type Other func(ctx context.Context) (io.ReadCloser, error)
+// Other is another front of the same stream.
+type Other interface {
+	// Snapshot is the file of its newest snapshot, and Keys what it remembers of bodies with keys.
+	Snapshot(ctx context.Context) (io.ReadCloser, error)
+	Keys(ctx context.Context) (io.ReadCloser, error)
+}
 
 // Call is a line on its way.
 type Call struct {
 	Line []byte
 	By   string // who sent it
-	// Remember, if there is one, is the body with a key whose next line this is: its reply is remembered.
-	Remember *keys.Use
+	// Remember, if there is one, is which line of a body with a key this is: its reply is remembered.
+	Remember *keys.Line
 	// Known, if there is one, is how many edits there are to be before this one.
 	Known *uint64
 	kind  line.Kind
@@ -108,6 +114,7 @@ type Call struct {
 	ended   int     // how many askers ended over it
 	group   *group  // the edits that are made with this one, or not at all
 	tried   []byte  // what a spare program answered to it
+	part    *Part   // why it isn't made, with others with which it was to be
 	// differs, if a spare program was told it that more are told, says whether that has another state than the
 	// table's.
 	differs *atomic.Bool
@@ -118,6 +125,7 @@ type Call struct {
 	sequence uint64
 	at       time.Time
 	fed      chan struct{}
+	sent     bool         // it was sent to the stream, of a body with a key
 	doubted  uint64       // where it stands if it is appended, of which nobody is sure; 0: that is no question
 	answer   atomic.Int32 // whether its client has an answer
 }
@@ -148,8 +156,9 @@ type Keeper struct {
 	long     chan struct{} // holds something while a long reply is due
 	held     []*Call       // lines that were taken and not sent; the next program has them first
 	version  string
-	shifted  uint64       // added to the count of evaluations, since a planned change can't be seen
-	repaired atomic.Int64 // when repair of the journal was tried last, in nanoseconds
+	shifted  uint64                 // added to the count of evaluations, since a planned change can't be seen
+	repaired atomic.Int64           // when repair of the journal was tried last, in nanoseconds
+	unkept   atomic.Pointer[string] // why edits can't be kept; nil where they can be
 }
 
 // New makes a keeper. Nothing is started before Open.

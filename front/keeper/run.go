@@ -58,6 +58,7 @@ func (k *Keeper) Start(ctx context.Context) (*Started, error) {
 		Limits: k.Command.Limits, Stream: name,
 	})
 	if err != nil {
+		k.unkeeps(err)
 		k.Log.Error("edits are refused until a journal can be written", "error", err)
 	}
 	return &Started{keeper: k, first: r}, nil

@@ -41,7 +41,7 @@ type serving struct {
 	answered  chan struct{} // says that all lines of a kind have their replies
 	// unkept and unanswered are edits of a stream whose replies couldn't be kept, and that have none.
 	unkept, unanswered []*Call
-	stopping           <-chan struct{} // closed when the front ends
+	parked             []*Call // edits of a stream that wait until they can be kept; for who sends lines
 }
 
 // settled is a reply that was read.
@@ -59,7 +59,7 @@ func (k *Keeper) serve(ctx, limit context.Context, r *running) reason {
 	defer stop()
 	s := &serving{
 		keeper: k, program: r, flight: make(chan *Call, inFlight), replies: make(chan settled, inFlight),
-		answered: make(chan struct{}, 1), stopping: ctx.Done(),
+		answered: make(chan struct{}, 1),
 	}
 	var both sync.WaitGroup
 	both.Add(2)
@@ -79,7 +79,7 @@ func (k *Keeper) serve(ctx, limit context.Context, r *running) reason {
 	k.ready.set(false)
 	k.serving.Store(nil)
 	if k.streamed != nil {
-		k.streamed.again = append(s.unkept, s.unanswered...)
+		k.streamed.again = append(append(s.unkept, s.unanswered...), s.parked...)
 	}
 	return why
 }
@@ -104,6 +104,8 @@ func (s *serving) feed(ctx context.Context) reason {
 	_ = s.program.Flush()
 	idle, end := s.idle()
 	defer end()
+	mending, rest := s.mending()
+	defer rest()
 	for {
 		select {
 		case call := <-k.queue:
@@ -115,6 +117,8 @@ func (s *serving) feed(ctx context.Context) reason {
 				s.own(working, nil)
 			}
 			s.sent = false
+		case <-mending:
+			s.unpark()
 		case <-s.program.Done():
 			return ended
 		case <-ctx.Done():
@@ -157,9 +161,11 @@ func (s *serving) take(call *Call) {
 		call.end(call.context.Err())
 		return
 	}
-	if call.sequence != 0 {
-		s.awaitJournal()
-	} else if call.kind == line.Edit && !s.keeper.mayEdit() {
+	if call.sequence != 0 && (len(s.parked) > 0 || !s.keeper.mayEdit()) {
+		s.park(call)
+		return
+	}
+	if call.sequence == 0 && call.kind == line.Edit && !s.keeper.mayEdit() {
 		call.end(ErrJournal)
 		return
 	}
@@ -208,23 +214,32 @@ func (s *serving) gone(call *Call) {
 	}
 }
 
-// awaitJournal waits until an edit of a stream can be kept. Nothing is answered meanwhile: others may be ahead.
-func (s *serving) awaitJournal() {
+// park has an edit of a stream wait until it can be kept. Questions are answered meanwhile, as of what is kept.
+func (s *serving) park(call *Call) {
+	s.parked = append(s.parked, call)
+	s.keeper.streamed.leaveAll()
+}
+
+// unpark sends edits of a stream that waited, once they can be kept.
+func (s *serving) unpark() {
 	k := s.keeper
-	if k.mayEdit() {
+	if k.Folder.Broken() == nil && k.Keys.Broken() == nil && len(s.parked) == 0 || s.over.Load() || !k.mayEdit() {
 		return
 	}
-	k.ready.set(false)
-	for !k.mayEdit() {
-		select {
-		case <-time.After(firstPause):
-		case <-s.program.Done():
-			return
-		case <-s.stopping:
-			return
-		}
+	parked := s.parked
+	s.parked = nil
+	for _, call := range parked {
+		s.take(call)
 	}
-	k.ready.set(k.streamed.caught.Load())
+}
+
+// mending comes from time to time where edits of a stream may wait.
+func (s *serving) mending() (<-chan time.Time, func()) {
+	if s.keeper.streamed == nil {
+		return nil, func() {}
+	}
+	tick := time.NewTicker(repairPause)
+	return tick.C, tick.Stop
 }
 
 // mayEdit says whether the journal and the keys can be written. Where they couldn't, that is tried again from time to
@@ -246,6 +261,7 @@ func (k *Keeper) mayEdit() bool {
 		k.Log.Error("edits are refused", "error", err)
 		return false
 	}
+	k.unkeeps(nil)
 	k.Log.Info("the journal can be written again")
 	return true
 }

@@ -203,6 +203,7 @@ func (s *serving) settle(batch []settled) bool {
 	if err := k.write(batch); err != nil {
 		k.Log.Error("edits can't be kept, and the program is started anew", "error", err)
 		k.Meter.JournalFailed()
+		k.unkeeps(err)
 		k.repaired.Store(time.Now().UnixNano())
 		s.over.Store(true)
 		s.program.Kill()
@@ -217,16 +218,16 @@ func (s *serving) settle(batch []settled) bool {
 	return true
 }
 
-// remembered is the body with a key whose next line this is, if somebody still waits for its reply.
-func (c *Call) remembered() *keys.Use {
-	answered := c
-	if c.group != nil {
-		answered = c.group.first // who was told nothing of the first is told nothing of the others
+// remembered is what is remembered of the reply to a line of a body with a key, whoever waits for it: another front may be
+// asked for it next.
+func (c *Call) remembered(reply Reply) (told keys.Told, is bool) {
+	switch {
+	case c.Remember == nil || line.NoMemory(reply.Body):
+		return told, false
+	case c.part != nil:
+		return keys.Told{Line: *c.Remember, Part: c.part.Number, Reply: c.part.Reply, Serial: reply.Serial, At: c.at}, true
 	}
-	if c.sequence != 0 && !answered.isAnswered() {
-		return nil
-	}
-	return c.Remember
+	return keys.Told{Line: *c.Remember, Reply: reply.Body, Serial: reply.Serial, At: c.at}, true
 }
 
 // write brings the edits of a batch to the disk, and before them the replies that are remembered.
@@ -239,8 +240,8 @@ func (k *Keeper) write(batch []settled) error {
 			if one.entry != nil {
 				entries = append(entries, *one.entry)
 			}
-			if use := one.call.remembered(); use != nil && !line.NoMemory(one.reply.Body) {
-				told = append(told, keys.Told{Use: use, Reply: one.reply.Body, Serial: one.reply.Serial})
+			if reply, is := one.call.remembered(one.reply); is {
+				told = append(told, reply)
 			}
 		})
 		if len(next.parts) > 0 {

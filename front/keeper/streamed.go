@@ -20,8 +20,12 @@ const (
 	mostShort = 10
 )
 
-// ErrRefused says that an edit which is sent again was refused before.
-var ErrRefused = errors.New("the edit was appended before, and refused")
+var (
+	// ErrRefused says that an edit which is sent again was refused before.
+	ErrRefused = errors.New("the edit was appended before, and refused")
+	// ErrForgotten says that nobody remembers what one was answered.
+	ErrForgotten = errors.New("the edit was appended before, and what it was answered isn't known here")
+)
 
 // newline stands between edits of a stream that are made all together.
 var newline = []byte("\n")
@@ -39,6 +43,7 @@ type streamed struct {
 	brought map[*Call]bool   // edits of clients that it brought and that have no reply
 	flying  int              // how many edits are on their way to it
 	tail    uint64           // the sequence behind which the next one is to stand
+	foreign uint64           // that up to which there may be edits of other fronts
 	closed  bool             // whether those on their way are waited for
 	failed  bool             // whether one of them had no place there
 	began   time.Time        // when the first of them was sent
@@ -57,6 +62,7 @@ type streamed struct {
 	beside  *running         // a program that has the state of edits which were tried; for the goroutine that reads
 	// landings says that one of those on their way has its place, or has none.
 	landings *progress
+	told     time.Time // when it was logged last that an edit can't be appended
 }
 
 func newStreamed(k *Keeper, from replicated.Log) *streamed {
@@ -92,7 +98,7 @@ func (l *streamed) begin(ctx context.Context) (string, error) {
 		return "", fmt.Errorf("the stream begins at sequence %d, and the folder ends at %d: "+
 			"--snapshot-from a front that has more", extent.First, last)
 	}
-	l.read, l.taken, l.target = last, last, extent.Last
+	l.read, l.taken, l.target, l.foreign = last, last, extent.Last, extent.Last
 	l.last.Store(extent.Last)
 	l.applied.Store(last)
 	l.caught.Store(last >= l.target)
@@ -103,7 +109,7 @@ func (l *streamed) begin(ctx context.Context) (string, error) {
 func (l *streamed) adopt(ctx context.Context, extent replicated.Extent) error {
 	k := l.keeper
 	for _, from := range k.Others {
-		snapshot, err := from(ctx)
+		snapshot, err := from.Snapshot(ctx)
 		if err != nil {
 			k.Log.Error("another front gives no snapshot", "error", err)
 			continue
@@ -118,6 +124,9 @@ func (l *streamed) adopt(ctx context.Context, extent replicated.Extent) error {
 			return err
 		}
 		k.Log.Info("the folder begins with the snapshot of another front", "serial", serial)
+		if err := l.adoptKeys(ctx, from); err != nil {
+			k.Log.Error("another front doesn't give what it remembers of bodies with keys", "error", err)
+		}
 		return k.recover()
 	}
 	return nil
@@ -202,12 +211,28 @@ func (l *streamed) put(ctx context.Context, call *Call) error {
 	} else if l.caught.Load() {
 		l.discard()
 	}
+	if err := l.awaitJournal(ctx, call); err != nil {
+		return err
+	}
 	select {
 	case l.keeper.queue <- call:
 		return nil
 	case <-ctx.Done():
 		return ctx.Err()
 	}
+}
+
+// awaitJournal reads no further while edits can't be kept. The client of one that was read waits no more.
+func (l *streamed) awaitJournal(ctx context.Context, call *Call) error {
+	for l.keeper.Folder.Broken() != nil || l.keeper.Keys.Broken() != nil {
+		call.leaveAppended()
+		select {
+		case <-time.After(firstPause):
+		case <-ctx.Done():
+			return ctx.Err()
+		}
+	}
+	return nil
 }
 
 // take is the client's edit that the stream brought, or that of another front.
@@ -219,15 +244,20 @@ func (l *streamed) take(edit replicated.Edit) *Call {
 	delete(l.due, edit.ID)
 	if call == nil {
 		call = callOf(edit)
+		call.isOf(edit.Key)
 	} else {
 		l.brought[call] = true
 		call.settle = func(reply *Reply) { l.finished(call, *reply) }
 	}
 	l.settleDoubts(edit.Sequence)
+	if call.Remember != nil {
+		l.keeper.Keys.Find(*call.Remember, edit.Time)
+	}
 	for _, one := range call.all() {
-		one.sequence, one.at = edit.Sequence, edit.Time
+		one.sequence, one.at, one.By = edit.Sequence, edit.Time, edit.By
 	}
 	l.keeper.spare.had(call)
+	l.landings.moved()
 	return call
 }
 

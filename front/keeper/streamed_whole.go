@@ -120,7 +120,7 @@ func (l *streamed) tried(ctx context.Context) (*running, error) {
 // refuse has none of several edits be made. The program is told a line that it refuses in their place.
 func (c *Call) refuse(why *Part) {
 	settle := c.settle
-	c.Line, c.behind, c.group, c.Remember = nil, nil, nil, nil
+	c.Line, c.behind, c.group, c.part = nil, nil, nil, why
 	c.settle = func(reply *Reply) {
 		*reply = Reply{Err: why}
 		if settle != nil {

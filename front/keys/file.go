@@ -5,7 +5,6 @@ import (
 	"encoding/json"
 	"errors"
 	"fmt"
-	"io"
 	"os"
 	"time"
 
@@ -45,21 +44,27 @@ type record struct {
 	Line   int             `json:"line"`   // which line it answers, from 0 on
 	Serial uint64          `json:"serial"` // how many edits had been accepted
 	Reply  json.RawMessage `json:"reply"`
+	// Part says which edit it is, from 1 on, for which a body that is to be made all together isn't; else it is 0.
+	Part int `json:"part,omitempty"`
 }
 
-// Told is a reply to the next line of a body that somebody has.
+// Told is a reply to the next line of a body. Of one that is to be made all together, and isn't, it is that to one of its
+// edits, and Part is which, counted from 1.
 type Told struct {
-	Use    *Use
+	Line   Line
 	Reply  []byte
-	Serial uint64 // how many edits had been accepted when it was given
+	Part   int
+	Serial uint64    // how many edits had been accepted when it was given
+	At     time.Time // when its line was appended to a stream; nothing where that is now
+	body   *body     // nil where it isn't remembered
 	bytes  int64
 }
 
-// written is the record of a reply to a line of a body.
-func (b *body) written(at time.Time, line int, serial uint64, reply []byte) ([]byte, error) {
+// written is the record of what a body was told.
+func (b *body) written(told Told) ([]byte, error) {
 	content, err := json.Marshal(record{
-		Time: at, Key: hex.EncodeToString(b.key[:]), Body: hex.EncodeToString(b.sum[:]),
-		Line: line, Serial: serial, Reply: reply,
+		Time: told.At, Key: hex.EncodeToString(b.key[:]), Body: hex.EncodeToString(b.sum[:]),
+		Line: told.Line.number, Serial: told.Serial, Reply: told.Reply, Part: told.Part,
 	})
 	if err != nil {
 		return nil, fmt.Errorf("the record of a key: %w", err)
@@ -70,40 +75,32 @@ func (b *body) written(at time.Time, line int, serial uint64, reply []byte) ([]b
 // Append remembers replies, and returns once they are on disk. After an error none of them counts, and nothing is
 // remembered before Repair.
 func (t *Table) Append(told []Told) error {
-	t.mutex.Lock()
-	defer t.mutex.Unlock()
+	t.writing.Lock()
+	defer t.writing.Unlock()
 	t.last = nil
 	if len(told) == 0 {
 		return nil
 	}
-	if t.broken != nil {
-		return t.broken
+	if err := t.Broken(); err != nil {
+		return err
 	}
 	if err := t.append(told); err != nil {
-		t.broken = fmt.Errorf("the keys can't be written: %w", err)
-		return t.broken
+		err = fmt.Errorf("the keys can't be written: %w", err)
+		t.breaks(err)
+		return err
 	}
 	return nil
 }
 
 func (t *Table) append(told []Told) error {
-	if t.file == nil || t.size > 2*t.live+slack {
+	if t.isDue() {
 		if err := t.rewrite(); err != nil {
 			return err
 		}
 	}
-	now := time.Now().UTC()
-	lines := map[*body]int{}
-	var records []byte
-	for i, one := range told {
-		b := one.Use.body
-		record, err := b.written(now, len(b.replies)+lines[b], one.Serial, one.Reply)
-		if err != nil {
-			return err
-		}
-		lines[b]++
-		told[i].bytes = int64(len(record))
-		records = append(records, record...)
+	records, err := t.records(told)
+	if err != nil || len(records) == 0 {
+		return err
 	}
 	if _, err := t.file.WriteAt(records, t.size); err != nil {
 		return err
@@ -112,23 +109,96 @@ func (t *Table) append(told []Told) error {
 		return err
 	}
 	t.size += int64(len(records))
-	for _, one := range told {
-		t.add(one.Use.body, one.Reply, now, one.bytes)
-	}
 	t.last = told
+	t.mutex.Lock()
+	defer t.mutex.Unlock()
+	for i := range told {
+		t.remember(&told[i])
+	}
 	return nil
+}
+
+// isDue says whether the file is to be written anew.
+func (t *Table) isDue() bool {
+	t.mutex.Lock()
+	defer t.mutex.Unlock()
+	return t.file == nil || t.size > 2*t.live+slack
+}
+
+// records are those of replies, as far as they are to be remembered.
+func (t *Table) records(told []Told) (records []byte, err error) {
+	t.mutex.Lock()
+	defer t.mutex.Unlock()
+	lines, now := map[*body]int{}, time.Now().UTC()
+	for i := range told {
+		one := &told[i]
+		if one.At.IsZero() {
+			one.At = now
+		} else if now.Sub(one.At) >= t.kept {
+			continue // a stream is read again from long ago
+		}
+		if one.body = t.takes(*one, lines); one.body == nil {
+			continue
+		}
+		record, err := one.body.written(*one)
+		if err != nil {
+			return nil, err
+		}
+		one.bytes = int64(len(record))
+		records = append(records, record...)
+	}
+	return records, nil
+}
+
+// takes is the body by which a reply is to be remembered, where so many of its lines are about to have one; nil where it
+// is no reply to the next line, or its key is another body's. A stream may bring a line again, and none of those before a
+// line.
+func (t *Table) takes(told Told, lines map[*body]int) *body {
+	b := t.of(told.Line)
+	if t.known[told.Line.key] == nil {
+		b = &body{key: told.Line.key, sum: told.Line.sum}
+		t.known[b.key] = b
+	}
+	switch {
+	case b == nil:
+		return nil
+	case told.Part > 0 && b.refused == nil:
+		return b
+	case told.Part > 0 || told.Line.number != len(b.replies)+lines[b]:
+		t.drop(b)
+		return nil
+	}
+	lines[b]++
+	return b
+}
+
+// remember remembers a reply that was appended.
+func (t *Table) remember(told *Told) {
+	switch b := told.body; {
+	case b == nil:
+	case t.known[b.key] != b:
+		told.body = nil // it was forgotten meanwhile
+	case told.Part > 0:
+		t.refuse(b, &Refused{Number: told.Part, Reply: told.Reply, serial: told.Serial}, told.At, told.bytes)
+	default:
+		t.add(b, reply{told.Reply, told.Serial}, told.At, told.bytes)
+	}
 }
 
 // Undo forgets what was appended last, since the edits that it tells of couldn't be kept. Nothing is remembered before
 // Repair.
 func (t *Table) Undo() {
+	t.writing.Lock()
+	defer t.writing.Unlock()
+	if len(t.last) > 0 {
+		t.breaks(errors.New("the keys have to be written anew"))
+	}
 	t.mutex.Lock()
 	defer t.mutex.Unlock()
 	for i := len(t.last) - 1; i >= 0; i-- {
-		t.takeBack(t.last[i].Use.body, t.last[i].bytes)
-	}
-	if len(t.last) > 0 {
-		t.broken = errors.New("the keys have to be written anew")
+		if t.last[i].body != nil {
+			t.takeBack(t.last[i].body, t.last[i])
+		}
 	}
 	t.last = nil
 }
@@ -141,41 +211,33 @@ func (t *Table) Broken() error {
 	return t.broken
 }
 
-// Repair tries whether the file can be written anew.
-func (t *Table) Repair() error {
+// breaks says why nothing can be remembered, or that it can be again.
+func (t *Table) breaks(why error) {
 	t.mutex.Lock()
 	defer t.mutex.Unlock()
-	if t.broken == nil {
+	t.broken = why
+}
+
+// Repair tries whether the file can be written anew.
+func (t *Table) Repair() error {
+	t.writing.Lock()
+	defer t.writing.Unlock()
+	if t.Broken() == nil {
 		return nil
 	}
 	if err := t.rewrite(); err != nil {
 		return fmt.Errorf("the keys can't be written: %w", err)
 	}
-	t.broken = nil
+	t.breaks(nil)
 	return nil
 }
 
 // rewrite writes the file anew, of what is remembered.
 func (t *Table) rewrite() error {
-	t.forget(time.Now())
-	first, err := json.Marshal(head{Kind: fileName, Format: format})
+	// All edits that these tell of are kept, so their serials don't matter any more.
+	records, err := t.content(false)
 	if err != nil {
 		return err
-	}
-	records := frame.Append(nil, first)
-	t.live = 0
-	for _, b := range t.order {
-		before := len(records)
-		for line, reply := range b.replies {
-			// All edits that these tell of are kept, so their serial doesn't matter any more.
-			record, err := b.written(b.began, line, 0, reply)
-			if err != nil {
-				return err
-			}
-			records = append(records, record...)
-		}
-		b.bytes = int64(len(records) - before)
-		t.live += b.bytes
 	}
 	file, err := t.folder.Replace(fileName, records)
 	if err != nil {
@@ -188,89 +250,51 @@ func (t *Table) rewrite() error {
 	return nil
 }
 
-// Recover reads the file, if there is one, and forgets the replies that tell of edits behind the journal's last. What a
-// crash cut off is dropped, other damage is an error.
-func (t *Table) Recover(last uint64) error {
+// content is the file of what is remembered, with serials or not, and counts the bytes of its records.
+func (t *Table) content(serials bool) ([]byte, error) {
 	t.mutex.Lock()
 	defer t.mutex.Unlock()
-	file, err := os.Open(t.folder.Path(fileName))
-	if errors.Is(err, os.ErrNotExist) {
-		return nil
-	}
+	t.forget(time.Now())
+	first, err := json.Marshal(head{Kind: fileName, Format: format})
 	if err != nil {
-		return fmt.Errorf("the keys: %w", err)
+		return nil, err
 	}
-	defer file.Close()
-	if err := t.read(frame.NewReader(file, file.Name()), last); err != nil {
-		return err
+	records := frame.Append(nil, first)
+	t.live = 0
+	for _, b := range t.order {
+		before := len(records)
+		for _, told := range b.told() {
+			if !serials {
+				told.Serial = 0
+			}
+			told.At = b.latest
+			record, err := b.written(told)
+			if err != nil {
+				return nil, err
+			}
+			records = append(records, record...)
+		}
+		b.bytes = int64(len(records) - before)
+		t.live += b.bytes
 	}
-	if err := t.rewrite(); err != nil {
-		t.broken = fmt.Errorf("the keys can't be written: %w", err)
-	}
-	return nil
+	return records, nil
 }
 
-func (t *Table) read(records *frame.Reader, last uint64) error {
-	content, err := records.Next()
-	var first head
-	if err != nil || json.Unmarshal(content, &first) != nil || first.Kind != fileName || first.Format != format {
-		return records.Damage("it doesn't begin with the head of the keys")
+// told is all that is remembered of a body.
+func (b *body) told() (all []Told) {
+	for number, reply := range b.replies {
+		all = append(all, Told{Line: Line{number: number}, Reply: reply.body, Serial: reply.serial})
 	}
-	for {
-		damage := records.Damage("a record isn't a reply to the next line of a body")
-		content, err := records.Next()
-		if err == io.EOF || errors.Is(err, frame.ErrTorn) {
-			return nil
-		}
-		if err != nil {
-			return err
-		}
-		var r record
-		if err := json.Unmarshal(content, &r); err != nil {
-			return damage
-		}
-		if r.Serial > last {
-			continue
-		}
-		if !t.recall(r) {
-			return damage
-		}
+	if b.refused != nil {
+		all = append(all, Told{Part: b.refused.Number, Reply: b.refused.Reply, Serial: b.refused.serial})
 	}
-}
-
-// recall remembers what a record says, and is false where it can't follow those before it.
-func (t *Table) recall(r record) bool {
-	b := &body{}
-	if !unhex(b.key[:], r.Key) || !unhex(b.sum[:], r.Body) {
-		return false
-	}
-	known := t.known[b.key]
-	if r.Line == 0 {
-		if known != nil {
-			t.leave(known) // it was forgotten, and came anew
-		}
-		t.known[b.key], known = b, b
-	}
-	if known == nil || known.sum != b.sum || len(known.replies) != r.Line {
-		return false
-	}
-	t.add(known, r.Reply, r.Time, 0) // its bytes are counted when the file is written anew
-	return true
-}
-
-// unhex reads so many bytes.
-func unhex(to []byte, written string) bool {
-	if hex.DecodedLen(len(written)) != len(to) {
-		return false
-	}
-	_, err := hex.Decode(to, []byte(written))
-	return err == nil
+	return all
 }
 
 // Close closes the file.
 func (t *Table) Close() {
-	t.mutex.Lock()
-	defer t.mutex.Unlock()
+	t.writing.Lock()
+	defer t.writing.Unlock()
 	if t.file != nil {
 		t.file.Close()
 		t.file = nil

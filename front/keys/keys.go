@@ -5,8 +5,6 @@ package keys
 import (
 	"context"
 	"crypto/sha256"
-	"encoding/binary"
-	"encoding/hex"
 	"errors"
 	"os"
 	"sync"
@@ -36,25 +34,48 @@ func Of(client, key string) Key {
 type body struct {
 	key     Key
 	sum     [sha256.Size]byte
-	began   time.Time // when the first reply was remembered
-	replies [][]byte
+	began   time.Time // when the first reply was remembered, or it was found in a stream
+	latest  time.Time // when the last one was
+	replies []reply
+	refused *Refused      // where it is to be made all together, and isn't
 	bytes   int64         // of its records
 	busy    chan struct{} // while somebody answers it; closed at the end
+	// found says that a stream has a line of it, and sent how many times it may have one: then the key is this body's,
+	// whoever has it.
+	found bool
+	sent  int
 }
 
-// Table is what is remembered. Its file is written by one goroutine.
+// reply is a reply that is remembered.
+type reply struct {
+	body   []byte
+	serial uint64 // how many edits had been accepted
+}
+
+// Refused says which line of a body that is made all together was refused, and what it was answered.
+type Refused struct {
+	Number int // counted from 1
+	Reply  []byte
+	serial uint64
+}
+
+// isKept says whether something is remembered of a body.
+func (b *body) isKept() bool { return len(b.replies) > 0 || b.refused != nil || b.found }
+
+// Table is what is remembered. Who writes its file has `writing`; nobody waits for the disk who only looks.
 type Table struct {
-	folder Folder
-	mutex  sync.Mutex
-	known  map[Key]*body
-	order  []*body  // those with a reply, the oldest first
-	file   *os.File // nil before the first reply
-	size   int64    // of what counts in it
-	live   int64    // of the records that aren't forgotten
-	last   []Told   // what was appended last
-	broken error    // why nothing can be remembered, if so
-	most   int
-	kept   time.Duration
+	folder  Folder
+	writing sync.Mutex
+	file    *os.File // nil before the first reply
+	size    int64    // of what counts in it
+	last    []Told   // what was appended last
+	mutex   sync.Mutex
+	known   map[Key]*body
+	order   []*body // those of which something is remembered, the oldest first
+	live    int64   // of the records that aren't forgotten
+	broken  error   // why nothing can be remembered, if so
+	most    int
+	kept    time.Duration
 }
 
 // New is a table that remembers nothing yet, whose file is to stand in a folder.
@@ -66,7 +87,6 @@ func New(folder Folder) *Table {
 type Use struct {
 	table *Table
 	body  *body
-	next  int // which line Next is for
 }
 
 // Begin waits until nobody else answers a body with this key, and has it. It is an error where that is another body.
@@ -109,22 +129,15 @@ func (t *Table) take(key Key, sum [sha256.Size]byte) (*Use, <-chan struct{}, err
 func (u *Use) Replies() [][]byte {
 	u.table.mutex.Lock()
 	defer u.table.mutex.Unlock()
-	return append([][]byte(nil), u.body.replies...)
+	var all [][]byte
+	for _, reply := range u.body.replies {
+		all = append(all, reply.body)
+	}
+	return all
 }
 
-// Next is a word for the next line of the body, the same wherever that is asked and for no other line. It is asked
-// once for each line that is sent.
-func (u *Use) Next() string {
-	u.table.mutex.Lock()
-	defer u.table.mutex.Unlock()
-	if u.next < len(u.body.replies) {
-		u.next = len(u.body.replies)
-	}
-	all := append(append([]byte(nil), u.body.key[:]...), u.body.sum[:]...)
-	sum := sha256.Sum256(binary.BigEndian.AppendUint64(all, uint64(u.next)))
-	u.next++
-	return hex.EncodeToString(sum[:])
-}
+// Line is a line of the body, counted from 0.
+func (u *Use) Line(number int) Line { return Line{key: u.body.key, sum: u.body.sum, number: number} }
 
 // End lets others have the body.
 func (u *Use) End() {
@@ -132,16 +145,15 @@ func (u *Use) End() {
 	defer u.table.mutex.Unlock()
 	close(u.body.busy)
 	u.body.busy = nil
-	if len(u.body.replies) == 0 {
-		delete(u.table.known, u.body.key)
-	}
+	u.table.drop(u.body)
 }
 
-// forget forgets what is too old, and the oldest of too many, but nothing that somebody has.
+// forget forgets what is too old, and the oldest of too many, but nothing that somebody has. The servers of a stream know
+// each line for as long by itself: none is forgotten here while a later one of its body isn't there.
 func (t *Table) forget(now time.Time) {
 	for len(t.order) > 0 {
 		oldest := t.order[0]
-		if oldest.busy != nil || len(t.order) <= t.most && now.Sub(oldest.began) < t.kept {
+		if oldest.busy != nil || len(t.order) <= t.most && now.Sub(oldest.latest) < t.kept {
 			return
 		}
 		t.order = t.order[1:]
@@ -150,31 +162,58 @@ func (t *Table) forget(now time.Time) {
 	}
 }
 
-// add remembers the next reply to a body.
-func (t *Table) add(b *body, reply []byte, at time.Time, bytes int64) {
-	if len(b.replies) == 0 {
+// keep has a body be one of which something is remembered.
+func (t *Table) keep(b *body, at time.Time) {
+	if b.latest = at; b.began.IsZero() {
 		b.began = at
 		t.order = append(t.order, b)
 	}
-	b.replies = append(b.replies, reply)
+}
+
+// add remembers the next reply to a body.
+func (t *Table) add(b *body, told reply, at time.Time, bytes int64) {
+	t.keep(b, at)
+	b.replies = append(b.replies, told)
 	b.bytes += bytes
 	t.live += bytes
 }
 
-// takeBack forgets the last reply to a body that somebody has.
-func (t *Table) takeBack(b *body, bytes int64) {
-	b.replies = b.replies[:len(b.replies)-1]
-	b.bytes -= bytes
-	t.live -= bytes
-	if len(b.replies) == 0 {
-		t.leave(b)
+// refuse remembers why a body isn't made all together.
+func (t *Table) refuse(b *body, why *Refused, at time.Time, bytes int64) {
+	t.keep(b, at)
+	b.refused = why
+	b.bytes += bytes
+	t.live += bytes
+}
+
+// takeBack forgets what was remembered last of a body.
+func (t *Table) takeBack(b *body, told Told) {
+	if told.Part > 0 {
+		b.refused = nil
+	} else {
+		b.replies = b.replies[:len(b.replies)-1]
+	}
+	b.bytes -= told.bytes
+	t.live -= told.bytes
+	t.drop(b)
+}
+
+// drop forgets a body of which nothing is remembered, but for who has it.
+func (t *Table) drop(b *body) {
+	if b.isKept() || b.sent > 0 {
+		return
+	}
+	t.leave(b)
+	if b.busy == nil && t.known[b.key] == b {
+		delete(t.known, b.key)
 	}
 }
 
 // leave takes a body out of the order.
 func (t *Table) leave(b *body) {
-	for i, one := range t.order {
-		if one == b {
+	b.began = time.Time{}
+	for i := len(t.order) - 1; i >= 0; i-- { // it came lately
+		if t.order[i] == b {
 			t.order = append(t.order[:i], t.order[i+1:]...)
 			return
 		}

@@ -56,7 +56,7 @@ func (h *held) tell(key, content, reply string, serial uint64) {
 	h.T.Helper()
 	use := h.begin(key, content)
 	defer use.End()
-	if err := h.Append([]Told{{Use: use, Reply: []byte(reply), Serial: serial}}); err != nil {
+	if err := h.Append([]Told{{Line: use.Line(len(use.Replies())), Reply: []byte(reply), Serial: serial}}); err != nil {
 		h.T.Fatal(err)
 	}
 }
@@ -113,7 +113,7 @@ func TestOneAtATime(t *testing.T) {
 	}
 	second := make(chan string)
 	go func() { second <- h.replies("a", "one") }()
-	if err := h.Append([]Told{{Use: first, Reply: []byte("1"), Serial: 1}}); err != nil {
+	if err := h.Append([]Told{{Line: first.Line(0), Reply: []byte("1"), Serial: 1}}); err != nil {
 		t.Fatal(err)
 	}
 	first.End()
@@ -144,7 +144,7 @@ func TestUndone(t *testing.T) {
 	h.Undo()
 	use := h.begin("b", "three")
 	defer use.End()
-	told := []Told{{Use: use, Reply: []byte("3"), Serial: 2}}
+	told := []Told{{Line: use.Line(0), Reply: []byte("3"), Serial: 2}}
 	if err := h.Append(told); err == nil || h.Broken() == nil {
 		t.Fatal("more is remembered before the file is written anew")
 	}
@@ -175,7 +175,7 @@ func TestFull(t *testing.T) {
 	whole := h.Table.folder
 	h.Table.folder = broken{h.folder}
 	use := h.begin("a", "one")
-	told := []Told{{Use: use, Reply: []byte("1"), Serial: 1}}
+	told := []Told{{Line: use.Line(0), Reply: []byte("1"), Serial: 1}}
 	for i := 0; i < 2; i++ {
 		if err := h.Append(told); err == nil || h.Repair() == nil {
 			t.Fatal("something is remembered on a full disk")

@@ -16,6 +16,8 @@ type Edit struct {
 	Line []byte
 	// Whole says that it is several edits, a line each, which are made all together or not at all.
 	Whole bool
+	// Key says which line of which body with a key it is, or its first; it is nothing where it came with none.
+	Key string
 	// Sequence is its place in the stream, counted from 1 without a gap; 0 before it was appended.
 	Sequence uint64
 	// Time is when it was appended, as the stream says.
@@ -48,6 +50,20 @@ var (
 	ErrAway = errors.New("the stream can't be reached")
 )
 
+// State is what is known of the servers of a stream.
+type State struct {
+	Led    bool   // whether one leads it: else none takes edits
+	Leader string // its name; nothing where that isn't known, or the stream has one server alone
+	Silent []Silent
+}
+
+// Silent is a server of which the one that leads hears nothing.
+type Silent struct {
+	Server string    `json:"server"`
+	Since  time.Time `json:"since"`
+	Why    string    `json:"why,omitempty"` // what was found out, in words
+}
+
 // Log is a replicated log of edits.
 type Log interface {
 	// Append appends an edit right behind a sequence, and gives its own; of one that is there already, by its id,
@@ -63,6 +79,8 @@ type Log interface {
 	// None is kept for who doesn't hear now.
 	Tell(sum Sum) error
 	Hear(call func(Sum)) (stop func(), err error)
+	// State is what is known now of the servers.
+	State() State
 	// Close ends the connection.
 	Close()
 }

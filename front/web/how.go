@@ -99,8 +99,8 @@ func (s *Server) whole(w *answered, r *http.Request, given []string, how how) {
 	if !s.mayAll(w, r, edits...) {
 		return
 	}
-	make := func(by string, edits [][]byte, use *keys.Use) []keeper.Reply {
-		return s.together(r, by, edits, use, how.known)
+	make := func(by string, edits [][]byte, first *keys.Line) []keeper.Reply {
+		return s.together(r, by, edits, first, how.known)
 	}
 	if len(given) > 0 {
 		if replies, told, ok := s.once(w, r, given, edits, make); ok {
@@ -138,9 +138,9 @@ func (s *Server) sendWhole(w *answered, r *http.Request, how how, edits, replies
 }
 
 // together makes edits all together. Where they aren't made the one reply says why.
-func (s *Server) together(r *http.Request, by string, edits [][]byte, use *keys.Use, known *uint64) []keeper.Reply {
+func (s *Server) together(r *http.Request, by string, edits [][]byte, first *keys.Line, known *uint64) []keeper.Reply {
 	calls := make([]*keeper.Call, 0, len(edits))
-	for _, l := range edits {
+	for i, l := range edits {
 		s.Meter.Line()
 		err := s.still(r.Context(), l)
 		if err != nil {
@@ -150,7 +150,10 @@ func (s *Server) together(r *http.Request, by string, edits [][]byte, use *keys.
 		if err != nil {
 			return []keeper.Reply{{Err: err}}
 		}
-		call.Remember = use
+		if first != nil {
+			of := first.Next(i)
+			call.Remember = &of
+		}
 		calls = append(calls, call)
 	}
 	replies, err := s.Keeper.Whole(r.Context(), calls, known)

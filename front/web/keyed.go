@@ -34,8 +34,8 @@ func (s *Server) keyed(w *answered, r *http.Request, given []string, how how) {
 	if !s.mayAll(w, r, edits...) {
 		return
 	}
-	replies, told, ok := s.once(w, r, given, edits, func(by string, edits [][]byte, use *keys.Use) []keeper.Reply {
-		return s.inOrder(r.Context(), by, edits, use, nil)
+	replies, told, ok := s.once(w, r, given, edits, func(by string, edits [][]byte, first *keys.Line) []keeper.Reply {
+		return s.inOrder(r.Context(), by, edits, *first, nil)
 	})
 	if !ok {
 		return
@@ -76,8 +76,9 @@ func (s *Server) keyedOne(w *answered, r *http.Request, given []string, l []byte
 		bad("a command with " + keyHeader + " is an edit").send(w)
 		return
 	}
-	replies, told, ok := s.once(w, r, given, [][]byte{l}, func(by string, edits [][]byte, use *keys.Use) []keeper.Reply {
-		return s.inOrder(r.Context(), by, edits, use, known)
+	one := [][]byte{l}
+	replies, told, ok := s.once(w, r, given, one, func(by string, edits [][]byte, first *keys.Line) []keeper.Reply {
+		return s.inOrder(r.Context(), by, edits, *first, known)
 	})
 	switch {
 	case !ok:
@@ -103,12 +104,14 @@ func editsOf(body []byte, most int) ([][]byte, bool) {
 	}
 }
 
+// making makes edits of somebody that have a key, of which the first is such a line, or that have none.
+type making func(by string, edits [][]byte, first *keys.Line) []keeper.Reply
+
 // once makes edits that have a key. Those that were answered before get these replies, and the others are made by a
 // call, which gives as many replies as there are up to the first that has none. A problem stands in the place of that. It
 // is false where it has answered itself, and nothing was sent.
 func (s *Server) once(
-	w *answered, r *http.Request, given []string, edits [][]byte,
-	call func(by string, edits [][]byte, use *keys.Use) []keeper.Reply,
+	w *answered, r *http.Request, given []string, edits [][]byte, call making,
 ) ([][]byte, *problem, bool) {
 	if len(given) != 1 || given[0] == "" || len(given[0]) > keyBytes {
 		bad(fmt.Sprintf("%s is one text of at most %d bytes", keyHeader, keyBytes)).send(w)
@@ -135,7 +138,8 @@ func (s *Server) once(
 	if len(replies) == len(edits) {
 		return replies, nil, true
 	}
-	for _, reply := range call(by, edits[len(replies):], use) {
+	first := use.Line(len(replies))
+	for _, reply := range call(by, edits[len(replies):], &first) {
 		if reply.Err != nil {
 			told := problemFor(reply.Err)
 			return replies, &told, true
@@ -147,10 +151,10 @@ func (s *Server) once(
 
 // inOrder sends edits one by one, none behind one that has no reply: so whoever sends them again goes on where it
 // stopped. `known`, if there is one, is how many edits there are to be before the first.
-func (s *Server) inOrder(ctx context.Context, by string, edits [][]byte, use *keys.Use, known *uint64) []keeper.Reply {
+func (s *Server) inOrder(ctx context.Context, by string, edits [][]byte, first keys.Line, known *uint64) []keeper.Reply {
 	var replies []keeper.Reply
-	for _, l := range edits {
-		reply := s.edit(ctx, by, l, use, known)
+	for i, l := range edits {
+		reply := s.edit(ctx, by, l, first.Next(i), known)
 		replies, known = append(replies, reply), nil
 		if reply.Err != nil || line.NoMemory(reply.Body) {
 			break
@@ -159,9 +163,9 @@ func (s *Server) inOrder(ctx context.Context, by string, edits [][]byte, use *ke
 	return replies
 }
 
-// edit sends the next line of a body with a key, and waits for its reply also where the client has gone: before it is
+// edit sends a line of a body with a key, and waits for its reply also where the client has gone: before it is
 // remembered nobody else may have the key.
-func (s *Server) edit(ctx context.Context, by string, l []byte, use *keys.Use, known *uint64) keeper.Reply {
+func (s *Server) edit(ctx context.Context, by string, l []byte, of keys.Line, known *uint64) keeper.Reply {
 	s.Meter.Line()
 	err := s.still(ctx, l)
 	if err != nil {
@@ -171,7 +175,7 @@ func (s *Server) edit(ctx context.Context, by string, l []byte, use *keys.Use, k
 	if err != nil {
 		return keeper.Reply{Err: err}
 	}
-	call.Remember, call.Known = use, known
+	call.Remember, call.Known = &of, known
 	answer, err := s.Keeper.Submit(ctx, call)
 	if err != nil {
 		return keeper.Reply{Err: err}

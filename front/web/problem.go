@@ -98,6 +98,8 @@ func problemFor(err error) problem {
 		return told
 	case errors.Is(err, keeper.ErrAppended):
 		return problem{Title: "no reply yet", Status: http.StatusGatewayTimeout, Detail: err.Error()}
+	case errors.Is(err, keeper.ErrForgotten):
+		return problem{Title: "answered before", Status: http.StatusConflict, Detail: err.Error()}
 	case errors.Is(err, keeper.ErrRefused):
 		return problem{Title: "refused before", Status: http.StatusConflict, Detail: err.Error()}
 	case errors.Is(err, sessions.ErrGone):

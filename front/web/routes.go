@@ -42,7 +42,7 @@ func (s *Server) routes() []route {
 		all = append(all, route{http.MethodGet, q.path, s.asking(q)})
 	}
 	if s.Keeper.Stream != nil {
-		all = append(all, route{http.MethodGet, "/snapshot", s.snapshot})
+		all = append(all, route{http.MethodGet, "/snapshot", s.snapshot}, route{http.MethodGet, "/snapshot/keys", s.keysKnown})
 	}
 	if s.Authzen != nil {
 		all = append(all, s.authzenRoutes()...)
@@ -150,5 +150,16 @@ func (s *Server) ready(w *answered, _ *http.Request, _ map[string]string) {
 		problemFor(keeper.ErrNotReady).send(w)
 		return
 	}
-	sendJSON(w, []byte(`{"status":"ready"}`))
+	told, err := json.Marshal(readiness{Status: "ready", Health: s.Keeper.Health()})
+	if err != nil {
+		problemFor(err).send(w)
+		return
+	}
+	sendJSON(w, told)
+}
+
+// readiness says that lines are answered, and what else somebody may want to look at.
+type readiness struct {
+	Status string `json:"status"`
+	keeper.Health
 }

@@ -32,3 +32,20 @@ func (s *Server) snapshot(w *answered, r *http.Request, _ map[string]string) {
 	// Who has gone isn't told.
 	_, _ = io.Copy(w, file)
 }
+
+// keysKnown gives what is remembered of bodies with keys to another front of the same stream.
+func (s *Server) keysKnown(w *answered, r *http.Request, _ map[string]string) {
+	content, err := s.Keeper.Keys.Content()
+	if err != nil {
+		problemFor(err).send(w)
+		return
+	}
+	w.Header().Set("Content-Type", snapshotType)
+	w.Header().Set("Content-Length", strconv.Itoa(len(content)))
+	if r.Method == http.MethodHead {
+		w.WriteHeader(http.StatusOK)
+		return
+	}
+	// Who has gone isn't told.
+	_, _ = w.Write(content)
+}
