@@ -7,6 +7,7 @@ import (
 	"io"
 	"math"
 	"strconv"
+	"time"
 
 	"review-front/folder"
 )
@@ -56,6 +57,10 @@ func verify(words []string, to, faults io.Writer) int {
 		fmt.Fprintf(to, "%s: the next start drops %d bytes from byte %d on: %s\n", torn.File, torn.Bytes, torn.Place, torn.What)
 	}
 	if len(found.Faults) > 0 {
+		return 1
+	}
+	if found.Files == 0 {
+		fmt.Fprintf(to, "%s has no journals and no snapshots: there is nothing to look at\n", journal)
 		return 1
 	}
 	fmt.Fprintf(to, "%d files are sound: the edits behind serial %d, up to %d\n", found.Files, found.Begins, found.Ends)
@@ -108,5 +113,11 @@ func restore(words []string, to, faults io.Writer) int {
 		return failed("restore", faults, err)
 	}
 	tellCopy(to, out[0], copied)
+	if until.Serial != math.MaxUint64 && until.Serial > copied.Ends {
+		fmt.Fprintf(faults, "review-front restore: %d is beyond the end: the journals end at serial %d\n", until.Serial, copied.Ends)
+	}
+	if !until.Time.IsZero() && until.Time.After(time.Now()) {
+		fmt.Fprintln(faults, "review-front restore: that time is still to come: all edits so far are there")
+	}
 	return 0
 }

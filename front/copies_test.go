@@ -50,13 +50,28 @@ func TestRestore(t *testing.T) {
 	if status, said, _ := saying("verify", "--journal", path); status != 0 || !strings.Contains(said, "up to 69") {
 		t.Errorf("it ends with %d: %s", status, said)
 	}
+	for end, want := range map[string]string{
+		"69": "", "70": "70 is beyond the end: the journals end at serial 69", "2020-01-01": "", "9999-01-01": "still to come",
+	} {
+		status, _, faults := saying("restore", "--journal", path, "--to", end, filepath.Join(t.TempDir(), "out"))
+		if status != 0 || !strings.Contains(faults, want) || want == "" && faults != "" {
+			t.Errorf("up to %s it ends with %d: %s", end, status, faults)
+		}
+	}
+}
+
+// TestVerifyNothing looks at a folder in which nothing is kept: that isn't told as sound.
+func TestVerifyNothing(t *testing.T) {
+	if status, said, _ := saying("verify", "--journal", t.TempDir()); status != 1 || !strings.Contains(said, "nothing to look at") {
+		t.Errorf("it ends with %d: %s", status, said)
+	}
 }
 
 // TestUndo takes each edit of the clinic back at once, and sees that the dump is that of before.
 func TestUndo(t *testing.T) {
 	path := t.TempDir()
 	f := begin(t, path)
-	lines := append(clinic(t), `{"do":"moment.set","moment":"2025-03-01T09:00:00Z"}`, `{"do":"person.drop","name":"hana"}`,
+	lines := append(clinic(t), `{"do":"moment.set","moment":"2025-03-01T09:00:00Z"}`, `{"do":"person.drop","name":"hana"}`, `{"do":"person.drop","name":"emil"}`,
 		`{"do":"attr.set","category":"urn:oasis:names:tc:xacml:1.0:subject-category:access-subject","entity":"ada",`+
 			`"attribute":"role","type":"http://www.w3.org/2001/XMLSchema#string","values":["nurse"]}`,
 		`{"do":"policy.withdraw","kind":"Policy","id":"office","version":"1"}`, `{"do":"root.set","reference":null}`)
@@ -66,7 +81,8 @@ func TestUndo(t *testing.T) {
 		f.accept(l)
 		serial++
 		status, back, faults := saying("undo", "--journal", path, fmt.Sprint(serial))
-		if status != 0 || faults != "" {
+		moves := strings.Contains(l, `drop","name":"emil"`) // hana is the last
+		if status != 0 || (faults != "") != moves || moves && !strings.Contains(faults, `person "emil" is added at the end`) {
 			t.Fatalf("taking back %s ends with %d: %s", l, status, faults)
 		}
 		f.accept(strings.TrimSuffix(back, "\n"))
@@ -75,6 +91,10 @@ func TestUndo(t *testing.T) {
 		}
 		f.accept(l)
 		serial += 2
+	}
+	f.accept(`{"do":"person.add","name":"zoe"}`, `{"do":"person.drop","name":"zoe"}`)
+	if status, back, faults := saying("undo", "--journal", path, fmt.Sprint(serial+2)); status != 0 || faults != "" {
+		t.Errorf("taking back who was the last ends with %d: %s%s", status, back, faults)
 	}
 	if _, _, faults := saying("undo", "--journal", path, "1"); !strings.Contains(faults, "serial 2 set the same") {
 		t.Errorf("of a later edit it is said %s", faults)

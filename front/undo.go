@@ -21,48 +21,71 @@ func undo(words []string, to, faults io.Writer) int {
 		fmt.Fprintln(faults, "review-front undo: behind --journal FOLDER stands the serial of an edit")
 		return 2
 	}
-	lines, later, err := takenBack(journal, serial)
-	if err != nil {
+	u := &undoing{serial: serial, past: back.Past{}, names: back.Names{}}
+	if err := u.read(journal); err != nil {
 		return failed("undo", faults, err)
 	}
-	for _, other := range later {
+	for _, other := range u.later {
 		fmt.Fprintf(faults, "review-front undo: serial %d set the same, and would be taken back too\n", other)
 	}
-	for i := len(lines) - 1; i >= 0; i-- {
-		fmt.Fprintf(to, "%s\n", lines[i])
+	for _, dropped := range u.dropped {
+		if dropped.Moves(u.names) {
+			fmt.Fprintf(faults, "review-front undo: %s %q is added at the end of its list, and stood before others\n",
+				dropped.List, dropped.Name)
+		}
+	}
+	for i := len(u.lines) - 1; i >= 0; i-- {
+		fmt.Fprintf(to, "%s\n", u.lines[i])
 	}
 	return 0
 }
 
-// takenBack is, for each edit of a serial, the line that takes it back, and the serials of those behind them that set the
-// same. Several have one serial where they were made all together through a stream.
-func takenBack(journal string, serial uint64) (lines [][]byte, later []uint64, err error) {
-	past := back.Past{}
-	since, err := folder.Before(journal, serial, past.Add)
+// undoing takes edits of one serial back. Several have one where they were made all together through a stream.
+type undoing struct {
+	serial  uint64
+	past    back.Past
+	names   back.Names
+	sent    [][]byte       // the edits
+	lines   [][]byte       // those that take them back
+	dropped []back.Dropped // names that they dropped
+	later   []uint64       // serials of edits behind them that set the same
+}
+
+// read reads the edits of a folder.
+func (u *undoing) read(journal string) error {
+	since, err := folder.Before(journal, u.serial, u.add)
 	if err != nil {
-		return nil, nil, err
+		return err
 	}
-	var sent [][]byte
 	err = folder.History(journal, since, func(e folder.Entry) error {
 		switch {
-		case e.Serial < serial:
-			return past.Add(e.Line)
-		case e.Serial == serial:
-			line, err := past.Back(e.Line)
+		case e.Serial == u.serial:
+			line, err := u.past.Back(e.Line)
 			if err != nil {
 				return err
 			}
-			lines, sent = append(lines, line), append(sent, append([]byte(nil), e.Line...))
-			return past.Add(e.Line)
-		case sameAs(e.Line, sent):
-			later = append(later, e.Serial)
+			u.lines, u.sent = append(u.lines, line), append(u.sent, append([]byte(nil), e.Line...))
+		case e.Serial > u.serial && sameAs(e.Line, u.sent):
+			u.later = append(u.later, e.Serial)
 		}
-		return nil
+		if e.Serial > u.serial {
+			u.names.Add(e.Line)
+			return nil
+		}
+		return u.add(e.Line)
 	})
-	if err == nil && lines == nil {
+	if err == nil && u.lines == nil {
 		err = errors.New("the journals have no edit of that serial")
 	}
-	return lines, later, err
+	return err
+}
+
+// add takes an edit that isn't later.
+func (u *undoing) add(line []byte) error {
+	if dropped, is := u.names.Add(line); is && len(u.sent) > 0 {
+		u.dropped = append(u.dropped, dropped)
+	}
+	return u.past.Add(line)
 }
 
 // sameAs says whether a line sets the same as one of several.

@@ -84,10 +84,10 @@ func (l *log) publish(ctx context.Context, message *nats.Msg, sent func()) (uint
 			l.watched.nobody()
 			return 0, errNobody
 		}
-		l.watched.acknowledges(true)
+		l.watched.answered(true)
 		return acknowledged(said)
 	case <-ctx.Done():
-		l.watched.acknowledges(false)
+		l.watched.answered(false)
 		return 0, ctx.Err()
 	}
 }

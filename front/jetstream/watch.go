@@ -17,8 +17,8 @@ const (
 	// lookPause lies between two looks at who leads the stream, and lostPause while nobody does.
 	lookPause = time.Second
 	lostPause = 250 * time.Millisecond
-	// mostUnanswered is how many looks in a row aren't answered until nobody leads.
-	mostUnanswered = 2
+	// mostMissed is how many looks in a row aren't answered until nobody leads.
+	mostMissed = 2
 	// silentTime is how long the leader hears nothing of a server until that is told.
 	silentTime = 10 * time.Second
 	// askAgain is how long after one is asked to let another server lead it may be asked again.
@@ -30,11 +30,11 @@ type watched struct {
 	mutex      sync.Mutex
 	leader     string // nothing where nobody leads
 	led        bool
-	unanswered int                  // looks in a row
+	missed     int                  // looks in a row that weren't answered
 	since      time.Time            // when it was first seen that nobody leads
 	silent     map[string]time.Time // servers of which the leader hears nothing, and since when
 	why        map[string]string    // what was found out of them
-	stalled    bool                 // whether an edit was sent and not acknowledged, and none was since
+	unanswered time.Time            // since when no edit that was sent is answered; nothing where one was
 	trying     bool                 // whether one is on its way then
 	lacks      bool                 // whether the leader lacks edits that were read
 	asked      time.Time            // when it was asked last to let another one lead
@@ -50,7 +50,7 @@ func (l *log) State() replicated.State {
 	w := l.watched
 	w.mutex.Lock()
 	defer w.mutex.Unlock()
-	state := replicated.State{Led: w.led && !w.stalled, Leader: w.leader}
+	state := replicated.State{Led: w.led && !w.isStalled(), Leader: w.leader}
 	for name, since := range w.silent {
 		state.Silent = append(state.Silent, replicated.Silent{Server: name, Since: since, Why: w.why[name]})
 	}
@@ -70,11 +70,16 @@ func (w *watched) isLed() bool {
 func (w *watched) begin() bool {
 	w.mutex.Lock()
 	defer w.mutex.Unlock()
-	if !w.led || w.stalled && w.trying {
+	if !w.led || w.isStalled() && w.trying {
 		return false
 	}
-	w.trying = w.stalled
+	w.trying = w.isStalled()
 	return true
+}
+
+// isStalled says whether no edit is answered. It is for who has the mutex.
+func (w *watched) isStalled() bool {
+	return !w.unanswered.IsZero() && time.Since(w.unanswered) > askTime
 }
 
 func (w *watched) end() {
@@ -83,11 +88,15 @@ func (w *watched) end() {
 	w.trying = false
 }
 
-// acknowledges says whether an edit that was sent is answered.
-func (w *watched) acknowledges(is bool) {
+// answered says whether an edit that was sent is answered.
+func (w *watched) answered(is bool) {
 	w.mutex.Lock()
 	defer w.mutex.Unlock()
-	w.stalled = !is
+	if is {
+		w.unanswered = time.Time{}
+	} else if w.unanswered.IsZero() {
+		w.unanswered = time.Now()
+	}
 }
 
 // nobody says that nobody heard an edit: the next look says more.
@@ -141,18 +150,18 @@ func (l *log) saw(info *nats.StreamInfo, err error) {
 		leader = info.Cluster.Leader
 	}
 	if err != nil || info.Cluster != nil && leader == "" {
-		if w.unanswered++; w.unanswered == mostUnanswered {
+		if w.missed++; w.missed == mostMissed {
 			w.led, w.leader, w.since = false, "", time.Now()
 			l.log.Error("no server leads the stream: edits get 503")
 		}
 		return
 	}
-	if w.unanswered >= mostUnanswered {
+	if w.missed >= mostMissed {
 		l.log.Info("a server leads the stream again", "server", leader, "after", time.Since(w.since).Round(time.Millisecond))
 	} else if leader != w.leader {
 		l.log.Info("a server leads the stream", "server", leader, "before", w.leader)
 	}
-	w.led, w.leader, w.unanswered = true, leader, 0
+	w.led, w.leader, w.missed = true, leader, 0
 	l.hear(info)
 }
 

@@ -118,6 +118,7 @@ func (l *streamed) append(ctx context.Context, id string, call *Call) error {
 			l.expect(id, call)
 			expected = true
 		}
+		known := l.seen()
 		sequence, err := l.stream.Append(limit, behind, edit, l.keeper.edits.give)
 		l.landed(behind, sequence, err)
 		var moved *replicated.Moved
@@ -129,7 +130,7 @@ func (l *streamed) append(ctx context.Context, id string, call *Call) error {
 		case errors.Is(err, replicated.ErrUnsure):
 			l.doubt(call, behind+1)
 			return nil
-		case !errors.As(err, &moved) || l.isRead(moved.Last+1):
+		case !errors.As(err, &moved) || moved.Last < known:
 			if !l.forget(id) {
 				return nil
 			}
@@ -138,11 +139,11 @@ func (l *streamed) append(ctx context.Context, id string, call *Call) error {
 	}
 }
 
-// isRead says whether an edit that was read stands at a sequence.
-func (l *streamed) isRead(sequence uint64) bool {
+// seen is the sequence of the last edit that was read: whoever leads the stream then has it, unless it lost edits.
+func (l *streamed) seen() uint64 {
 	l.mutex.Lock()
 	defer l.mutex.Unlock()
-	return sequence <= l.taken
+	return l.taken
 }
 
 // unappended is what a client is told whose edit isn't appended. The log has one in a second.
