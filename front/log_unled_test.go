@@ -10,6 +10,7 @@ import (
 	"os/exec"
 	"strings"
 	"sync"
+	"syscall"
 	"testing"
 	"time"
 
@@ -22,14 +23,32 @@ import (
 // atOnce is how long an answer may take on a busy machine that doesn't wait for anything.
 const atOnce = 8 * time.Second
 
-// TestLogUnled ends two of three servers: while none leads, edits get 503 at once, questions are answered, and `/readyz`
-// says why; once one leads edits are made.
+// TestLogUnled halts two of three servers, and kills them: while none leads, edits get 503 at once, questions are answered,
+// and `/readyz` says why; once one leads edits are made.
 func TestLogUnled(t *testing.T) {
 	servers := natsServers(t, 3)
 	fronts := replicas(t, servers, 2)
 	fronts[0].accept(clinic(t)...)
-	servers[0].kill()
-	servers[1].kill()
+	for _, signal := range []syscall.Signal{syscall.SIGSTOP, syscall.SIGKILL} {
+		for _, s := range servers[:2] {
+			_ = s.process.Process.Signal(signal)
+		}
+		unled(t, fronts)
+		for _, s := range servers[:2] {
+			_ = s.process.Process.Signal(syscall.SIGCONT)
+			if signal == syscall.SIGKILL {
+				s.kill()
+				s.start()
+			}
+		}
+		ledAgain(t, fronts)
+	}
+	newFate().same(t, fronts)
+}
+
+// unled sees that it is told that no server leads.
+func unled(t *testing.T, fronts []*front) {
+	t.Helper()
 	for _, f := range fronts {
 		eventually(t, "it is told that none leads", func() bool {
 			return strings.Contains(f.must("/readyz"), `"status":"ready","edits":"the edit can't be appended: no server leads`)
@@ -42,8 +61,11 @@ func TestLogUnled(t *testing.T) {
 		}
 		f.must("/table")
 	}
-	servers[0].start()
-	servers[1].start()
+}
+
+// ledAgain sees that it is told that one does, and that edits are made.
+func ledAgain(t *testing.T, fronts []*front) {
+	t.Helper()
 	for i, f := range fronts {
 		eventually(t, "edits are made again", func() bool { return f.editOnce(t, 10+i) == http.StatusOK })
 		if ready := f.must("/readyz"); strings.Contains(ready, `"edits"`) || !strings.Contains(ready, `"leader":"s`) {
@@ -55,7 +77,6 @@ func TestLogUnled(t *testing.T) {
 			}
 		}
 	}
-	newFate().same(t, fronts)
 }
 
 // TestLogUnbrought has servers that nobody may tell to bring what is new, as one that is stopped doesn't: fronts ask the

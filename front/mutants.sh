@@ -148,6 +148,20 @@ keeper/compare.go . TestDryFirst s/^const endedFirst = "1000"$/const endedFirst 
 keeper/compare.go . TestLarger s/, k\.Command\.Limits\.Words()\.\.\.)/)/
 program/program.go . TestLarger s/append(words, c\.Limits\.Words()\.\.\.)\.\.\.)/words...)/
 jetstream/open.go . TestLogLarger s/case limitsOf(config) != l\.Limits\.String():/case false:/
+keys/file.go keys TestLines s/told\.Line\.number != len(b\.replies)+lines\[b\]:/false:/
+keys/lines.go . TestLogKeyedOther s/if b == nil || b\.sum != l\.sum \&\& !b\.isKept() {/if b == nil {/
+keeper/streamed.go . TestLogKeyedRefused s/^\t\tcall\.isOf(edit\.Key)$//
+keeper/streamed.go . TestLogKeyedRefused s/if err := l\.adoptKeys(ctx, from); err != nil {/if err := error(nil); err != nil {/
+keeper/settle.go . TestLogKeyedRefused s/^\tcase c\.part != nil:$/\tcase false:/
+keeper/serve.go . TestLogFullDisk s/if call\.sequence != 0 \&\& (len(s\.parked) > 0 || !s\.keeper\.mayEdit()) {/if false {/
+keeper/health.go . TestLogUnled s/^\t\tif !state\.Led {$/\t\tif false {/
+jetstream/append.go . TestLogUnled s/if !l\.watched\.begin() {/if !l.watched.begin() \&\& false {/
+jetstream/read.go . TestLogUnbrought s/^\tif r\.replicas\.Load() <= 1 {$/\tif true {/
+jetstream/watch.go . TestLogLacks s/if err == nil \&\& l\.watched\.isToChange() {/if false {/
+jetstream/watch.go . TestLogFullServer s/if l\.answers(server) {/if false {/
+undo.go . TestUndo s/if dropped\.Moves(u\.names) {/if false {/
+copies.go . TestVerifyNothing s/if found\.Files == 0 {/if false {/
+copies.go . TestRestore s/ \&\& until\.Serial > copied\.Ends {/ \&\& false {/
 options.go . TestLimitWords s/case o\.limits\.Wrong() != "":/case false:/
 ROWS
 tests=$(awk '{ print "^" $3 "$" }' "$aside/rows" | sort -u | paste -sd '|')

@@ -1,11 +1,11 @@
 #!/bin/sh
 # Tests the front over a program: front/test.sh [PROGRAM [all]]; PROGRAM is crates/review/out/review unless it is named.
-# With `all` it kills the front and the program 200 times each, stops the front 30 times, opens 100,000 sessions, and
-# sends all of the gate's sessions, ends servers of NATS 9 times under 8 fronts, and empties such as were halted; without
-# it 8 times, 4 times, 3,000, each eighth session, and once under 3. Where nats-server or its client isn't there, tests of
-# a log are skipped with a word.
-# Where Go, its client of Prometheus or a C compiler (for the race detector) isn't there, it says so and ends with status 3;
-# where strace isn't there, or may not look at processes, it does so when all tests but that of system calls have passed.
+# With `all` it kills the front and the program 200 times each, stops the front 30 times, opens 100,000 sessions, sends all
+# of the gate's sessions, ends servers of NATS 9 times under 8 fronts, empties such as were halted, and kills 120 times
+# midway in a body with a key; without it 8 times, 4 times, 3,000, each eighth session, once under 3, and 4 times. Where
+# nats-server or its client isn't there, tests of a log are skipped with a word. Where Go, its client of Prometheus or a C
+# compiler (for the race detector) isn't there, it says so and ends with status 3; where strace isn't there, or may not look
+# at processes, it does so when all tests but that of system calls have passed.
 set -eu
 program=$(realpath "${1:-$(dirname "$0")/../crates/review/out/review}")
 cd "$(dirname "$0")"
@@ -32,9 +32,9 @@ command -v nats-server >/dev/null && [ -d /usr/share/gocode/src/github.com/nats-
 (cd .. && GO111MODULE=off go vet ./bench/front)
 if [ "${2:-}" = all ]; then
     FRONT_KILLS=200 FRONT_STOPS=30 FRONT_SESSIONS=1 FRONT_TABLES=200 FRONT_SERVERS=9 FRONT_REPLICAS=8 FRONT_ALL=1
-    FRONT_LINES=200000 FRONT_LISTENERS=500 FRONT_RETURNS=100 FRONT_OPENED=100000
+    FRONT_LINES=200000 FRONT_LISTENERS=500 FRONT_RETURNS=100 FRONT_OPENED=100000 FRONT_KEYED=120
     export FRONT_KILLS FRONT_STOPS FRONT_SESSIONS FRONT_TABLES FRONT_SERVERS FRONT_REPLICAS FRONT_ALL
-    export FRONT_LINES FRONT_LISTENERS FRONT_RETURNS FRONT_OPENED
+    export FRONT_LINES FRONT_LISTENERS FRONT_RETURNS FRONT_OPENED FRONT_KEYED
 fi
 tested() { REVIEW_PROGRAM=$program ./build.sh go test -race -count=1 -timeout 60m "$@"; }
 mkdir -p out

@@ -165,7 +165,9 @@ func (t *Table) takes(told Told, lines map[*body]int) *body {
 	case told.Part > 0 && b.refused == nil:
 		return b
 	case told.Part > 0 || told.Line.number != len(b.replies)+lines[b]:
-		t.drop(b)
+		if lines[b] == 0 {
+			t.drop(b)
+		}
 		return nil
 	}
 	lines[b]++
