@@ -114,7 +114,8 @@ func restore(words []string, to, faults io.Writer) int {
 	}
 	tellCopy(to, out[0], copied)
 	if until.Serial != math.MaxUint64 && until.Serial > copied.Ends {
-		fmt.Fprintf(faults, "review-front restore: %d is beyond the end: the journals end at serial %d\n", until.Serial, copied.Ends)
+		const beyond = "review-front restore: %d is beyond the end: the journals end at serial %d\n"
+		fmt.Fprintf(faults, beyond, until.Serial, copied.Ends)
 	}
 	if !until.Time.IsZero() && until.Time.After(time.Now()) {
 		fmt.Fprintln(faults, "review-front restore: that time is still to come: all edits so far are there")

@@ -51,7 +51,8 @@ func TestRestore(t *testing.T) {
 		t.Errorf("it ends with %d: %s", status, said)
 	}
 	for end, want := range map[string]string{
-		"69": "", "70": "70 is beyond the end: the journals end at serial 69", "2020-01-01": "", "9999-01-01": "still to come",
+		"69": "", "70": "70 is beyond the end: the journals end at serial 69",
+		"2020-01-01": "", "9999-01-01": "still to come",
 	} {
 		status, _, faults := saying("restore", "--journal", path, "--to", end, filepath.Join(t.TempDir(), "out"))
 		if status != 0 || !strings.Contains(faults, want) || want == "" && faults != "" {
@@ -62,7 +63,8 @@ func TestRestore(t *testing.T) {
 
 // TestVerifyNothing looks at a folder in which nothing is kept: that isn't told as sound.
 func TestVerifyNothing(t *testing.T) {
-	if status, said, _ := saying("verify", "--journal", t.TempDir()); status != 1 || !strings.Contains(said, "nothing to look at") {
+	status, said, _ := saying("verify", "--journal", t.TempDir())
+	if status != 1 || !strings.Contains(said, "nothing to look at") {
 		t.Errorf("it ends with %d: %s", status, said)
 	}
 }
@@ -71,7 +73,8 @@ func TestVerifyNothing(t *testing.T) {
 func TestUndo(t *testing.T) {
 	path := t.TempDir()
 	f := begin(t, path)
-	lines := append(clinic(t), `{"do":"moment.set","moment":"2025-03-01T09:00:00Z"}`, `{"do":"person.drop","name":"hana"}`, `{"do":"person.drop","name":"emil"}`,
+	lines := append(clinic(t), `{"do":"moment.set","moment":"2025-03-01T09:00:00Z"}`,
+		`{"do":"person.drop","name":"hana"}`, `{"do":"person.drop","name":"emil"}`,
 		`{"do":"attr.set","category":"urn:oasis:names:tc:xacml:1.0:subject-category:access-subject","entity":"ada",`+
 			`"attribute":"role","type":"http://www.w3.org/2001/XMLSchema#string","values":["nurse"]}`,
 		`{"do":"policy.withdraw","kind":"Policy","id":"office","version":"1"}`, `{"do":"root.set","reference":null}`)

@@ -8,14 +8,15 @@ import (
 
 // editOnce edits once, and gives the status.
 func (f *front) editOnce(t testing.TB, number int) int {
-	return f.send(t, http.MethodPost, "/commands/attr.set", strings.Replace(uniqueEdit(0, number), `,"do":"attr.set"`, "", 1)).status
+	body := strings.Replace(uniqueEdit(0, number), `,"do":"attr.set"`, "", 1)
+	return f.send(t, http.MethodPost, "/commands/attr.set", body).status
 }
 
 // unkept begins what is said where edits can't be kept.
 const unkept = "the edit can't be kept: the journal can't be written"
 
-// TestLogFullDisk fills the disk of one of two fronts: it answers questions as of what it has, its edits get 503 or 504, and
-// `/readyz` says why; when there is room again it has what the other one made.
+// TestLogFullDisk fills the disk of one of two fronts: it answers questions as of what it has, its edits get 503 or
+// 504, and `/readyz` says why; when there is room again it has what the other one made.
 func TestLogFullDisk(t *testing.T) {
 	fronts := replicas(t, natsServers(t, 1), 2)
 	full, other := fronts[0], fronts[1]

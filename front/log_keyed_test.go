@@ -26,7 +26,8 @@ func mixed(round, count int) (lines []string) {
 	return lines
 }
 
-// mixedReplies sees that each reply to such a body is that to its own line: an edit that was accepted stands at its serial.
+// mixedReplies sees that each reply to such a body is that to its own line: an edit that was accepted stands at its
+// serial.
 func (f *front) mixedReplies(t testing.TB, lines []string, told string) {
 	t.Helper()
 	replies := strings.Split(told, "\n")
@@ -107,8 +108,9 @@ func TestLogKeyedKilled(t *testing.T) {
 	newFate().same(t, fronts)
 }
 
-// TestLogKeyedRefused sends a body with a refused line to one front, and to another, and to one that begins by the snapshot
-// of the first when the stream has no more what was before it: all answer alike. So does one that is made whole, and isn't.
+// TestLogKeyedRefused sends a body with a refused line to one front, and to another, and to one that begins by the
+// snapshot of the first when the stream has no more what was before it: all answer alike. So does one that is made
+// whole, and isn't.
 func TestLogKeyedRefused(t *testing.T) {
 	servers := natsServers(t, 1)
 	fronts := replicas(t, servers, 2, "--snapshot-every", "20")
@@ -121,11 +123,13 @@ func TestLogKeyedRefused(t *testing.T) {
 	for path, body := range bodies {
 		first[path] = fronts[0].send(t, http.MethodPost, path, body, "Idempotency-Key", path)
 	}
-	if got := first["/lines"].body; strings.Count(got, `{"changes":0,"serial":`) != 2 || !strings.Contains(got, "\n{\"refused\":8}\n") {
+	got := first["/lines"].body
+	if strings.Count(got, `{"changes":0,"serial":`) != 2 || !strings.Contains(got, "\n{\"refused\":8}\n") {
 		t.Fatalf("a body is answered %s", got)
 	}
-	if got := first["/lines?whole=1"]; got.status != http.StatusConflict || !strings.Contains(got.body, "edit 2 of the body") {
-		t.Fatalf("a whole body is answered %+v", got)
+	whole := first["/lines?whole=1"]
+	if whole.status != http.StatusConflict || !strings.Contains(whole.body, "edit 2 of the body") {
+		t.Fatalf("a whole body is answered %+v", whole)
 	}
 	same := func(f *front) {
 		t.Helper()
@@ -154,8 +158,8 @@ func TestLogKeyedRefused(t *testing.T) {
 	newFate().same(t, append(fronts, late))
 }
 
-// TestLogKeyedOther sends two bodies with one key, to two fronts, behind each other and at once: one of them is made, and
-// the other, of which nothing is, gets 422 everywhere.
+// TestLogKeyedOther sends two bodies with one key, to two fronts, behind each other and at once: one of them is made,
+// and the other, of which nothing is, gets 422 everywhere.
 func TestLogKeyedOther(t *testing.T) {
 	fronts := replicas(t, natsServers(t, 1), 2)
 	for round := 0; round < 20; round++ {

@@ -23,8 +23,8 @@ import (
 // atOnce is how long an answer may take on a busy machine that doesn't wait for anything.
 const atOnce = 8 * time.Second
 
-// TestLogUnled halts two of three servers, and kills them: while none leads, edits get 503 at once, questions are answered,
-// and `/readyz` says why; once one leads edits are made.
+// TestLogUnled halts two of three servers, and kills them: while none leads, edits get 503 at once, questions are
+// answered, and `/readyz` says why; once one leads edits are made.
 func TestLogUnled(t *testing.T) {
 	servers := natsServers(t, 3)
 	fronts := replicas(t, servers, 2)
@@ -79,11 +79,12 @@ func ledAgain(t *testing.T, fronts []*front) {
 	}
 }
 
-// TestLogUnbrought has servers that nobody may tell to bring what is new, as one that is stopped doesn't: fronts ask the
-// one that leads, and each has the edits of both.
+// TestLogUnbrought has servers that nobody may tell to bring what is new, as one that is stopped doesn't: fronts ask
+// the one that leads, and each has the edits of both.
 func TestLogUnbrought(t *testing.T) {
+	const may = `permissions: { publish: { deny: "$JS.API.CONSUMER.>" } }`
 	servers := natsServersWith(t, 3, natsServer{user: "front:word@"},
-		`authorization { users: [{ user: front, password: word, permissions: { publish: { deny: "$JS.API.CONSUMER.>" } } }] }`+"\n")
+		"authorization { users: [{ user: front, password: word, "+may+" }] }\n")
 	fronts := replicas(t, servers, 2)
 	fates, editors := newFate(), 0
 	fates.during(t, fronts, 2, &editors, func() {
@@ -113,7 +114,8 @@ func TestLogLacks(t *testing.T) {
 		ended <- log.Read(ctx, 1000, func(replicated.Edit) error { return errors.New("there is an edit") })
 	}()
 	eventually(t, "another one leads", func() bool { now := log.State().Leader; return now != "" && now != first })
-	if !strings.Contains(said.String(), `is asked to let another one lead: its store is to be emptied","server":"`+first+`"`) {
+	asked := `is asked to let another one lead: its store is to be emptied","server":"` + first + `"`
+	if !strings.Contains(said.String(), asked) {
 		t.Errorf("the log says %s", said.String())
 	}
 	cancel()
@@ -140,8 +142,8 @@ func (s *said) String() string {
 	return s.text.String()
 }
 
-// TestLogFullServer fills the disk of the server that leads, of three: another one leads soon, edits are made, and which one
-// takes none is told by its name.
+// TestLogFullServer fills the disk of the server that leads, of three: another one leads soon, edits are made, and
+// which one takes none is told by its name.
 func TestLogFullServer(t *testing.T) {
 	if err := exec.Command("unshare", append(unsharing, "mount", "-t", "tmpfs", "none", "/mnt")...).Run(); err != nil {
 		t.Skip("this machine lets nobody have file systems of his own")
@@ -154,10 +156,11 @@ func TestLogFullServer(t *testing.T) {
 	eventually(t, "a server leads", func() (ok bool) { full, ok = leads(jet, servers); return ok })
 	fates.during(t, fronts, 2, &editors, func() {
 		full.fill()
+		server := `"server":"` + full.name + `"`
 		for i, f := range fronts {
 			eventually(t, "it is told whose disk may be full", func() bool {
-				return strings.Contains(f.must("/readyz"), `"server":"`+full.name+`"`) &&
-					strings.Contains(f.log(), `"server":"`+full.name+`","why":"it answers, and takes no edits: see whether its disk is full"`)
+				return strings.Contains(f.must("/readyz"), server) &&
+					strings.Contains(f.log(), server+`,"why":"it answers, and takes no edits: see whether its disk is full"`)
 			})
 			eventually(t, "edits are made", func() bool { return f.editOnce(t, 1_000_000+i) == http.StatusOK })
 		}

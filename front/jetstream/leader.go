@@ -26,8 +26,8 @@ func (l *log) confirmed(ctx context.Context, brought []replicated.Edit, from *na
 	return led, err
 }
 
-// atLeaderBehind is so many edits behind a sequence as the server has them that leads the stream, up to the first that it
-// lacks, or for which it can't be asked.
+// atLeaderBehind is so many edits behind a sequence as the server has them that leads the stream, up to the first that
+// it lacks, or for which it can't be asked.
 func (l *log) atLeaderBehind(ctx context.Context, behind uint64, count int) ([]replicated.Edit, error) {
 	ctx, cancel := context.WithTimeout(ctx, askTime)
 	defer cancel()

@@ -11,8 +11,8 @@ import (
 	"time"
 )
 
-// answers says whether a server of this name answers at one of the addresses at which the servers are reached. Each says
-// its name before a client has said anything.
+// answers says whether a server of this name answers at one of the addresses at which the servers are reached. Each
+// says its name before a client has said anything.
 func (l *log) answers(server string) bool {
 	found := make(chan bool)
 	addresses := strings.Split(l.Servers, ",")

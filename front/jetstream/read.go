@@ -29,9 +29,9 @@ const (
 	mostAsked = 10
 )
 
-// reading reads a stream for a front. Servers of NATS bring it what is new; where they don't, or none can be told to, the
-// one that leads is asked for it again and again: a server that is stopped, or whose disk is full, may be the one that is
-// to bring it, or the one that has to be told.
+// reading reads a stream for a front. Servers of NATS bring it what is new; where they don't, or none can be told to,
+// the one that leads is asked for it again and again: a server that is stopped, or whose disk is full, may be the one
+// that is to bring it, or the one that has to be told.
 type reading struct {
 	*log
 	behind uint64
@@ -66,7 +66,7 @@ func (r *reading) subscribe() {
 	}
 	if r.made == nil && time.Now().After(r.again) {
 		r.made = make(chan *nats.Subscription, 1)
-		go r.make(r.behind, r.made)
+		go r.make(r.behind, r.pause < lastPause, r.made)
 	}
 	select {
 	case r.from = <-r.made:
@@ -87,24 +87,28 @@ func (r *reading) patience() time.Duration {
 	return firstPause
 }
 
-// make tells a server to bring what is new, and says so where that can't be done.
-func (r *reading) make(behind uint64, made chan<- *nats.Subscription) {
+// make tells a server to bring what is new, and may say so where that can't be done.
+func (r *reading) make(behind uint64, tell bool, made chan<- *nats.Subscription) {
 	// The client's ordered consumer begins anew by itself, twice at once where the machine stood still. A gap is seen
 	// here.
 	from, err := r.jet.SubscribeSync(r.subject, nats.BindStream(r.Stream), nats.StartSequence(behind+1), nats.AckNone(),
 		nats.ConsumerReplicas(1), nats.ConsumerMemoryStorage(), nats.EnableFlowControl(), nats.IdleHeartbeat(heartbeat))
 	if err != nil {
-		r.log.log.Error("no server brings what the stream has", "behind", behind, "error", err)
 		from = nil
+	}
+	if err != nil && tell {
+		r.log.log.Error("no server brings what the stream has", "behind", behind, "error", err)
 	}
 	made <- from
 }
 
-// drop has nothing be brought any more, and says why.
+// drop has nothing be brought any more, and says why. To find out who was to bring it may take a while.
 func (r *reading) drop(why error) {
-	server := serverOf(r.from)
-	r.log.log.Error("a server of the stream doesn't bring what is new", "server", server, "behind", r.behind, "error", why)
-	go unsubscribe(r.from)
+	go func(from *nats.Subscription, behind uint64) {
+		server := serverOf(from)
+		r.log.log.Error("a server of the stream doesn't bring what is new", "server", server, "behind", behind, "error", why)
+		unsubscribe(from)
+	}(r.from, r.behind)
 	r.from, r.again = nil, time.Now().Add(r.pause)
 	r.pause = longer(r.pause)
 }

@@ -65,8 +65,8 @@ func (w *watched) isLed() bool {
 	return w.led
 }
 
-// begin says whether an edit may be sent, and end that it has its answer, or none. Where the last one wasn't acknowledged
-// one is sent at a time, and no other waits for nothing.
+// begin says whether an edit may be sent, and end that it has its answer, or none. Where the last one wasn't
+// acknowledged one is sent at a time, and no other waits for nothing.
 func (w *watched) begin() bool {
 	w.mutex.Lock()
 	defer w.mutex.Unlock()
@@ -181,7 +181,8 @@ func (l *log) hear(info *nats.StreamInfo) {
 		case !quiet && told:
 			delete(w.silent, replica.Name)
 			delete(w.why, replica.Name)
-			l.log.Info("a server of the stream is heard of again", "server", replica.Name, "after", now.Sub(since).Round(time.Second))
+			l.log.Info("a server of the stream is heard of again", "server", replica.Name,
+				"after", now.Sub(since).Round(time.Second))
 		}
 	}
 	// Of the leader itself nothing is said there.
@@ -210,8 +211,8 @@ func (l *log) findOut(server string, lag uint64) {
 	}
 }
 
-// isToChange says whether another server is to lead the stream, since the one that does lacks edits that were read. One that
-// is stopped can't be asked for that: the others agree on another one by themselves.
+// isToChange says whether another server is to lead the stream, since the one that does lacks edits that were read. One
+// that is stopped can't be asked for that: the others agree on another one by themselves.
 func (w *watched) isToChange() bool {
 	w.mutex.Lock()
 	defer w.mutex.Unlock()
@@ -235,6 +236,6 @@ func (l *log) stepDown(cluster *nats.ClusterInfo) {
 	if err != nil {
 		answer = err.Error()
 	}
-	l.log.Error("the server that leads the stream lacks edits, and is asked to let another one lead: its store is to be emptied",
-		"server", cluster.Leader, "answer", answer)
+	const told = "who leads the stream lacks edits, and is asked to let another one lead: its store is to be emptied"
+	l.log.Error(told, "server", cluster.Leader, "answer", answer)
 }

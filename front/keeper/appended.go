@@ -70,7 +70,8 @@ func (l *streamed) submit(ctx context.Context, call *Call) (<-chan Reply, error)
 	return call.reply, nil
 }
 
-// left is how long the client of an edit that is appended, or may be, waits until it is read, where it began so long ago.
+// left is how long the client of an edit that is appended, or may be, waits until it is read, where it began so long
+// ago.
 func (l *streamed) left(began time.Time) time.Duration {
 	left := appendTime + l.keeper.TryTime - time.Since(began)
 	if left > l.keeper.Patience {

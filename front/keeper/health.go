@@ -31,7 +31,8 @@ func (k *Keeper) Health() (now Health) {
 	return now
 }
 
-// unkeeps says why edits can't be kept, or that they can be. Of a path nothing is told: whoever reaches the front may ask.
+// unkeeps says why edits can't be kept, or that they can be. Of a path nothing is told: whoever reaches the front may
+// ask.
 func (k *Keeper) unkeeps(err error) {
 	if err == nil {
 		k.unkept.Store(nil)

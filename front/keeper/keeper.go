@@ -44,7 +44,7 @@ var (
 	ErrSpare    = &Unavailable{Why: "there is no spare program yet on which an edit can be tried", After: time.Second}
 	ErrStream   = &Unavailable{Why: "the edit can't be appended: the stream can't be reached", After: time.Second}
 	ErrUnled    = &Unavailable{Why: "the edit can't be appended: no server leads the stream", After: time.Second}
-	ErrLacks    = &Unavailable{Why: "the edit can't be appended: the server that leads the stream lacks edits", After: time.Second}
+	ErrLacks    = &Unavailable{Why: "the edit can't be appended: who leads the stream lacks edits", After: time.Second}
 	ErrBehind   = &Unavailable{Why: "there aren't so many edits", After: time.Second}
 )
 

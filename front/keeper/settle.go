@@ -218,8 +218,8 @@ func (s *serving) settle(batch []settled) bool {
 	return true
 }
 
-// remembered is what is remembered of the reply to a line of a body with a key, whoever waits for it: another front may be
-// asked for it next.
+// remembered is what is remembered of the reply to a line of a body with a key, whoever waits for it: another front may
+// be asked for it next.
 func (c *Call) remembered(reply Reply) (told keys.Told, is bool) {
 	switch {
 	case c.Remember == nil || line.NoMemory(reply.Body):

@@ -90,8 +90,8 @@ func answer(all []*Call, replies []Reply) bool {
 	return replies != nil
 }
 
-// repeats is how edits that stand in the stream already were answered, where that is why they can't be appended. One that
-// is to be the edit behind a serial may itself be what stands behind it.
+// repeats is how edits that stand in the stream already were answered, where that is why they can't be appended. One
+// that is to be the edit behind a serial may itself be what stands behind it.
 func (l *streamed) repeats(ctx context.Context, all []*Call, why error) []Reply {
 	switch why := why.(type) {
 	case *appendedBefore:

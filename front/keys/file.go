@@ -48,8 +48,8 @@ type record struct {
 	Part int `json:"part,omitempty"`
 }
 
-// Told is a reply to the next line of a body. Of one that is to be made all together, and isn't, it is that to one of its
-// edits, and Part is which, counted from 1.
+// Told is a reply to the next line of a body. Of one that is to be made all together, and isn't, it is that to one of
+// its edits, and Part is which, counted from 1.
 type Told struct {
 	Line   Line
 	Reply  []byte
@@ -150,9 +150,9 @@ func (t *Table) records(told []Told) (records []byte, err error) {
 	return records, nil
 }
 
-// takes is the body by which a reply is to be remembered, where so many of its lines are about to have one; nil where it
-// is no reply to the next line, or its key is another body's. A stream may bring a line again, and none of those before a
-// line.
+// takes is the body by which a reply is to be remembered, where so many of its lines are about to have one; nil where
+// it is no reply to the next line, or its key is another body's. A stream may bring a line again, and none of those
+// before a line.
 func (t *Table) takes(told Told, lines map[*body]int) *body {
 	b := t.of(told.Line)
 	if t.known[told.Line.key] == nil {

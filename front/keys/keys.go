@@ -148,8 +148,8 @@ func (u *Use) End() {
 	u.table.drop(u.body)
 }
 
-// forget forgets what is too old, and the oldest of too many, but nothing that somebody has. The servers of a stream know
-// each line for as long by itself: none is forgotten here while a later one of its body isn't there.
+// forget forgets what is too old, and the oldest of too many, but nothing that somebody has. The servers of a stream
+// know each line for as long by itself: none is forgotten here while a later one of its body isn't there.
 func (t *Table) forget(now time.Time) {
 	for len(t.order) > 0 {
 		oldest := t.order[0]

@@ -45,8 +45,8 @@ func Parse(written string) (l Line, ok bool) {
 	return l, err == nil && l.String() == written
 }
 
-// Find says that a stream has a line of a body since some time, whoever sent it. Its key is that body's: another one that
-// somebody has with it, and of which the stream has nothing, came too late.
+// Find says that a stream has a line of a body since some time, whoever sent it. Its key is that body's: another one
+// that somebody has with it, and of which the stream has nothing, came too late.
 func (t *Table) Find(l Line, since time.Time) {
 	t.mutex.Lock()
 	defer t.mutex.Unlock()
@@ -64,8 +64,8 @@ func (t *Table) Find(l Line, since time.Time) {
 	}
 }
 
-// Send says that a line of a body is sent to a stream now, which may have it then. It is an error where another body has
-// its key.
+// Send says that a line of a body is sent to a stream now, which may have it then. It is an error where another body
+// has its key.
 func (t *Table) Send(l Line) error {
 	t.mutex.Lock()
 	defer t.mutex.Unlock()

@@ -10,8 +10,8 @@ import (
 // told is a reply to a line.
 func told(line Line, reply string) Told { return Told{Line: line, Reply: []byte(reply), Serial: 1} }
 
-// TestLines remembers replies to lines that a stream brings, whoever sent them, each as that to its line: one that comes
-// again, or before which one is missing, or of another body with the key, isn't.
+// TestLines remembers replies to lines that a stream brings, whoever sent them, each as that to its line: one that
+// comes again, or before which one is missing, or of another body with the key, isn't.
 func TestLines(t *testing.T) {
 	h := hold(t)
 	use, other := h.begin("a", "one two three"), h.begin("b", "four")
@@ -110,7 +110,8 @@ func TestWritten(t *testing.T) {
 	if again, ok := Parse(written); !ok || again != l || again.Word() != l.Word() || l.Next(1).Word() == l.Word() {
 		t.Errorf("%s is read as %v", written, again)
 	}
-	for _, other := range []string{"", written + " ", written + "0000", written[1:], "x" + written[1:], written[:len(written)-2] + "+1"} {
+	short := written[:len(written)-2]
+	for _, other := range []string{"", written + " ", written + "0000", written[1:], "x" + written[1:], short + "+1"} {
 		if l, ok := Parse(other); ok {
 			t.Errorf("%q is read as %v", other, l)
 		}

@@ -5,7 +5,8 @@ import "strings"
 // Names are the names of each list, in their order.
 type Names map[string][]string
 
-// Add takes an edit that was made. Of one that drops a name it gives which names stood before that, and of all others false.
+// Add takes an edit that was made. Of one that drops a name it gives which names stood before that, and of all others
+// false.
 func (n Names) Add(line []byte) (Dropped, bool) {
 	e, _, err := read(line)
 	list, does, _ := strings.Cut(e.text("do"), ".")

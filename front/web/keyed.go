@@ -151,7 +151,9 @@ func (s *Server) once(
 
 // inOrder sends edits one by one, none behind one that has no reply: so whoever sends them again goes on where it
 // stopped. `known`, if there is one, is how many edits there are to be before the first.
-func (s *Server) inOrder(ctx context.Context, by string, edits [][]byte, first keys.Line, known *uint64) []keeper.Reply {
+func (s *Server) inOrder(
+	ctx context.Context, by string, edits [][]byte, first keys.Line, known *uint64,
+) []keeper.Reply {
 	var replies []keeper.Reply
 	for i, l := range edits {
 		reply := s.edit(ctx, by, l, first.Next(i), known)

@@ -42,7 +42,8 @@ func (s *Server) routes() []route {
 		all = append(all, route{http.MethodGet, q.path, s.asking(q)})
 	}
 	if s.Keeper.Stream != nil {
-		all = append(all, route{http.MethodGet, "/snapshot", s.snapshot}, route{http.MethodGet, "/snapshot/keys", s.keysKnown})
+		all = append(all, route{http.MethodGet, "/snapshot", s.snapshot})
+		all = append(all, route{http.MethodGet, "/snapshot/keys", s.keysKnown})
 	}
 	if s.Authzen != nil {
 		all = append(all, s.authzenRoutes()...)
