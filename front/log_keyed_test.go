@@ -70,40 +70,57 @@ func (f *front) insist(t *testing.T, key string, lines []string) (told string) {
 	return told
 }
 
-// TestLogKeyedKilled kills one front, or its program, midway in a body with a key, of which some lines are refused, and
-// sends the body to another one twice, and to the first again: each line has its own reply, the same everywhere.
+// keyedOver sends a body with a key, of which some lines are refused, to the first of two fronts, has something end midway
+// in that and begin anew, and sends the body to the second twice, and to the first again: each line has its own reply, the
+// same everywhere.
+func keyedOver(t *testing.T, fronts []*front, round int, ends, begins func()) {
+	t.Helper()
+	lines, key := mixed(round, 64), fmt.Sprint("key ", round)
+	var sent sync.WaitGroup
+	sent.Add(1)
+	go func(f *front) {
+		defer sent.Done()
+		f.sendKeyed(key, lines)
+	}(fronts[0])
+	time.Sleep(time.Duration(rand.Intn(150)) * time.Millisecond)
+	ends()
+	first := fronts[1].insist(t, key, lines)
+	fronts[1].mixedReplies(t, lines, first)
+	if again := fronts[1].insist(t, key, lines); again != first {
+		t.Fatalf("round %d: the body is answered\n%s\nat first, and\n%s\nagain", round, first, again)
+	}
+	sent.Wait()
+	begins()
+	if again := fronts[0].insist(t, key, lines); again != first {
+		t.Fatalf("round %d: the body is answered\n%s\nby one front, and\n%s\nby the other", round, first, again)
+	}
+	fronts[0], fronts[1] = fronts[1], fronts[0]
+}
+
+// TestLogKeyedKilled kills a front, or its program, midway in a body with a key.
 func TestLogKeyedKilled(t *testing.T) {
 	servers := natsServers(t, 1)
 	fronts := replicas(t, servers, 2, "--snapshot-every", "300")
-	random := rand.New(rand.NewSource(2))
 	for round := 0; round < number("FRONT_KEYED", 4); round++ {
-		lines, key := mixed(round, 64), fmt.Sprint("key ", round)
-		var sent sync.WaitGroup
-		sent.Add(1)
-		go func(f *front) {
-			defer sent.Done()
-			f.sendKeyed(key, lines)
-		}(fronts[0])
-		time.Sleep(time.Duration(random.Intn(150)) * time.Millisecond)
-		if round%3 == 2 {
-			fronts[0].killProgram()
-		} else {
-			fronts[0].kill()
-		}
-		first := fronts[1].insist(t, key, lines)
-		fronts[1].mixedReplies(t, lines, first)
-		if again := fronts[1].insist(t, key, lines); again != first {
-			t.Fatalf("round %d: the body is answered\n%s\nat first, and\n%s\nagain", round, first, again)
-		}
-		sent.Wait()
+		ends, begins := fronts[0].killProgram, func() {}
 		if round%3 != 2 {
-			fronts[0] = replica(t, fronts[0].folder, logOf(servers), "--snapshot-every", "300")
-			fronts[0].await()
+			ends, begins = fronts[0].kill, func() {
+				fronts[0] = replica(t, fronts[0].folder, logOf(servers), "--snapshot-every", "300")
+				fronts[0].await()
+			}
 		}
-		if again := fronts[0].insist(t, key, lines); again != first {
-			t.Fatalf("round %d: the body is answered\n%s\nby one front, and\n%s\nby the other", round, first, again)
-		}
-		fronts[0], fronts[1] = fronts[1], fronts[0]
+		keyedOver(t, fronts, round, ends, begins)
+	}
+	newFate().same(t, fronts)
+}
+
+// TestLogKeyedServers kills each of three servers in turn midway in a body with a key.
+func TestLogKeyedServers(t *testing.T) {
+	servers := natsServers(t, 3)
+	fronts := replicas(t, servers, 2)
+	for round := 0; round < 3*number("FRONT_SERVERS", 1); round++ {
+		server := servers[round%len(servers)]
+		keyedOver(t, fronts, round, server.kill, server.start)
 	}
 	newFate().same(t, fronts)
 }
