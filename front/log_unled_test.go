@@ -29,7 +29,7 @@ func TestLogUnled(t *testing.T) {
 	servers := natsServers(t, 3)
 	fronts := replicas(t, servers, 2)
 	fronts[0].accept(clinic(t)...)
-	for _, signal := range []syscall.Signal{syscall.SIGSTOP, syscall.SIGKILL} {
+	for round, signal := range []syscall.Signal{syscall.SIGSTOP, syscall.SIGKILL} {
 		for _, s := range servers[:2] {
 			_ = s.process.Process.Signal(signal)
 		}
@@ -41,7 +41,7 @@ func TestLogUnled(t *testing.T) {
 				s.start()
 			}
 		}
-		ledAgain(t, fronts)
+		ledAgain(t, fronts, 1000*(round+1))
 	}
 	newFate().same(t, fronts)
 }
@@ -63,11 +63,14 @@ func unled(t *testing.T, fronts []*front) {
 	}
 }
 
-// ledAgain sees that it is told that one does, and that edits are made.
-func ledAgain(t *testing.T, fronts []*front) {
+// ledAgain sees that it is told that one does, and that edits are made, each another one.
+func ledAgain(t *testing.T, fronts []*front, number int) {
 	t.Helper()
-	for i, f := range fronts {
-		eventually(t, "edits are made again", func() bool { return f.editOnce(t, 10+i) == http.StatusOK })
+	for _, f := range fronts {
+		eventually(t, "edits are made again", func() bool {
+			number++
+			return f.editOnce(t, number) == http.StatusOK
+		})
 		if ready := f.must("/readyz"); strings.Contains(ready, `"edits"`) || !strings.Contains(ready, `"leader":"s`) {
 			t.Errorf("while one leads it is said %s", ready)
 		}

@@ -75,6 +75,8 @@ web/refused.go web TestRefusedEvery s/^\t\t\ts\.TellRefused(false)$//
 web/refused.go web TestRefusedEvery s/^\tif row == nil \&\& len(c\.rows) >= mostRefused {$/\tif false {/
 keeper/settle.go . TestKeyed s/use != nil && !line/use == nil \&\& !line/
 keys/file.go keys TestBehind s/if r\.Serial > last {/if false {/
+keeper/settle.go . TestKeyed s/case c\.Remember == nil || line.*$/case true:/
+keys/recover.go keys TestBehind s/if r\.Serial > last {/if false {/
 web/names.go . TestCertificates s/if name == "" {/if false {/
 web/names.go . TestProxyTokens s/^\treturn s\.Signed == nil$/\treturn s.Signed == nil || name == ""/
 web/questions.go web TestQuestions s/"faults", nil}/"fault", nil}/

@@ -19,8 +19,10 @@ const (
 	lostPause = 250 * time.Millisecond
 	// mostMissed is how many looks in a row aren't answered until nobody leads.
 	mostMissed = 2
-	// silentTime is how long the leader hears nothing of a server until that is told.
+	// silentTime is how long the leader hears nothing of a server until that is told, and quorumTime how long it hears
+	// nothing of most of them until edits get 503: none is agreed on then.
 	silentTime = 10 * time.Second
+	quorumTime = 5 * time.Second
 	// askAgain is how long after one is asked to let another server lead it may be asked again.
 	askAgain = 10 * time.Second
 )
@@ -35,6 +37,7 @@ type watched struct {
 	silent     map[string]time.Time // servers of which the leader hears nothing, and since when
 	why        map[string]string    // what was found out of them
 	unanswered time.Time            // since when no edit that was sent is answered; nothing where one was
+	late       time.Time            // when the last one wasn't
 	trying     bool                 // whether one is on its way then
 	lacks      bool                 // whether the leader lacks edits that were read
 	asked      time.Time            // when it was asked last to let another one lead
@@ -77,15 +80,15 @@ func (w *watched) begin() bool {
 	return true
 }
 
-// isStalled says whether no edit is answered. It is for who has the mutex.
-func (w *watched) isStalled() bool {
-	return !w.unanswered.IsZero() && time.Since(w.unanswered) > askTime
-}
-
 func (w *watched) end() {
 	w.mutex.Lock()
 	defer w.mutex.Unlock()
 	w.trying = false
+}
+
+// isStalled says whether no edit is answered, as of the last ones. It is for who has the mutex.
+func (w *watched) isStalled() bool {
+	return !w.unanswered.IsZero() && time.Since(w.unanswered) > askTime && time.Since(w.late) < silentTime
 }
 
 // answered says whether an edit that was sent is answered.
@@ -94,8 +97,10 @@ func (w *watched) answered(is bool) {
 	defer w.mutex.Unlock()
 	if is {
 		w.unanswered = time.Time{}
-	} else if w.unanswered.IsZero() {
-		w.unanswered = time.Now()
+		return
+	}
+	if w.late = time.Now(); w.unanswered.IsZero() {
+		w.unanswered = w.late
 	}
 }
 
@@ -149,7 +154,7 @@ func (l *log) saw(info *nats.StreamInfo, err error) {
 	if err == nil && info.Cluster != nil {
 		leader = info.Cluster.Leader
 	}
-	if err != nil || info.Cluster != nil && leader == "" {
+	if err != nil || info.Cluster != nil && (leader == "" || !agrees(info.Cluster)) {
 		if w.missed++; w.missed == mostMissed {
 			w.led, w.leader, w.since = false, "", time.Now()
 			l.log.Error("no server leads the stream: edits get 503")
@@ -161,8 +166,22 @@ func (l *log) saw(info *nats.StreamInfo, err error) {
 	} else if leader != w.leader {
 		l.log.Info("a server leads the stream", "server", leader, "before", w.leader)
 	}
+	if w.missed >= mostMissed || leader != w.leader {
+		w.unanswered = time.Time{} // what was sent to another one says nothing of this one
+	}
 	w.led, w.leader, w.missed = true, leader, 0
 	l.hear(info)
+}
+
+// agrees says whether the server that leads hears of so many that edits can be agreed on.
+func agrees(cluster *nats.ClusterInfo) bool {
+	heard := 1
+	for _, replica := range cluster.Replicas {
+		if replica.Active < quorumTime && !replica.Offline {
+			heard++
+		}
+	}
+	return 2*heard > len(cluster.Replicas)+1
 }
 
 // hear sees which servers the leader hears nothing of. It is for who has the mutex.
