@@ -42,11 +42,20 @@ func failed(command string, faults io.Writer, err error) int {
 
 // verify tells each fault of a folder by its file and place, and what a start would drop.
 func verify(words []string, to, faults io.Writer) int {
-	journal, _, status, ok := worded("verify", words, 0, faults, nil)
+	var key string
+	var files list
+	journal, _, status, ok := worded("verify", words, 0, faults, func(set *flag.FlagSet) {
+		set.StringVar(&key, "key", "", "the `file` of the public key by which heads have to be signed")
+		set.Var(&files, "head", "a `file` of heads that were kept elsewhere; may stand several times")
+	})
 	if !ok {
 		return status
 	}
 	found, err := folder.Verify(journal)
+	if err != nil {
+		return failed("verify", faults, err)
+	}
+	given, err := readGiven(journal, key, files)
 	if err != nil {
 		return failed("verify", faults, err)
 	}
@@ -56,7 +65,11 @@ func verify(words []string, to, faults io.Writer) int {
 	if torn := found.Tail; torn != nil {
 		fmt.Fprintf(to, "%s: the next start drops %d bytes from byte %d on: %s\n", torn.File, torn.Bytes, torn.Place, torn.What)
 	}
-	if len(found.Faults) > 0 {
+	same, err := given.compare(journal, to)
+	if err != nil {
+		return failed("verify", faults, err)
+	}
+	if len(found.Faults) > 0 || !same {
 		return 1
 	}
 	if found.Files == 0 {

@@ -61,6 +61,10 @@ func fake(how string, words []string) int {
 			fmt.Println(`{"refused":15}`)
 			continue
 		}
+		if how == "untold" && strings.Contains(l, `"notices"`) {
+			fmt.Println(`{"refused":15}`)
+			continue
+		}
 		if how == "slow" && strings.Contains(l, "slow") {
 			time.Sleep(slowTime)
 		}

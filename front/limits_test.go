@@ -128,9 +128,10 @@ func TestStale(t *testing.T) {
 	eventually(t, "the program keeps no more than is needed", func() bool { return f.oldest() > 600 })
 }
 
-// TestTooOld marks and listens, and edits more than is kept: the mark is too old, and who comes back reads anew.
+// TestTooOld marks and listens, and edits more than is kept, also on disk: the mark is too old, and who comes back
+// reads anew.
 func TestTooOld(t *testing.T) {
-	f := begin(t, t.TempDir(), "--keep-changes", "300")
+	f := begin(t, t.TempDir(), "--keep-changes", "300", "--keep-history", "-1s")
 	f.accept(clinic(t)...)
 	s := f.connect("/lines")
 	mark := s.ask(t, `{"do":"mark"}`)

@@ -36,6 +36,11 @@ type options struct {
 	byHeader         string
 	trusted          list
 	keep             time.Duration
+	keepHistory      time.Duration
+	keepDaily        int
+	past             int
+	signKey          string
+	headsTo          list
 	snapshotEvery    uint64
 	replayTime       time.Duration
 	reads            uint64
@@ -85,7 +90,7 @@ const usage = `Serves the program review to many clients over HTTP, and keeps wh
 Usage: review-front --program PROGRAM --journal FOLDER [OPTION ..]
        review-front --program PROGRAM --log nats://.. --stream NAME [OPTION ..]
        review-front history --journal FOLDER [--since TIME] [--until TIME] [--by NAME]
-       review-front verify --journal FOLDER
+       review-front verify --journal FOLDER [--key FILE] [--head FILE ..]
        review-front repair --journal FOLDER OUT
        review-front restore --journal FOLDER --to SERIAL|TIME OUT
        review-front undo --journal FOLDER SERIAL
@@ -158,6 +163,14 @@ func (o *options) name(set *flag.FlagSet) {
 	set.StringVar(&o.rights, "rights", "", "a `file` with the lines of a state whose policies decide who may send which line")
 	set.BoolVar(&o.withoutTLS, "without-tls", false, "answers without TLS also at addresses that other machines reach")
 	set.DurationVar(&o.keep, "keep", 0, "how long journals are kept that no start needs; 0: for ever")
+	set.DurationVar(&o.keepHistory, "keep-history", 0, "how long it is kept what each edit changed; 0: for ever; less: "+
+		"not at all, and then no program stands beside the table's for it")
+	set.IntVar(&o.keepDaily, "keep-daily", 0, "of how many last days a snapshot is made and kept, so that what was "+
+		"so then is soon answered; 0: of none")
+	set.IntVar(&o.past, "past", 2, "how many programs of earlier states there are at most, for questions with at")
+	set.StringVar(&o.signKey, "sign-key", "", "a `file` with a key of Ed25519 that signs the heads of the journal")
+	set.Var(&o.headsTo, "heads-to", "a `file` to which each head is added, or behind | a command that is given it; "+
+		"may stand several times")
 	set.Uint64Var(&o.snapshotEvery, "snapshot-every", 10_000, "a snapshot is made after so many edits; 0: not by their number")
 	set.DurationVar(&o.replayTime, "replay-time", 5*time.Second, "a snapshot is made when the edits behind the last took "+
 		"so long, as a start would; 0: not by their time")
@@ -225,6 +238,8 @@ func (o options) wrong(rest []string) string {
 		return "--sessions is at least 1"
 	case o.spoolBytes < 1<<20:
 		return "--spool-bytes is at least 1048576"
+	case o.keepDaily < 0 || o.past < 1:
+		return "--keep-daily is at least 0, and --past at least 1"
 	case o.replayTime < 0:
 		return "--replay-time is at least 0"
 	case o.replyTime < 0 || o.lame < 0 || o.drain <= o.lame:

@@ -27,6 +27,8 @@ var samples = map[string][2]string{
 	"/attributes":                           {"/attributes?category=AccessSubject&entity=ada", `{"attributes":[{`},
 	"/cells":                                {"/cells?person=hana&decisions=Deny&decisions=Permit", `{"cells":[{`},
 	"/changes":                              {"/changes?since=69", `{"changes":[],"serial":69}`},
+	"/edits":                                {"/edits?since=68", `{"edits":[{"by":"127.0.0.1","changed":[{"action":`},
+	"/head":                                 {"/head", `{"kind":"head","format":1,"serial":69,"chain":"`},
 	"/faults":                               {"/faults", `{"faults":[`},
 	"/explain/{person}/{action}/{resource}": {"/explain/hana/write/record-moss", `{"explain":{"answer":{`},
 	"/healthz":                              {"/healthz", `{"status":"ok"}`},

@@ -27,6 +27,7 @@ const (
 	idleTime  = 2 * time.Minute
 	headBytes = 32 << 10
 	returning = time.Minute // how long who listened may take to come back at most
+	sendTime  = time.Second // how long the last heads may take to be sent
 	askTime   = time.Second // how long the counts wait for the program
 	// adminPlaces is how many connections there are at a time at the address of --admin.
 	adminPlaces = 16
@@ -60,7 +61,13 @@ func serve(ctx context.Context, again <-chan os.Signal, o options, log *logs.Log
 		return err
 	}
 	meter := measure.New()
-	k := keeper.New(o.keeping(held, edits, kept, log, meter))
+	keeping := o.keeping(held, edits, kept, log, meter)
+	signed, err := o.heads(held, log)
+	if err != nil {
+		return err
+	}
+	keeping.Heads = signed
+	k := keeper.New(keeping)
 	watch(meter, k)
 	mapping, book, err := o.beside(log, meter)
 	if err != nil {
@@ -83,6 +90,7 @@ func serve(ctx context.Context, again <-chan os.Signal, o options, log *logs.Log
 		SessionIdle: o.sessionIdle, BodyTime: o.bodyTime, StreamIdle: o.streamIdle, WriteTime: o.writeTime,
 		DryTime: o.dryTime, Access: who.gate, Rights: who.rights, Signed: secrets.signed(),
 	})
+	site.Head = signed.Now
 	k.Edited = site.Edited
 	go secrets.follow(ctx, again, site, log)
 	defer site.TellRefused(true)
@@ -111,6 +119,12 @@ func serve(ctx context.Context, again <-chan os.Signal, o options, log *logs.Log
 		return err
 	}
 	tellReady(log)
+	heading, ended := context.WithCancel(ctx)
+	go signed.Run(heading)
+	defer func() {
+		ended()
+		signed.Finish(sendTime)
+	}()
 	e := &ending{options: o, log: log, server: server, site: site, failed: failed}
 	return e.until(ctx, started)
 }
@@ -167,6 +181,7 @@ func (o options) keeping(
 		Command: o.command(log),
 		Folder:  held, Stream: edits, Spool: kept, Log: log, Meter: meter, Queue: o.queue, Patience: o.patience,
 		SnapshotEvery: o.snapshotEvery, ReplayTime: o.replayTime, Keep: o.keep, Reads: o.reads,
+		KeepHistory: o.keepHistory, KeepDaily: o.keepDaily, Past: o.past,
 		ReplyTime: o.replyTime, EndingTime: o.half(), Askers: o.askers, TryTime: o.tryTime,
 		Kept:         ladder.Bounds{Changes: o.keepChanges, Took: o.replayTime / 2, Recent: o.returnTime()},
 		MostSessions: o.sessions,

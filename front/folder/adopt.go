@@ -34,7 +34,8 @@ func (f *Folder) SetAside() error {
 	aside := f.Path(setAside + time.Now().UTC().Format("20060102T150405.000000000"))
 	for _, file := range files {
 		name := file.Name()
-		if !strings.HasPrefix(name, journalName) && !strings.HasPrefix(name, snapshotName) && name != spanName {
+		if !strings.HasPrefix(name, journalName) && !strings.HasPrefix(name, snapshotName) && name != spanName &&
+			!strings.HasPrefix(name, ChangesName) && name != HeadsName {
 			continue
 		}
 		err := os.MkdirAll(aside, 0o700)
@@ -46,6 +47,7 @@ func (f *Folder) SetAside() error {
 		}
 	}
 	f.last, f.first, f.before, f.stream, f.limits = 0, 0, nil, "", limits.Limits{}
+	f.chain, f.links = Chain{}, false
 	return f.syncFolder()
 }
 
@@ -59,7 +61,8 @@ func (f *Folder) Adopt(from io.Reader, stream string) (uint64, error) {
 	if head.Stream != stream {
 		return 0, fmt.Errorf("the snapshot is of another stream: %q, and this is %q", head.Stream, stream)
 	}
-	f.last = snapshot.Serial
+	f.last, f.chain, f.links = snapshot.Serial, head.Chain, true
+	head.Older = nil
 	if err := f.Begin(head); err != nil {
 		return 0, err
 	}

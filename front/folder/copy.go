@@ -210,7 +210,7 @@ func (p *plan) write(s *survey, to string) error {
 		return err
 	}
 	defer f.Close()
-	f.last = p.Begins
+	f.last, f.chain, f.links = p.Begins, s.chainBehind(p.Begins), true
 	if err := f.Begin(Head{
 		Program: p.head.Program, AttributeModules: p.head.AttributeModules, PolicyModules: p.head.PolicyModules,
 		Limits: p.head.Limits, Stream: p.head.Stream,

@@ -1,9 +1,11 @@
 package folder
 
 import (
+	"bytes"
 	"encoding/json"
 	"fmt"
 	"strconv"
+	"strings"
 	"time"
 
 	"review-front/frame"
@@ -11,10 +13,12 @@ import (
 )
 
 // Format is the version of what stands in the files of a folder. Files of the first one are read too: their journals
-// have no chain, and don't tell what was known to be on disk.
+// don't follow each other, and don't tell what was known to be on disk. From the third on records are a chain.
 const (
-	Format = 2
-	first  = 1
+	Format      = 3
+	first       = 1
+	linkedFrom  = 2
+	chainedFrom = 3
 )
 
 // Head is the first record of each file: what it is, and of which program.
@@ -37,6 +41,10 @@ type Head struct {
 	Lines int `json:"lines,omitempty"`
 	// Before is, of a journal, the one before it, and of a snapshot the journal that it was made of.
 	Before *Part `json:"before,omitempty"`
+	// Chain is, of a journal, what the first record goes on from, and of a snapshot that at its serial.
+	Chain Chain `json:"chain,omitempty"`
+	// Older, of the first journal with a chain, are those without one that stood before it, each whole.
+	Older []Part `json:"older,omitempty"`
 }
 
 // goesOn says whether an edit may follow the one before it, with which it may have one record. In a stream stand edits
@@ -62,25 +70,32 @@ type Entry struct {
 	Line    []byte // the line as it was sent to the program
 	// Together, of the first of several edits that are made all together, is how many these are. They have one record.
 	Together int
+	// Journal is the number of the journal in which it stands, and Byte where its record begins there.
+	Journal uint64
+	Byte    int64
 	// synced is up to which byte its journal was known to be on disk when it was written.
 	synced int64
+	// chain, of the first of a record, is what that goes on from, and raw the edit's JSON.
+	chain string
+	raw   []byte
 }
 
 // written is an entry as its record has it.
 type written struct {
 	Synced  int64           `json:"synced"`
+	Chain   string          `json:"chain"`
 	Time    time.Time       `json:"time"`
 	By      string          `json:"by"`
 	Serial  *uint64         `json:"serial"`
 	Changes *uint64         `json:"changes"`
 	Line    json.RawMessage `json:"line"`
 	// Edits are those of a record of several.
-	Edits []written `json:"edits"`
+	Edits []json.RawMessage `json:"edits"`
 }
 
 // Append appends the entry as JSON. The line stands in it as it was sent.
 func (e Entry) Append(to []byte) []byte {
-	by, err := json.Marshal(e.By)
+	by, err := json.Marshal(strings.ToValidUTF8(e.By, "\ufffd")) // so that what is read is written the same
 	if err != nil {
 		by = []byte(`""`)
 	}
@@ -93,27 +108,30 @@ func (e Entry) Append(to []byte) []byte {
 	to = append(to, `,"changes":`...)
 	to = strconv.AppendUint(to, e.Changes, 10)
 	to = append(to, `,"line":`...)
-	to = append(to, e.Line...)
+	to = append(to, bytes.Trim(e.Line, " \t\r\n")...)
 	return append(to, '}')
 }
 
-// record appends the record of an entry in a journal that is known to be on disk up to a byte.
-func (e Entry) record(to []byte, synced int64) []byte {
+// record appends the record of an edit, or of several that are made all together, in a journal that is known to be on
+// disk up to a byte, and moves the chain on behind it.
+func record(to []byte, entries []Entry, synced int64, chain *Chain) []byte {
 	content := strconv.AppendInt([]byte(`{"synced":`), synced, 10)
+	content = append(append(append(content, `,"chain":"`...), chain.String()...), '"')
 	begin := len(content)
-	content = e.Append(content)
-	content[begin] = ','
-	return frame.Append(to, content)
-}
-
-// recordOf appends the record of edits that are made all together.
-func recordOf(to []byte, entries []Entry, synced int64) []byte {
-	content := append(strconv.AppendInt([]byte(`{"synced":`), synced, 10), `,"edits":[`...)
+	if len(entries) == 1 {
+		content = entries[0].Append(content)
+		chain.follow(content[begin:])
+		content[begin] = ','
+		return frame.Append(to, content)
+	}
+	content = append(content, `,"edits":[`...)
 	for i, entry := range entries {
 		if i > 0 {
 			content = append(content, ',')
 		}
+		begin := len(content)
 		content = entry.Append(content)
+		chain.follow(content[begin:])
 	}
 	return frame.Append(to, append(content, `]}`...))
 }
@@ -125,17 +143,25 @@ func readEntries(record []byte) ([]Entry, error) {
 		return nil, fmt.Errorf("a record isn't an edit: %w", err)
 	}
 	if len(w.Edits) == 0 {
-		w.Edits = []written{w}
+		entry, err := w.entry()
+		entry.chain, entry.raw = w.Chain, rawOf(record, w.Chain)
+		return []Entry{entry}, err
 	}
 	entries := make([]Entry, 0, len(w.Edits))
-	for _, one := range w.Edits {
+	for _, raw := range w.Edits {
+		one := written{}
+		if err := json.Unmarshal(raw, &one); err != nil {
+			return nil, fmt.Errorf("a record isn't an edit: %w", err)
+		}
 		one.Synced = w.Synced
 		entry, err := one.entry()
 		if err != nil {
 			return nil, err
 		}
+		entry.raw = raw
 		entries = append(entries, entry)
 	}
+	entries[0].chain = w.Chain
 	if len(entries) > 1 {
 		entries[0].Together = len(entries)
 	}

@@ -30,7 +30,11 @@ const (
 	journalName  = "journal-"
 	snapshotName = "snapshot-"
 	asideName    = ".aside"
-	digits       = 20
+	// ChangesName begins the names of files of what edits changed, which go where the journals go.
+	ChangesName = "changes-"
+	// HeadsName is the file of heads of the chain, which goes with them, too.
+	HeadsName = "heads"
+	digits    = 20
 	// lockTime is how long it is tried to have a folder.
 	lockTime = 500 * time.Millisecond
 )
@@ -54,7 +58,10 @@ type Folder struct {
 	stream  string // of which the newest journal's edits are, or nothing
 	limits  limits.Limits
 	chained bool   // whether each journal that stood has its predecessor's checksum
+	chain   Chain  // what it is behind the last edit
+	links   bool   // whether it is known: the newest journal has one, or there is none
 	last    uint64 // the serial of the last edit that is on disk
+	daily   int    // of how many last days a snapshot stays
 	broken  error  // why nothing can be written, if so
 	sync    func(*os.File) error
 }

@@ -58,6 +58,7 @@ func (f *Folder) recover(s *survey, since uint64) (*Torn, error) {
 		}
 	}
 	f.last, f.before, f.stream, f.limits = j.last, j.head.Before, j.head.Stream, j.head.Limits
+	f.chain, f.links = j.chain, j.head.Format >= chainedFrom
 	if j.last >= j.number {
 		f.before = j.part()
 	}
@@ -74,7 +75,7 @@ func (f *Folder) recover(s *survey, since uint64) (*Torn, error) {
 func (s *survey) lost() error {
 	for _, serial := range s.snapshots {
 		name := named(s.path, snapshotName, serial)
-		if head, err := headOf(name, "snapshot"); err == nil && head.Format == Format {
+		if head, err := headOf(name, "snapshot"); err == nil && head.Format >= linkedFrom {
 			return &frame.Damage{File: s.path, What: name + " stands there without a journal"}
 		}
 	}

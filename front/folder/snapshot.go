@@ -26,19 +26,49 @@ func (f *Folder) Base(most uint64) (*Snapshot, Head, error) {
 	if err != nil {
 		return nil, Head{}, err
 	}
+	journals, err := numbered(f.path, journalName)
+	if err != nil {
+		return nil, Head{}, err
+	}
+	// From one that is kept longer than the journals behind it nothing goes on.
+	for len(serials) > 0 && len(journals) > 0 && serials[0]+1 < journals[0] {
+		serials = serials[1:]
+	}
 	for i := len(serials) - 1; i >= 0; i-- {
 		if serials[i] <= most {
 			return f.read(serials[i])
 		}
 	}
-	journals, err := numbered(f.path, journalName)
-	if err != nil {
-		return nil, Head{}, err
-	}
 	if len(serials) > 0 && (len(journals) == 0 || journals[0] > 1) {
 		return f.read(serials[0])
 	}
 	return &Snapshot{}, Head{}, nil
+}
+
+// Nearest reads the snapshot from which the state of a serial is soonest had: its own, or as Base has it.
+func (f *Folder) Nearest(serial uint64) (*Snapshot, error) {
+	snapshot, _, err := f.read(serial)
+	if errors.Is(err, os.ErrNotExist) {
+		snapshot, _, err = f.Base(serial)
+	}
+	return snapshot, err
+}
+
+// KeepDaily has a snapshot of each of so many last days stay.
+func (f *Folder) KeepDaily(days int) { f.daily = days }
+
+// dailies are those snapshots: of each day the last one.
+func (f *Folder) dailies(serials []uint64, now time.Time) map[uint64]bool {
+	stay, seen := map[uint64]bool{}, map[string]bool{}
+	first := now.UTC().AddDate(0, 0, -f.daily)
+	for i := len(serials) - 1; i >= 0 && f.daily > 0; i-- {
+		head, err := headOf(f.snapshot(serials[i]), "snapshot")
+		day := head.Time.UTC().Format("2006-01-02")
+		if err == nil && head.Time.After(first) && !seen[day] {
+			seen[day], stay[serials[i]] = true, true
+		}
+	}
+	return stay
 }
 
 func (f *Folder) read(serial uint64) (*Snapshot, Head, error) {
@@ -84,11 +114,15 @@ func (f *Folder) Keep(snapshot *Snapshot) error {
 	f.mutex.Lock()
 	head := f.head
 	f.mutex.Unlock()
-	part, err := partOf(f.path, snapshot.Serial, f.most)
+	part, chain, err := partOf(f.path, snapshot.Serial, f.most)
 	if err != nil {
 		return err
 	}
+	if part == nil {
+		chain = f.begunAt(snapshot.Serial)
+	}
 	head.Kind, head.After, head.Lines, head.Before = "snapshot", snapshot.Serial, len(snapshot.Lines), part
+	head.Chain, head.Older = chain, nil
 	name := f.snapshot(snapshot.Serial)
 	aside := name + asideName
 	err = f.writeAside(aside, head, snapshot.Lines)
@@ -142,7 +176,11 @@ func (f *Folder) Trim(needed uint64, before time.Time) error {
 	if first < 0 {
 		return nil
 	}
+	stay := f.dailies(serials, time.Now())
 	for _, serial := range serials[:first] {
+		if stay[serial] {
+			continue
+		}
 		if err := os.Remove(f.snapshot(serial)); err != nil {
 			return fmt.Errorf("an old snapshot: %w", err)
 		}

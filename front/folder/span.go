@@ -14,6 +14,9 @@ import (
 // spanName is the file that says which journals a folder has, so that one which is taken away is missed.
 const spanName = "journals"
 
+// spanFormat is the version of that file, which older fronts read too: they stop at the journals.
+const spanFormat = 2
+
 // span is what it says.
 type span struct {
 	Kind   string `json:"kind"` // `journals`
@@ -40,7 +43,7 @@ func readSpan(path string) (*span, error) {
 		return nil, damage
 	}
 	var s span
-	if json.Unmarshal(record, &s) != nil || s.Kind != spanName || s.Format != Format {
+	if json.Unmarshal(record, &s) != nil || s.Kind != spanName || s.Format != spanFormat {
 		return nil, damage
 	}
 	if _, err := records.Next(); err != io.EOF {
@@ -59,7 +62,7 @@ func (s *span) same(other *span) bool {
 
 // writeSpan says on disk which journals there are.
 func (f *Folder) writeSpan(first, newest uint64) error {
-	record, err := json.Marshal(span{Kind: spanName, Format: Format, First: first, Newest: newest})
+	record, err := json.Marshal(span{Kind: spanName, Format: spanFormat, First: first, Newest: newest})
 	if err != nil {
 		return fmt.Errorf("the list of journals: %w", err)
 	}

@@ -26,7 +26,8 @@ type survey struct {
 // claim is what a file says of the beginning of a journal.
 type claim struct {
 	Part
-	by string
+	by    string
+	chain *Chain // what the chain is there, if it has one
 }
 
 // look reads the heads of all files of a folder. What is wrong with them are its faults, in no order.
@@ -89,19 +90,31 @@ func (s *survey) chain() {
 			s.fault(name, 0, "its head has another serial than its name")
 			continue
 		}
-		s.chains = s.chains && head.Format == Format
-		if head.Format == Format && s.span == nil && s.hasEdits(number) {
+		s.chains = s.chains && head.Format >= linkedFrom
+		if head.Format >= linkedFrom && s.span == nil && s.hasEdits(number) {
 			s.fault(filepath.Join(s.path, spanName), 0, "it isn't there, and says which journals there are")
 		}
 		if before := head.Before; before != nil {
-			s.claims[before.Journal] = append(s.claims[before.Journal], claim{Part: *before, by: name})
+			s.claim(*before, name, head)
 			if i > 0 && (s.journals[i-1] != before.Journal || before.Serial != number-1) {
 				s.fault(name, 0, "it follows the journal of serial %d, and that of serial %d stands before it",
 					before.Journal, s.journals[i-1])
 			}
-		} else if i > 0 && head.Format == Format {
+		} else if i > 0 && head.Format >= linkedFrom {
 			s.fault(name, 0, "it follows no journal, and that of serial %d stands before it", s.journals[i-1])
 		}
+	}
+}
+
+// claim notes what the head of a file says of the beginning of a journal.
+func (s *survey) claim(part Part, by string, head Head) {
+	one := claim{Part: part, by: by}
+	if head.Format >= chainedFrom && len(head.Older) == 0 {
+		one.chain = &head.Chain
+	}
+	s.claims[part.Journal] = append(s.claims[part.Journal], one)
+	for _, older := range head.Older {
+		s.claims[older.Journal] = append(s.claims[older.Journal], claim{Part: older, by: by})
 	}
 }
 
@@ -143,7 +156,7 @@ func (s *survey) made() {
 		if head.After != serial || head.Before != nil && head.Before.Serial != serial {
 			s.fault(name, 0, "its head has another serial than its name")
 		} else if head.Before != nil {
-			s.claims[head.Before.Journal] = append(s.claims[head.Before.Journal], claim{Part: *head.Before, by: name})
+			s.claim(*head.Before, name, head)
 		}
 	}
 }
@@ -185,6 +198,9 @@ func (s *survey) walk(number uint64, most int64, call func(*journal, Entry, Plac
 		for _, c := range due[entry.Serial] {
 			if part := j.part(); *part != c.Part {
 				return &frame.Damage{File: j.name, Place: j.size, What: "it is another one than " + c.by + " says"}
+			}
+			if c.chain != nil && j.head.Format >= chainedFrom && *c.chain != j.chain {
+				return &frame.Damage{File: j.name, Place: j.size, What: "its chain is another one than " + c.by + " says"}
 			}
 		}
 		delete(due, entry.Serial)

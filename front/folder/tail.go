@@ -24,7 +24,7 @@ type Torn struct {
 func (j *journal) judge(fault error, claimed int64) (*Torn, error) {
 	var damage *frame.Damage
 	torn := errors.Is(fault, frame.ErrTorn)
-	if !torn && (!errors.As(fault, &damage) || !j.unread || j.head.Format < Format) {
+	if !torn && (!errors.As(fault, &damage) || !j.unread || j.head.Format < linkedFrom) {
 		return nil, fault
 	}
 	what := "it ends within a record"

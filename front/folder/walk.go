@@ -21,7 +21,8 @@ type journal struct {
 	size   int64  // where that ends
 	synced int64  // up to which byte it is known to have been on disk
 	sum    hash.Hash
-	unread bool // whether the bytes behind it are no record
+	chain  Chain // what it is behind that edit, if it has one
+	unread bool  // whether the bytes behind it are no record
 }
 
 // part is what was read of it.
@@ -66,6 +67,9 @@ func walk(path string, number uint64, most int64, call func(*journal, Entry, Pla
 	if j.head.After != number-1 {
 		return j, j.damage("its head has another serial than its name")
 	}
+	if err := j.begins(); err != nil {
+		return j, err
+	}
 	for j.size, j.synced = records.Place(), records.Place(); ; j.size = records.Place() {
 		record, err := records.Next()
 		if err == io.EOF {
@@ -84,6 +88,15 @@ func walk(path string, number uint64, most int64, call func(*journal, Entry, Pla
 			if !j.head.goesOn(j.last, entry.Serial, i > 0) {
 				return j, j.damage("serial %d follows %d", entry.Serial, j.last)
 			}
+			// Those of a stream that are made all together have one serial, and the chain is known behind all of them.
+			if j.head.Stream == "" {
+				err = j.follows(i == 0, entry)
+			} else if i == 0 {
+				err = j.follows(true, entries...)
+			}
+			if err != nil {
+				return j, err
+			}
 			if err := j.next(entry, place, records.Place(), call); err != nil {
 				return j, err
 			}
@@ -96,6 +109,7 @@ func (j *journal) next(entry Entry, place Place, end int64, call func(*journal, 
 	if entry.synced > place.Byte {
 		return j.damage("it is written as if more had been on disk")
 	}
+	entry.Journal, entry.Byte = j.number, place.Byte
 	j.last, j.size = entry.Serial, end
 	if entry.synced > j.synced {
 		j.synced = entry.synced
@@ -106,11 +120,11 @@ func (j *journal) next(entry Entry, place Place, end int64, call func(*journal, 
 	return call(j, entry, place)
 }
 
-// partOf is a journal up to an edit, which is on disk.
-func partOf(path string, serial uint64, most func(number uint64) int64) (*Part, error) {
+// partOf is a journal up to an edit, which is on disk, and what the chain is there.
+func partOf(path string, serial uint64, most func(number uint64) int64) (*Part, Chain, error) {
 	numbers, err := numbered(path, journalName)
 	if err != nil {
-		return nil, err
+		return nil, Chain{}, err
 	}
 	for i := len(numbers) - 1; i >= 0; i-- {
 		if numbers[i] > serial {
@@ -123,12 +137,12 @@ func partOf(path string, serial uint64, most func(number uint64) int64) (*Part, 
 			return nil
 		})
 		if err != nil && err != errEnough {
-			return nil, err
+			return nil, Chain{}, err
 		}
 		if j.last != serial {
-			return nil, j.damage("it ends before serial %d", serial)
+			return nil, Chain{}, j.damage("it ends before serial %d", serial)
 		}
-		return j.part(), nil
+		return j.part(), j.chain, nil
 	}
-	return nil, nil
+	return nil, Chain{}, nil
 }

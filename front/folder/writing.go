@@ -38,16 +38,22 @@ func (f *Folder) begin() error {
 		f.before = f.part()
 	}
 	head.Kind, head.After, head.Before = "journal", f.last, f.before
+	if !f.links {
+		all, err := older(f.path, f.last)
+		if err != nil {
+			return f.unbegun(err)
+		}
+		head.Older, f.chain, f.links = all, chainOf(all), true
+	}
+	head.Chain = f.chain
 	record, err := headRecord(head)
 	if err != nil {
 		return err
 	}
 	file, err := f.make(f.last+1, record)
 	if err != nil {
-		if f.current == nil {
-			f.broken = err
-		}
-		return err
+		f.links = f.links && len(head.Older) == 0
+		return f.unbegun(err)
 	}
 	if f.current != nil {
 		f.current.Close()
@@ -55,6 +61,14 @@ func (f *Folder) begin() error {
 	f.current, f.began, f.size, f.sum, f.broken = file, f.last+1, int64(len(record)), sha256.New(), nil
 	f.sum.Write(record)
 	return nil
+}
+
+// unbegun says why no journal was begun. Where there was none before nothing can be written.
+func (f *Folder) unbegun(err error) error {
+	if f.current == nil {
+		f.broken = err
+	}
+	return err
 }
 
 // part is the present journal as far as it is on disk.
@@ -126,13 +140,16 @@ func (f *Folder) Append(entries []Entry) error {
 		return f.broken
 	}
 	var records []byte
+	chain := f.chain
 	for left := entries; len(left) > 0; {
 		together := left[0].Together
-		if together > 1 {
-			records, left = recordOf(records, left[:together], f.size), left[together:]
-		} else {
-			records, left = left[0].record(records, f.size), left[1:]
+		for i := 0; i == 0 || i < together; i++ {
+			left[i].Journal, left[i].Byte = f.began, f.size+int64(len(records))
 		}
+		if together < 1 {
+			together = 1
+		}
+		records, left = record(records, left[:together], f.size, &chain), left[together:]
 	}
 	_, err := f.current.WriteAt(records, f.size)
 	if err == nil {
@@ -146,7 +163,7 @@ func (f *Folder) Append(entries []Entry) error {
 	}
 	f.sum.Write(records)
 	f.size += int64(len(records))
-	f.last = entries[len(entries)-1].Serial
+	f.last, f.chain = entries[len(entries)-1].Serial, chain
 	return nil
 }
 

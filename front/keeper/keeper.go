@@ -68,6 +68,7 @@ type Options struct {
 	SnapshotEvery uint64               // a snapshot is made after so many edits; 0: not by their number
 	ReplayTime    time.Duration        // a snapshot is made when the edits behind the last took so long; 0: not by their time
 	Keep          time.Duration        // how long old journals are kept; 0: for ever
+	KeepHistory   time.Duration        // how long it is kept what edits changed; 0: for ever; less: not at all
 	Reads         uint64               // the program is exchanged before it has looked at its input so often
 	ReplyTime     time.Duration        // how long a reply may take before the program is exchanged; 0: for ever
 	EndingTime    time.Duration        // how long the last snapshot may take, and what still has no reply then
@@ -79,7 +80,15 @@ type Options struct {
 	MostSessions  int                  // how many sessions and marks clients have at most
 	Stream        replicated.Log       // through which edits go that several fronts make; nil: this front alone has them
 	Others        []Other              // fronts of the same stream
+	KeepDaily     int                  // of how many last days a snapshot is kept
+	Past          int                  // how many programs of earlier states there are at most
+	Heads         Heads                // makes heads of the journal's chain; may be nil
 	CheckEvery    uint64               // after so many edits of a stream fronts compare their states; 0: never
+}
+
+// Heads makes the head of the chain of the journal behind an edit, and is told why.
+type Heads interface {
+	Make(serial uint64, chain folder.Chain, why string)
 }
 
 // Other is another front of the same stream.
@@ -143,6 +152,8 @@ type Keeper struct {
 	askers   *askers
 	edits    *edits
 	spare    *spare
+	recorder *recorder
+	pasts    *pasts
 	queue    chan *Call
 	edited   chan struct{}
 	ready    *readiness
@@ -151,6 +162,7 @@ type Keeper struct {
 	reached  *progress     // says that it has grown
 	snapshot atomic.Uint64 // the serial of the newest snapshot
 	tried    atomic.Uint64 // the serial at which one was tried last
+	day      atomic.Int64  // the day on which that was
 	took     atomic.Int64  // how long the edits since then took, in nanoseconds
 	asked    chan struct{} // a snapshot is wanted
 	long     chan struct{} // holds something while a long reply is due
@@ -170,7 +182,9 @@ func New(options Options) *Keeper {
 		edited: make(chan struct{}, 1), asked: make(chan struct{}, 1), reached: &progress{}, long: make(chan struct{}, 1),
 	}
 	k.askers, k.edits, k.spare = newAskers(k, options.Askers), newEdits(), newSpare(k)
-	k.streamed = newStreamed(k, options.Stream)
+	k.streamed, k.recorder = newStreamed(k, options.Stream), newRecorder(k)
+	k.pasts = newPasts(k, options.Past)
+	options.Folder.KeepDaily(options.KeepDaily)
 	return k
 }
 

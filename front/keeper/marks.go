@@ -139,6 +139,13 @@ func (k *Keeper) Forget(name string) {
 	}
 }
 
+// Missed says since which serial it was asked what changed, where the program doesn't know it any more, and whether by
+// `notices`.
+func (c *Call) Missed(reply Reply) (since uint64, notices, missed bool) {
+	missed = c.asks && reply.Err == nil && string(reply.Body) == line.NoMark && c.since <= reply.Serial
+	return c.since, c.kind == line.Notices, missed
+}
+
 // tell asks what changed since the last time, for those who listen, and since what others have heard who come back, all
 // at one serial: no edit comes between. Then it marks.
 func (s *serving) tell() {

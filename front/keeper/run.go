@@ -38,6 +38,9 @@ func (k *Keeper) Start(ctx context.Context) (*Started, error) {
 	if err := k.resume(k.Folder.Last()); err != nil {
 		return nil, err
 	}
+	if err := k.recorder.open(); err != nil {
+		return nil, err
+	}
 	if k.version, err = k.says(ctx); err != nil {
 		return nil, err
 	}
@@ -76,6 +79,7 @@ func (k *Keeper) recover() error {
 	}
 	k.snapshot.Store(newest)
 	k.tried.Store(newest)
+	k.day.Store(dayOf(k.Folder.Made(newest)))
 	torn, err := k.Folder.Recover(newest)
 	if err != nil {
 		return err
@@ -122,7 +126,7 @@ func (s *Started) Run(ctx context.Context) error {
 	defer stop()
 	background, cancel := context.WithCancel(ctx)
 	var done sync.WaitGroup
-	done.Add(6)
+	done.Add(8)
 	var differs error
 	go func() {
 		defer done.Done()
@@ -145,6 +149,14 @@ func (s *Started) Run(ctx context.Context) error {
 	go func() {
 		defer done.Done()
 		k.snapshots(background)
+	}()
+	go func() {
+		defer done.Done()
+		k.recorder.run(background)
+	}()
+	go func() {
+		defer done.Done()
+		k.pasts.run(background)
 	}()
 	var damage error
 	go func() {

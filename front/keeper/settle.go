@@ -265,6 +265,7 @@ func (k *Keeper) write(batch []settled) error {
 	}
 	k.askers.tell(entries)
 	k.spare.tell(entries)
+	k.recorder.tell(entries)
 	k.accepted(entries[len(entries)-1].Serial)
 	return nil
 }
@@ -292,6 +293,7 @@ func (k *Keeper) want() {
 func (k *Keeper) wants() bool {
 	edits := k.serial.Load() - k.tried.Load()
 	many := k.SnapshotEvery != 0 && edits >= k.SnapshotEvery
+	many = many || k.KeepDaily > 0 && edits > 0 && k.day.Load() != dayOf(time.Now())
 	return many || k.ReplayTime != 0 && edits > 0 && k.took.Load() > int64(k.ReplayTime)
 }
 

@@ -30,6 +30,7 @@ func (k *Keeper) snapshots(ctx context.Context) {
 		// Of one that fails the next is made after as many edits again.
 		k.tried.Store(k.Folder.Last())
 		k.took.Store(0)
+		k.day.Store(dayOf(time.Now()))
 		reply, err := k.beside(ctx)
 		if ctx.Err() != nil {
 			return
@@ -42,6 +43,9 @@ func (k *Keeper) snapshots(ctx context.Context) {
 		_ = k.keep(ctx, reply)
 	}
 }
+
+// dayOf numbers a day.
+func dayOf(at time.Time) int64 { return at.Unix() / int64(24*time.Hour/time.Second) }
 
 // beside brings another program to the state of the last edit on disk, and gives its dump. The one that serves isn't
 // asked, which would answer nothing else meanwhile.
@@ -82,6 +86,7 @@ func (k *Keeper) keep(ctx context.Context, reply Reply) error {
 	}
 	k.snapshot.Store(reply.Serial)
 	k.Log.Info("a snapshot was made", "serial", reply.Serial, "took", took)
+	k.headOf(reply.Serial)
 	if err := k.Folder.Rotate(); err != nil {
 		k.Log.Error("no new journal was begun; the old one goes on", "error", err)
 		return nil
@@ -90,10 +95,28 @@ func (k *Keeper) keep(ctx context.Context, reply Reply) error {
 	if k.Keep != 0 {
 		before = time.Now().Add(-k.Keep)
 	}
+	first := k.Folder.First()
 	if err := k.Folder.Trim(k.ladder.Floor(k.need()), before); err != nil {
 		k.Log.Error("what is old couldn't be taken away", "error", err)
 	}
+	if k.Heads != nil && k.Folder.First() != first {
+		serial, chain := k.Folder.Begun()
+		k.Heads.Make(serial, chain, "kept")
+	}
 	return nil
+}
+
+// headOf makes the head of a snapshot.
+func (k *Keeper) headOf(snapshot uint64) {
+	if k.Heads == nil {
+		return
+	}
+	chain, err := k.Folder.ChainAt(snapshot)
+	if err != nil {
+		k.Log.Error("a snapshot has no head", "serial", snapshot, "error", err)
+		return
+	}
+	k.Heads.Make(snapshot, chain, "snapshot")
 }
 
 // verified tells the lines of a dump to a second program, compares its dump, and writes them.

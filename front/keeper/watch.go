@@ -1,6 +1,7 @@
 package keeper
 
 import (
+	"io"
 	"sync/atomic"
 	"time"
 
@@ -54,6 +55,13 @@ func (w *watched) ReceiveLong(to *spool.Spool) (program.Reply, error) {
 	w.due.Store(true)
 	defer w.came()
 	return w.Program.ReceiveLong(to)
+}
+
+// ReceiveTo waits for the next reply and writes it as it comes.
+func (w *watched) ReceiveTo(to io.Writer) (wrote, err error) {
+	w.due.Store(true)
+	defer w.came()
+	return w.Program.ReceiveTo(to)
 }
 
 // came says that a reply came.

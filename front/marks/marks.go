@@ -10,6 +10,7 @@ import (
 	"io"
 	"os"
 	"sync"
+	"time"
 
 	"review-front/folder"
 	"review-front/frame"
@@ -50,6 +51,7 @@ type record struct {
 	Came string       `json:"came,omitempty"`
 	Mark *Mark        `json:"mark,omitempty"`
 	Gone string       `json:"gone,omitempty"`
+	At   *time.Time   `json:"at,omitempty"` // when he had gone
 	Rung *ladder.Rung `json:"rung,omitempty"`
 	Ears *bool        `json:"listens,omitempty"`
 	Disk int64        `json:"synced"`
@@ -60,6 +62,7 @@ type Book struct {
 	folder  Folder
 	mutex   sync.Mutex
 	clients map[string]map[int]uint64
+	ended   ended
 	rungs   []ladder.Rung
 	ears    bool
 	file    *os.File // nil before something is kept, and once it couldn't be written
@@ -101,7 +104,17 @@ func (b *Book) Gone(client string) error {
 		return nil
 	}
 	delete(b.clients, client)
-	return b.write([]record{{Gone: client}}, false)
+	at := time.Now().UTC().Truncate(time.Second)
+	b.ended.add(client, at)
+	return b.write([]record{{Gone: client, At: &at}}, false)
+}
+
+// Ended is when a client had gone, if that is known still.
+func (b *Book) Ended(client string) (time.Time, bool) {
+	b.mutex.Lock()
+	defer b.mutex.Unlock()
+	at, known := b.ended.at[client]
+	return at, known
 }
 
 // Stood keeps where the program's marks stand, of which the last is new. That is on disk some time.
@@ -190,6 +203,10 @@ func (b *Book) rewrite() error {
 		for number, serial := range marks {
 			records = append(records, record{Mark: &Mark{Client: client, Number: number, Serial: serial}})
 		}
+	}
+	for _, client := range b.ended.order {
+		at := b.ended.at[client]
+		records = append(records, record{Gone: client, At: &at})
 	}
 	for i := range b.rungs {
 		records = append(records, record{Rung: &b.rungs[i]})
@@ -293,6 +310,9 @@ func (b *Book) recall(r record, last uint64) {
 		b.clients[r.Came] = map[int]uint64{}
 	case r.Gone != "":
 		delete(b.clients, r.Gone)
+		if r.At != nil {
+			b.ended.add(r.Gone, *r.At)
+		}
 	case r.Rung != nil && r.Rung.Serial <= last:
 		b.rungs = append(b.rungs, *r.Rung)
 	case r.Mark != nil && r.Mark.Serial <= last:

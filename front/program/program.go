@@ -199,6 +199,23 @@ func (p *Program) ReceiveLong(to *spool.Spool) (Reply, error) {
 	return reply, nil
 }
 
+// ReceiveTo waits for the next reply and writes it, without its newline, as it comes. What takes it may fail: it is
+// read to its end all the same, and that is given beside.
+func (p *Program) ReceiveTo(to io.Writer) (wrote, err error) {
+	for {
+		part, err := p.reader.ReadSlice('\n')
+		if err != nil && !errors.Is(err, bufio.ErrBufferFull) {
+			return wrote, ending(err)
+		}
+		if wrote == nil {
+			_, wrote = to.Write(bytes.TrimSuffix(part, newline))
+		}
+		if err == nil {
+			return wrote, nil
+		}
+	}
+}
+
 // End changes the end of a reply: of its last bytes as many as they are at most, `change` says how many stay and what
 // stands behind them.
 func (r Reply) End(most int, change func(end []byte) (stay int, behind []byte, ok bool)) (Reply, error) {

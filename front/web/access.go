@@ -18,6 +18,7 @@ import (
 // needs has the command that somebody has to be allowed for a path which isn't that of a line.
 var needs = map[string]string{
 	"/notices": "notices", "/metrics": access.Metrics, "/snapshot": "dump", "/snapshot/keys": "dump",
+	"/edits": "changes", "/head": "changes",
 	"/sessions": "mark", "/sessions/{session}": "mark", "/sessions/{session}/mark": "mark",
 	"/sessions/{session}/notices": "notices",
 	"/access/v1/search/subject":   "cells", "/access/v1/search/action": "cells", "/access/v1/search/resource": "cells",

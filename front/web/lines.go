@@ -33,6 +33,7 @@ type pending struct {
 	long    bool // its reply may be as long as the table
 	bytes   int64
 	keep    func(keeper.Reply) // writes down what was decided; may be nil
+	server  *Server
 }
 
 // freeLines answers lines of a client who has his sessions as long as his lines come.
@@ -184,6 +185,7 @@ func (p pending) wait(ctx context.Context) (keeper.Reply, *problem) {
 	select {
 	case reply := <-p.replies:
 		if reply.Err == nil {
+			reply, _ = p.server.fromDisk(ctx, p.call, reply)
 			if p.keep != nil {
 				p.keep(reply)
 			}
@@ -341,6 +343,7 @@ func (p pending) isUnknown() bool {
 }
 
 func (in *stream) put(ctx context.Context, next pending) {
+	next.server = in.server
 	select {
 	case in.out <- next:
 	case <-ctx.Done():

@@ -19,6 +19,7 @@ type operation struct {
 	done  int      // the status then; 0: 200
 	has   string   // a key that a JSON answer then has
 	query []string // keys that the query may have, each with 1
+	keys  []key    // others that it may have
 }
 
 // operations has what is said of each path that isn't a question of the program, by its method and path.
@@ -37,7 +38,12 @@ var operations = map[string]operation{
 		query: []string{"dry", "whole", "strict", "count", "words"},
 	},
 	"POST /commands/{command}": taking("Sends one command.", ""),
-	"GET /notices":             {does: "Tells what edits change, as it happens.", gives: []string{"text/event-stream"}},
+	"GET /edits": {
+		does:  "Tells edits: who made each, when, its line, and what it changed.",
+		gives: []string{jsonType}, has: "edits", keys: editsKeys,
+	},
+	"GET /head":    telling("Gives the head of the journal's chain behind the last edit.", "chain"),
+	"GET /notices": {does: "Tells what edits change, as it happens.", gives: []string{"text/event-stream"}},
 	"POST /sessions": {
 		does: "Opens a session.", gives: []string{jsonType}, done: http.StatusCreated, has: "session",
 	},
@@ -125,8 +131,12 @@ func (s *Server) described() map[string]object {
 		told := operations[route.method+" "+route.path]
 		if isQuestion && route.method == http.MethodGet {
 			told = telling("Gives the reply to the command "+q.do+".", q.has())
+			told.keys = []key{{atKey, textOrNot}}
+			if q.do == "changes" {
+				told.keys = moreChanges
+			}
 		}
-		add(route.method, route.path, q.keys, told)
+		add(route.method, route.path, append(append([]key(nil), q.keys...), told.keys...), told)
 	}
 	return paths
 }

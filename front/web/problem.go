@@ -76,6 +76,9 @@ func (f *forbids) Error() string { return f.problem.Title }
 
 // problemFor is what stands in the place of a reply that there is none of.
 func problemFor(err error) problem {
+	if told, is := problemOfPast(err); is {
+		return told
+	}
 	after := 1
 	var why *keeper.Unavailable
 	var tried *keeper.Tried

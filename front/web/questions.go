@@ -68,9 +68,13 @@ var questions = []question{
 // asking answers a path by the line of its question.
 func (s *Server) asking(q question) func(*answered, *http.Request, map[string]string) {
 	return func(w *answered, r *http.Request, inPath map[string]string) {
-		l, err := q.line(inPath, r.URL.RawQuery)
+		l, err := q.line(inPath, withoutAt(r.URL.RawQuery))
 		if err != nil {
 			bad(err.Error()).send(w)
+			return
+		}
+		if _, then := r.URL.Query()[atKey]; then {
+			s.past(w, r, q, l)
 			return
 		}
 		if !s.mayAll(w, r, l) {

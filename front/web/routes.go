@@ -29,6 +29,8 @@ func (s *Server) routes() []route {
 		{http.MethodPost, "/lines", s.freeLines},
 		{http.MethodPost, "/commands/{command}", s.command},
 		{http.MethodGet, "/notices", s.notices},
+		{http.MethodGet, "/edits", s.edits},
+		{http.MethodGet, "/head", s.head},
 		{http.MethodPost, "/sessions", s.openSession},
 		{http.MethodDelete, "/sessions/{session}", s.endSession},
 		{http.MethodPost, "/sessions/{session}/lines", s.sessionLines},
@@ -39,7 +41,11 @@ func (s *Server) routes() []route {
 		{http.MethodGet, "/metrics", func(w *answered, r *http.Request, _ map[string]string) { s.metrics.ServeHTTP(w, r) }},
 	}
 	for _, q := range questions {
-		all = append(all, route{http.MethodGet, q.path, s.asking(q)})
+		serve := s.asking(q)
+		if q.do == "changes" {
+			serve = s.changedSince(q)
+		}
+		all = append(all, route{http.MethodGet, q.path, serve})
 	}
 	if s.Keeper.Stream != nil {
 		all = append(all, route{http.MethodGet, "/snapshot", s.snapshot})

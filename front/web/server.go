@@ -41,11 +41,15 @@ type Options struct {
 	Beat        time.Duration    // how often a listener hears something; 0: as Beat says
 	// RefusedEvery is how often it is logged what was refused; 0: each minute.
 	RefusedEvery time.Duration
+	// Head gives the head of the journal's chain, as a line.
+	Head func() ([]byte, error)
 }
 
 // Server answers requests.
 type Server struct {
 	Options
+	summing chan struct{} // holds something while it is summed up what edits changed
+
 	leases   *sessions.Leases
 	drying   chan struct{} // holds something while it is told what lines would change
 	metrics  http.Handler
@@ -81,6 +85,7 @@ func New(options Options) *Server {
 		s.byLines[q.path] = true
 	}
 	s.stopping, s.drying = make(chan struct{}), make(chan struct{}, 1)
+	s.summing = make(chan struct{}, 1)
 	return s
 }
 

@@ -40,7 +40,7 @@ func (s *Server) endSession(w *answered, r *http.Request, keys map[string]string
 		return
 	}
 	if !s.leases.End(keys["session"]) {
-		noSession().send(w)
+		s.ended(keys["session"]).send(w)
 		return
 	}
 	w.WriteHeader(http.StatusNoContent)
@@ -57,7 +57,7 @@ func (s *Server) within(w *answered, r *http.Request, keys map[string]string, ca
 	}
 	client, done, ok := s.leases.Use(keys["session"])
 	if !ok {
-		noSession().send(w)
+		s.ended(keys["session"]).send(w)
 		return
 	}
 	defer done()
@@ -95,7 +95,7 @@ func (s *Server) one(w *answered, r *http.Request, client *sessions.Client, l st
 		return
 	}
 	call.Known = known
-	reply := s.Keeper.Send(r.Context(), call)
+	reply := s.sent(r.Context(), call)
 	s.keepLine(r, []byte(l), reply)
 	s.refuses(by, []byte(l), reply.Body)
 	sendReply(w, reply)

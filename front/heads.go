@@ -1,0 +1,135 @@
+package main
+
+import (
+	"crypto/ed25519"
+	"errors"
+	"fmt"
+	"io"
+	"os"
+	"path/filepath"
+	"sort"
+
+	"review-front/folder"
+	"review-front/heads"
+	"review-front/logs"
+)
+
+// heads are those of the folder's chain.
+func (o options) heads(held *folder.Folder, log *logs.Log) (*heads.Book, error) {
+	made := heads.Options{Folder: held, To: o.headsTo, Log: log}
+	if o.signKey != "" {
+		key, err := heads.ReadKey(o.signKey)
+		if err != nil {
+			return nil, fmt.Errorf("the key of --sign-key: %w", err)
+		}
+		made.Key = key
+	}
+	return heads.Open(made)
+}
+
+// given are the heads by which a folder is looked at.
+type given struct {
+	key     ed25519.PublicKey // nil: signatures aren't looked at
+	outside []heads.Head
+	inside  []heads.Head // those that stand in the folder
+}
+
+// readGiven reads heads, and the key that is to have signed them.
+func readGiven(journal, key string, files []string) (*given, error) {
+	g := &given{}
+	var err error
+	if key != "" {
+		if g.key, err = heads.ReadPublic(key); err != nil {
+			return nil, err
+		}
+	}
+	for _, name := range files {
+		content, err := os.ReadFile(name)
+		if err != nil {
+			return nil, err
+		}
+		some, err := heads.Read(content)
+		if err != nil {
+			return nil, fmt.Errorf("%s: %w", name, err)
+		}
+		g.outside = append(g.outside, some...)
+	}
+	content, err := os.ReadFile(filepath.Join(journal, heads.FileName))
+	if err != nil && !errors.Is(err, os.ErrNotExist) {
+		return nil, err
+	}
+	g.inside, _ = heads.Read(content) // what isn't sound there tells nothing
+	sort.SliceStable(g.outside, func(i, j int) bool { return g.outside[i].Serial < g.outside[j].Serial })
+	sort.SliceStable(g.inside, func(i, j int) bool { return g.inside[i].Serial < g.inside[j].Serial })
+	return g, nil
+}
+
+// compare compares heads with the chain of a folder, and says whether all are as it is.
+func (g *given) compare(journal string, to io.Writer) (bool, error) {
+	serials := map[uint64]bool{}
+	for _, h := range append(append([]heads.Head(nil), g.outside...), g.inside...) {
+		serials[h.Serial] = true
+	}
+	chains, err := folder.ReadChains(journal, serials)
+	if err != nil {
+		return false, err
+	}
+	sound, same, good := true, 0, uint64(0)
+	for _, h := range g.all() {
+		what := g.wrong(h, chains)
+		if what == "" {
+			same++
+			good = h.Serial
+			continue
+		}
+		sound = false
+		fmt.Fprintf(to, "the head of serial %d, made %s: %s\n", h.Serial, h.Made.Format("2006-01-02T15:04:05Z"), what)
+		if good > 0 {
+			fmt.Fprintf(to, "up to serial %d all is as a head says\n", good)
+		}
+		break
+	}
+	if sound && same > 0 {
+		fmt.Fprintf(to, "%d heads are as the journals are, the last of serial %d\n", same, good)
+	}
+	return sound, nil
+}
+
+// all are the heads by which something is looked at, by their serials: those from outside, and of those in the folder
+// such as are signed, since whoever may write there may have made the others.
+func (g *given) all() []heads.Head {
+	all := append([]heads.Head(nil), g.outside...)
+	for _, h := range g.inside {
+		if g.key != nil && h.Signed(g.key) == nil {
+			all = append(all, h)
+		}
+	}
+	sort.SliceStable(all, func(i, j int) bool { return all[i].Serial < all[j].Serial })
+	return all
+}
+
+// wrong says in which way a folder isn't as a head says, or nothing.
+func (g *given) wrong(h heads.Head, chains *folder.Chains) string {
+	if g.key != nil {
+		if err := h.Signed(g.key); err != nil {
+			return err.Error()
+		}
+	}
+	chain, there := chains.At[h.Serial]
+	switch {
+	case there && chain == h.Chain:
+		return ""
+	case there:
+		return "an edit up to it was changed, taken away or brought in since"
+	case h.Serial > chains.Ends:
+		return fmt.Sprintf("the journals end at serial %d: the end was cut off", chains.Ends)
+	case h.Serial > chains.Begins:
+		return "there is no edit of that serial"
+	}
+	for _, known := range g.inside {
+		if known.Serial == h.Serial && known.Chain == h.Chain {
+			return ""
+		}
+	}
+	return fmt.Sprintf("the journals begin behind serial %d, and no head of before says the same", chains.Begins)
+}
