@@ -111,7 +111,7 @@ class World:
             short.setdefault(whole.rpartition('.')[2], whole)
             short[whole] = whole
         same = [each for each in short if each.lower() == name.text.lower()]
-        close = same or difflib.get_close_matches(name.text, short, 1, 0.7)
+        close = same or difflib.get_close_matches(name.text, short, 1)
         if not close:
             return ''
         found = close[0]

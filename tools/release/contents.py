@@ -13,7 +13,8 @@ import helped
 ROOT = pathlib.Path(__file__).resolve().parents[2]
 HERE = ROOT / 'tools' / 'release'
 # The tools that users run, with the folders that they need.
-TOOLS = ['alfa.py', 'alfa_form', 'declared.py', 'leave.py', 'page.py', 'page', 'xacml.py', 'xacml_form', 'schemas']
+TOOLS = ['alfa.py', 'alfa_form', 'declared.py', 'leave.py', 'lines.py', 'page.py', 'page', 'schemas', 'xacml.py']
+TOOLS += ['xacml_form']
 # Of a tool's folder: what only tests of the repository need.
 TESTS = shutil.ignore_patterns('try_*', 'mutating.py', 'examples', '__pycache__')
 # The sums of each file: SPDX wants the older too.
