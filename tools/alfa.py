@@ -1,8 +1,8 @@
 #!/usr/bin/env python3
 """Policies in ALFA as documents of the service, and documents as ALFA.
 
-    alfa.py compile FILE.alfa|FOLDER .. [-o FOLDER] [--lines] [--root ID] [--program REVIEW [--stored STATE]]
-                    [--prefix TEXT] [--no-category] [--strict]
+    alfa.py [compile] FILE.alfa|FOLDER .. [-o FOLDER] [--lines] [--root ID] [--program REVIEW [--stored STATE]]
+                      [--prefix TEXT] [--no-category] [--strict]
     alfa.py write FILE.json|STATE .. [-o FILE.alfa] [--namespace NAME] [--keep-going]
 
 compile   All files, those of a FOLDER that end in .alfa, are one world. Each policy and set that stands in a namespace
@@ -31,6 +31,8 @@ from alfa_form.told import ERROR, WARNING
 from xacml_form.checked import NoAnswer
 from xacml_form.shown import indented, reference_to, shown, write_lines
 
+# What the first word may be; else the files are to be compiled.
+COMMANDS = [[], ['compile'], ['write'], ['-h'], ['--help']]
 UNLOOKED = 'without --program these weren\'t looked at: ids that are empty or too long, versions, sizes, references'
 
 
@@ -148,7 +150,8 @@ def main():
     one.add_argument('--namespace', default='policies', metavar='NAME', help='the namespace of ids that are no names')
     one.add_argument('--keep-going', action='store_true', help='leave out what ALFA can\'t say')
     one.set_defaults(run=write_alfa)
-    options = parser.parse_args()
+    words = sys.argv[1:]
+    options = parser.parse_args(words if words[:1] in COMMANDS else ['compile', *words])
     if options.command == 'compile' and options.stored and not options.program:
         parser.error('--stored needs --program')
     try:

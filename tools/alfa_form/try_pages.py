@@ -7,8 +7,10 @@ from xacml_form.normal import normal
 
 from .compiling import Compiler
 from .told import ERROR
+from .tokens import KEYWORDS
 
-DOCS = pathlib.Path(__file__).resolve().parents[2] / 'docs'
+ROOT = pathlib.Path(__file__).resolve().parents[2]
+DOCS, GRAMMAR = ROOT / 'docs', ROOT / 'tools' / 'schemas' / 'alfa.tmLanguage.json'
 BLOCK = re.compile(r'(?ms)^```alfa\n(.*?)^```\n(?:\n```json\n(.*?)^```\n)?')
 
 
@@ -32,9 +34,20 @@ def of_policies():
     return len(blocks), wrong
 
 
+def of_grammar():
+    """What the grammar of editors lacks: a keyword, or a pattern that can't be read."""
+    grammar = json.loads(GRAMMAR.read_text(encoding='utf-8'))
+    patterns = list(re.findall(r'"(?:match|begin|end)": ("(?:[^"\\]|\\.)*")', GRAMMAR.read_text(encoding='utf-8')))
+    for pattern in patterns:
+        re.compile(json.loads(pattern))
+    words = ' '.join(each['match'] for each in grammar['repository']['keyword']['patterns'])
+    return [f'the grammar lacks {word}' for word in sorted(KEYWORDS) if not re.search(rf'[:|]{word}[|)]', words)]
+
+
 def run():
     """How many blocks were tried, and what was wrong."""
     count, wrong = of_policies()
+    wrong += of_grammar()
     for text, _ in BLOCK.findall((DOCS / 'ALFA.md').read_text(encoding='utf-8')):
         made, faults = compiled('ALFA.md', text)
         count, wrong = count + 1, wrong + faults + ([] if made else [f'ALFA.md: no document: {text}'])
