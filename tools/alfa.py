@@ -103,7 +103,7 @@ def documents_of(names):
             documents = [json.loads(text)]
         except ValueError:
             documents = []
-        if not documents or 'do' in documents[0]:
+        if not documents or isinstance(documents[0], dict) and 'do' in documents[0]:
             documents = back.stored(text.splitlines())
         found += [(name, document) for document in documents]
     return found
@@ -112,7 +112,7 @@ def documents_of(names):
 def write_alfa(options):
     try:
         documents = documents_of(options.files)
-    except (ValueError, KeyError, TypeError, AttributeError) as fault:
+    except (ValueError, KeyError, TypeError, AttributeError, RecursionError) as fault:
         say(f'alfa.py: neither a document nor lines that store some: {fault}')
         return 1
     if not documents:

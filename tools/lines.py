@@ -70,8 +70,7 @@ class Front:
         asked = ''.join(shown({'do': 'documents', 'id': each}) + '\n' for each in ids)
         replies = self.answered('/lines', asked.encode())[0].splitlines() if ids else []
         found = [each for reply in replies for each in json.loads(reply)['documents']]
-        documents = {folder.key(each['document']): (each['module'], each['document']) for each in found}
-        return folder.Held(documents, root), serial
+        return folder.Held(folder.of_modules((each['module'], each['document']) for each in found), root), serial
 
 
 def told(status, text, lines):

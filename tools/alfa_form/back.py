@@ -20,15 +20,15 @@ class Written(typing.NamedTuple):
 
 
 def stored(lines):
-    """The documents that lines store, as those of a dump: of each kind, id and version the last."""
+    """The documents that lines store, as those of a dump: of each module, kind, id and version the last."""
     found = {}
     for line in lines:
         command = json.loads(line) if line.strip() else {}
         if command.get('do') in ('policy.add', 'policy.replace'):
             (kind, body), = command['document'].items()
-            found[kind, body[f'{kind}Id'], body['Version']] = command['document']
+            found[command.get('module', 0), kind, body[f'{kind}Id'], body['Version']] = command['document']
         elif command.get('do') == 'policy.withdraw':
-            found.pop((command['kind'], command['id'], command['version']), None)
+            found.pop((command.get('module', 0), command['kind'], command['id'], command['version']), None)
     return list(found.values())
 
 

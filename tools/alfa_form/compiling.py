@@ -1,4 +1,5 @@
 """Files of ALFA, all of one world, and the documents that they make."""
+import sys
 import typing
 
 from xacml_form import checked
@@ -12,6 +13,8 @@ from .told import ERROR, WARNING, Place, Told
 from .tokens import Tokens
 
 MOST_BYTES = 16 * 1024 * 1024
+# Enough for as many levels of parentheses and braces as are read.
+MOST_CALLS = 20000
 WEIGHTS = {FAULT: ERROR, 'warning': WARNING}
 
 
@@ -67,6 +70,7 @@ class Compiler:
     """The world of some files."""
 
     def __init__(self, files, prefix='', has_categories=True):
+        sys.setrecursionlimit(max(sys.getrecursionlimit(), MOST_CALLS))
         self.told = Told()
         self.blocks = [inner for name, data in files for inner in blocks(read(name, data, self.told))]
         self.world = World(self.told)

@@ -95,6 +95,10 @@ class Documents(Meaning):
             other = 'rules, in a policy' if is_set else 'policies, in a set'
             self.told.error(name.place, f'no {what} is called `{name.text}`: it is for {other}')
             return None
+        if found is None and name.text.rpartition('.')[2].startswith('legacy'):
+            self.told.error(name.place, f'the legacy algorithms aren\'t here: the same of 3.0, without `legacy`, decides'
+                            ' otherwise where something is Indeterminate')
+            return None
         found = self.world.need(kinds[0], name, node.block, what)
         uri = found.uri.text if isinstance(found, tree.Declaration) else found
         if uri is not None and uri not in names.HERE_ALGORITHMS[names.POLICIES if is_set else names.RULES]:

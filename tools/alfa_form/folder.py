@@ -119,16 +119,26 @@ def of_json(path, say):
 
 def held(lines):
     """What the lines of a dump store."""
-    documents, root = {}, None
+    stored, root = {}, None
     for line in lines:
         command = json.loads(line) if line.strip() else {}
+        module = command.get('module', 0)
         if command.get('do') in ('policy.add', 'policy.replace'):
-            documents[key(command['document'])] = command.get('module', 0), command['document']
+            stored[module, key(command['document'])] = command['document']
         elif command.get('do') == 'policy.withdraw':
-            documents.pop((command['kind'], command['id'], command['version']), None)
+            stored.pop((module, (command['kind'], command['id'], command['version'])), None)
         elif command.get('do') == 'root.set':
             root = command['reference']
-    return Held(documents, root)
+    return Held(of_modules((module, document) for (module, _), document in stored.items()), root)
+
+
+def of_modules(found):
+    """Documents with their modules, by kind, id and version: of one that several modules hold, that of the first, which
+    is the one that is found."""
+    documents = {}
+    for module, document in sorted(found, key=lambda each: each[0], reverse=True):
+        documents[key(document)] = module, document
+    return documents
 
 
 # ---- what differs

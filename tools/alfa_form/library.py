@@ -72,6 +72,8 @@ def _functions():
 FUNCTIONS = _functions()
 BY_URI = {each.uri: each for each in FUNCTIONS.values()}
 NAME_OF = {each.uri: name for name, each in FUNCTIONS.items()}
+# Other spellings, which are taken.
+SPELLED = {'booleanAnd': 'and', 'booleanOr': 'or', 'booleanNot': 'not'}
 # Functions that are said by others.
 REWRITTEN = {'anyOfAny': names.ANY_OF_ANY, 'allOfAny': names.ALL_OF_ANY, 'timeInRange': names.TIME_IN_RANGE,
              'nOf': names.N_OF}

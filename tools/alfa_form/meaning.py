@@ -154,6 +154,9 @@ class Meaning:
                 what = f'the function `{name.text}` ({uri}) isn\'t here: {library.instead(uri)}'
                 self.told.error(name.place, what)
             return known.get(uri)
+        if found in library.SPELLED:
+            self.told.note(name.place, f'`{found}` is taken as `{library.SPELLED[found]}`')
+            return library.SPELLED[found]
         if found in library.MISSING:
             uri = library.MISSING[found]
             what = f'the function {uri.rpartition(":")[2]} isn\'t here: {library.instead(uri)}'

@@ -27,7 +27,7 @@ class World:
         for kind, rules in [('ruleCombinator', names.RULES), ('policyCombinator', names.POLICIES)]:
             listed = library.ALGORITHMS[rules]
             self.kinds[kind] = {f'{library.SYSTEM}.{name}': uri for name, uri in listed.items()}
-        listed = {**library.FUNCTIONS, **library.REWRITTEN, **library.MISSING}
+        listed = {**library.FUNCTIONS, **library.REWRITTEN, **library.MISSING, **library.SPELLED}
         self.kinds['function'] = {f'{library.SYSTEM}.{name}': name for name in listed}
 
     def known(self, kind):

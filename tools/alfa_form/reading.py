@@ -14,7 +14,7 @@ class Reader:
     """Tokens, and which of them is next."""
 
     def __init__(self, tokens, told):
-        self.tokens, self.told, self.at, self.levels = tokens, told, 0, 0
+        self.tokens, self.told, self.at, self.levels, self.depth = tokens, told, 0, 0, 0
         self.is_ended, self.last = False, None
 
     @property
@@ -86,11 +86,11 @@ class Reader:
     def part(self, read, starts):
         """Reads one part. Behind a fault in it, goes to where the next may begin: one of these keywords, or the end
         of what is around it."""
-        before = self.at
+        before, self.levels, depth = self.at, 0, self.depth
         try:
             read()
         except Fault:
-            levels = 0
+            levels, self.depth = 0, depth
             while not self.sees(END):
                 is_next = self.at > before and self.here.kind == KEYWORD and self.here.text in starts
                 if levels == 0 and (is_next or self.sees(SIGN, '}')):
@@ -102,6 +102,9 @@ class Reader:
         """Parts between braces. Where the file ends, or a keyword stands that never does in such a part, a brace is
         missing, which is told once."""
         opened = self.need(SIGN, '{')
+        self.depth += 1
+        if self.depth > MOST_LEVELS:
+            self.fail(f'more than {MOST_LEVELS} levels of braces')
         while not self.sees(SIGN, '}'):
             is_over = self.sees(END)
             if is_over or self.sees(KEYWORD) and self.here.text in never:
@@ -109,6 +112,8 @@ class Reader:
                     line, column = opened.place.line, opened.place.column
                     self.fault(f'`}}` is missing before {self.shown()}, for the `{{` at {line}:{column}')
                 self.is_ended = self.is_ended or is_over
-                return
+                break
             self.part(read, starts)
-        self.take()
+        else:
+            self.take()
+        self.depth -= 1

@@ -64,8 +64,26 @@ def of_program(tool, program):
     return len(REFUSED), wrong
 
 
+def of_levels():
+    """Levels of parentheses and braces without end are told, and those that are read are none too many."""
+    wrong = []
+    for text, is_told in [('(' * 190 + 'true' + ')' * 190, False), ('(' * 5000 + 'true', True), ('not(' * 3000, True)]:
+        whole = f'namespace t {{ policy p {{ apply denyOverrides rule {{ permit condition {text} }} }} }}'
+        wrong += _levels(whole, is_told)
+    wrong += _levels('namespace t { ' + 'policyset p { apply denyOverrides ' * 3000, True)
+    return 5, wrong + _levels('namespace t { ' * 190 + '}' * 190, False)
+
+
+def _levels(text, is_told):
+    compiler = Compiler([('f', text.encode())])
+    compiler.made()
+    levels = any(' levels of ' in line for line in compiler.told.lines())
+    return [] if levels == is_told else [f'levels of {text[:60]} are told as {compiler.told.lines()[:2]}']
+
+
 def run(tool, program):
     """How many files were tried, and what was wrong."""
     table, wrong = of_table()
     refused, more = of_program(tool, program)
-    return table + refused, wrong + more
+    levels, others = of_levels()
+    return table + refused + levels, wrong + more + others
