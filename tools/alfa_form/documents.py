@@ -96,7 +96,7 @@ class Documents(Meaning):
             self.told.error(name.place, f'no {what} is called `{name.text}`: it is for {other}')
             return None
         if found is None and name.text.rpartition('.')[2].startswith('legacy'):
-            self.told.error(name.place, f'the legacy algorithms aren\'t here: the same of 3.0, without `legacy`, decides'
+            self.told.error(name.place, 'the legacy algorithms aren\'t here: the same of 3.0, without `legacy`, decides'
                             ' otherwise where something is Indeterminate')
             return None
         found = self.world.need(kinds[0], name, node.block, what)

@@ -1,5 +1,6 @@
 """A folder of ALFA, XML and JSON beside what is stored: lines.py writes lines that a service takes, in an order that
 references allow, and none where nothing differs."""
+import importlib.util
 import json
 import pathlib
 import subprocess
@@ -70,7 +71,7 @@ def run(tool, program):
         (trial.folder / 'a.alfa').write_text(TOP)
         (trial.folder / 'b.json').write_text(json.dumps(JSON))
         (trial.folder / 'c.json').write_text('{"Attributes": []}')
-        has_xml = _has_xml()
+        has_xml = importlib.util.find_spec('lxml') is not None
         if has_xml:
             (trial.folder / 'd.xml').write_text(XML)
         first = ['policy.add one', 'policy.add two', *['policy.add in-xml'] * has_xml, 'policy.add top', 'root.set top']
@@ -90,12 +91,3 @@ def run(tool, program):
         (trial.folder / 'a.alfa').write_text(TOP.replace('one two', 'one tow'))
         trial.expect('a fault', [], status=1, said='a.alfa:3:53: error: no policy or set is called `tow`; did you mean')
         return trial.count, trial.wrong
-
-
-def _has_xml():
-    """Whether XML can be read here."""
-    try:
-        import lxml  # noqa: F401
-    except ImportError:
-        return False
-    return True

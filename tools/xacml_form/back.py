@@ -1,5 +1,5 @@
 """Documents of the service, from JSON to XML whose elements stand in the order of the standard's schema."""
-from . import literals, names, requests, schema
+from . import literals, requests, schema
 from .normal import full_literal, full_type, normal  # noqa: F401
 from .requests import Unwritten
 
