@@ -9,7 +9,7 @@ import tempfile
 from xacml_form.normal import normal
 from xacml_form.shown import shown
 
-from . import back, try_script
+from . import back, try_script, try_worlds
 from .compiling import Compiler
 from .preparing import Preparing
 from .told import ERROR
@@ -107,9 +107,33 @@ def clinic():
     return wrong
 
 
+def table_of(program, lines):
+    """The table that lines make."""
+    given = ''.join(line + '\n' for line in [*lines, '{"do":"table"}'])
+    done = subprocess.run([program, 'serve'], input=given, capture_output=True, text=True)
+    return done.stdout.splitlines()[-1]
+
+
+def same_table(program):
+    """The clinic's table is the same over the documents that its ALFA makes."""
+    lines = (CLINIC / 'clinic.jsonl').read_text(encoding='utf-8').splitlines()
+    made = Compiler([('clinic.alfa', (CLINIC / 'clinic.alfa').read_bytes())]).made()
+    of_alfa = iter(shown({'do': 'policy.add', 'document': each.document}) for each in sorted(
+        made, key=lambda each: ['records', 'drugs', 'office', 'emergency', 'clinic'].index(each.name.split('.')[-1])))
+    others = [next(of_alfa) if line.startswith('{"do":"policy.add"') else line for line in lines]
+    return [] if table_of(program, lines) == table_of(program, others) else ['clinic.alfa makes another table']
+
+
+def random_documents():
+    """Documents of random policies."""
+    for seed in range(30):
+        text = try_worlds.Text(seed).world(try_worlds.Worlds(seed).world())
+        yield from (each.document for each in Compiler([('world', text.encode())]).made())
+
+
 def run(program):
     """What was tried, in words, what couldn't be, and what was wrong."""
-    wrong, unseen = clinic(), []
+    wrong, unseen = clinic() + same_table(program), []
     forty, listed = ordinary(), usable(program, stored())
     if forty:
         counts, told = alone(forty)
@@ -118,7 +142,7 @@ def run(program):
         unseen.append('the forty ordinary policies: there is no lxml (python3-lxml of Debian)')
     counts, told = alone(listed)
     wrong += told
-    compared, told = try_script.run([*forty, *listed])
+    compared, told = try_script.run([*forty, *listed, *random_documents()])
     if compared is None:
         unseen.append(told[0])
     else:

@@ -81,9 +81,20 @@ def _levels(text, is_told):
     return [] if levels == is_told else [f'levels of {text[:60]} are told as {compiler.told.lines()[:2]}']
 
 
+def of_bytes():
+    """Files that another editor left: with the lines of another system and a mark in front, and not in UTF-8."""
+    text = (EXAMPLES.parents[2] / 'examples' / 'clinic' / 'clinic.alfa').read_bytes()
+    made = [[each.document for each in Compiler([('f', data)]).made()]
+            for data in (text, b'\xef\xbb\xbf' + text.replace(b'\n', b'\r\n'), text.replace(b'\n', b'\r'))]
+    wrong = [] if made[0] == made[1] == made[2] else ['the lines of another system make other documents']
+    told = Compiler([('f', b'namespace t {\n  // caf\xe9\n}')]).told.lines()
+    return 4, wrong + ([] if told == ["f:2:9: error: this isn't UTF-8"] else [f'of another encoding is told {told}'])
+
+
 def run(tool, program):
     """How many files were tried, and what was wrong."""
     table, wrong = of_table()
     refused, more = of_program(tool, program)
     levels, others = of_levels()
-    return table + refused + levels, wrong + more + others
+    other_bytes, rest = of_bytes()
+    return table + refused + levels + other_bytes, wrong + more + others + rest
