@@ -48,7 +48,10 @@ def run():
     """How many blocks were tried, and what was wrong."""
     count, wrong = of_policies()
     wrong += of_grammar()
-    for text, _ in BLOCK.findall((DOCS / 'ALFA.md').read_text(encoding='utf-8')):
+    page = (DOCS / 'ALFA.md').read_text(encoding='utf-8')
+    for text, _ in BLOCK.findall(page):
         made, faults = compiled('ALFA.md', text)
         count, wrong = count + 1, wrong + faults + ([] if made else [f'ALFA.md: no document: {text}'])
+        _, told = compiled('orders.alfa', text.replace('clause action ', 'clause actoin ').replace('"guest"', '5'))
+        wrong += [f'ALFA.md doesn\'t tell: {line}' for line in told if f'    {line}\n' not in page]
     return count, wrong
