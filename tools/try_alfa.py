@@ -1,14 +1,14 @@
 #!/usr/bin/python3
 """Tries alfa.py and lines.py with the review program.
 
-    try_alfa.py PROGRAM [--requests N] [--seed N] [--mutants]
+    try_alfa.py PROGRAM [--requests N] [--seed N] [--mutants [WORD]]
 
 It compiles what stands in alfa_form/examples/told.txt, where something is wrong, of which each fault is told with its
 place; compares decisions that were written by hand; makes random policies as trees, whose own meaning is compared with
 what the program decides of the documents (N requests: 6,000, in no more than 8 processor seconds), and takes their
 documents back; takes the clinic, forty ordinary policies and all that sessions store to ALFA and back, by the script of
 pages too; compares a folder with what is stored; and reads files that are damaged. With --mutants it takes away, one by
-one, what those trials have to miss, and sees that they do.
+one, what those trials have to miss (with WORD what has it in its name), and sees that they do.
 The status is 0 where all is as it should be, 1 where something isn't, 3 where something that it needs isn't there."""
 import argparse
 import os
@@ -27,10 +27,10 @@ def main():
     parser.add_argument('program', metavar='PROGRAM', type=os.path.abspath)
     parser.add_argument('--requests', type=int, default=6000, metavar='N')
     parser.add_argument('--seed', type=int, default=0, metavar='N')
-    parser.add_argument('--mutants', action='store_true')
+    parser.add_argument('--mutants', nargs='?', const='', metavar='WORD')
     options = parser.parse_args()
-    if options.mutants:
-        return try_mutants.run(HERE, options.program)
+    if options.mutants is not None:
+        return try_mutants.run(HERE, options.program, options.mutants)
     told, wrong = try_told.run(TOOL, options.program)
     decisions, more = try_hand.run(options.program)
     seconds = SECONDS if options.requests <= 6000 else float('inf')

@@ -43,6 +43,13 @@ MUTANTS = [
     ('written without its issuer', 'writing_expressions.py', "if 'Issuer' in inner else []", 'if False else []'),
     ('written with a sign that isn\'t turned', 'writing.py', '{TURNED[sign]}', '{sign}'),
     ('a variable that isn\'t told', 'preparing.py', "for name in variables.definitions:", 'for name in []:'),
+    ('a script that doesn\'t turn the sign', '../page/alfa.js', '${ALFA_TURNED[sign]}', '${sign}'),
+    ('a script that leaves variables', '../page/alfa-names.js', 'one.Condition = variables.out(one.Condition);', ';'),
+    ('a script that cuts whole numbers', '../page/alfa-names.js', 'BigInt(value.whole)', 'Number(value.whole)'),
+    ('lines in the order of files', 'folder.py', 'for other in by_name.get(name, []):', 'for other in []:'),
+    ('descriptions compared with what is stored', 'folder.py', " if name != 'Description'}", '}'),
+    ('places of the program\'s faults not found', 'meaning.py', 'return Placed(place, lambda _: place, parts)',
+     'return Placed(type(place)(0, 1, 1), lambda _: place, parts)'),
 ]
 
 
@@ -62,12 +69,12 @@ def survives(here, program, file, old, new):
         return subprocess.run(words, capture_output=True, text=True).returncode in (0, 3)
 
 
-def run(here, program):
-    """Tries each, and says which isn't seen."""
-    wrong = 0
-    for name, file, old, new in MUTANTS:
+def run(here, program, word):
+    """Tries each whose name has a word, and says which isn't seen."""
+    wrong, tried = 0, [each for each in MUTANTS if word in each[0]]
+    for name, file, old, new in tried:
         found = survives(here, program, file, old, new)
         wrong += found is not False
         print({None: 'CAN\'T BE PUT IN', True: 'NOT SEEN', False: 'seen'}[found] + f': {name}', flush=True)
-    print(f'mutants: {len(MUTANTS) - wrong} seen, {wrong} not')
+    print(f'mutants: {len(tried) - wrong} seen, {wrong} not')
     return 1 if wrong else 0
