@@ -108,6 +108,9 @@ class Compiler:
             for part in block.parts:
                 if isinstance(part, tree.Attribute):
                     self.attribute(part)
+                elif isinstance(part, tree.Declaration) and part.kind == 'category' and not part.uri.text:
+                    self.told.note(part.name.place, 'a category without a URI is taken so that what is assigned has'
+                                   ' none: a form of this tool alone')
             for each in block.imports:
                 self.imported(each)
 
