@@ -148,7 +148,7 @@ class Meaning:
         """The name in the library of a function that is called so; None, and told, where it isn't here."""
         found = self.world.need('function', name, block)
         if isinstance(found, tree.Declaration):
-            uri = found.uri.text
+            uri = names.OLD_FUNCTIONS.get(found.uri.text, found.uri.text)
             known = {**library.NAME_OF, **{uri: each for each, uri in library.REWRITTEN.items()}}
             if uri not in known:
                 what = f'the function `{name.text}` ({uri}) isn\'t here: {library.instead(uri)}'

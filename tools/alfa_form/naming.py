@@ -35,13 +35,13 @@ class World:
         return self.kinds.setdefault(kind, {})
 
     def declare(self, kind, whole, found, place):
-        """Notes something by its whole name; a second one is told, with where the first stands."""
-        if whole in self.known(kind):
-            there = place_of(self.known(kind)[whole])
-            where = f'at {self.told.at(there)}' if there else 'in the library'
-            self.told.error(place, f'`{whole}` is declared a second time; first {where}')
-        else:
+        """Notes something by its whole name; a second one is told, with where the first stands. What the library has may
+        be declared by a file of the library, whose URIs are taken then."""
+        first = self.known(kind).get(whole)
+        if first is None or isinstance(first, str):
             self.known(kind)[whole] = found
+        else:
+            self.told.error(place, f'`{whole}` is declared a second time; first at {self.told.at(first.name.place)}')
 
     def gather(self, block):
         """Notes all that stands in a block itself."""
@@ -147,10 +147,3 @@ def outwards(name):
         yield name
         name = name.rpartition('.')[0]
     yield ''
-
-
-def place_of(found):
-    """Where something that is declared stands; None for what the library has."""
-    if isinstance(found, str):
-        return None
-    return found.name.place

@@ -33,7 +33,7 @@ MUTANTS = [
     ('what is assigned dropped', 'documents.py', 'for word, value in given.assignments]',
      'for word, value in given.assignments[:1]]'),
     ('the first import wins in silence', 'naming.py', 'if len(given) > 1:', 'if False:'),
-    ('a second declaration in silence', 'naming.py', "if whole in self.known(kind):", 'if False:'),
+    ('a second declaration in silence', 'naming.py', "if first is None or isinstance(first, str):", 'if True:'),
     ('the type of what is assigned not seen', 'documents.py', 'if kind != found.kind:', 'if False:'),
     ('types of arguments not seen', 'meaning.py', '    if given == takes:\n', '    if True:\n'),
     ('faults behind the first not told', 'reading.py', "if levels == 0 and (is_next or self.sees(SIGN, '}')):",
