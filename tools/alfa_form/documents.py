@@ -47,6 +47,13 @@ class Documents(Meaning):
             self.told.note(node.doc[1], '`/** .. */` is taken as the Description of what stands behind it')
         return tags
 
+    def tags(self, member, keys=()):
+        """What the tags before a name say, which has no description."""
+        text, tags = self.said(member.doc, keys)
+        if text is not None:
+            self.told.note(member.doc[1], '`/** .. */` before a name is passed over')
+        return tags
+
     def identifier(self, node, whole):
         """The id of a policy, a set or a rule."""
         return node.id.text if node.id else self.prefix + whole
@@ -129,9 +136,7 @@ class Documents(Meaning):
     def reference(self, member):
         """A reference to a document, by the kind of what has that name."""
         found = self.referred(member.name)
-        text, tags = self.said(member.doc, ('version', 'earliest', 'latest'))
-        if text:
-            self.told.note(member.doc[1], '`/** .. */` before a name is passed over')
+        tags = self.tags(member, ('version', 'earliest', 'latest'))
         if found is None:
             return None
         parts = {'Id': found.id.text if found.id else self.prefix + self.wholes[id(found)]}
@@ -149,6 +154,7 @@ class Documents(Meaning):
         if not isinstance(member, tree.Reference):
             return None
         name = member.name
+        self.tags(member)
         if self.world.find('rule', name, policy.block) is None and self.world.find('policy', name, policy.block):
             self.told.error(name.place, f'`{name.text}` is a policy or a set, and a policy holds rules: a `policyset`'
                             ' refers to it')
