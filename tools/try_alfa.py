@@ -15,38 +15,61 @@ import os
 import pathlib
 import sys
 
-from alfa_form import try_back, try_damaged, try_folder, try_hand, try_mutants, try_pages, try_random, try_told
+from alfa_form import (
+    try_back,
+    try_damaged,
+    try_folder,
+    try_hand,
+    try_mutants,
+    try_pages,
+    try_random,
+    try_told,
+    try_words,
+)
 
 HERE = pathlib.Path(__file__).resolve().parent
 TOOL = str(HERE / 'alfa.py')
-SECONDS, DAMAGED = 8, 200
+REQUESTS, SECONDS, DAMAGED = 6000, 8, 200
+
+
+def trials(options):
+    """What was tried, in words, with what was wrong, one trial after the other; and what couldn't be tried."""
+    count, wrong = try_told.run(TOOL, options.program)
+    yield f'{count} files with faults and notes', wrong, []
+    count, wrong = try_words.run(TOOL)
+    yield f'{count} command lines', wrong, []
+    count, wrong = try_hand.run(options.program)
+    yield f'{count} decisions written by hand', wrong, []
+    seconds = SECONDS if options.requests <= REQUESTS else float('inf')
+    count, seen, wrong = try_random.run(options.program, options.requests, seconds, options.seed)
+    counts = ', '.join(f'{number} {decision}' for decision, number in sorted(seen.items()))
+    yield f'{count} requests of random policies beside the meaning of their trees ({counts})', wrong, []
+    said, unseen, wrong = try_back.run(options.program)
+    yield said, wrong, unseen
+    count, wrong = try_pages.run()
+    yield f'{count} examples of pages', wrong, []
+    count, wrong = try_folder.run(str(HERE / 'lines.py'), options.program)
+    yield f'a folder beside what is stored {count} times', wrong, []
+    count, noticed, wrong = try_damaged.run(DAMAGED)
+    yield f'{count} damaged files ({noticed} told)', wrong, []
 
 
 def main():
     parser = argparse.ArgumentParser(description=__doc__, formatter_class=argparse.RawDescriptionHelpFormatter)
     parser.add_argument('program', metavar='PROGRAM', type=os.path.abspath)
-    parser.add_argument('--requests', type=int, default=6000, metavar='N')
+    parser.add_argument('--requests', type=int, default=REQUESTS, metavar='N')
     parser.add_argument('--seed', type=int, default=0, metavar='N')
     parser.add_argument('--mutants', nargs='?', const='', metavar='WORD')
     options = parser.parse_args()
     if options.mutants is not None:
         return try_mutants.run(HERE, options.program, options.mutants)
-    told, wrong = try_told.run(TOOL, options.program)
-    decisions, more = try_hand.run(options.program)
-    seconds = SECONDS if options.requests <= 6000 else float('inf')
-    asked, seen, others = try_random.run(options.program, options.requests, seconds, options.seed)
-    back, unseen, rest = try_back.run(options.program)
-    blocks, of_pages = try_pages.run()
-    damaged, noticed, of_damaged = try_damaged.run(DAMAGED)
-    compared, of_folder = try_folder.run(str(HERE / 'lines.py'), options.program)
-    wrong += more + others + rest + of_pages + of_folder + of_damaged
+    found = list(trials(options))
+    wrong = [each for _, some, _ in found for each in some]
+    unseen = [each for _, _, some in found for each in some]
     print('\n'.join(wrong[:20]))
-    counts = ', '.join(f'{count} {decision}' for decision, count in sorted(seen.items()))
-    print(f'tools/alfa.py: {told} files with faults and notes, {decisions} decisions written by hand, {asked} requests'
-          f' of random policies beside the meaning of their trees ({counts}), {back}, {blocks} examples of pages,'
-          f' a folder beside what is stored {compared} times, {damaged} damaged files ({noticed} told):'
-          f' {len(wrong)} wrong')
-    print('\n'.join(f'not tried: {each}' for each in unseen), end='\n' if unseen else '')
+    print(f'tools/alfa.py: {", ".join(said for said, _, _ in found)}: {len(wrong)} wrong')
+    for each in unseen:
+        print(f'not tried: {each}')
     return 1 if wrong else 3 if unseen else 0
 
 
