@@ -187,7 +187,7 @@ serve.go . TestForged s/signed\.Finish(sendTime)$//
 web/net.go . TestPast s/other, told := s\.otherwise(ctx, asked, n, back)/other, told := back, (*problem)(nil)/
 web/net.go . TestForgotten s/len(missing) > 0 {/false {/
 web/edits.go . TestLogPast s/nth == p\.nth/nth == 1/
-web/past.go . TestThen s/at\.Add(time\.Nanosecond)/at/
+web/past.go . TestThen s/at\.Add(time\.Nanosecond)/at.Add(-time.Nanosecond)/
 web/past.go . TestPastRoles s/, \[\]byte(`{"do":"changes","since":0}`)) {/) {/
 web/access.go . TestPastRoles s/"\/edits": "changes"/"\/edits": "counts"/
 web/lines.go . TestMarksOnDisk s/^\t\t\treply, _ = p\.server\.fromDisk.*$//

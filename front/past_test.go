@@ -314,6 +314,9 @@ func TestThen(t *testing.T) {
 	}
 	then := f.must("/counts")
 	f.accept(lines[68:]...)
+	if serial := f.serial("/counts?at="+url.QueryEscape(page.Edits[0].Time), nil); serial != "68" {
+		t.Errorf("at the time of edit 68 it is the state of %s", serial)
+	}
 	for at, status := range map[string]int{
 		url.QueryEscape(page.Edits[0].Time): 200, "68": 200, "70": 400, "x": 400, "2026-13-01": 400, "1&at=2": 400, "-1": 400,
 	} {
@@ -328,6 +331,15 @@ func TestThen(t *testing.T) {
 	}
 	if got := f.must("/cells?person=hana&decisions=Permit&at=68"); got != `{"cells":[]}` {
 		t.Errorf("cells of then are %s", got)
+	}
+	request := `{"Request":{"AccessSubject":{"Attribute":{"AttributeId":"urn:oasis:names:tc:xacml:1.0:subject:subject-id",` +
+		`"Value":"ada"}},"Action":{"Attribute":{"AttributeId":"urn:oasis:names:tc:xacml:1.0:action:action-id","Value":"write"}},` +
+		`"Resource":{"Attribute":{"AttributeId":"urn:oasis:names:tc:xacml:1.0:resource:resource-id","Value":"record-moss"}}}}`
+	for path, want := range map[string]string{"/authorize": "Permit", "/authorize?at=68": "NotApplicable", "/authorize?at=69": "Permit"} {
+		got := f.send(t, http.MethodPost, path, request, "Content-Type", "application/json")
+		if got.status != http.StatusOK || !strings.Contains(got.body, `"Decision":"`+want+`"`) {
+			t.Errorf("%s is answered %+v", path, got)
+		}
 	}
 	if status, body := f.get("/changes?since=1&at=2"); status != http.StatusBadRequest {
 		t.Errorf("changes at a serial are answered %d %s", status, body)

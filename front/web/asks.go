@@ -78,7 +78,7 @@ func (s *Server) askAll(ctx context.Context, lines [][]byte) ([]keeper.Reply, *p
 			return nil, &told
 		}
 	}
-	replies := s.Keeper.DecideAll(ctx, lines)
+	replies := s.decideAll(ctx, lines)
 	for _, reply := range replies {
 		err := reply.Err
 		if err == nil && reply.Serial != replies[0].Serial {

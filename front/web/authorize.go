@@ -29,7 +29,11 @@ func (s *Server) authorize(w *answered, r *http.Request) {
 	if !ok || !s.reach(w, r) {
 		return
 	}
-	all, told := s.responsesTo(r.Context(), given, body)
+	ctx, ok := s.asOf(w, r)
+	if !ok {
+		return
+	}
+	all, told := s.responsesTo(ctx, given, body)
 	if told != nil {
 		told.send(w)
 		return

@@ -9,6 +9,7 @@ import (
 	"strings"
 	"time"
 
+	"review-front/keeper"
 	"review-front/line"
 )
 
@@ -88,4 +89,38 @@ func (s *Server) then(ctx context.Context, given []string) (uint64, *problem) {
 		}
 	}
 	return serial, nil
+}
+
+// thenKey is the key of the serial of whose state somebody asks in the context of a request.
+type thenKey struct{}
+
+// asOf is the context of a request with the serial of whose state it asks, if it says one. It answers itself where that
+// can't be asked.
+func (s *Server) asOf(w *answered, r *http.Request) (context.Context, bool) {
+	given, then := r.URL.Query()[atKey]
+	if !then {
+		return r.Context(), true
+	}
+	if !s.mayAll(w, r, []byte(`{"do":"changes","since":0}`)) || !s.stands(w, r) {
+		return nil, false
+	}
+	serial, told := s.then(r.Context(), given)
+	if told != nil {
+		told.send(w)
+		return nil, false
+	}
+	return context.WithValue(r.Context(), thenKey{}, serial), true
+}
+
+// decideAll asks requests, of now or of the state of which it is asked.
+func (s *Server) decideAll(ctx context.Context, lines [][]byte) []keeper.Reply {
+	serial, then := ctx.Value(thenKey{}).(uint64)
+	if !then {
+		return s.Keeper.DecideAll(ctx, lines)
+	}
+	replies, err := s.Keeper.At(ctx, serial, lines...)
+	if err != nil {
+		return []keeper.Reply{{Err: err, Serial: serial}}
+	}
+	return replies
 }
