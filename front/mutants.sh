@@ -185,7 +185,10 @@ heads.go . TestForged s/^\tcase h\.Serial > chains\.Ends:$/\tcase false:/
 heads.go . TestForged s/there && chain == h\.Chain:/there \&\& (chain == h.Chain || true):/
 serve.go . TestForged s/signed\.Finish(sendTime)$//
 web/net.go . TestPast s/other, told := s\.otherwise(ctx, asked, n, back)/other, told := back, (*problem)(nil)/
+keeper/snapshot.go . TestKeptLonger s/k\.Folder\.First() != first {/k.Folder.First() != first \&\& false {/
 web/net.go . TestForgotten s/len(missing) > 0 {/false {/
+web/net.go . TestUnlearned s/n\.unknown = append(n\.unknown, changed\.Range.*$/_ = e/
+web/past.go . TestThen s/if !then {$/if true {/
 web/edits.go . TestLogPast s/nth == p\.nth/nth == 1/
 web/past.go . TestThen s/at\.Add(time\.Nanosecond)/at.Add(-time.Nanosecond)/
 web/past.go . TestPastRoles s/, \[\]byte(`{"do":"changes","since":0}`)) {/) {/
