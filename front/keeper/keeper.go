@@ -184,7 +184,9 @@ func New(options Options) *Keeper {
 	k.askers, k.edits, k.spare = newAskers(k, options.Askers), newEdits(), newSpare(k)
 	k.streamed, k.recorder = newStreamed(k, options.Stream), newRecorder(k)
 	k.pasts = newPasts(k, options.Past)
-	options.Folder.KeepDaily(options.KeepDaily)
+	if options.Folder != nil { // tests of what never opens it have none
+		options.Folder.KeepDaily(options.KeepDaily)
+	}
 	return k
 }
 

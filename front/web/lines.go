@@ -185,7 +185,9 @@ func (p pending) wait(ctx context.Context) (keeper.Reply, *problem) {
 	select {
 	case reply := <-p.replies:
 		if reply.Err == nil {
-			reply, _ = p.server.fromDisk(ctx, p.call, reply)
+			if p.call != nil {
+				reply, _ = p.server.fromDisk(ctx, p.call, reply)
+			}
 			if p.keep != nil {
 				p.keep(reply)
 			}
