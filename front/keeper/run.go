@@ -15,6 +15,8 @@ import (
 const (
 	firstPause = 100 * time.Millisecond
 	lastPause  = 5 * time.Second
+	// versionTime is how long the program may take at least to say its version.
+	versionTime = time.Minute
 )
 
 // Start brings a first program to the state of the folder, or says why there is none, with file and place.
@@ -98,11 +100,15 @@ func (k *Keeper) tellTorn(torn *folder.Torn, what string) {
 	}
 }
 
-// says is what the program says of its version, in the time of a reply.
+// says is what the program says of its version. That has to be started first, which takes a while on a busy machine.
 func (k *Keeper) says(ctx context.Context) (string, error) {
 	if k.ReplyTime > 0 {
+		limit := k.ReplyTime
+		if limit < versionTime {
+			limit = versionTime
+		}
 		var cancel context.CancelFunc
-		ctx, cancel = context.WithTimeout(ctx, k.ReplyTime)
+		ctx, cancel = context.WithTimeout(ctx, limit)
 		defer cancel()
 	}
 	return k.Command.Version(ctx)

@@ -51,12 +51,14 @@ func (s *Server) sendLines(w *answered, r *http.Request, how how, edits, replies
 	for i, reply := range replies {
 		seen := keeper.Reply{Body: reply}
 		tally.sees(edits[i], &seen, nil)
-		body.Write(append(seen.Body, '\n'))
+		body.Write(seen.Body)
+		body.WriteByte('\n')
 	}
 	if told != nil {
 		seen := keeper.Reply{Body: told.line()}
 		tally.sees(nil, &seen, told)
-		body.Write(append(seen.Body, '\n'))
+		body.Write(seen.Body)
+		body.WriteByte('\n')
 	}
 	tally.ends(len(edits))
 	tally.announce(w)
