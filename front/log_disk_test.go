@@ -30,6 +30,9 @@ func TestLogFullDisk(t *testing.T) {
 			status, ready := full.get("/readyz")
 			return status == http.StatusOK && strings.Contains(ready, `"edits":"`+unkept+`: file too large"`)
 		})
+		if taken := full.metric("review_front_edits_taken"); taken != 0 {
+			t.Errorf("while edits can't be kept it is counted that %v are taken", taken)
+		}
 		for i := 0; i < 5; i++ {
 			full.must("/table")
 			if serial := full.serial("/counts", nil); serial != before {
@@ -43,6 +46,9 @@ func TestLogFullDisk(t *testing.T) {
 		other.accept(numbered(100*round+20, 20)...)
 		limitFiles(t, full.process.Process.Pid, 1<<40)
 		fates.same(t, fronts)
+		if taken := full.metric("review_front_edits_taken"); taken != 1 {
+			t.Errorf("when there is room again it is counted that %v are taken", taken)
+		}
 		if status := full.editOnce(t, 200_000+round); status != http.StatusOK {
 			t.Errorf("when there is room again an edit is answered %d", status)
 		}

@@ -188,6 +188,14 @@ func (o options) keeping(
 	}
 }
 
+// oneWhere is 1 where something is so, and else 0.
+func oneWhere(is bool) float64 {
+	if is {
+		return 1
+	}
+	return 0
+}
+
 // watch adds what is looked up when somebody asks for the counts.
 func watch(meter *measure.Meter, k *keeper.Keeper) {
 	meter.Watch("serial", "How many edits were accepted so far.", func() float64 { return float64(k.Serial()) })
@@ -196,11 +204,9 @@ func watch(meter *measure.Meter, k *keeper.Keeper) {
 	meter.Watch("listeners", "Who listens to notices.", func() float64 { return float64(k.Notices.Count()) })
 	meter.Watch("askers", "Programs beside the table's that answer requests.", func() float64 { return float64(k.Askers()) })
 	meter.Watch("spool_bytes", "Bytes of replies that wait in files.", func() float64 { return float64(k.Spool.Used()) })
-	meter.Watch("ready", "Whether lines are answered.", func() float64 {
-		if k.Ready() {
-			return 1
-		}
-		return 0
+	meter.Watch("ready", "Whether lines are answered.", func() float64 { return oneWhere(k.Ready()) })
+	meter.Watch("edits_taken", "Whether edits are taken, as far as is known.", func() float64 {
+		return oneWhere(k.Health().Edits == "")
 	})
 	meter.Ask(func() (measure.State, bool) {
 		if !k.Ready() {
