@@ -162,6 +162,8 @@ jetstream/append.go . TestLogUnled s/if !l\.watched\.begin() {/if !l.watched.beg
 jetstream/read.go . TestLogUnbrought s/^\tif r\.replicas\.Load() <= 1 {$/\tif true {/
 jetstream/watch.go . TestLogLacks s/if err == nil \&\& l\.watched\.isToChange() {/if false {/
 jetstream/watch.go . TestLogFullServer s/if l\.answers(server) {/if false {/
+jetstream/read.go jetstream TestLacking s/ || l\.leader != now\.leader:/:/
+jetstream/watch.go jetstream TestAgrees s/ \&\& !replica\.Offline {/ {/
 undo.go . TestUndo s/if dropped\.Moves(u\.names) {/if false {/
 copies.go . TestVerifyNothing s/if found\.Files == 0 {/if false {/
 copies.go . TestRestore s/ \&\& until\.Serial > copied\.Ends {/ \&\& false {/

@@ -18,10 +18,10 @@ const (
 	quiet = time.Second
 	// heartbeat is how often a server says that nothing comes.
 	heartbeat = 5 * time.Second
-	// mostShort is how often the stream may say that it ends before what was read: a new leader says so for a while.
-	// Behind fewShort it is asked to let another server lead.
-	mostShort = 30
-	fewShort  = 3
+	// lackTime is how long the server that leads may lack edits that were read, and come to no more, until it is asked to
+	// let another one lead, and lostTime until it is said that they are lost: a new one applies what it has for a while.
+	lackTime = 20 * time.Second
+	lostTime = time.Minute
 	// mostTogether and bytesTogether are how many edits are asked of the leader at once, and about how long these are.
 	mostTogether  = 64
 	bytesTogether = 1 << 20
@@ -40,7 +40,26 @@ type reading struct {
 	made   chan *nats.Subscription
 	pause  time.Duration // until a server is told again to bring what is new
 	again  time.Time     // when that is
-	short  int           // how often in a row the stream ended before what was read
+	lacks  lacking
+}
+
+// lacking is since when the server that leads lacks edits that were read, where it ends, and which it is.
+type lacking struct {
+	since  time.Time // nothing where it has all
+	last   uint64
+	leader string
+}
+
+// sees sees where the stream ends, and gives how long the same server has lacked edits and come to no more.
+func (l *lacking) sees(now lacking, behind uint64) time.Duration {
+	switch {
+	case now.last >= behind:
+		*l = lacking{}
+		return 0
+	case l.since.IsZero() || l.last != now.last || l.leader != now.leader:
+		*l = now
+	}
+	return now.since.Sub(l.since)
 }
 
 // Read hands out all edits behind a sequence.
@@ -260,12 +279,10 @@ func (r *reading) missed(ctx context.Context) error {
 	if err != nil {
 		return nil
 	}
-	if r.short++; extent.Last >= r.behind {
-		r.short = 0
-	}
-	r.watched.lack(r.short >= fewShort)
+	lacks := r.lacks.sees(lacking{since: time.Now(), last: extent.Last, leader: r.State().Leader}, r.behind)
+	r.watched.lack(lacks > lackTime+r.watched.patience)
 	switch {
-	case r.short == mostShort:
+	case lacks > lostTime:
 		return fmt.Errorf("the stream ends at sequence %d, and was read up to %d: it has lost edits", extent.Last, r.behind)
 	case extent.First > r.behind+1:
 		return fmt.Errorf("sequence %d of the stream follows %d", extent.First, r.behind)

@@ -4,6 +4,7 @@ package jetstream
 
 import (
 	"context"
+	"math/rand"
 	"sort"
 	"sync"
 	"time"
@@ -42,10 +43,15 @@ type watched struct {
 	lacks      bool                 // whether the leader lacks edits that were read
 	asked      time.Time            // when it was asked last to let another one lead
 	lost       chan struct{}        // says that nobody may lead now
+	patience   time.Duration        // by which this front asks later than others
 }
 
 func newWatched() *watched {
-	return &watched{led: true, silent: map[string]time.Time{}, why: map[string]string{}, lost: make(chan struct{}, 1)}
+	chance := rand.New(rand.NewSource(time.Now().UnixNano()))
+	return &watched{
+		led: true, silent: map[string]time.Time{}, why: map[string]string{}, lost: make(chan struct{}, 1),
+		patience: time.Duration(chance.Int63n(int64(askAgain))),
+	}
 }
 
 // State is what is known of who keeps the stream.
@@ -167,7 +173,7 @@ func (l *log) saw(info *nats.StreamInfo, err error) {
 		l.log.Info("a server leads the stream", "server", leader, "before", w.leader)
 	}
 	if w.missed >= mostMissed || leader != w.leader {
-		w.unanswered = time.Time{} // what was sent to another one says nothing of this one
+		w.unanswered, w.lacks = time.Time{}, false // what was of another one says nothing of this one
 	}
 	w.led, w.leader, w.missed = true, leader, 0
 	l.hear(info)
