@@ -80,6 +80,7 @@ func TestAuthzenRules(t *testing.T) {
 		{"all", "GET", "evaluation", "", nil, 405, "no such method"},
 		{"all", "POST", "nothing", todoQuestion, nil, 404, "GET / lists the paths"},
 		{"all", "POST", "evaluation", todoQuestion, []string{"Origin", "https://other.example"}, 403, "a page of another site asks"},
+		{"all", "POST", "evaluation", todoQuestion, []string{"Host", "other.example"}, 421, "the front isn't asked as this host"},
 		{"all", "POST", "evaluation", todoQuestion, []string{"Content-Type", "text/plain"}, 415, "a request is application/json"},
 		{"all", "POST", "evaluation", todoQuestion, []string{"Review-At-Least", "x"}, 400, "Review-At-Least is one serial"},
 		{"all", "POST", "evaluation", `7`, nil, 400, "the body isn't an object"},
@@ -95,6 +96,9 @@ func TestAuthzenRules(t *testing.T) {
 		asked.Header.Set("X-Request-ID", "bfe9eb29")
 		asked.Header.Set("Authorization", "Bearer "+tokenOf(one.who))
 		for i := 0; i < len(one.fields); i += 2 {
+			if one.fields[i] == "Host" {
+				asked.Host = one.fields[i+1]
+			}
 			asked.Header.Set(one.fields[i], one.fields[i+1])
 		}
 		answer, err := http.DefaultClient.Do(asked)
