@@ -19,7 +19,7 @@ import (
 const slowTime = 20 * time.Millisecond
 
 // loadTime is how long an edit of a load takes.
-const loadTime = 100 * time.Millisecond
+const loadTime = 50 * time.Millisecond
 
 // busyTime is longer than a line has in tests of it.
 const busyTime = 3 * time.Second

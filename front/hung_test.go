@@ -98,7 +98,7 @@ func TestHungBehind(t *testing.T) {
 // none of its lines it hangs, though all together take longer than one may.
 func TestLoad(t *testing.T) {
 	theProgram(t)
-	f := begin(t, t.TempDir(), "--reply-time", "500ms", "--program", faked(t, "load"))
+	f := begin(t, t.TempDir(), "--reply-time", "1s", "--program", faked(t, "load"))
 	lines := []string{`{"do":"mark"}`, `{"do":"can","person":"eve"}`}
 	for i := 0; i < 60; i++ {
 		lines = append(lines, fmt.Sprintf(`{"do":"person.add","name":"load-%d"}`, i))
@@ -118,7 +118,7 @@ func TestLoad(t *testing.T) {
 // is ended in its time, and the edit stands.
 func TestLoadHung(t *testing.T) {
 	theProgram(t)
-	f := begin(t, t.TempDir(), "--reply-time", "500ms", "--program", faked(t, "load"))
+	f := begin(t, t.TempDir(), "--reply-time", "1s", "--program", faked(t, "load"))
 	replies := f.lines(`{"do":"person.add","name":"load"}`, `{"do":"can","person":"endless"}`,
 		`{"do":"person.add","name":"more"}`)
 	if replies[0] != `{"changes":0,"serial":1}` || !strings.Contains(replies[1], "ask again") ||

@@ -47,6 +47,7 @@ keeper/marks.go . TestStale s/k\.ladder\.Due(k\.need())/k.ladder.Due(0)/
 keeper/serve.go . TestLoad s/other != nil \&\& other\.Load() > 0; {/false; {/
 keeper/serve.go . TestLoadHung s/other != nil \&\& other\.Load() > 0; {/false; {/
 keeper/watch.go keeper TestHangs s/ || how == light \&\& w\.lasting\.Load() > 0$//
+program/work.go program TestWork s/work\.Runs || anyRuns.*$/false/
 keeper/watch.go keeper TestHangs s/case worked <= 0 \&\& !work\.Runs:/case worked <= 0:/
 keeper/watch.go keeper TestHangs s/last\.spent += worked \/ w\.atOnce()/last.spent += worked/
 keeper/watch.go keeper TestHangs s/^\t\tpassed = most .*$//
