@@ -44,8 +44,8 @@ marks/marks.go marks TestTorn s/ || knownBehind(rest, place) {/ {/
 ladder/ladder.go ladder TestNeeded s/ && floor > need && / \&\& /
 ladder/ladder.go ladder TestNeeded s/ && l\.spent\.Changes-rungs\[i\]\.Changes <= l\.bounds\.Changes;/;/
 keeper/marks.go . TestStale s/k\.ladder\.Due(k\.need())/k.ladder.Due(0)/
-keeper/serve.go . TestLoad s/other != nil \&\& other\.Load() > 0; {/false; {/
-keeper/serve.go . TestLoadHung s/other != nil \&\& other\.Load() > 0; {/false; {/
+keeper/serve.go . TestLoad s/ other\.Load() > 0; {/ false; {/
+keeper/serve.go . TestLoadHung s/ other\.Load() > 0; {/ false; {/
 keeper/watch.go keeper TestHangs s/ || how == light \&\& w\.lasting\.Load() > 0$//
 program/work.go program TestWork s/work\.Runs || anyRuns.*$/false/
 keeper/watch.go keeper TestHangs s/case worked <= 0 \&\& !work\.Runs:/case worked <= 0:/

@@ -66,14 +66,17 @@ func TestMany(t *testing.T) {
 	}
 }
 
-// TestOldest has marks come, move and go at random, and compares the oldest with a look at all of them.
+// TestOldest has marks come, move and go at random, and compares the oldest with a look at all of them. In the first
+// half an old one stays the oldest; then it is asked from some serials on.
 func TestOldest(t *testing.T) {
 	seed := time.Now().UnixNano()
 	random := rand.New(rand.NewSource(seed))
 	table := NewTable(many)
 	var clients []*Client
 	from, serial := uint64(0), uint64(1)
-	for step := 0; step < 20_000; step++ {
+	const steps = 20_000
+	marked(t, table.NewClient(), 0, serial) // which stays
+	for step := 0; step < steps; step++ {
 		serial += uint64(random.Intn(2))
 		switch random.Intn(8) {
 		case 0:
@@ -85,7 +88,7 @@ func TestOldest(t *testing.T) {
 				clients = append(clients[:at], clients[at+1:]...)
 			}
 		case 2:
-			if before := uint64(random.Intn(30)); before < serial {
+			if before := uint64(random.Intn(30)); before < serial && step > steps/2 {
 				from = serial - before // which may be before what it was
 			}
 		default:
