@@ -70,9 +70,9 @@ func (f *front) insist(t *testing.T, key string, lines []string) (told string) {
 	return told
 }
 
-// keyedOver sends a body with a key, of which some lines are refused, to the first of two fronts, has something end midway
-// in that and begin anew, and sends the body to the second twice, and to the first again: each line has its own reply, the
-// same everywhere.
+// keyedOver sends a body with a key, of which some lines are refused, to the first of two fronts, has something end
+// midway in that and begin anew, and sends the body to the second twice, and to the first again: each line has its own
+// reply, the same everywhere.
 func keyedOver(t *testing.T, fronts []*front, round int, ends, begins func()) {
 	t.Helper()
 	lines, key := mixed(round, 64), fmt.Sprint("key ", round)

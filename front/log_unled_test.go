@@ -117,7 +117,7 @@ func TestLogLacks(t *testing.T) {
 		ended <- log.Read(ctx, 1000, func(replicated.Edit) error { return errors.New("there is an edit") })
 	}()
 	eventually(t, "another one leads", func() bool { now := log.State().Leader; return now != "" && now != first })
-	asked := `is asked to let another one lead: its store is to be emptied","server":"` + first + `"`
+	asked := `is asked to let another one lead","server":"` + first + `","why":"it lacks edits`
 	if !strings.Contains(said.String(), asked) {
 		t.Errorf("the log says %s", said.String())
 	}

@@ -161,10 +161,11 @@ keeper/serve.go . TestLogFullDisk s/if call\.sequence != 0 \&\& (len(s\.parked) 
 keeper/health.go . TestLogUnled s/^\t\tif !state\.Led {$/\t\tif false {/
 jetstream/append.go . TestLogUnled s/if !l\.watched\.begin() {/if !l.watched.begin() \&\& false {/
 jetstream/read.go . TestLogUnbrought s/^\tif r\.replicas\.Load() <= 1 {$/\tif true {/
-jetstream/watch.go . TestLogLacks s/if err == nil \&\& l\.watched\.isToChange() {/if false {/
+jetstream/watch.go . TestLogLacks s/; err == nil \&\& why != "" {/; false \&\& why != "" {/
 jetstream/watch.go . TestLogFullServer s/if l\.answers(server) {/if false {/
 jetstream/read.go jetstream TestLacking s/ || l\.leader != now\.leader:/:/
 jetstream/watch.go jetstream TestAgrees s/ \&\& !replica\.Offline {/ {/
+jetstream/watch.go jetstream TestChange s/case w\.isStalled() \&\& time/case time/
 undo.go . TestUndo s/if dropped\.Moves(u\.names) {/if false {/
 copies.go . TestVerifyNothing s/if found\.Files == 0 {/if false {/
 copies.go . TestRestore s/ \&\& until\.Serial > copied\.Ends {/ \&\& false {/

@@ -45,3 +45,23 @@ func TestAgrees(t *testing.T) {
 		}
 	}
 }
+
+// TestChange has another server be asked for where the one that leads has acknowledged nothing for long, and edits are
+// sent to it: not at once, not where it was elected since, and not again soon.
+func TestChange(t *testing.T) {
+	w := newWatched()
+	w.leader = "s1"
+	long := time.Now().Add(-lackTime - w.patience - time.Second)
+	for i, one := range []struct {
+		unanswered, late time.Time
+		want             bool
+	}{
+		{time.Time{}, time.Time{}, false}, {time.Now(), time.Now(), false}, {long, long, false}, {long, time.Now(), true},
+		{long, time.Now(), false},
+	} {
+		w.unanswered, w.late = one.unanswered, one.late
+		if why := w.isToChange(); (why != "") != one.want {
+			t.Errorf("%d: another one is asked for: %q", i, why)
+		}
+	}
+}

@@ -145,8 +145,8 @@ func (l *log) watch() {
 		info, err := l.info(ctx)
 		cancel()
 		l.saw(info, err)
-		if err == nil && l.watched.isToChange() {
-			l.stepDown(info.Cluster)
+		if why := l.watched.isToChange(); err == nil && why != "" {
+			l.stepDown(info.Cluster, why)
 		}
 	}
 }
@@ -236,20 +236,28 @@ func (l *log) findOut(server string, lag uint64) {
 	}
 }
 
-// isToChange says whether another server is to lead the stream, since the one that does lacks edits that were read. One
-// that is stopped can't be asked for that: the others agree on another one by themselves.
-func (w *watched) isToChange() bool {
+// isToChange says why another server is to lead the stream, or nothing: the one that does has lacked edits that were
+// read, or acknowledged none, for long. One that is stopped can't be asked for that: the others agree on another one by
+// themselves.
+func (w *watched) isToChange() (why string) {
 	w.mutex.Lock()
 	defer w.mutex.Unlock()
-	is := w.lacks && w.leader != "" && time.Since(w.asked) > askAgain
-	if is {
-		w.asked = time.Now()
+	switch {
+	case w.leader == "" || time.Since(w.asked) < askAgain:
+		return ""
+	case w.lacks:
+		why = "it lacks edits that were read: its store is to be emptied"
+	case w.isStalled() && time.Since(w.unanswered) > lackTime+w.patience:
+		why = "it acknowledges no edit"
+	default:
+		return ""
 	}
-	return is
+	w.asked = time.Now()
+	return why
 }
 
 // stepDown asks the server that leads the stream to let another one do so.
-func (l *log) stepDown(cluster *nats.ClusterInfo) {
+func (l *log) stepDown(cluster *nats.ClusterInfo, why string) {
 	if cluster == nil || len(cluster.Replicas) == 0 {
 		return
 	}
@@ -261,6 +269,6 @@ func (l *log) stepDown(cluster *nats.ClusterInfo) {
 	if err != nil {
 		answer = err.Error()
 	}
-	const told = "who leads the stream lacks edits, and is asked to let another one lead: its store is to be emptied"
-	l.log.Error(told, "server", cluster.Leader, "answer", answer)
+	l.log.Error("the server that leads the stream is asked to let another one lead", "server", cluster.Leader, "why", why,
+		"answer", answer)
 }
