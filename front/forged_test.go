@@ -10,6 +10,7 @@ import (
 	"os/exec"
 	"path/filepath"
 	"regexp"
+	"strconv"
 	"strings"
 	"testing"
 
@@ -28,10 +29,11 @@ type forger struct {
 type forgedRecord struct {
 	file, chain, rest string
 	serial            uint64
+	synced            int
 }
 
 var (
-	recordOf = regexp.MustCompile(`^\{"synced":\d+,"chain":"([0-9a-f]{64})",(.*)$`)
+	recordOf = regexp.MustCompile(`^\{"synced":(\d+),"chain":"([0-9a-f]{64})",(.*)$`)
 	serialOf = regexp.MustCompile(`"serial":(\d+)`)
 )
 
@@ -48,7 +50,8 @@ func readForged(t *testing.T, path string) *forger {
 			if found == nil {
 				t.Fatalf("a record of %s is %s", name, record)
 			}
-			one := forgedRecord{file: name, chain: found[1], rest: found[2]}
+			one := forgedRecord{file: name, chain: found[2], rest: found[3]}
+			one.synced, _ = strconv.Atoi(found[1])
 			if _, err := fmt.Sscan(serialOf.FindStringSubmatch(one.rest)[1], &one.serial); err != nil {
 				t.Fatal(err)
 			}
@@ -129,7 +132,10 @@ func (f *forger) write() {
 			if f.anew {
 				said = chain
 			}
-			content = frame.Append(content, []byte(fmt.Sprintf(`{"synced":%d,"chain":"%s",%s`, len(content), said, one.rest)))
+			if one.synced > len(content) {
+				one.synced = len(content)
+			}
+			content = frame.Append(content, []byte(fmt.Sprintf(`{"synced":%d,"chain":"%s",%s`, one.synced, said, one.rest)))
 			value, _ := hex.DecodeString(chain)
 			sum := sha256.Sum256(append(value, "{"+one.rest...))
 			chain = hex.EncodeToString(sum[:])
