@@ -192,7 +192,7 @@ web/net.go . TestPast s/other, told := s\.otherwise(ctx, asked, n, back)/other, 
 keeper/snapshot.go . TestKeptLonger s/k\.Folder\.First() != first {/k.Folder.First() != first \&\& false {/
 web/net.go . TestForgotten s/len(missing) > 0 {/false {/
 web/net.go . TestUnlearned s/n\.unknown = append(n\.unknown, changed\.Range.*$/_ = e/
-web/past.go . TestThen s/if !then {$/if true {/
+web/past.go . TestThen s/^\tserial, then := ctx\.Value(thenKey{})\.(uint64)$/&; then = false/
 web/edits.go . TestLogPast s/nth == p\.nth/nth == 1/
 web/past.go . TestThen s/at\.Add(time\.Nanosecond)/at.Add(-time.Nanosecond)/
 web/past.go . TestPastRoles s/, \[\]byte(`{"do":"changes","since":0}`)) {/) {/

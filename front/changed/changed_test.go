@@ -171,7 +171,7 @@ func TestDamaged(t *testing.T) {
 		}
 		_ = b.Close()
 	}
-	for at := 0; at < len(content); at += 41 {
+	for at := 0; at < len(content); at += 151 {
 		changed := append([]byte(nil), content...)
 		changed[at] ^= 1 << (at % 8)
 		try(fmt.Sprint("byte ", at), changed)
