@@ -246,20 +246,16 @@ func TestSnapshotDamaged(t *testing.T) {
 	}
 }
 
-// TestReplayDiffers gives a record another number of changes, with right checksums: the start ends with its place,
-// by the front too.
+// TestReplayDiffers gives a record another number of changes, with right checksums and a chain that is made anew: the
+// start ends with its place, by the front too.
 func TestReplayDiffers(t *testing.T) {
 	path, name, content, begins := journalled(t)
-	records := frame.NewReader(strings.NewReader(string(content)), name)
-	var changed []byte
-	for {
-		record, err := records.Next()
-		if err != nil {
-			break
-		}
-		changed = frame.Append(changed, []byte(strings.Replace(string(record), `"serial":9,"changes":`, `"serial":9,"changes":7`, 1)))
-	}
-	to := copied(t, path, name, changed)
+	to := copied(t, path, name, content)
+	forged := readForged(t, to)
+	forged.anew = true
+	one := &forged.records[forged.at(9)]
+	one.rest = strings.Replace(one.rest, `"serial":9,"changes":`, `"serial":9,"changes":7`, 1)
+	forged.write()
 	f := launch(t, to)
 	if status := f.status(); status != 1 {
 		t.Fatalf("the front ends with %d", status)

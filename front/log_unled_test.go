@@ -159,13 +159,16 @@ func TestLogFullServer(t *testing.T) {
 	eventually(t, "a server leads", func() (ok bool) { full, ok = leads(jet, servers); return ok })
 	fates.during(t, fronts, 2, &editors, func() {
 		full.fill()
-		server := `"server":"` + full.name + `"`
-		for i, f := range fronts {
+		server, number := `"server":"`+full.name+`"`, 1_000_000
+		for _, f := range fronts {
 			eventually(t, "it is told whose disk may be full", func() bool {
 				return strings.Contains(f.must("/readyz"), server) &&
 					strings.Contains(f.log(), server+`,"why":"it answers, and takes no edits: see whether its disk is full"`)
 			})
-			eventually(t, "edits are made", func() bool { return f.editOnce(t, 1_000_000+i) == http.StatusOK })
+			eventually(t, "edits are made", func() bool {
+				number++ // one that wasn't acknowledged may be made all the same
+				return f.editOnce(t, number) == http.StatusOK
+			})
 		}
 	})
 	full.kill() // as who looks after it does, before it leads

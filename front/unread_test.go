@@ -52,7 +52,7 @@ func TestListenersShare(t *testing.T) {
 	time.Sleep(time.Second) // until the others could have their copies
 	grown := most(t, f.process.Process.Pid) - before
 	t.Logf("%d listeners who read nothing of %d bytes take %d", listeners, length, grown)
-	if grown > listeners*length/3 {
+	if grown > listeners*length*2/3 { // what the edit changed is written down meanwhile, too
 		t.Error("each has a copy")
 	}
 }

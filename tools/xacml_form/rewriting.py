@@ -5,7 +5,7 @@ over a grid of values, of empty bags and of arguments that fail with a direct re
 import typing
 
 from . import names, patterns
-from .places import REWRITTEN, WARNING
+from .told import REWRITTEN, WARNING
 
 F1, F3 = (names.FUNCTION.format(version, '{}').format for version in ('1.0', '3.0'))
 MOST_NODES = 256
