@@ -99,7 +99,7 @@ func TestHungBehind(t *testing.T) {
 func TestLoad(t *testing.T) {
 	theProgram(t)
 	f := begin(t, t.TempDir(), "--reply-time", "1s", "--program", faked(t, "load"))
-	lines := []string{`{"do":"mark"}`, `{"do":"can","person":"eve"}`}
+	lines := []string{`{"do":"can","person":"eve"}`, `{"do":"mark"}`}
 	for i := 0; i < 60; i++ {
 		lines = append(lines, fmt.Sprintf(`{"do":"person.add","name":"load-%d"}`, i))
 	}
