@@ -13,6 +13,7 @@ MOST_TEXT = 32 * 1024 * 1024
 TAG = re.compile(rb'<[^\s/>]+')
 ATTRIBUTE = re.compile(rb'\s+([^\s=>/]+)\s*=\s*(?:"[^"]*"|\'[^\']*\')')
 
+
 class NotRead(Exception):
     """A file that can't be read as XML, with the place where that shows."""
 
