@@ -185,7 +185,7 @@ func (p pending) wait(ctx context.Context) (keeper.Reply, *problem) {
 	select {
 	case reply := <-p.replies:
 		if reply.Err == nil {
-			if p.call != nil {
+			if p.call != nil && p.server != nil {
 				reply, _ = p.server.fromDisk(ctx, p.call, reply)
 			}
 			if p.keep != nil {
