@@ -252,7 +252,7 @@ func TestReplayDiffers(t *testing.T) {
 	path, name, content, begins := journalled(t)
 	to := copied(t, path, name, content)
 	forged := readForged(t, to)
-	forged.anew = true
+	forged.anew = true // else the chain tells it before
 	one := &forged.records[forged.at(9)]
 	one.rest = strings.Replace(one.rest, `"serial":9,"changes":`, `"serial":9,"changes":7`, 1)
 	forged.write()

@@ -20,7 +20,7 @@ func TestLogMemory(t *testing.T) {
 	t.Setenv(scarce, file)
 	fronts := []*front{
 		replica(t, t.TempDir(), logOf(servers)),
-		replica(t, t.TempDir(), logOf(servers), "--program", faked(t, "short")),
+		replica(t, t.TempDir(), logOf(servers), "--program", faked(t, "short"), "--keep-history", "-1s"),
 	}
 	for _, f := range fronts {
 		f.await()
@@ -114,7 +114,7 @@ func TestLogAstray(t *testing.T) {
 	t.Setenv(scarce, file)
 	fronts := []*front{
 		replica(t, t.TempDir(), logOf(servers), "--check-every", "10"),
-		replica(t, t.TempDir(), logOf(servers), "--check-every", "10", "--program", faked(t, "astray")),
+		replica(t, t.TempDir(), logOf(servers), "--check-every", "10", "--program", faked(t, "astray"), "--keep-history", "-1s"),
 	}
 	for _, f := range fronts {
 		f.await()
