@@ -4,12 +4,18 @@ import re
 
 from .functions import CYCLE, HEAD, IMPL, body_at
 
+# Crates whose bodies stand within their functions, one at a time, until each of them was seen beside its function.
+WITHIN = {
+    *('ent_eval', 'ent_cells', 'ent_table', 'ent_dump', 'ent_report', 'ent_split', 'ent_line', 'ent_program', 'ent_held'),
+    *('ent_profile', 'ent_polform', 'ent_places', 'ent_faults', 'ent_declared', 'ent_together'),
+}
+
 
 def can_stand(functions, name, edit):
     """Whether a copy of a function can take a body: not in a trait or its impl, where no method may be added, and not
     in a cycle of calls, where the copy would call the others and they wouldn't call it. What an edit changes of proofs
     has to be the function's own."""
-    if functions.proof_of(name) != name or '+' in name:
+    if functions.crate.name in WITHIN or functions.proof_of(name) != name or '+' in name:
         return False
     path, head, before = functions.heads[name]
     lines = functions.texts()[str(path)].split('\n')
