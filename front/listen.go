@@ -107,6 +107,7 @@ func (s *secrets) follow(ctx context.Context, again <-chan os.Signal, site *web.
 		case <-again:
 		}
 		s.who.again(site, log)
+		s.checksAgain(site, log)
 		if s.certificate == "" {
 			log.Info("there are no certificates to be read again")
 		} else if err := s.read(); err != nil {

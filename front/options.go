@@ -31,6 +31,7 @@ type options struct {
 	clients          string
 	hosts            list
 	authzen          string
+	check            string
 	decisions        string
 	decisionsSize    int64
 	byHeader         string
@@ -149,6 +150,8 @@ func (o *options) name(set *flag.FlagSet) {
 		"else localhost and the address that it listens at")
 	set.StringVar(&o.authzen, "authzen", "", "a `file` that says what AuthZEN's types and properties are; with it AuthZEN's "+
 		"paths are answered")
+	set.StringVar(&o.check, "check", "", "a `file` that says how a proxy's request becomes one of XACML; with it proxies are "+
+		"answered at /check")
 	set.StringVar(&o.decisions, "decisions", "", "a `folder` into which each decision is written, which is made if it isn't there")
 	set.Int64Var(&o.decisionsSize, "decisions-size", 64<<20, "how many bytes a file of decisions has before another begins")
 	set.StringVar(&o.byHeader, "by-header", "", "the `field` of a head that says who asks, if a server before the front sets it")

@@ -74,6 +74,10 @@ func serve(ctx context.Context, again <-chan os.Signal, o options, log *logs.Log
 		return err
 	}
 	defer book.Close()
+	checked, err := o.checking()
+	if err != nil {
+		return err
+	}
 	who, err := o.who(log)
 	if err != nil {
 		return err
@@ -84,7 +88,7 @@ func serve(ctx context.Context, again <-chan os.Signal, o options, log *logs.Log
 		return err
 	}
 	site := web.New(web.Options{
-		Keeper: k, Meter: meter, Log: log, Authzen: mapping, Decisions: book,
+		Keeper: k, Meter: meter, Log: log, Authzen: mapping, Check: checked, Decisions: book,
 		Hosts:    web.NewHosts(o.hosts, o.listen, listener.Addr()),
 		ByHeader: o.byHeader, Trusted: o.trusted,
 		SessionIdle: o.sessionIdle, BodyTime: o.bodyTime, StreamIdle: o.streamIdle, WriteTime: o.writeTime,

@@ -117,6 +117,19 @@ func (g *Gate) Of(head http.Header, way Way) (*Identity, error) {
 	return nil, ErrNobody
 }
 
+// ErrIssuer says that no issuer's tokens are taken.
+var ErrIssuer = errors.New("no issuer of tokens is known")
+
+// Claims are those of a token that the issuer signed, whoever it names: he need not be known here.
+func (g *Gate) Claims(token string) (map[string][]string, error) {
+	now := g.now.Load()
+	if now.issuer == nil {
+		return nil, ErrIssuer
+	}
+	claims, _, err := now.issuer.verify(token, time.Now())
+	return claims, err
+}
+
 // byToken is who has a token: one that is known, or one of the issuer.
 func (k *known) byToken(field string) (*Identity, error) {
 	scheme, token, ok := strings.Cut(field, " ")

@@ -60,6 +60,10 @@ var operations = map[string]operation{
 	"GET /snapshot/keys": {
 		does: "Gives what is remembered of bodies with keys.", gives: []string{snapshotType},
 	},
+	"GET /check": {
+		does: "Says a proxy whether a request is to be passed on, which the fields that a file names describe.",
+		done: http.StatusNoContent,
+	},
 	"GET /metrics":                           {does: "Tells counts for Prometheus.", gives: []string{"text/plain"}},
 	"POST /access/v1/evaluation":             taking("Answers an evaluation of AuthZEN.", "decision"),
 	"POST /access/v1/evaluations":            taking("Answers several evaluations of AuthZEN, or one.", ""),

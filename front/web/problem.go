@@ -141,6 +141,9 @@ func (p problem) send(w http.ResponseWriter) {
 		sendAuthzenProblem(w, &p)
 		return
 	}
+	if a, ok := w.(*answered); ok && a.check {
+		p = p.reasoned(w)
+	}
 	p.head(w, problemType)
 	// Who has gone isn't told.
 	_, _ = w.Write(append(p.line(), '\n'))

@@ -54,6 +54,9 @@ func (s *Server) routes() []route {
 	if s.Authzen != nil {
 		all = append(all, s.authzenRoutes()...)
 	}
+	if s.Check != nil {
+		all = append(all, s.checkRoutes()...)
+	}
 	return all
 }
 

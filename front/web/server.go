@@ -12,6 +12,7 @@ import (
 
 	"review-front/access"
 	"review-front/authzen"
+	"review-front/check"
 	"review-front/decisions"
 	"review-front/keeper"
 	"review-front/logs"
@@ -27,6 +28,7 @@ type Options struct {
 	Log         *logs.Log
 	Decisions   *decisions.Book  // where decisions are written down; may be nil
 	Authzen     *authzen.Mapping // what AuthZEN's types are; nil: its paths aren't served
+	Check       *check.File      // how proxies ask about requests; nil: they don't
 	Hosts       *Hosts           // as which it is asked; else this machine
 	ByHeader    string           // the head's field that says who asks, set by what stands before the front
 	Trusted     []string         // names in certificates of clients who are believed in that; without certificates all are
@@ -137,6 +139,7 @@ type answered struct {
 	unread  bool         // the body wasn't read to its end
 	last    *atomic.Bool // connections aren't kept
 	authzen bool         // what is wrong is told by AuthZEN's rules
+	check   bool         // what is wrong is told a proxy, by a reason
 }
 
 // begin says by which status the answer begins. A connection whose body wasn't read isn't kept: what is left of it
@@ -214,6 +217,7 @@ func (s *Server) serve(w http.ResponseWriter, r *http.Request) {
 		return
 	}
 	s.asAuthzen(a, r)
+	s.asCheck(a, r)
 	name := s.answer(a, r)
 	a.end()
 	a.allow() // for the end of the answer
@@ -236,6 +240,10 @@ func (s *Server) answer(w *answered, r *http.Request) string {
 	if r.URL.Path == "/authorize" {
 		s.authorize(w, r)
 		return "/authorize"
+	}
+	if s.asksCheck(r) {
+		s.check(w, r)
+		return check.Path
 	}
 	if s.Hosts.elsewhere(r) {
 		problem{Title: "from another site", Status: http.StatusForbidden, Detail: "a page of another site asks"}.send(w)
