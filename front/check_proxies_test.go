@@ -181,6 +181,24 @@ func byCaddy(t testing.TB, front, behind string) *proxy {
 	return begunProxy(t, folder, port, program, "run", "--adapter", "caddyfile", "--config", path)
 }
 
+// byHAProxy has HAProxy ask a front, by its Lua.
+func byHAProxy(t testing.TB, front, behind string) *proxy {
+	t.Helper()
+	program, folder, port := proxyProgram(t, "haproxy"), t.TempDir(), freePort(t)
+	pairs := []string{
+		"lua-load check.lua", "lua-load " + filepath.Join(folder, "check.lua"), "127.0.0.1:8000", "127.0.0.1:" + port,
+		"127.0.0.1:8080", front, "127.0.0.1:9000", behind, "%[http_auth_user]", "ann", "http-request auth ", "# ",
+	}
+	for _, name := range []string{"check.lua", "haproxy.cfg"} {
+		content, err := os.ReadFile(filepath.Join("..", "examples", "proxies", name))
+		if err != nil {
+			t.Fatal(err)
+		}
+		writtenFor(t, folder, name, string(content), pairs...)
+	}
+	return begunProxy(t, folder, port, program, "-db", "-f", filepath.Join(folder, "haproxy.cfg"))
+}
+
 // send sends a head as it is written, and gives the status, or 0 where there is none, and the head of the answer.
 func (p *proxy) send(method, target string, fields ...string) (int, http.Header) {
 	p.t.Helper()
@@ -208,7 +226,9 @@ func (p *proxy) send(method, target string, fields ...string) (int, http.Header)
 func TestProxies(t *testing.T) {
 	f := begin(t, t.TempDir(), "--check", checkFile(t, checked))
 	f.accept(checkedState()...)
-	for name, begun := range map[string]func(t testing.TB, front, behind string) *proxy{"nginx": byNginx, "caddy": byCaddy} {
+	for name, begun := range map[string]func(t testing.TB, front, behind string) *proxy{
+		"nginx": byNginx, "caddy": byCaddy, "haproxy": byHAProxy,
+	} {
 		t.Run(name, func(t *testing.T) {
 			u := newUpstream(t)
 			p := begun(t, f.address, u.listener.Addr().String())
@@ -232,7 +252,7 @@ func (p *proxy) plain(u *upstream) {
 		{"GET", "/nothing", 403, ""},
 	} {
 		trick := fmt.Sprint("plain ", i)
-		status, head := p.send(one.method, one.target, "X-Trick", trick, "Content-Length", "0", "X-Level", "0")
+		status, head := p.send(one.method, one.target, "X-Trick", trick, "Content-Length", "0", "Privacy-Record", "0")
 		saw := u.saw(trick)
 		if status != one.status || (len(saw) > 0) != (status == 200) {
 			p.t.Errorf("%s %s is answered %d %v, and behind it came %q", one.method, one.target, status, head, saw)
@@ -241,7 +261,7 @@ func (p *proxy) plain(u *upstream) {
 		if len(saw) > 0 && saw[0] != one.method+" "+one.target+" HTTP/1.1" && saw[0] != one.method+" "+one.target+" HTTP/1.0" {
 			p.t.Errorf("%s %s is passed on as %s", one.method, one.target, saw[0])
 		}
-		if len(saw) > 0 && fieldOf(saw, "X-Level") != one.level {
+		if len(saw) > 0 && fieldOf(saw, "Privacy-Record") != one.level {
 			p.t.Errorf("%s is passed on with %q", one.target, saw)
 		}
 	}

@@ -23,7 +23,7 @@ const checked = `{
 		{"path": "/told/{id}", "resource": "told"},
 		{"path": "/shredded/{id}", "resource": "shredded"}
 	],
-	"obligations": {"log": {"header": "X-Duty", "values": {"level": "X-Level"}}}
+	"obligations": {"log": {"header": "X-Duty", "values": {"level": "Privacy-Record"}}}
 }`
 
 // resourceCategory is that of resources.
@@ -119,7 +119,7 @@ func TestCheck(t *testing.T) {
 		{"GET", "/public/a", "", 401, "nothing says who asks", ""},
 	} {
 		got := f.checks(one.method, one.uri, "X-User", one.user)
-		if got.StatusCode != one.status || got.Header.Get("Reason") != one.reason || got.Header.Get("X-Level") != one.level {
+		if got.StatusCode != one.status || got.Header.Get("Reason") != one.reason || got.Header.Get("Privacy-Record") != one.level {
 			t.Errorf("%v is answered %d %v", one, got.StatusCode, got.Header)
 		}
 		if got.Header.Get("Cache-Control") != "no-store" {
@@ -144,6 +144,35 @@ func TestCheck(t *testing.T) {
 		if got := f.checks("GET", "/shredded/7", "X-User", "ann").StatusCode; got != []int{403, 204}[i] {
 			t.Errorf("behind change %d it is answered %d", i, got)
 		}
+	}
+}
+
+// TestCheckClinic asks about each record of the clinic as the example's file has it, and sees that what is passed on is
+// what the table permits, and that the one obligation is handed over.
+func TestCheckClinic(t *testing.T) {
+	f := begin(t, t.TempDir(), "--check", filepath.Join("..", "examples", "proxies", "check.json"))
+	f.accept(clinic(t)...)
+	asked := map[string][2]string{"read": {"GET", ""}, "write": {"PUT", ""}, "discharge": {"DELETE", ""}, "break-glass": {"GET", "/emergency"}}
+	permits, handed := 0, 0
+	for _, one := range f.table() {
+		how, there := asked[one.Action]
+		patient := strings.TrimPrefix(one.Resource, "record-")
+		if !there || patient == one.Resource {
+			continue
+		}
+		got := f.checks(how[0], "/records/"+patient+how[1], "X-User", one.Person)
+		if (got.StatusCode == http.StatusNoContent) != (one.Decision == "Permit") {
+			t.Errorf("%v is answered %d %v", one, got.StatusCode, got.Header)
+		}
+		if got.StatusCode == http.StatusNoContent {
+			permits++
+		}
+		if got.Header.Get("Privacy-Who") == one.Person && got.Header.Get("Privacy-Record") == one.Resource {
+			handed++
+		}
+	}
+	if permits == 0 || handed == 0 {
+		t.Errorf("%d requests are passed on, of which %d have the obligation", permits, handed)
 	}
 }
 
