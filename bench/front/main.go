@@ -6,7 +6,8 @@
 // each of which waits for its answer. Edits of 16 clients, and how many came to the disk together. The start from
 // 100,000 edits, with a snapshot and without. Asks while a snapshot is made, and between. Asks beside edits of a policy
 // on which a large table rests, without askers and with one and three. Only where it is named (`log`), and nats-server is
-// there: edits and asks over 1, 2 and 4 fronts of a stream that three servers keep.
+// there: edits and asks over 1, 2 and 4 fronts of a stream that three servers keep; and (`proxies`), where nginx is,
+// requests through it, alone and where it asks the front.
 package main
 
 import (
