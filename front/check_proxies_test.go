@@ -222,18 +222,22 @@ func (p *proxy) send(method, target string, fields ...string) (int, http.Header)
 }
 
 // TestProxies asks through real proxies: what may be is passed on, what mayn't isn't, and obligations reach the server
-// behind.
+// behind. While the front is away nothing is passed on.
 func TestProxies(t *testing.T) {
-	f := begin(t, t.TempDir(), "--check", checkFile(t, checked))
-	f.accept(checkedState()...)
 	for name, begun := range map[string]func(t testing.TB, front, behind string) *proxy{
 		"nginx": byNginx, "caddy": byCaddy, "haproxy": byHAProxy,
 	} {
 		t.Run(name, func(t *testing.T) {
-			u := newUpstream(t)
+			f, u := begin(t, t.TempDir(), "--check", checkFile(t, checked)), newUpstream(t)
+			f.accept(checkedState()...)
 			p := begun(t, f.address, u.listener.Addr().String())
 			p.plain(u)
 			p.tricked(u, tricks())
+			f.kill()
+			status, _ := p.send("GET", "/public/a", "X-Trick", "unanswered")
+			if saw := u.saw("unanswered"); status == http.StatusOK || len(saw) > 0 {
+				t.Errorf("while the front is away %q came through, by %d", saw, status)
+			}
 		})
 	}
 }

@@ -68,6 +68,10 @@ func tricks() []trick {
 			trick{"GET", "/accounts/2", []string{name, "/public/a", name, "GET"}},
 			trick{"POST", "/public/a", []string{name, "GET"}})
 	}
+	for _, name := range []string{"X-User", "X-Forwarded-Uri", "X-Forwarded-Method", "Authorization", "Privacy-Record"} {
+		all = append(all, trick{"GET", "/accounts/2", []string{"Connection", "close, " + name}},
+			trick{"GET", "/public/a", []string{"Connection", "close, " + name, name, "/public/a"}})
+	}
 	for _, query := range []string{"_method=DELETE", "a=b&_method=DELETE", "a;_method=PUT", "%5fmethod=PUT", "_METHOD=PUT", "_method"} {
 		all = append(all, trick{"GET", "/public/a?" + query, nil}, trick{"GET", "/accounts/1?" + query, nil})
 	}
