@@ -262,7 +262,7 @@ func (p *proxy) plain(u *upstream) {
 			p.t.Errorf("%s %s is answered %d %v, and behind it came %q", one.method, one.target, status, head, saw)
 			continue
 		}
-		if len(saw) > 0 && saw[0] != one.method+" "+one.target+" HTTP/1.1" && saw[0] != one.method+" "+one.target+" HTTP/1.0" {
+		if len(saw) > 0 && !strings.HasPrefix(saw[0], one.method+" "+one.target+" HTTP/1.") {
 			p.t.Errorf("%s %s is passed on as %s", one.method, one.target, saw[0])
 		}
 		if len(saw) > 0 && fieldOf(saw, "Privacy-Record") != one.level {

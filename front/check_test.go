@@ -119,15 +119,17 @@ func TestCheck(t *testing.T) {
 		{"GET", "/public/a", "", 401, "nothing says who asks", ""},
 	} {
 		got := f.checks(one.method, one.uri, "X-User", one.user)
-		if got.StatusCode != one.status || got.Header.Get("Reason") != one.reason || got.Header.Get("Privacy-Record") != one.level {
+		if got.StatusCode != one.status || got.Header.Get("Reason") != one.reason ||
+			got.Header.Get("Privacy-Record") != one.level {
 			t.Errorf("%v is answered %d %v", one, got.StatusCode, got.Header)
 		}
 		if got.Header.Get("Cache-Control") != "no-store" {
 			t.Errorf("%v may be kept: %v", one, got.Header)
 		}
 	}
-	if got := f.checks("GET", "/public/a", "X-User", "ann", "Sec-Fetch-Site", "cross-site", "Origin", "https://x"); got.StatusCode != 204 {
-		t.Errorf("a link of another site leads to %d %v", got.StatusCode, got.Header)
+	link := f.checks("GET", "/public/a", "X-User", "ann", "Sec-Fetch-Site", "cross-site", "Origin", "https://x")
+	if link.StatusCode != http.StatusNoContent {
+		t.Errorf("a link of another site leads to %d %v", link.StatusCode, link.Header)
 	}
 	if status, _ := f.post("/check", ""); status != http.StatusMethodNotAllowed {
 		t.Errorf("POST is answered %d", status)
@@ -152,7 +154,9 @@ func TestCheck(t *testing.T) {
 func TestCheckClinic(t *testing.T) {
 	f := begin(t, t.TempDir(), "--check", filepath.Join("..", "examples", "proxies", "check.json"))
 	f.accept(clinic(t)...)
-	asked := map[string][2]string{"read": {"GET", ""}, "write": {"PUT", ""}, "discharge": {"DELETE", ""}, "break-glass": {"GET", "/emergency"}}
+	asked := map[string][2]string{
+		"read": {"GET", ""}, "write": {"PUT", ""}, "discharge": {"DELETE", ""}, "break-glass": {"GET", "/emergency"},
+	}
 	permits, handed := 0, 0
 	for _, one := range f.table() {
 		how, there := asked[one.Action]
@@ -176,8 +180,8 @@ func TestCheckClinic(t *testing.T) {
 	}
 }
 
-// TestCheckTokens has the token of an issuer say who asks: whoever has none, or one of somebody else's, gets 401 and how
-// he may show who he is; who has no role may not ask.
+// TestCheckTokens has the token of an issuer say who asks: whoever has none, or one of somebody else's, gets 401 and
+// how he may show who he is; who has no role may not ask.
 func TestCheckTokens(t *testing.T) {
 	s, folder := newSigner(t), t.TempDir()
 	file := checkFile(t, strings.Replace(checked, `{"header": "X-User"}`, `{"token": "Authorization"}`, 1))

@@ -40,7 +40,8 @@ func tricks() []trick {
 		"/admin%09/x", "/admin\\x", "/admin%5cx", "/admin%2fx", "\\admin/x", "/admin%0d%0a/x", "/admin%E2%80%8B/x",
 		"/accounts/1;/../2", "/accounts/1%2f..%2f2", "/accounts/%32", "/accounts/2%20", "/accounts/%202", "/accounts/02",
 		"/accounts/2/", "/accounts/2.", "/accounts/2;x", "/accounts/2;/1", "/accounts/2.json", "/accounts/+2",
-		"/accounts//2", "/ACCOUNTS/2", "/Accounts/2", "/accounts/2%00", "/accounts/2%001", "/accounts/2%0a", "/accounts/1%0a2",
+		"/accounts//2", "/ACCOUNTS/2", "/Accounts/2", "/accounts/2%00", "/accounts/2%001", "/accounts/2%0a",
+		"/accounts/1%0a2",
 		"/accounts/2?id=1", "/accounts/2#/../1", "/accounts/2%23/../1", "/accounts/2%3f/../1", "/accounts/2/../1",
 		"/accounts/2/..;/1", "/accounts/1,2", "/accounts/%EF%BC%92", "/accounts\\2", "/accounts/1\\..\\2", "*", "admin/x",
 		"http://app.example/admin/x", "http://app.example//admin/x", "http://app.example/public/../admin/x",
@@ -55,8 +56,8 @@ func tricks() []trick {
 		all = append(all, trick{method, "/public/a", nil}, trick{method, "/accounts/2", nil})
 	}
 	for _, name := range []string{
-		"X-HTTP-Method-Override", "X-HTTP-Method", "X-Method-Override", "x_http_method_override", "X_HTTP-Method", "X-HTTP_METHOD",
-		"X-Original-URL", "X-Rewrite-URL", "X_Original_URL", "x-rewrite_url", "X-User", "X_User", "x_user",
+		"X-HTTP-Method-Override", "X-HTTP-Method", "X-Method-Override", "x_http_method_override", "X_HTTP-Method",
+		"X-HTTP_METHOD", "X-Original-URL", "X-Rewrite-URL", "X_Original_URL", "x-rewrite_url", "X-User", "X_User", "x_user",
 		"X-Forwarded-Method", "X-Forwarded-Uri", "X_Forwarded_Uri", "X-Forwarded_Method",
 	} {
 		value := "DELETE"
@@ -72,7 +73,9 @@ func tricks() []trick {
 		all = append(all, trick{"GET", "/accounts/2", []string{"Connection", "close, " + name}},
 			trick{"GET", "/public/a", []string{"Connection", "close, " + name, name, "/public/a"}})
 	}
-	for _, query := range []string{"_method=DELETE", "a=b&_method=DELETE", "a;_method=PUT", "%5fmethod=PUT", "_METHOD=PUT", "_method"} {
+	for _, query := range []string{
+		"_method=DELETE", "a=b&_method=DELETE", "a;_method=PUT", "%5fmethod=PUT", "_METHOD=PUT", "_method",
+	} {
 		all = append(all, trick{"GET", "/public/a?" + query, nil}, trick{"GET", "/accounts/1?" + query, nil})
 	}
 	return all
@@ -81,7 +84,8 @@ func tricks() []trick {
 // allowed are the paths that ann may read.
 var allowedPath = regexp.MustCompile(`^/(public/[^/]+(/[^/]+)*|accounts/1(/[^/]+)*)$`)
 
-// evil says why what a server saw isn't what ann may do, in any way in which a server reads it; nothing where it is in all.
+// evil says why what a server saw isn't what ann may do, in any way in which a server reads it; nothing where it is in
+// all.
 func evil(lines []string) string {
 	words := strings.Split(lines[0], " ")
 	if len(words) != 3 || words[0] != "GET" && words[0] != "HEAD" {
@@ -133,8 +137,8 @@ func readings(target string) []string {
 	return all
 }
 
-// tricked sends tricks, and looks at what came behind: nothing of which the one who sent it isn't allowed, whichever way
-// it is read.
+// tricked sends tricks, and looks at what came behind: nothing that the one who sent it isn't allowed, whichever way it
+// is read.
 func (p *proxy) tricked(u *upstream, all []trick) {
 	p.t.Helper()
 	passed, count := 0, map[int]int{}

@@ -76,7 +76,8 @@ func (r run) passedBy(askers string) error {
 	if err != nil {
 		return err
 	}
-	s, err := r.start(filepath.Join(r.folder, "checked-"+askers), "--check", "examples/proxies/check.json", "--askers", askers)
+	folder := filepath.Join(r.folder, "checked-"+askers)
+	s, err := r.start(folder, "--check", "examples/proxies/check.json", "--askers", askers)
 	if err != nil {
 		return err
 	}
@@ -87,7 +88,8 @@ func (r run) passedBy(askers string) error {
 	return r.passed("nginx that asks, "+askers+" askers", passing)
 }
 
-// passed sends requests over connections for a while, each of which waits for its answer, and prints how long they took.
+// passed sends requests over connections for a while, each of which waits for its answer, and prints how long they
+// took.
 func (r run) passed(what, address string) error {
 	var all sync.WaitGroup
 	times := make([][]time.Duration, proxied)

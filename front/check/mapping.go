@@ -1,5 +1,5 @@
-// Package check reads what a proxy asks about a request of somebody before it passes that on: a file says how it becomes
-// a request of XACML, and what becomes of obligations.
+// Package check reads what a proxy asks about a request of somebody before it passes that on: a file says how it
+// becomes a request of XACML, and what becomes of obligations.
 package check
 
 import (

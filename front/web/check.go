@@ -81,8 +81,8 @@ func (s *Server) asksByFields(w *answered, r *http.Request) bool {
 	return true
 }
 
-// reasoned is a problem as a proxy is told it: what is wrong with a request that the program doesn't take is a reason not
-// to pass it on.
+// reasoned is a problem as a proxy is told it: what is wrong with a request that the program doesn't take is a reason
+// not to pass it on.
 func (p problem) reasoned(w http.ResponseWriter) problem {
 	switch p.Status {
 	case http.StatusBadRequest, http.StatusConflict, http.StatusRequestEntityTooLarge, http.StatusUnprocessableEntity:
