@@ -150,20 +150,22 @@ func TestCheck(t *testing.T) {
 }
 
 // TestCheckClinic asks about each record of the clinic as the example's file has it, and sees that what is passed on is
-// what the table permits, and that the one obligation is handed over.
+// what the table permits, that the one obligation is handed over, and that each decision is kept.
 func TestCheckClinic(t *testing.T) {
-	f := begin(t, t.TempDir(), "--check", filepath.Join("..", "examples", "proxies", "check.json"))
+	kept := t.TempDir()
+	f := begin(t, t.TempDir(), "--check", filepath.Join("..", "examples", "proxies", "check.json"), "--decisions", kept)
 	f.accept(clinic(t)...)
 	asked := map[string][2]string{
 		"read": {"GET", ""}, "write": {"PUT", ""}, "discharge": {"DELETE", ""}, "break-glass": {"GET", "/emergency"},
 	}
-	permits, handed := 0, 0
+	permits, handed, count := 0, 0, 0
 	for _, one := range f.table() {
 		how, there := asked[one.Action]
 		patient := strings.TrimPrefix(one.Resource, "record-")
 		if !there || patient == one.Resource {
 			continue
 		}
+		count++
 		got := f.checks(how[0], "/records/"+patient+how[1], "X-User", one.Person)
 		if (got.StatusCode == http.StatusNoContent) != (one.Decision == "Permit") {
 			t.Errorf("%v is answered %d %v", one, got.StatusCode, got.Header)
@@ -177,6 +179,15 @@ func TestCheckClinic(t *testing.T) {
 	}
 	if permits == 0 || handed == 0 {
 		t.Errorf("%d requests are passed on, of which %d have the obligation", permits, handed)
+	}
+	f.stop()
+	files, err := filepath.Glob(filepath.Join(kept, "*"))
+	if err != nil || len(files) != 1 {
+		t.Fatal(files, err)
+	}
+	written, err := os.ReadFile(files[0])
+	if got := strings.Count(string(written), `"path":"/check"`); err != nil || got != count {
+		t.Errorf("of %d decisions %d are kept, %v", count, got, err)
 	}
 }
 

@@ -137,6 +137,9 @@ func (p property) give(to *profile.Category, name string, value any) error {
 func (m *Mapping) does(method string, s seen) (action, resource profile.Category, no *Refusal) {
 	if m.fold {
 		for i, part := range s.parts {
+			if doubtful(part) {
+				return action, resource, refused("the path has a sign whose case servers take in several ways")
+			}
 			s.parts[i] = strings.ToLower(part)
 		}
 	}

@@ -181,6 +181,14 @@ func TestCase(t *testing.T) {
 	if got := told(m, "GET", "/PUBLIC/A", "X-User", "Ann"); got != want {
 		t.Error(got)
 	}
+	for uri, doubtful := range map[string]bool{
+		"/public/%C3%A4": false, "/public/%C3%84": true, "/public/%E2%84%AA": true, "/public/%C5%BF": true, "/public/%C4%B1": true,
+	} {
+		got := told(m, "GET", uri, "X-User", "Ann")
+		if got == "Forbidden: the path has a sign whose case servers take in several ways" != doubtful {
+			t.Errorf("%s: %s", uri, got)
+		}
+	}
 }
 
 // TestBehind has the request itself tell what is asked.

@@ -121,6 +121,14 @@ func strange(part string) string {
 	return ""
 }
 
+// doubtful says whether a part has a sign beside those of ASCII that is in upper case, or becomes one of ASCII: which
+// servers take it for the same as another isn't known.
+func doubtful(part string) bool {
+	return strings.IndexFunc(part, func(r rune) bool {
+		return r >= utf8.RuneSelf && (unicode.ToLower(r) != r || unicode.ToUpper(r) < utf8.RuneSelf)
+	}) >= 0
+}
+
 // overridden says that a query names another method than the request has, as some servers take it.
 func overridden(query string) string {
 	for _, pair := range strings.FieldsFunc(query, func(r rune) bool { return r == '&' || r == ';' }) {
