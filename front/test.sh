@@ -27,6 +27,9 @@ if ! strace -o /dev/null true 2>/dev/null; then
 fi
 command -v nats-server >/dev/null && [ -d /usr/share/gocode/src/github.com/nats-io/nats.go ] ||
     echo "front/test.sh: there is no nats-server, or no client of it: tests of a log are passed over"
+for proxy in nginx caddy haproxy; do
+    [ -x "/usr/sbin/$proxy" ] || [ -x "/usr/bin/$proxy" ] || echo "front/test.sh: there is no $proxy: its test is passed over"
+done
 ./build.sh
 ./build.sh go vet ./...
 (cd .. && GO111MODULE=off go vet ./bench/front)
