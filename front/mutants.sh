@@ -21,6 +21,8 @@ cd "$aside/front"
 # of a folder, the time of a start, what listeners take, askers, edits that are made behind a serial or whole, requests
 # that are translated, AuthZEN, kept decisions, who may what, a log of several fronts, what edits changed, earlier states,
 # the chain, and what proxies ask.
+# that are translated, AuthZEN, Kubernetes, kept decisions, who may what, a log of several fronts, what edits changed, earlier states,
+# and the chain.
 grep -e "${2:-}" >"$aside/rows" <<'ROWS'
 folder/writing.go . TestOrder s/^\t\terr = f\.sync(f\.current)$/\t\terr = nil/
 folder/writing.go . TestOrder s/^\t\terr = file\.Sync()$/\t\terr = nil/
@@ -131,6 +133,12 @@ places/places.go . TestAuthzenRules s/if f\.Place == "" {/if false {/
 web/asks.go . TestOneState s/= s\.Keeper\.DecideAll(ctx, lines)$/= []keeper.Reply{}; for _, l := range lines { replies = append(replies, s.Keeper.Decide(ctx, l)) }/
 web/listing.go . TestAuthzenShapes s/^\t\tl\.change(edits)$//
 authzen/search.go . TestAuthzenShapes s/if string(read\[:sha256\.Size\]) != string(s\.identity\[:\]) {/if false {/
+kubernetes/answer.go kubernetes TestAnswer s/ \&\& len(obligations) > 0:/ \&\& false:/
+kubernetes/review.go kubernetes TestUnclear s/if strings\.ContainsAny(told\[key\], marks) {/if false {/
+kubernetes/review.go kubernetes TestUnclear s/if !strings\.HasPrefix(path, "\/") {/if false {/
+web/kubernetes.go . TestKubernetes s/if errors\.As(err, &unclear) {/if errors.As(err, \&unclear) \&\& false {/
+web/kubernetes.go . TestKubernetes s/told\.Refused == noRequest {/told.Refused == noRequest \&\& false {/
+web/kubernetes.go . TestKubernetesRoles s/^\ts\.keepAll(r, all)$//
 decisions/decisions.go decisions TestFiles s/|| isOther) {/|| false \&\& isOther) {/
 web/server.go . TestTraced s/trace != "" && a\.status/false \&\& a.status/
 keeper/compared.go keeper TestWrongTells s/^\t\t\ts\.tell(doubted).*$//

@@ -32,6 +32,7 @@ var sent = map[string][2]string{
 	"POST /authorize":                        {"/authorize", `{"Request":{}}`},
 	"POST /lines":                            {"/lines", `{"do":"counts"}`},
 	"POST /commands/{command}":               {"/commands/counts", ""},
+	"POST /k8s/authorize":                    {"/k8s/authorize", podsReview},
 	"POST /sessions":                         {"/sessions", ""},
 	"POST /sessions/{session}/lines":         {"{session}/lines", `{"do":"counts"}`},
 	"POST /sessions/{session}/mark":          {"{session}/mark", ""},

@@ -15,7 +15,7 @@ for needed in go cc; do
 done
 [ -d /usr/share/gocode/src/github.com/prometheus/client_golang ] ||
     { echo 'front/test.sh: there is no golang-github-prometheus-client-golang-dev'; exit 3; }
-unformed=$(find . ../bench/front -path ./out -prune -o -name '*.go' -print | xargs gofmt -l)
+unformed=$(find . ../bench/front ../clients/go -path ./out -prune -o -name '*.go' -print | xargs gofmt -l)
 if [ -n "$unformed" ]; then
     echo "gofmt would change $unformed"
     exit 1

@@ -27,7 +27,7 @@ var needs = map[string]string{
 // forKnown are the paths that whoever is known may ask for, as those whose lines are looked at one by one.
 var forKnown = map[string]bool{
 	"/": true, "/openapi.json": true, "/lines": true, "/sessions/{session}/lines": true, "/commands/{command}": true,
-	"/access/v1/evaluation": true, "/access/v1/evaluations": true,
+	"/access/v1/evaluation": true, "/access/v1/evaluations": true, kubernetesPath: true,
 }
 
 // forAll are the paths that whoever reaches the front may ask for.

@@ -38,6 +38,7 @@ var operations = map[string]operation{
 		query: []string{"dry", "whole", "strict", "count", "words"},
 	},
 	"POST /commands/{command}": taking("Sends one command.", ""),
+	"POST " + kubernetesPath:   taking("Answers a SubjectAccessReview of Kubernetes.", "status"),
 	"GET /edits": {
 		does:  "Tells edits: who made each, when, its line, and what it changed.",
 		gives: []string{jsonType}, has: "edits", keys: editsKeys,

@@ -28,6 +28,7 @@ func (s *Server) routes() []route {
 		{http.MethodGet, "/openapi.json", s.openapi},
 		{http.MethodPost, "/lines", s.freeLines},
 		{http.MethodPost, "/commands/{command}", s.command},
+		{http.MethodPost, kubernetesPath, s.kubernetes},
 		{http.MethodGet, "/notices", s.notices},
 		{http.MethodGet, "/edits", s.edits},
 		{http.MethodGet, "/head", s.head},

@@ -168,7 +168,7 @@ def programs(root, version, epoch, built):
 def pages(root):
     """The pages, the examples, and the tools that users run."""
     docs = root / 'usr/share/doc/review'
-    listed = output('git', 'ls-files', '*.md', 'docs', 'examples').split('\n')[:-1]
+    listed = output('git', 'ls-files', '*.md', 'docs', 'examples', 'clients').split('\n')[:-1]
     for name in listed:
         copied(ROOT / name, docs / name)
     for name in TOOLS:

@@ -1,0 +1,3 @@
+module review-client
+
+go 1.19
