@@ -57,11 +57,11 @@ func TestTraefik(t *testing.T) {
 // prefix, and as its host.
 func TestEnvoy(t *testing.T) {
 	file := checkFile(t, strings.Replace(checked,
-		`"request": {"method": "X-Forwarded-Method", "uri": "X-Forwarded-Uri"},`, "", 1))
+		`"request": {"method": "X-Forwarded-Method", "uri": "X-Forwarded-Uri"},`, `"permit": 200,`, 1))
 	f := begin(t, t.TempDir(), "--check", file, "--host", "app.example", "--host", "127.0.0.1")
 	f.accept(checkedState()...)
 	for asked, want := range map[string]int{
-		"GET /check/public/a?b=c": 204, "HEAD /check/accounts/1/x": 204, "DELETE /check/public/a": 403,
+		"GET /check/public/a?b=c": 200, "HEAD /check/accounts/1/x": 200, "DELETE /check/public/a": 403,
 		"PROPFIND /check/public/a": 403, "GET /check/accounts/2": 403, "GET /check//public/a": 403,
 		"GET /check/public/%2e%2e/admin/x": 403, "GET /check/public/%zz": 400, "GET /check/public/..;/a": 403,
 		"GET /check": 403, "GET /checks": 404,

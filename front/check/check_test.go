@@ -281,6 +281,7 @@ func TestFaults(t *testing.T) {
 	for _, one := range [][3]string{
 		{`"request"`, `"requests"`, "/requests: the key requests isn't known here"},
 		{`"subject"`, `"case": "any", "subject"`, "/case: it is exact or same"},
+		{`"subject"`, `"permit": 201, "subject"`, "/permit: it is 200 or 204"},
 		{`"X-Uri"}`, `"X-Uri", "uri": "X-Uri"}`, `line 2: the key "uri" stands twice`},
 		{`"X-Uri"}`, `"X-Uri"`, "line "},
 		{`"X-Uri"}`, `"X-Method"}`, "a field has two meanings"},

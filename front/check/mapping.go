@@ -20,6 +20,7 @@ import (
 // Mapping is what a file says.
 type Mapping struct {
 	method, uri string // the fields that tell what was asked; nothing: the request itself does
+	permit      int    // the status of what is to be passed on
 	fold        bool   // the server behind takes upper and lower case for the same
 	subject     subject
 	actions     map[string]string
@@ -96,14 +97,14 @@ func (m *Mapping) Verifies() bool { return m.subject.token != "" }
 func Read(content []byte, folder string) (*Mapping, error) {
 	root, err := parsed(content)
 	if err == nil {
-		err = root.Only("actions", "case", "obligations", "paths", "request", "subject")
+		err = root.Only("actions", "case", "obligations", "paths", "permit", "request", "subject")
 	}
 	if err != nil {
 		return nil, err
 	}
 	m := &Mapping{actions: usualActions}
 	steps := []func(places.Node) error{
-		m.readRequest, m.readCase, func(n places.Node) error { return m.subject.read(n, folder) },
+		m.readRequest, m.readPermit, m.readCase, func(n places.Node) error { return m.subject.read(n, folder) },
 		func(n places.Node) error { return readActions(n, &m.actions) }, m.readPaths, m.readObligations,
 	}
 	for _, step := range steps {
@@ -188,6 +189,22 @@ func (m *Mapping) readRequest(root places.Node) (err error) {
 		err = at.Fault("method and uri name a field each")
 	}
 	return err
+}
+
+// readPermit reads the status of what is to be passed on: some proxies take 200 alone.
+func (m *Mapping) readPermit(root places.Node) error {
+	m.permit = http.StatusNoContent
+	at, there := root.Child("permit")
+	switch at.Value {
+	case json.Number("200"):
+		m.permit = http.StatusOK
+	case json.Number("204"):
+	default:
+		if there {
+			return at.Fault("it is 200 or 204")
+		}
+	}
+	return nil
 }
 
 // readCase reads whether upper and lower case are the same.

@@ -11,7 +11,7 @@ import (
 
 // Outcome is what a proxy is answered.
 type Outcome struct {
-	Status int // 204 or 403
+	Status int // 204, or what the file names in its place, or 403
 	Reason string
 	Fields map[string]string // those that hand obligations over
 }
@@ -45,7 +45,7 @@ func (m *Mapping) Outcome(response []byte) Outcome {
 	told := Outcome{Status: http.StatusForbidden, Reason: one.Decision, Fields: fields}
 	switch {
 	case one.Decision == "Permit" && unknown == "":
-		told.Status = http.StatusNoContent
+		told.Status = m.permit
 	case one.Decision == "Permit":
 		told.Reason, told.Fields = unknown, nil
 	case one.Decision == "Indeterminate":

@@ -60,11 +60,11 @@ func (s *Server) check(w *answered, r *http.Request) {
 	for name, value := range outcome.Fields {
 		w.Header().Set(name, value)
 	}
-	if outcome.Status != http.StatusNoContent {
+	if outcome.Status == http.StatusForbidden {
 		problem{Title: "not allowed", Status: outcome.Status, Detail: outcome.Reason}.send(w)
 		return
 	}
-	w.WriteHeader(http.StatusNoContent)
+	w.WriteHeader(outcome.Status)
 }
 
 // asksByFields sees that a proxy asks at the one path, by a method that reads, where fields tell what is asked.
