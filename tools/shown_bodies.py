@@ -26,7 +26,7 @@ import os
 import pathlib
 import sys
 
-from wrong import edits, shown, shown_program, shown_source
+from wrong import edits, shown, shown_program
 
 TOP = pathlib.Path(__file__).resolve().parents[1]
 

@@ -1,5 +1,5 @@
 """Decisions of policies that were rewritten beside what a reading of the standard says of them."""
-from . import names, places, policies
+from . import places, policies
 from .driver import SUBJECT, literal, policy
 
 FAILS = 'Indeterminate'

@@ -179,9 +179,9 @@ class Reader:
 
     def literal(self):
         """The next character that stands for itself, if no quantifier is behind it."""
-        one, at = self.take(), self.place
+        one = self.take()
         if one == '\\':
-            one, at = ESCAPED.get(self.take()), self.place
+            one = ESCAPED.get(self.take())
         elif one in SPECIAL:
             one = None
         return one if one and (not self.next() or self.next() not in '?*+{') else None

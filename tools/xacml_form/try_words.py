@@ -5,7 +5,7 @@ import sys
 
 from . import bringing, names, styles
 from .driver import F1, XS, apply, bag, literal, single
-from .try_told import FIRST, Folder, a_rule, a_set, condition, is_told, one_rule, reference, rules
+from .try_told import FIRST, Folder, a_rule, a_set, is_told, one_rule, reference, rules
 
 F3 = names.FUNCTION.format('3.0', '{}').format
 F2 = names.FUNCTION.format('2.0', '{}').format
