@@ -59,6 +59,8 @@ impl Model for Live {
 
 impl Live {
     /// No cells, for which nothing is allocated.
+    ///
+    /// Its contract is an equation.
     pub fn new(alloc: Global) -> Live
         ensures kept { result.kept ≡ [] }
         ensures questions { result.questions ≡ [] }
@@ -71,6 +73,8 @@ impl Live {
     }
 
     /// How many cells there are.
+    ///
+    /// Its contract is an equation.
     pub fn len(&self) -> usize
         ensures { result ≡ length self.now.kept }
     {
@@ -88,6 +92,8 @@ impl Live {
     }
 
     /// The answer at a place in list order, as its owner.
+    ///
+    /// Its contract is an equation.
     pub fn shared_answer(&self, place: usize) -> Option<&Shared<Answer>>
         ensures answer { option_copied result ≡ slice_get (answers_in self.now.kept) place }
         ensures within { IfSome result (λ _. place < usize.MAX) }
@@ -98,6 +104,8 @@ impl Live {
 
     /// Whether a part of the evaluation at a place in list order came to Indeterminate by itself (section 5.55),
     /// whatever the answer is.
+    ///
+    /// Its contract is an equation.
     pub fn failed(&self, place: usize) -> Option<bool>
         ensures { result ≡ slice_get (failures_in self.now.kept) place }
     {
@@ -106,6 +114,8 @@ impl Live {
     }
 
     /// The answer at a place in list order.
+    ///
+    /// Its contract is an equation.
     pub fn answer(&self, place: usize) -> Option<&Answer>
         ensures answer { option_copied result ≡ slice_get (answers_in self.now.kept) place }
         ensures within { IfSome result (λ _. place < usize.MAX) }
@@ -115,6 +125,8 @@ impl Live {
     }
 
     /// The answer at a place in list order, and the place behind it.
+    ///
+    /// Its contract is an equation.
     pub fn next_from(&self, place: usize) -> Option<(&Answer, usize)>
         ensures { MatchOption result
             (drop place (answers_in self.now.kept) ≡ [])
@@ -128,6 +140,10 @@ impl Live {
     /// those that get another one. It evaluates the cells whose own reads have a changed key, each once and no other.
     /// There is room in the log for the old answers then, and for the answer of each cell; nothing is logged. After a
     /// refusal the cells are as before.
+    ///
+    /// Its contract leaves open: which numbers questions have, what the memory holds beside what it must, how much room
+    /// the log has above what is asked for; after a refusal how many evaluations were counted, between none and those
+    /// of the cells that are touched. The old answers are said by what they undo, whichever list does.
     pub fn settle<A: Attributes, P: Policies>(
         &mut self,
         pdp: &mut Pdp<A, P>,
@@ -176,6 +192,9 @@ impl Live {
 
     /// Adds the cells of a new name behind those that each of the blocks has, or last where there are no blocks, and
     /// evaluates each of them once and no other. After a refusal the cells are as before.
+    ///
+    /// Its contract leaves open: which numbers questions have, and what the memory holds beside what it must; after a
+    /// refusal how many evaluations were counted, between none and those of the new cells.
     pub fn add<A: Attributes, P: Policies>(
         &mut self,
         pdp: &mut Pdp<A, P>,
@@ -211,6 +230,8 @@ impl Live {
 
     /// The answer to any request, of a cell or not. One that has three ids and nothing else is answered by what is
     /// remembered, where that serves. The cells are as before, and one evaluation is counted, also after a refusal.
+    ///
+    /// Its contract leaves open: which numbers questions have, and what the memory holds beside what it must.
     pub fn answer_to<A: Attributes, P: Policies>(
         &mut self,
         pdp: &mut Pdp<A, P>,
@@ -235,6 +256,8 @@ impl Live {
 
     /// Drops the cells of a name, which stand from place `from` on in each of the blocks, and logs their answers. It
     /// takes no memory.
+    ///
+    /// Its contract leaves open: which old answers are logged, as long as they undo the change.
     pub fn narrow(&mut self, log: &mut Log<Who, Answer>, blocks: Blocks, from: usize)
         requires room { length self.old.kept ≤ room_of log.old }
         ensures questions { self.new.questions ≡ self.old.questions }
@@ -249,6 +272,8 @@ impl Live {
     }
 
     /// Keys whose values a row may change, among them each on which an answer rests.
+    ///
+    /// Its contract leaves open: which other keys are among them: a list of all keys would do.
     pub fn keys_of_row(&self, row: &RowKey) -> Result<Items<ReadKey>, AllocError>
         ensures { IfOk result (HasReadKeys (asks_row row.now) self.now.kept) }
     {
@@ -256,6 +281,8 @@ impl Live {
     }
 
     /// References of a kind and an id, among them each on which an answer rests.
+    ///
+    /// Its contract leaves open: which other references are among them: a list of all would do.
     pub fn keys_of_policy(&self, kind: Kind, id: &str) -> Result<Items<ReadKey>, AllocError>
         ensures { IfOk result (HasReadKeys (asks_policy kind id.now) self.now.kept) }
     {

@@ -15,6 +15,8 @@ pub struct Who {
 
 impl Who {
     /// The request of three names, which shares their bytes.
+    ///
+    /// Its contract is an equation but for memory.
     pub fn of(
         alloc: Global,
         person: &Text,

@@ -51,6 +51,8 @@ impl Chooser {
     pub const MOST: usize = 256;
 
     /// A chooser that has taken nothing.
+    ///
+    /// Its contract is an equation.
     pub fn new() -> Chooser
         ensures { HasSeen result [] }
     {
@@ -62,6 +64,8 @@ impl Chooser {
 
     /// Takes the result of one more child's target. `Stop` comes at the first Indeterminate and at
     /// the second match, and from then on.
+    ///
+    /// Its contract leaves open: which value stands for the children so far; what is told at each is said whole.
     pub fn take(&mut self, target: TargetResult) -> Progress
         requires { self.old.taken < Chooser.MOST }
         ensures seen { (ts : List TargetResult) → HasSeen self.old ts → HasSeen self.new (ts ++ target ∷ []) }
@@ -73,6 +77,8 @@ impl Chooser {
     }
 
     /// Which of the children whose targets were taken applies (appendix C.9).
+    ///
+    /// Its contract leaves open: what is told of a value that stands for no list of children, which no caller comes to.
     pub fn finish(&self) -> Choice
         ensures { (ts : List TargetResult) → HasSeen self.now ts → result ≡ choose ts }
     {

@@ -34,6 +34,8 @@ impl Model for Combiner {
 
 impl Combiner {
     /// A combiner that has taken nothing.
+    ///
+    /// Its contract is an equation.
     pub fn new(algorithm: RuleAlg) -> Combiner
         ensures algorithm { result.algorithm ≡ algorithm }
         ensures nothing { HasTaken result [] }
@@ -50,6 +52,8 @@ impl Combiner {
     }
 
     /// Takes one more outcome. `Stop` says that it fixes the result, whatever follows.
+    ///
+    /// Its contract leaves open: what becomes of a value that stands for no list of outcomes, which no caller comes to.
     pub fn take(&mut self, outcome: Outcome) -> Progress
         ensures algorithm { self.new.algorithm ≡ self.old.algorithm }
         ensures taken { (xs : List Outcome) → HasTaken self.old xs → HasTaken self.new (xs ++ outcome ∷ []) }
@@ -60,6 +64,8 @@ impl Combiner {
     }
 
     /// What the outcomes taken come to (appendix C.2 to C.8).
+    ///
+    /// Its contract leaves open: what is told of a value that stands for no list of outcomes, which no caller comes to.
     pub fn finish(&self) -> Outcome
         ensures { (xs : List Outcome) → HasTaken self.now xs → result ≡ combine self.now.algorithm xs }
     {

@@ -7,6 +7,8 @@ use crate::outcome::{PolicyAlg, RuleAlg};
 
 impl RuleAlg {
     /// The algorithm for rules that has the URI `id` (appendix C), None where there is none.
+    ///
+    /// Its contract is an equation.
     #[tactic(auto, unfolding(crate::specs::Identifiers::rule_algorithm_of))]
     pub fn from_id(id: &str) -> Option<RuleAlg>
         ensures { result ≡ rule_algorithm_of id.now }
@@ -26,6 +28,8 @@ impl RuleAlg {
     }
 
     /// The URI of the algorithm where it combines the rules of a policy (appendix C).
+    ///
+    /// Its contract is an equation.
     #[tactic(auto, unfolding(crate::specs::Identifiers::rule_id_of))]
     pub fn rule_id(self) -> &'static str
         ensures { result.now ≡ rule_id_of self }
@@ -58,6 +62,8 @@ impl RuleAlg {
 
 impl PolicyAlg {
     /// The algorithm for policies that has the URI `id` (appendix C), None where there is none.
+    ///
+    /// Its contract is an equation.
     #[tactic(auto, unfolding(crate::specs::Identifiers::policy_algorithm_of))]
     pub fn from_id(id: &str) -> Option<PolicyAlg>
         ensures { result ≡ policy_algorithm_of id.now }
@@ -78,6 +84,8 @@ impl PolicyAlg {
     }
 
     /// The URI of the algorithm where it combines the children of a policy set (appendix C).
+    ///
+    /// Its contract is an equation.
     #[tactic(auto, unfolding(crate::specs::Identifiers::policy_id_of))]
     pub fn id(self) -> &'static str
         ensures { result.now ≡ policy_id_of self }

@@ -56,6 +56,8 @@ pub enum PolicyAlg {
 
 /// What a policy or policy set with an Indeterminate target comes to, where its children come to
 /// `combined` (section 7.14, table 7).
+///
+/// Its contract is an equation.
 pub fn under_indeterminate_target(combined: Outcome) -> Outcome
     ensures { result ≡ under combined }
 {

@@ -36,6 +36,8 @@ pub(crate) enum Column {
 }
 
 /// The members of the list at a key; none where no list stands there.
+///
+/// Its contract is an equation.
 pub fn members_at<'v>(object: &'v Value, key: &str) -> &'v [Value]
     ensures { map view result.now ≡ members_at key.now (view object.now) }
 {
@@ -64,6 +66,8 @@ pub(crate) fn name_at<'v>(change: &'v Value, key: &str) -> &'v str
 }
 
 /// A text of a list, by its place; the empty one where none stands there.
+///
+/// Its contract is an equation.
 pub fn text_of(list: &Value, place: usize) -> &str
     ensures { result.now ≡ text_of place (view list.now) }
 {

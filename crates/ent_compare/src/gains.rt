@@ -60,6 +60,8 @@ pub(crate) fn count_of(way: Way, changes: &[Value]) -> usize
 }
 
 /// Whether a request gains Permit, or loses it, by what is told of two tables.
+///
+/// Its contract is an equation.
 pub fn has(way: Way, told: &Value) -> bool
     ensures { result ≡ has way (view told.now) }
 {

@@ -109,6 +109,8 @@ fn none_at(key: &str, told: &Value) -> bool
 }
 
 /// Whether what is told of two tables is that nothing differs.
+///
+/// Its contract is an equation.
 pub fn is_nothing(told: &Value) -> bool
     ensures { result ≡ is_nothing (view told.now) }
 {
@@ -124,6 +126,8 @@ pub fn is_nothing(told: &Value) -> bool
 /// # Errors
 ///
 /// `AllocError` if memory runs out.
+///
+/// Its contract is an equation but for memory.
 pub fn difference(alloc: Global, before: &[u8], after: &[u8]) -> Result<Option<Value>, AllocError>
     ensures { IfOk result (λ o. option_map view o ≡ difference_of before.now after.now) }
 {

@@ -60,6 +60,8 @@ fn shown_byte(byte: u8) -> u8
 /// # Errors
 ///
 /// `AllocError` if memory runs out.
+///
+/// Its contract is an equation but for memory.
 pub fn push_shown(text: &[u8], out: &mut Vec<u8>) -> Result<(), AllocError>
     ensures { OnOk result (out.new.items ≡ out.old.items ++ map shown_byte text.now) }
 {
@@ -307,6 +309,8 @@ fn push_rows_in(alloc: Global, told: &Value, out: &mut Vec<u8>) -> Result<(), Al
 /// # Errors
 ///
 /// `AllocError` if memory runs out.
+///
+/// Its contract is an equation but for memory.
 pub fn shown(alloc: Global, told: &Value) -> Result<Vec<u8>, AllocError>
     ensures { IfOk result (λ v. v.items ≡ shown_text (view told.now)) }
 {

@@ -16,6 +16,8 @@ use std::str;
 /// # Errors
 ///
 /// `AllocError` if memory runs out.
+///
+/// Its contract is an equation but for memory.
 #[tactic(auto, unfolding(crate::specs::Tables::names_text))]
 pub fn names_text(
     alloc: Global,
@@ -81,6 +83,8 @@ fn table_in(alloc: Global, mut reply: Value) -> Result<Option<Map<String, Value>
 /// # Errors
 ///
 /// `AllocError` if memory runs out.
+///
+/// Its contract is an equation but for memory.
 pub fn value_of(alloc: Global, text: &[u8]) -> Result<Option<Value>, AllocError>
     ensures { IfOk result (λ o. option_map view o ≡ data_of text.now) }
 {

@@ -109,6 +109,8 @@ fn push_listed(lines: &[Line], out: &mut Vec<u8>) -> Result<(), AllocError>
 /// # Errors
 ///
 /// `AllocError` if memory runs out.
+///
+/// Its contract is an equation but for memory.
 pub fn markdown(alloc: Global, told: &Value) -> Result<Vec<u8>, AllocError>
     ensures { IfOk result (λ v. v.items ≡ markdown_text (view told.now)) }
 {

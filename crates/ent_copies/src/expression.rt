@@ -87,6 +87,8 @@ impl Copied for VariableDefinition {
 /// # Errors
 ///
 /// `AllocError` if memory runs out.
+///
+/// Its contract is an equation but for memory.
 pub fn copied_definitions(
     alloc: Global,
     definitions: &[VariableDefinition],

@@ -26,6 +26,8 @@ impl Copied for Rule {
 /// # Errors
 ///
 /// `AllocError` if memory runs out.
+///
+/// Its contract is an equation but for memory.
 pub fn copied_rule(alloc: Global, rule: &Rule) -> Result<Rule, AllocError>
     ensures { IfOk result (λ copy. copy ≡ rule.now) }
 {

@@ -27,6 +27,8 @@ fn push_policy<'v>(child: &'v Value, policies: &mut Vec<&'v Value>) -> Result<()
 /// # Errors
 ///
 /// `AllocError` if memory runs out.
+///
+/// Its contract is an equation but for memory.
 #[cycle(policies)]
 pub fn push_policies<'v>(
     levels: usize,

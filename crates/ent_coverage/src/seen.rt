@@ -105,6 +105,8 @@ fn see_value(alloc: Global, reply: &Value, seen: &mut Map<String, Value>) -> Res
 /// # Errors
 ///
 /// `AllocError` if memory runs out.
+///
+/// Its contract is an equation but for memory.
 pub fn see_reply(
     alloc: Global,
     text: &[u8],

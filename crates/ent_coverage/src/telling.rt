@@ -41,6 +41,8 @@ fn rule_values(alloc: Global, rules: &[RuleName<'_>]) -> Result<Vec<Value>, Allo
 /// # Errors
 ///
 /// `AllocError` if memory runs out.
+///
+/// Its contract is an equation but for memory.
 pub fn told(alloc: Global, count: usize, rules: &[RuleName<'_>]) -> Result<Value, AllocError>
     ensures { IfOk result (λ v. view v ≡ told_data count (map name_view rules.now)) }
 {
@@ -82,6 +84,8 @@ fn push_rule_lines(rules: &[RuleName<'_>], out: &mut Vec<u8>) -> Result<(), Allo
 /// # Errors
 ///
 /// `AllocError` if memory runs out.
+///
+/// Its contract is an equation but for memory.
 #[tactic(auto, unfolding(crate::specs::Told::shown_text))]
 pub fn shown(alloc: Global, count: usize, rules: &[RuleName<'_>]) -> Result<Vec<u8>, AllocError>
     ensures { IfOk result (λ v. v.items ≡ shown_text count (map name_view rules.now)) }

@@ -44,6 +44,8 @@ fn is_wanted(wanted: &Option<Text>, issuer: &Option<Text>) -> bool
 impl Attribute {
     /// Whether the values of an attribute are among those that this one asks for: category, id and data type are the
     /// same, and the issuer is if this one has one (section 7.3.4).
+    ///
+    /// Its contract is an equation.
     pub fn finds(&self, attribute: &Attribute) -> bool
         ensures { result ≡ finds self.now attribute.now }
     {

@@ -56,6 +56,8 @@ impl Listed {
     /// # Errors
     ///
     /// `AllocError` if memory runs out: then some may stand there.
+    ///
+    /// Its contract is an equation but for memory.
     pub fn put_last(
         &self,
         alloc: Global,

@@ -56,6 +56,8 @@ impl AttributesFault {
     /// # Errors
     ///
     /// `AllocError` if memory runs out.
+    ///
+    /// Its contract is an equation but for memory.
     pub fn pointer(self, alloc: Global) -> Result<String, AllocError>
         ensures { IfOk result (λ p. string_bytes p ≡ pointer_of self) }
     {

@@ -208,6 +208,8 @@ impl FaultyLine {
     /// # Errors
     ///
     /// `AllocError` if memory runs out.
+    ///
+    /// Its contract is an equation but for memory.
     pub fn told(
         &self,
         alloc: Global,

@@ -50,6 +50,8 @@ pub enum LineFault {
 
 impl LineFault {
     /// Whether the line may be meant so: it gives a row other values than a line before it.
+    ///
+    /// Its contract is an equation.
     pub fn is_warning(&self) -> bool
         ensures { result ≡ is_warning self.now }
     {
@@ -312,6 +314,8 @@ fn faulty_among(
 /// # Errors
 ///
 /// `AllocError` if memory runs out.
+///
+/// Its contract is an equation but for memory.
 pub fn faulty_lines(
     alloc: Global,
     commands: &[&str],

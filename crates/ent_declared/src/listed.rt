@@ -105,6 +105,8 @@ fn add_all(alloc: Global, names: &mut BTreeSet<Named>, lines: &[&[u8]]) -> Resul
 
 impl Listed {
     /// No names.
+    ///
+    /// Its contract is an equation.
     pub fn new(alloc: Global) -> Listed
         ensures { (name : Named) → has_name name result ≡ false }
     {
@@ -114,6 +116,8 @@ impl Listed {
     }
 
     /// Whether a name is among them, in time logarithmic in their number. It takes no memory.
+    ///
+    /// Its contract is an equation.
     pub fn has(&self, name: &Named) -> bool
         ensures { result ≡ has_name name.now self.now }
     {
@@ -125,6 +129,8 @@ impl Listed {
     /// # Errors
     ///
     /// `AllocError` if memory runs out: then some may have been added.
+    ///
+    /// Its contract is an equation but for memory.
     pub fn read(&mut self, alloc: Global, lines: &[&[u8]]) -> Result<(), AllocError>
         ensures { OnOk result ((name : Named)
             → has_name name self.new

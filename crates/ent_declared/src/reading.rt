@@ -145,6 +145,8 @@ fn attributes<J: JsonTree>(
 /// # Errors
 ///
 /// `AllocError` if memory runs out. Inside, the first fault of the file.
+///
+/// Its contract is an equation but for memory.
 #[tactic(auto, unfolding(crate::specs::Attributes::attributes_of))]
 pub fn read_attributes<J: JsonTree>(
     alloc: Global,

@@ -87,6 +87,9 @@ impl Undeclared {
     /// # Errors
     ///
     /// `AllocError` if memory runs out.
+    ///
+    /// Its contract leaves open: the words behind the place, line and column, and which attribute or value is named as
+    /// the nearest.
     pub fn told(
         &self,
         alloc: Global,
@@ -148,6 +151,8 @@ impl AttributesFault {
     /// # Errors
     ///
     /// `AllocError` if memory runs out.
+    ///
+    /// Its contract leaves open: the words behind the place, line and column.
     pub fn told(self, alloc: Global, position: Option<(usize, usize)>) -> Result<String, AllocError>
         ensures { IfOk result (λ s. IsToldAt (pointer_of self) (string_bytes s)) }
     {
@@ -167,6 +172,8 @@ impl AttributesFault {
     /// # Errors
     ///
     /// `AllocError` if memory runs out.
+    ///
+    /// Its contract is an equation but for memory.
     pub fn told_of_key(
         self,
         alloc: Global,

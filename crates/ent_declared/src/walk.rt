@@ -193,6 +193,8 @@ fn undeclared_in<J: JsonTree>(
 /// # Errors
 ///
 /// `AllocError` if memory runs out.
+///
+/// Its contract leaves open: which is told, where several designators or literals would be.
 pub fn undeclared<J: JsonTree>(
     alloc: Global,
     json: &J,

@@ -189,6 +189,8 @@ fn write_dump<A: Attributes, P: Policies>(
 /// # Errors
 ///
 /// `AllocError` if memory runs out.
+///
+/// Its contract is an equation but for memory.
 pub fn dump_text<A: Attributes, P: Policies>(
     alloc: Global,
     review: &Review<A, P>,

@@ -55,6 +55,9 @@ fn write_told<J: JsonTree, W: Write>(value: &J, writer: &mut W) -> Result<(), Li
 /// a newline. [`LinesFault::Read`] if the reader failed, or the last read didn't show the end of the input.
 /// [`LinesFault::Memory`] if memory ran out. In all of these nothing was written. [`LinesFault::Write`] if the writer
 /// failed; then a front was written.
+///
+/// Its contract leaves open: when it ends by a read fault or for want of memory, of which only that nothing is written
+/// is said; how much a failing writer took.
 pub fn dump_lines_within<R: Read, W: Write>(
     alloc: Global,
     reader: &mut R,
@@ -83,6 +86,8 @@ pub fn dump_lines_within<R: Read, W: Write>(
 /// # Errors
 ///
 /// Those of `dump_lines_within`.
+///
+/// Its contract leaves open: as of `dump_lines_within`.
 pub fn dump_lines<R: Read, W: Write>(
     alloc: Global,
     reader: &mut R,

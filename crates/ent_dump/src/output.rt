@@ -7,6 +7,8 @@ use crate::fault::LinesFault;
 use std::io::{ErrorKind, Write};
 
 /// Writes all of the bytes, or a front of them where the writer fails. Takes no memory.
+///
+/// Its contract leaves open: how much a failing writer took.
 pub fn send<W: Write>(writer: &mut W, bytes: &[u8]) -> Result<(), LinesFault>
     ensures { Sends (W.contents writer.old) (W.contents writer.new) bytes.now result }
 {

@@ -23,6 +23,9 @@ impl<A: Attributes, P: Policies> Pdp<A, P> {
     /// comes. The look-ups that the answer rests on are those of these questions. For the rest it is as `evaluate`.
     /// A case that is remembered and that has its answer is taken over; else its answer is joined of what came of
     /// tests, or the request is evaluated, and it is a case.
+    ///
+    /// Its contract leaves open: which numbers new questions get, what the memory holds beside what it must, and
+    /// whether anything is remembered at all. Answer, look-ups, whether a part failed, and the count are said whole.
     pub fn evaluate_listed(
         &mut self,
         memory: &mut Memory,

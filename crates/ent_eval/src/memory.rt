@@ -43,6 +43,8 @@ pub struct Memory {
 
 impl Memory {
     /// Nothing is remembered, whatever is held. Nothing is allocated.
+    ///
+    /// Its contract leaves open: what stands in it: any that remembers nothing would do.
     pub fn new(alloc: Global) -> Memory
         ensures { (looks : Looks) (questions : List Question) → Remembers looks questions result }
     {
@@ -55,6 +57,8 @@ impl Memory {
     }
 
     /// The values in rows of a name may be others from now on, and nothing else: what was found for it is forgotten.
+    ///
+    /// Its contract leaves open: how much it forgets beside what the name had: all would do.
     pub fn forget_name(&mut self, alloc: Global, name: &Text)
         ensures { (before after : Looks) (questions : List Question) → DifferAtMost name.now before after
             → Remembers before questions self.old → Remembers after questions self.new }
@@ -68,6 +72,8 @@ impl Memory {
 
     /// The root, documents and the time may be others from now on, and no values: cases by what was found are
     /// forgotten, and the plan of tests is compared before it is used again.
+    ///
+    /// Its contract leaves open: how much it forgets beside what rests on them: all would do.
     pub fn forget_documents(&mut self, alloc: Global)
         ensures { (before after : Looks) (questions : List Question) → HaveSameValues before after
             → Remembers before questions self.old → Remembers after questions self.new }
@@ -77,6 +83,8 @@ impl Memory {
     }
 
     /// Forgets all, where more is remembered than is to be kept.
+    ///
+    /// Its contract leaves open: how much it forgets, nothing included.
     pub fn forget_much(&mut self, alloc: Global)
         ensures { (looks : Looks) (questions : List Question) → Remembers looks questions self.old
             → Remembers looks questions self.new }

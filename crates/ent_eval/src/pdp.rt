@@ -110,6 +110,8 @@ impl<A: Attributes, P: Policies> LookUps for Pdp<A, P> {
 impl<A: Attributes, P: Policies> Pdp<A, P> {
     /// A decision point over these values of attributes and the documents of these policies, without a root, where
     /// nothing is known of the time. Nothing is allocated.
+    ///
+    /// Its contract is an equation.
     pub fn new(alloc: Global, attributes: A, policies: P) -> Pdp<A, P>
         ensures { result ≡ point_of (A.sources attributes) (P.slots policies) }
     {
@@ -130,6 +132,8 @@ impl<A: Attributes, P: Policies> Pdp<A, P> {
     /// Indeterminate (section 7.15).
     ///
     /// Each call counts, also one that is refused for want of memory. It changes nothing but the count.
+    ///
+    /// Its contract is an equation but for memory.
     pub fn evaluate(&mut self, request: &Request) -> Result<Evaluation, AllocError>
         ensures answer { IfOk result (λ e. e.answer ≡ answer (looks_of self.old) request.now) }
         ensures reads { IfOk result (λ e. e.reads ≡ recorded (looks_of self.old) request.now) }
@@ -146,6 +150,8 @@ impl<A: Attributes, P: Policies> Pdp<A, P> {
     /// The same, and the causes: the parts that came to Indeterminate by themselves, each once. That of an
     /// Indeterminate answer stands first, whose status it is (section 5.55), and the others in the order of evaluation.
     /// A part that isn't evaluated has none, and that of a child is told whatever its parent decides.
+    ///
+    /// Its contract is an equation but for memory.
     pub fn explain(&mut self, request: &Request) -> Result<Explained, AllocError>
         ensures answer { IfOk result (λ e. e.answer ≡ answer (looks_of self.old) request.now) }
         ensures reads { IfOk result (λ e. e.reads ≡ recorded (looks_of self.old) request.now) }
@@ -191,6 +197,8 @@ impl<A: Attributes, P: Policies> Pdp<A, P> {
     }
 
     /// The answer alone, for which no look-up is recorded. For the rest it is as `evaluate`.
+    ///
+    /// Its contract is an equation but for memory.
     pub fn answer(&mut self, request: &Request) -> Result<Answer, AllocError>
         ensures answer { IfOk result (λ a. a ≡ answer (looks_of self.old) request.now) }
         ensures counted { self.new.evaluations ≡ min (self.old.evaluations + 1) (2 ^ 128 - 1) }
@@ -241,6 +249,8 @@ impl<A: Attributes, P: Policies> Pdp<A, P> {
 
     /// How many times `evaluate`, `explain`, `evaluate_listed` or `answer` was called. The count stays at its greatest
     /// value.
+    ///
+    /// Its contract is an equation.
     pub fn evaluations(&self) -> u128
         ensures { result ≡ self.now.evaluations }
     {
@@ -248,6 +258,8 @@ impl<A: Attributes, P: Policies> Pdp<A, P> {
     }
 
     /// The root, if there is one.
+    ///
+    /// Its contract is an equation.
     pub fn root(&self) -> &Option<Reference>
         ensures { result.now ≡ self.now.root }
     {
@@ -255,6 +267,8 @@ impl<A: Attributes, P: Policies> Pdp<A, P> {
     }
 
     /// What is known of the time.
+    ///
+    /// Its contract is an equation.
     pub fn environment(&self) -> Environment
         ensures { result ≡ self.now.environment }
     {
@@ -262,6 +276,8 @@ impl<A: Attributes, P: Policies> Pdp<A, P> {
     }
 
     /// Where the values of attributes are held.
+    ///
+    /// Its contract is an equation.
     pub fn attributes(&self) -> &A
         ensures { A.sources result.now ≡ self.now.sources }
     {
@@ -269,6 +285,8 @@ impl<A: Attributes, P: Policies> Pdp<A, P> {
     }
 
     /// Where the documents are held.
+    ///
+    /// Its contract is an equation.
     pub fn policies(&self) -> &P
         ensures { P.slots result.now ≡ self.now.slots }
     {
@@ -276,6 +294,9 @@ impl<A: Attributes, P: Policies> Pdp<A, P> {
     }
 
     /// Lends where the values of attributes are held. Nothing else is changed through it.
+    ///
+    /// Its contract leaves open: nothing that a caller doesn't write: the loan says of what comes back that only the
+    /// sources are others.
     pub fn attributes_mut(&mut self) -> &mut A
         ensures* lends { sem 𝓛
             (LendsAttributes A.row P.row ⟦<A as Attributes>⟧ ⟦<P as Policies>⟧ self.entry result) }
@@ -285,6 +306,9 @@ impl<A: Attributes, P: Policies> Pdp<A, P> {
     }
 
     /// Lends where the documents are held. Nothing else is changed through it.
+    ///
+    /// Its contract leaves open: nothing that a caller doesn't write: the loan says of what comes back that only the
+    /// slots are others.
     pub fn policies_mut(&mut self) -> &mut P
         ensures* lends { sem 𝓛
             (LendsPolicies A.row P.row ⟦<A as Attributes>⟧ ⟦<P as Policies>⟧ self.entry result) }
@@ -294,6 +318,8 @@ impl<A: Attributes, P: Policies> Pdp<A, P> {
     }
 
     /// Sets the root, and gives the old one back. It takes no memory.
+    ///
+    /// Its contract is an equation.
     pub fn set_root(&mut self, root: Option<Reference>) -> Option<Reference>
         ensures old { result ≡ self.old.root }
         ensures new { self.new ≡ record self.old { root = root } }
@@ -302,6 +328,8 @@ impl<A: Attributes, P: Policies> Pdp<A, P> {
     }
 
     /// Sets what is known of the time, and gives back what was. It takes no memory.
+    ///
+    /// Its contract is an equation.
     pub fn set_environment(&mut self, environment: Environment) -> Environment
         ensures old { result ≡ self.old.environment }
         ensures new { self.new ≡ record self.old { environment = environment } }

@@ -56,6 +56,9 @@ fn lines_of<J: JsonTree>(
 /// # Errors
 ///
 /// `AllocError` if memory runs out.
+///
+/// Its contract leaves open: the sentences, lines and columns, whether the search was cut, and which faults are told
+/// behind the first.
 pub fn explain_faults<J: JsonTree>(
     alloc: Global,
     text: &[u8],
@@ -87,6 +90,9 @@ fn explain_only(alloc: Global, text: &[u8]) -> Result<Explained, AllocError>
 /// # Errors
 ///
 /// `AllocError` if memory runs out.
+///
+/// Its contract leaves open: the sentences, lines and columns, whether the search was cut, and which faults are told
+/// behind the first.
 pub fn explain_all(alloc: Global, text: &[u8]) -> Result<Explained, AllocError>
     ensures { IfOk result (λ e. AreExplained (data_of text.now) (map string_bytes e.lines.items)) }
 {

@@ -26,6 +26,8 @@ fn is_one_line(text: &str) -> bool
 /// # Errors
 ///
 /// `AllocError` if memory runs out.
+///
+/// Its contract is an equation but for memory.
 pub fn one_line(alloc: Global, text: &str) -> Result<String, AllocError>
     ensures { IfOk result (λ s. is_one_line (string_bytes s) ≡ true) }
 {

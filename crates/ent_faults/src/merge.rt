@@ -4,6 +4,8 @@
 const MARKERS: &[&[u8]] = &[b"<<<<<<<", b"|||||||", b"=======", b">>>>>>>"];
 
 /// Whether a line without its end is one that a merge puts there.
+///
+/// Its contract leaves open: all of it: which lines are markers is tried by `tools/try_check.py`.
 pub fn is_merge_marker(line: &[u8]) -> bool {
     MARKERS.iter().any(|marker| line.starts_with(marker)
         && matches!(line.get(marker.len()), None | Some(b' ' | b'\r')))

@@ -16,6 +16,8 @@ pub struct Places<'t> {
 
 impl<'t> Places<'t> {
     /// The places in a text.
+    ///
+    /// Its contract leaves open: all of it.
     pub fn of(alloc: Global, text: &'t [u8]) -> Places<'t> {
         Places {
             alloc,
@@ -53,6 +55,8 @@ impl<'t> Places<'t> {
     /// # Errors
     ///
     /// `AllocError` if memory runs out.
+    ///
+    /// Its contract leaves open: all of it: which line and column a place has is shown by the stored run `faults_told`.
     pub fn line_and_column(&mut self, pointer: &str) -> Result<Position, AllocError> {
         let common = self.common(pointer);
         self.steps.truncate(common);

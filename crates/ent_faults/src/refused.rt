@@ -65,6 +65,8 @@ pub(crate) fn shown(pointer: &str) -> &str
 /// # Errors
 ///
 /// `AllocError` if memory runs out.
+///
+/// Its contract leaves open: the words behind the place.
 pub fn placed(alloc: Global, pointer: &str, sentence: &str) -> Result<String, AllocError>
     ensures { IfOk result (λ s. IsPlaced pointer.now (string_bytes s)) }
 {
@@ -82,6 +84,8 @@ pub fn placed(alloc: Global, pointer: &str, sentence: &str) -> Result<String, Al
 /// # Errors
 ///
 /// `AllocError` if memory runs out.
+///
+/// Its contract leaves open: the sentence, its line and its column, and which of several places of the fault.
 pub fn explain_document<J: JsonTree>(
     alloc: Global,
     text: &[u8],
@@ -101,6 +105,8 @@ pub fn explain_document<J: JsonTree>(
 /// # Errors
 ///
 /// `AllocError` if memory runs out.
+///
+/// Its contract is an equation but for memory.
 pub fn explain_text(alloc: Global, text: &[u8]) -> Result<String, AllocError>
     ensures { IfOk result (λ s. is_one_line (string_bytes s) ≡ true) }
 {
@@ -113,6 +119,8 @@ pub fn explain_text(alloc: Global, text: &[u8]) -> Result<String, AllocError>
 /// # Errors
 ///
 /// `AllocError` if memory runs out.
+///
+/// Its contract leaves open: the sentence, its line and its column, and which of several places of the fault.
 pub fn explain(alloc: Global, text: &[u8]) -> Result<Option<String>, AllocError>
     ensures { IfOk result (λ o. IsExplained (data_of text.now) (option_map string_bytes o)) }
 {

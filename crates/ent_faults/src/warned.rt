@@ -40,6 +40,8 @@ fn found_in(alloc: Global, text: &[u8]) -> Result<Vec<(String, String)>, AllocEr
 /// # Errors
 ///
 /// `AllocError` if memory runs out.
+///
+/// Its contract is an equation but for memory.
 pub fn warnings(alloc: Global, text: &[u8]) -> Result<Vec<String>, AllocError>
     ensures { IfOk result (λ lines. list_all (λ line. is_one_line (string_bytes line)) lines.items ≡ true) }
 {

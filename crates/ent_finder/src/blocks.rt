@@ -167,6 +167,8 @@ fn swap_in_block(
 }
 
 /// Exchanges what is in the row of a key with `values`, and counts the rows.
+///
+/// Its contract is an equation but for memory.
 pub fn swap_row(
     alloc: Global,
     blocks: &mut Vec<Block>,
@@ -195,6 +197,8 @@ pub fn swap_row(
 }
 
 /// The row at an index.
+///
+/// Its contract is an equation.
 pub fn row_at(blocks: &[Block], index: usize) -> Option<&Row>
     ensures { option_copied result ≡ slice_get (rows_in blocks.now) index }
 {
@@ -256,6 +260,8 @@ fn beginning(blocks: &[Block], key: &AttrKey) -> usize {
 }
 
 /// The values of the rows that a key names, where one of these rows has them all.
+///
+/// Its contract leaves open: when it answers `None`, which it may always: its caller then makes a list.
 pub fn sole<'a>(blocks: &'a [Block], hints: &Hints, key: &AttrKey) -> Option<&'a [Value]>
     requires { RowsAreSorted (rows_in blocks.now) }
     ensures value { IfSome result (λ v. v.now ≡ values_of key.now (filled (held_in blocks.now))) }
@@ -286,6 +292,8 @@ fn named_in_one<'a>(blocks: &'a [Block], key: &AttrKey) -> Option<&'a [Value]>
 }
 
 /// The values of the rows that a key names.
+///
+/// Its contract is an equation but for memory.
 pub fn values_of(
     alloc: Global,
     blocks: &[Block],

@@ -17,12 +17,14 @@ use std::alloc::AllocError;
 
 // The three calls of a module, with its clauses.
 
+/// Its contract is an equation.
 pub fn find_in<'a>(store: &'a dyn PolicyFinderModule, reference: &Reference) -> Option<&'a Document>
     ensures { option_copied result ≡ most_recent reference.now (held (slots store.now)) }
 {
     store.find_reference(reference)
 }
 
+/// Its contract is an equation but for memory.
 pub fn swap_in(
     store: &mut Box<dyn PolicyFinderModule>,
     key: &DocKey,
@@ -39,6 +41,7 @@ pub fn swap_in(
     store.swap_document(key, document)
 }
 
+/// Its contract is an equation.
 pub fn slot_in(store: &dyn PolicyFinderModule, index: usize) -> Option<&DocSlot>
     ensures slot { option_map entry_of (option_copied result) ≡ slice_get (finmap.entries (slots store.now)) index }
     ensures indexed { finmap.len (slots store.now) ≤ usize.MAX }
@@ -49,6 +52,8 @@ pub fn slot_in(store: &dyn PolicyFinderModule, index: usize) -> Option<&DocSlot>
 }
 
 /// How many documents the module holds.
+///
+/// Its contract is an equation.
 pub fn count_in(store: &dyn PolicyFinderModule) -> usize
     ensures { result ≡ finmap.len (held (slots store.now)) }
 {
@@ -103,6 +108,8 @@ fn place(store: &dyn PolicyFinderModule, key: &DocKey) -> usize
 }
 
 /// The document that the module holds under that key.
+///
+/// Its contract is an equation.
 pub fn document_in<'a>(store: &'a dyn PolicyFinderModule, key: &DocKey) -> Option<&'a Document>
     ensures { option_copied result ≡ document_at (slots store.now) key.now }
 {
@@ -115,6 +122,8 @@ pub fn document_in<'a>(store: &'a dyn PolicyFinderModule, key: &DocKey) -> Optio
 }
 
 /// Whether the module holds a document with that key.
+///
+/// Its contract is an equation.
 pub fn holds_in(store: &dyn PolicyFinderModule, key: &DocKey) -> bool
     ensures { result ≡ has_document key.now (held (slots store.now)) }
 {

@@ -13,12 +13,14 @@ use crate::row::{AttrKey, Row, RowKey};
 use ent_values::{Bag, Items, Value};
 use std::alloc::AllocError;
 
+/// Its contract is an equation.
 pub fn supports_in(store: &dyn AttributeFinderModule, category: &str) -> bool
     ensures { result ≡ supports category.now (source store.now) }
 {
     store.supports(category)
 }
 
+/// Its contract is an equation but for memory.
 pub fn find_in(
     store: &dyn AttributeFinderModule,
     key: &AttrKey,
@@ -33,6 +35,7 @@ pub fn find_in(
     store.find(key, bag)
 }
 
+/// Its contract leaves open: when it answers `None`, which it may always: its caller then makes a list.
 pub fn sole_in<'a>(store: &'a dyn AttributeFinderModule, key: &AttrKey) -> Option<&'a [Value]>
     ensures value { IfSome result (λ v. v.now ≡ values_of key.now (filled (source store.now).rows)) }
     ensures types { IfSome result (λ v. AllOfType key.now.datatype v.now) }
@@ -40,6 +43,7 @@ pub fn sole_in<'a>(store: &'a dyn AttributeFinderModule, key: &AttrKey) -> Optio
     store.sole(key)
 }
 
+/// Its contract is an equation but for memory.
 pub fn swap_in(
     store: &mut Box<dyn AttributeFinderModule>,
     key: &RowKey,
@@ -56,6 +60,7 @@ pub fn swap_in(
     store.swap_row(key, values)
 }
 
+/// Its contract is an equation.
 pub fn row_in(store: &dyn AttributeFinderModule, index: usize) -> Option<&Row>
     ensures row { option_map row_entry (option_copied result)
         ≡ slice_get (finmap.entries (source store.now).rows) index }

@@ -18,6 +18,8 @@ pub struct PolicyFinder {
 
 impl PolicyFinder {
     /// The finder over 1 to 4 modules.
+    ///
+    /// Its contract is an equation.
     pub fn new(modules: Vec<Box<dyn PolicyFinderModule>>) -> PolicyFinder
         requires some { 1 ≤ vec_len modules }
         requires few { vec_len modules ≤ 4 }

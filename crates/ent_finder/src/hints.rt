@@ -29,6 +29,8 @@ impl Model for Hints {
 
 impl Hints {
     /// Each place is 0.
+    ///
+    /// Its contract leaves open: all of it: a hint is where to look first, and nothing rests on it.
     pub fn new() -> Hints {
         Hints {
             places: array::from_fn(|_| Cell::new(0)),
@@ -36,6 +38,8 @@ impl Hints {
     }
 
     /// The place that is kept under a number.
+    ///
+    /// Its contract leaves open: all of it: a hint is where to look first, and nothing rests on it.
     pub fn place(&self, number: usize) -> usize {
         self.places[number % PLACES].get()
     }
@@ -47,6 +51,8 @@ impl Hints {
 }
 
 /// A number made of another and of the end of a text.
+///
+/// Its contract leaves open: all of it: it is a number for a hint.
 pub fn mixed(number: usize, text: &str) -> usize {
     let mut mixed = number;
     for byte in text.as_bytes().iter().rev().take(MIXED_BYTES) {

@@ -53,6 +53,8 @@ fn make_slot(alloc: Global, slots: &mut Vec<DocSlot>, key: &DocKey) -> Result<us
 }
 
 /// Exchanges what is in the slot of a key with `document`.
+///
+/// Its contract is an equation but for memory.
 pub fn swap_document(
     alloc: Global,
     slots: &mut Vec<DocSlot>,
@@ -155,6 +157,8 @@ fn last_before<'a>(slots: &'a [DocSlot], end: usize, reference: &Reference) -> O
 }
 
 /// Of the documents that the reference names, the most recent one.
+///
+/// Its contract is an equation.
 pub fn find_reference<'a>(
     slots: &'a [DocSlot],
     hints: &Hints,

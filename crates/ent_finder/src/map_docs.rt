@@ -39,6 +39,8 @@ impl Model for MapDocs {
 
 impl MapDocs {
     /// No slots, for which nothing is allocated.
+    ///
+    /// Its contract is an equation.
     pub fn new(alloc: Global) -> MapDocs
         ensures { result ≡ finmap.empty }
     {

@@ -46,6 +46,8 @@ impl Model for MapRows {
 
 impl MapRows {
     /// Supports these categories, and has no rows, for which nothing is allocated.
+    ///
+    /// Its contract is an equation.
     pub fn new(alloc: Global, categories: Items<Text>) -> MapRows
         ensures { result ≡ record { categories = categories; rows = finmap.empty } }
     {

@@ -8,6 +8,9 @@ ghost use Rattle.std.specs.List.Sorted.{IsPartitionPoint, IsPartitionedBy};
 const NEAR: usize = 2;
 
 /// How many elements pass a test, where those that pass stand in front of those that don't.
+///
+/// Its contract leaves open: what it tells where those that pass don't stand in front, beyond that it is no more than
+/// there are.
 pub fn count_passing<T, P: FnMut(&T) -> bool>(items: &[T], mut passes: P) -> usize
     requires { P.IsAlwaysCallable passes }
     ensures bound { result ≤ length items.now }

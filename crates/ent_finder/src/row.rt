@@ -63,6 +63,8 @@ fn is_wanted(wanted: &Option<Text>, issuer: &Option<Text>) -> bool
 impl AttrKey {
     /// Whether it names a row: without an issuer that of any issuer and of none, with one that of this issuer alone.
     /// The other fields are equal.
+    ///
+    /// Its contract is an equation.
     pub fn names(&self, row: &RowKey) -> bool
         ensures { result ≡ names_row self.now row.now }
     {
@@ -75,6 +77,8 @@ impl AttrKey {
     }
 
     /// An equal key.
+    ///
+    /// Its contract is an equation but for memory.
     pub fn copy(&self, alloc: Global) -> Result<AttrKey, AllocError>
         ensures { IfOk result (λ k. k ≡ self.now) }
     {
@@ -90,6 +94,8 @@ impl AttrKey {
 
 impl RowKey {
     /// An equal key.
+    ///
+    /// Its contract is an equation but for memory.
     pub fn copy(&self, alloc: Global) -> Result<RowKey, AllocError>
         ensures { IfOk result (λ k. k ≡ self.now) }
     {

@@ -31,6 +31,8 @@ fn place(rows: &[Row], key: &RowKey) -> Result<usize, usize>
 }
 
 /// Whether the row of a key is there.
+///
+/// Its contract is an equation.
 pub fn has_row(rows: &[Row], key: &RowKey) -> bool
     requires { RowsAreSorted rows.now }
     ensures { result ≡ is_some (finmap.get (rows_of rows.now) key.now) }
@@ -57,6 +59,8 @@ fn make_row(alloc: Global, rows: &mut Vec<Row>, key: &RowKey) -> Result<usize, A
 }
 
 /// Exchanges what is in the row of a key with `values`.
+///
+/// Its contract is an equation but for memory.
 pub fn swap_row(
     alloc: Global,
     rows: &mut Vec<Row>,
@@ -89,6 +93,8 @@ fn issuer_order(issuer: &Option<Text>, wanted: &Option<Text>) -> Ordering
 }
 
 /// How the key of a row stands to those that a key names.
+///
+/// Its contract is an equation.
 pub fn order(row: &RowKey, key: &AttrKey) -> Ordering
     ensures { result ≡ named_cmp row.now key.now }
 {
@@ -114,6 +120,8 @@ fn bounds(rows: &[Row], key: &AttrKey) -> (usize, usize)
 }
 
 /// Puts copies of the values last.
+///
+/// Its contract is an equation but for memory.
 pub fn add_all(alloc: Global, bag: &mut Bag, values: &[Value]) -> Result<(), AllocError>
     requires { AllOfType bag.old.datatype values.now }
     ensures value { OnOk result (bag.new ≡ record bag.old { values = bag.old.values ++ values.now }) }
@@ -126,6 +134,8 @@ pub fn add_all(alloc: Global, bag: &mut Bag, values: &[Value]) -> Result<(), All
 }
 
 /// Puts copies of the values of the rows that a key names last.
+///
+/// Its contract is an equation but for memory.
 pub fn add_named(
     alloc: Global,
     bag: &mut Bag,
@@ -148,6 +158,8 @@ pub fn add_named(
 }
 
 /// The values of the rows that a key names, where one of these rows has them all.
+///
+/// Its contract leaves open: when it answers `None`, which it may always: its caller then makes a list.
 pub fn named_in_one<'a>(rows: &'a [Row], key: &AttrKey) -> Option<&'a [Value]>
     requires { RowsAreSorted rows.now }
     ensures value { IfSome result (λ v. v.now ≡ values_of key.now (filled (rows_of rows.now))) }

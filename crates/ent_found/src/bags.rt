@@ -57,6 +57,8 @@ impl Bags {
     }
 
     /// How many values they have in all.
+    ///
+    /// Its contract leaves open: all of it: it tells how much is kept, by which a caller forgets.
     pub fn values(&self) -> usize {
         self.values
     }

@@ -22,6 +22,8 @@ pub struct Finding {
 
 impl Finding {
     /// The question.
+    ///
+    /// Its contract is an equation.
     pub fn about(self) -> About
         ensures { result ≡ about_of self }
     {

@@ -30,6 +30,8 @@ pub struct Findings {
 
 impl Findings {
     /// Nothing was found, for which nothing is allocated.
+    ///
+    /// Its contract leaves open: what stands in it: any in which nothing was found would do.
     pub fn new(alloc: Global) -> Findings
         ensures { (looks : Looks) (questions : List Question) → AreFindings looks questions result }
     {
@@ -42,6 +44,8 @@ impl Findings {
     }
 
     /// Forgets what was found for a name, wherever it stands. Bags keep their numbers.
+    ///
+    /// Its contract leaves open: how much it forgets beside what was found for the name. The bags are said.
     pub fn forget_name(&mut self, name: &Text)
         ensures kept { (before after : Looks) (questions : List Question)
             → HaveSameOthers name.now before after
@@ -54,6 +58,8 @@ impl Findings {
     }
 
     /// How many names there are.
+    ///
+    /// Its contract leaves open: all of it: it tells how much is kept, by which a caller forgets.
     pub fn names(&self) -> usize {
         let people = self.people.rows.len();
         let actions = self.actions.rows.len();
@@ -63,6 +69,9 @@ impl Findings {
     }
 
     /// Forgets what was found for names. Bags keep their numbers.
+    ///
+    /// Its contract leaves open: nothing that a call tells: what was found for a name is found again. The bags are
+    /// said.
     pub fn forget_names(&mut self, alloc: Global)
         ensures kept { (looks : Looks) (other : Looks) (questions : List Question)
             → AreFindings looks questions self.old → AreFindings other questions self.new }
@@ -74,6 +83,8 @@ impl Findings {
     }
 
     /// Turns to the rows of a scene's names.
+    ///
+    /// Its contract leaves open: what is kept of other names. The bags are said.
     pub fn turn_to<L>(&mut self, scene: &Scene<'_, L>) -> Result<(), AllocError>
         ensures at { OnOk result (AreAt scene.now self.new) }
         ensures kept { (looks : Looks) (questions : List Question)
@@ -86,6 +97,9 @@ impl Findings {
     }
 
     /// The number of the bag that a question finds which is about the name at a place. The names were turned to.
+    ///
+    /// Its contract leaves open: which number a bag has that wasn't there, or that is there twice, and what else is
+    /// kept.
     pub fn bag_of<L: LookUps>(
         &mut self,
         scene: &Scene<'_, L>,

@@ -15,6 +15,9 @@ use ent_values::Items;
 use std::alloc::{AllocError, Global};
 
 /// What a request finds for those of some questions that are about its names.
+///
+/// Its contract leaves open: in which order findings stand, and whether one stands there twice; which numbers bags
+/// have.
 pub fn findings_of<L: LookUps>(
     scene: &Scene<'_, L>,
     findings: &mut Findings,

@@ -31,6 +31,8 @@ enum Standing {
 }
 
 /// What stands at the end of the way of what a request finds, if one leads to an end.
+///
+/// Its contract leaves open: when it answers `None`, which it may always: its caller then learns what is there.
 pub fn seek<L: LookUps>(
     scene: &Scene<'_, L>,
     findings: &mut Findings,
@@ -92,6 +94,9 @@ fn leaf(tree: &Tree<About, usize>, place: usize) -> Option<usize>
 
 /// The place to which the way of what was found leads, if nothing stands there yet. The way is made as far as it isn't
 /// there; but where something else stands on it, it isn't gone further.
+///
+/// Its contract leaves open: when it answers `None`, which it may wherever the tree isn't empty; which places are made
+/// on the way.
 pub fn make_way(
     alloc: Global,
     tree: &mut Tree<About, usize>,

@@ -31,6 +31,8 @@ use std::alloc::Global;
 /// A fault other than `Memory` is the function's own, and the same for the same arguments. `Memory` comes only where
 /// the result takes memory: a string or URI out of a bag or joined, or a bag with a value in it; or where two bags that
 /// both have more than 16 values are compared or intersected, since the values of one are put in order then.
+///
+/// Its contract is an equation but for memory.
 #[tactic(auto, unfolding(crate::specs::Applied::applied, crate::specs::Types::result_type_of))]
 pub fn apply(alloc: Global, function: Function, arguments: &[Arg]) -> Result<Arg, Fault>
     requires { IsSome (result_type_of function (map type_of_arg arguments.now)) }

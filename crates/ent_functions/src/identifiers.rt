@@ -27,6 +27,8 @@ impl Element {
     }
 
     /// The functions on equality, bags and sets at the type.
+    ///
+    /// Its contract is an equation.
     pub fn functions(self) -> [Function; 10]
         ensures { result ≡ functions_at self }
     {
@@ -148,6 +150,8 @@ impl Function {
     }
 
     /// The URI of the function (appendix A.3).
+    ///
+    /// Its contract is an equation but for memory.
     #[tactic(auto, unfolding(crate::specs::Identifiers::id_of))]
     pub fn id(self, alloc: Global) -> Result<Text, AllocError>
         ensures { IfOk result (λ t. t ≡ id_of self) }
@@ -174,6 +178,8 @@ impl Function {
 
     /// The function that has the URI `id` (appendix A.3), None where there is none. The type in its name is looked at
     /// once for all functions of that type.
+    ///
+    /// Its contract is an equation.
     #[tactic(auto, unfolding(crate::specs::Identifiers::function_of, crate::specs::Identifiers::all_functions))]
     pub fn from_id(id: &str) -> Option<Function>
         ensures { result ≡ function_of id.now }

@@ -141,6 +141,8 @@ impl Given<'_> {
 impl Function {
     /// The type of the function's result for arguments of these types (appendix A.3), None if the function takes no
     /// such arguments.
+    ///
+    /// Its contract is an equation.
     #[tactic(auto, using(crate::proofs::TypesSeen::seen_as_given), unfolding(crate::specs::Types::result_type_of))]
     pub fn result_type(self, given: &[ArgType]) -> Option<ArgType>
         ensures { result ≡ result_type_of self given.now }

@@ -157,6 +157,8 @@ fn write_attributes<A: Attributes>(
 /// # Errors
 ///
 /// `AllocError` if memory runs out.
+///
+/// Its contract is an equation but for memory.
 pub fn attributes_text<A: Attributes>(
     alloc: Global,
     attributes: &A,

@@ -139,6 +139,8 @@ fn told(causes: &[Cause]) -> &[Cause]
 /// # Errors
 ///
 /// `AllocError` if memory runs out; a front of the list may have been written.
+///
+/// Its contract is an equation but for memory.
 pub fn write_causes(alloc: Global, out: &mut JsonText, causes: &[Cause]) -> Result<(), AllocError>
     ensures { OnOk result (out.new ≡ out.old ++ tokens_of (causes_data causes.now)) }
 {
@@ -147,6 +149,8 @@ pub fn write_causes(alloc: Global, out: &mut JsonText, causes: &[Cause]) -> Resu
 }
 
 /// How many causes there are besides those that are told.
+///
+/// Its contract is an equation.
 pub fn untold(causes: &[Cause]) -> u64
     ensures { result ≡ untold causes.now }
 {

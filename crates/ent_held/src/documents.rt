@@ -164,6 +164,8 @@ fn write_documents<A: Attributes, P: Policies>(
 /// # Errors
 ///
 /// `AllocError` if memory runs out.
+///
+/// Its contract is an equation but for memory.
 pub fn documents_text<A: Attributes, P: Policies>(
     alloc: Global,
     pdp: &Pdp<A, P>,

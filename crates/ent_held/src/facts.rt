@@ -225,6 +225,8 @@ fn write_each_fact<A: Attributes, P: Policies>(
 /// # Errors
 ///
 /// `AllocError` if memory runs out; a front of the list may have been written.
+///
+/// Its contract is an equation but for memory.
 pub fn write_facts<A: Attributes, P: Policies>(
     alloc: Global,
     out: &mut JsonText,

@@ -12,6 +12,8 @@ use ent_values::Text;
 use std::alloc::AllocError;
 
 /// The word of a status: the last part of its identifier (appendix B.8).
+///
+/// Its contract is an equation.
 pub fn status_text(status: Status) -> &'static str
     ensures { result.now ≡ status_text status }
 {
@@ -48,6 +50,8 @@ fn write_keys(out: &mut JsonText, keys: &[DocKey]) -> Result<(), AllocError>
 /// # Errors
 ///
 /// `AllocError` if memory runs out; a front of the path may have been written.
+///
+/// Its contract is an equation but for memory.
 pub fn write_path(out: &mut JsonText, keys: &[DocKey]) -> Result<(), AllocError>
     ensures { OnOk result (out.new ≡ out.old ++ tokens_of (path_data keys.now)) }
 {
@@ -60,6 +64,8 @@ pub fn write_path(out: &mut JsonText, keys: &[DocKey]) -> Result<(), AllocError>
 /// # Errors
 ///
 /// `AllocError` if memory runs out; a front of the id may have been written.
+///
+/// Its contract is an equation but for memory.
 pub fn write_rule(out: &mut JsonText, rule: &Option<Text>) -> Result<(), AllocError>
     ensures { OnOk result (out.new ≡ out.old ++ tokens_of (rule_data rule.now)) }
 {

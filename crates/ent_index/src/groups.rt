@@ -35,6 +35,8 @@ pub struct Groups {
 
 impl Groups {
     /// No cells, for which nothing is allocated.
+    ///
+    /// Its contract leaves open: which value stands for no cells.
     pub fn new(alloc: Global) -> Groups
         ensures { HasNoCells result }
     {
@@ -49,6 +51,8 @@ impl Groups {
     }
 
     /// The numbers of a group's questions: none where there is no such group.
+    ///
+    /// Its contract is an equation.
     pub fn numbers(&self, group: u32) -> &[u32]
         ensures { result.now ≡ numbers_of self.now group }
     {
@@ -59,6 +63,9 @@ impl Groups {
     }
 
     /// Puts a cell under its names. After a refusal it stands under none of them.
+    ///
+    /// Its contract leaves open: where another cell stands that had the same place; of other cells, that they stay
+    /// under their names.
     pub fn enter(
         &mut self,
         cell: usize,
@@ -100,6 +107,8 @@ impl Groups {
     }
 
     /// Takes a cell out under its names. It takes no memory.
+    ///
+    /// Its contract leaves open: how empty names are tidied; other cells stay under their names.
     pub fn exit(&mut self, cell: usize, person: &Text, action: &Text, resource: &Text)
         ensures gone { IsUnnamed self.new person.now action.now resource.now cell }
         ensures names { KeepsNamesBut cell self.old self.new }
@@ -115,6 +124,8 @@ impl Groups {
 
     /// Puts a cell into the group of some questions, which is made if there is none, and tells its number. It is likely
     /// the one beside it. The numbers are copied where a group is made. After a refusal the cell has joined none.
+    ///
+    /// Its contract leaves open: which number the group gets, and how groups are kept that have no cells.
     pub fn join(&mut self, cell: usize, numbers: &[u32], beside: u32) -> Result<u32, AllocError>
         ensures there { IfOk result (λ g. holds self.new g cell ≡ true) }
         ensures numbers { IfOk result (λ g. numbers_of self.new g ≡ numbers.now) }
@@ -164,6 +175,9 @@ impl Groups {
     }
 
     /// Takes a cell out of a group. It takes no memory.
+    ///
+    /// Its contract leaves open: how groups are kept that have no cells, and all of cells from 2^32 on, which there are
+    /// none of.
     pub fn leave(&mut self, cell: usize, group: u32)
         ensures gone { HasLeft self.new group cell }
         ensures groups { KeepsGroupsBut group cell self.old self.new }
@@ -178,6 +192,8 @@ impl Groups {
     }
 
     /// Whether the cell of a request that stands in a group reads what is wanted.
+    ///
+    /// Its contract is an equation.
     pub fn reads(
         &self,
         group: u32,
@@ -196,6 +212,8 @@ impl Groups {
     }
 
     /// Cells among which each is that reads what is wanted, each once, in rising order.
+    ///
+    /// Its contract leaves open: which other cells are among them: a list of all would do.
     pub fn candidates(&self, wanted: &[Wanted<'_>]) -> Result<Vec<usize>, AllocError>
         ensures covers { IfOk result (λ v. Covers self.now wanted.now v.items) }
         ensures ordered { IfOk result (λ v. IsStrictlySortedBy nat_cmp v.items) }

@@ -44,6 +44,8 @@ impl Model for Index {
 
 impl Index {
     /// No pair, for which nothing is allocated.
+    ///
+    /// Its contract is an equation.
     pub fn new(alloc: Global) -> Index
         ensures { result ≡ empty }
     {
@@ -54,6 +56,8 @@ impl Index {
     }
 
     /// The cells that read a key, each once, in rising order.
+    ///
+    /// Its contract is an equation.
     pub fn cells_of(&self, key: &ReadKey) -> &[usize]
         ensures { result.now ≡ cells_of self.now key.now }
     {
@@ -127,6 +131,9 @@ impl Index {
     }
 
     /// Puts a cell in under some keys. After a refusal all is as before.
+    ///
+    /// Its contract leaves open: nothing that `cells_of` tells: the pairs are said, one by one, as those before and
+    /// these.
     pub fn add(&mut self, cell: usize, keys: &[ReadKey]) -> Result<(), AllocError>
         ensures ok { OnOk result (Adds (is_pair_of keys.now cell) self.old self.new) }
         ensures err { OnErr result (self.new ≡ self.old) }
@@ -141,6 +148,9 @@ impl Index {
     }
 
     /// Takes a cell out under some keys, wherever it is there. It takes no memory.
+    ///
+    /// Its contract leaves open: nothing that `cells_of` tells: the pairs are said, one by one, as those before but for
+    /// these.
     pub fn forget(&mut self, cell: usize, keys: &[ReadKey])
         ensures { Forgets (is_pair_of keys.now cell) self.old self.new }
     {
@@ -161,6 +171,8 @@ impl Index {
 
     /// The keys that a cell reads and whose values the row may change, in their order: those of an attribute that name
     /// the row, with no issuer or with the row's.
+    ///
+    /// Its contract is an equation but for memory.
     pub fn keys_of_row(&self, row: &RowKey) -> Result<Items<ReadKey>, AllocError>
         ensures keys { IfOk result (λ ks. ks ≡ filter (asks_row row.now) (keys self.now)) }
         ensures read { IfOk result (All (HasCell self.now)) }
@@ -176,6 +188,8 @@ impl Index {
     }
 
     /// The keys that a cell reads and that are references of a kind and an id, in their order.
+    ///
+    /// Its contract is an equation but for memory.
     pub fn keys_of_policy(&self, kind: Kind, id: &str) -> Result<Items<ReadKey>, AllocError>
         ensures keys { IfOk result (λ ks. ks ≡ filter (asks_policy kind id.now) (keys self.now)) }
         ensures read { IfOk result (All (HasCell self.now)) }

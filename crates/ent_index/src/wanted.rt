@@ -21,6 +21,8 @@ pub struct Wanted<'k> {
 
 impl<'k> Wanted<'k> {
     /// What the readers of some keys are sought by. A key whose question has no number has none.
+    ///
+    /// Its contract leaves open: how what is wanted is put together, as long as the same is wanted.
     pub fn of(
         alloc: Global,
         questions: &Questions,

@@ -40,6 +40,9 @@ pub struct Joined {
 /// # Errors
 ///
 /// `AllocError` if memory runs out.
+///
+/// Its contract leaves open: when it answers `None`, which it may always: its caller then evaluates. What the pad
+/// holds, which no call tells.
 pub fn join<L: LookUps>(
     scene: &Scene<'_, L>,
     root: &Reference,

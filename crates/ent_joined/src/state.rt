@@ -29,6 +29,8 @@ impl Model for Pad {
 
 impl Pad {
     /// Nothing is kept, and nothing is allocated.
+    ///
+    /// Its contract leaves open: all of it: a pad holds nothing that a call tells.
     pub fn new(alloc: Global) -> Pad {
         Pad {
             asked: Marked::new(alloc),

@@ -14,6 +14,8 @@ use std::alloc::AllocError;
 /// # Errors
 ///
 /// `AllocError` if memory runs out; the key may have been written.
+///
+/// Its contract is an equation but for memory.
 pub fn write_text(out: &mut JsonText, key: &str, text: &str) -> Result<(), AllocError>
     ensures { OnOk result (out.new ≡ out.old ++ token.key key.now ∷ token.string text.now ∷ []) }
 {
@@ -26,6 +28,8 @@ pub fn write_text(out: &mut JsonText, key: &str, text: &str) -> Result<(), Alloc
 /// # Errors
 ///
 /// `AllocError` if memory runs out; the key may have been written.
+///
+/// Its contract is an equation but for memory.
 pub fn write_optional(out: &mut JsonText, key: &str, text: &Option<Text>) -> Result<(), AllocError>
     ensures { OnOk result (out.new ≡ out.old ++ optional_tokens key.now (option_map json.string text.now)) }
 {
@@ -40,6 +44,8 @@ pub fn write_optional(out: &mut JsonText, key: &str, text: &Option<Text>) -> Res
 /// # Errors
 ///
 /// `AllocError` if memory runs out; the key may have been written.
+///
+/// Its contract is an equation but for memory.
 pub fn write_count(out: &mut JsonText, key: &str, count: u64) -> Result<(), AllocError>
     ensures { OnOk result (out.new ≡ out.old ++ token.key key.now ∷ token.number (decimal count) ∷ []) }
 {

@@ -22,6 +22,8 @@ const MAX_DEPTH: usize = 127;
 ///
 /// Where memory runs out, which is asked for only where the scratch has no room for the text, or where an array or an
 /// object begins.
+///
+/// Its contract leaves open: what the scratch holds, which the next call writes over.
 pub fn read_json<'a>(
     alloc: Global,
     text: &'a [u8],

@@ -13,6 +13,8 @@ use std::alloc::{AllocError, Global};
 /// # Errors
 ///
 /// `AllocError` if memory runs out.
+///
+/// Its contract is an equation but for memory.
 pub fn only_member(alloc: Global, key: &str, value: Value) -> Result<Value, AllocError>
     ensures { IfOk result (λ v. view v ≡ only_member key.now (view value)) }
 {
@@ -26,6 +28,8 @@ pub fn only_member(alloc: Global, key: &str, value: Value) -> Result<Value, Allo
 /// # Errors
 ///
 /// `AllocError` if memory runs out; the members are as before.
+///
+/// Its contract is an equation but for memory.
 pub fn put_text(
     alloc: Global,
     members: &mut Map<String, Value>,

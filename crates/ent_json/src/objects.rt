@@ -7,6 +7,8 @@ ghost use Rattle.ent_json.specs.Objects.{filled_list_at, flag_at, list_at, text_
 use crate::tree::JsonTree;
 
 /// The text at the key of an object. `None` if the key is absent or something else stands there.
+///
+/// Its contract is an equation.
 pub fn text_at<'a, J: JsonTree>(object: &'a J, key: &str) -> Option<&'a str>
     ensures { option_map (λ s. s.now) result ≡ text_at key.now (J.content object.now) }
 {
@@ -14,6 +16,8 @@ pub fn text_at<'a, J: JsonTree>(object: &'a J, key: &str) -> Option<&'a str>
 }
 
 /// Whether the key of an object is absent, or a text stands there. A value that is no object has no key.
+///
+/// Its contract is an equation.
 pub fn text_or_absent<J: JsonTree>(object: &J, key: &str) -> bool
     ensures { result ≡ text_or_absent key.now (J.content object.now) }
 {
@@ -25,6 +29,8 @@ pub fn text_or_absent<J: JsonTree>(object: &J, key: &str) -> bool
 
 /// The flag at the key of an object, `false` if the key is absent. `None` if something else stands there. A value that
 /// is no object has no key.
+///
+/// Its contract is an equation.
 pub fn flag_at<J: JsonTree>(object: &J, key: &str) -> Option<bool>
     ensures { result ≡ flag_at key.now (J.content object.now) }
 {
@@ -36,6 +42,8 @@ pub fn flag_at<J: JsonTree>(object: &J, key: &str) -> Option<bool>
 
 /// The list at the key of an object, empty if the key is absent. `None` if something else stands there. A value that is
 /// no object has no key.
+///
+/// Its contract is an equation.
 pub fn list_at<'a, J: JsonTree>(object: &'a J, key: &str) -> Option<&'a [J]>
     ensures { option_map (λ s. items_of (map J.content s.now)) result ≡ list_at key.now (J.content object.now) }
 {
@@ -47,6 +55,8 @@ pub fn list_at<'a, J: JsonTree>(object: &'a J, key: &str) -> Option<&'a [J]>
 
 /// The list at the key of an object if it has a member. `None` if the key is absent, if the list is empty, or if
 /// something else stands there.
+///
+/// Its contract is an equation.
 pub fn filled_list_at<'a, J: JsonTree>(object: &'a J, key: &str) -> Option<&'a [J]>
     ensures { option_map (λ s. items_of (map J.content s.now)) result ≡ filled_list_at key.now (J.content object.now) }
 {

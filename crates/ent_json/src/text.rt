@@ -49,6 +49,8 @@ fn flag_text(flag: bool) -> &'static str
 
 impl JsonText {
     /// A text with nothing in it. Nothing is allocated.
+    ///
+    /// Its contract is an equation.
     pub fn new(alloc: Global) -> JsonText
         ensures { result ≡ [] }
     {
@@ -63,6 +65,8 @@ impl JsonText {
     /// # Errors
     ///
     /// `AllocError` if there is no memory for the room.
+    ///
+    /// Its contract is an equation but for memory.
     pub fn with_room(alloc: Global) -> Result<JsonText, AllocError>
         ensures { IfOk result (λ t. t ≡ []) }
     {
@@ -75,6 +79,8 @@ impl JsonText {
 
     /// The tokens of a constant text that stands in front of a value or a member, as `"why":`, `{"action":` or `[`. A
     /// comma is put before it where one belongs there. It costs one copy, where its tokens one by one cost several.
+    ///
+    /// Its contract is an equation but for memory.
     #[inline(always)]
     pub fn raw(&mut self, fragment: &str) -> Result<(), AllocError>
         requires { IsTrue (is_fragment fragment.now) }
@@ -87,6 +93,8 @@ impl JsonText {
     }
 
     /// `{`
+    ///
+    /// Its contract is an equation but for memory.
     #[inline]
     pub fn begin_object(&mut self) -> Result<(), AllocError>
         ensures ok { OnOk result (self.new ≡ self.old ++ token.begin_object ∷ []) }
@@ -96,6 +104,8 @@ impl JsonText {
     }
 
     /// `}`
+    ///
+    /// Its contract is an equation but for memory.
     #[inline]
     pub fn end_object(&mut self) -> Result<(), AllocError>
         ensures ok { OnOk result (self.new ≡ self.old ++ token.end_object ∷ []) }
@@ -107,6 +117,8 @@ impl JsonText {
     }
 
     /// `[`
+    ///
+    /// Its contract is an equation but for memory.
     #[inline]
     pub fn begin_array(&mut self) -> Result<(), AllocError>
         ensures ok { OnOk result (self.new ≡ self.old ++ token.begin_array ∷ []) }
@@ -116,6 +128,8 @@ impl JsonText {
     }
 
     /// `]`
+    ///
+    /// Its contract is an equation but for memory.
     #[inline]
     pub fn end_array(&mut self) -> Result<(), AllocError>
         ensures ok { OnOk result (self.new ≡ self.old ++ token.end_array ∷ []) }
@@ -127,6 +141,8 @@ impl JsonText {
     }
 
     /// The key of the next member.
+    ///
+    /// Its contract is an equation but for memory.
     #[inline]
     pub fn key(&mut self, name: &str) -> Result<(), AllocError>
         ensures ok { OnOk result (self.new ≡ self.old ++ token.key name.now ∷ []) }
@@ -138,6 +154,8 @@ impl JsonText {
     }
 
     /// A text.
+    ///
+    /// Its contract is an equation but for memory.
     #[inline]
     pub fn string(&mut self, text: &str) -> Result<(), AllocError>
         ensures ok { OnOk result (self.new ≡ self.old ++ token.string text.now ∷ []) }
@@ -149,6 +167,8 @@ impl JsonText {
     }
 
     /// The text of numbers with a point between each two, as a version has it.
+    ///
+    /// Its contract is an equation but for memory.
     pub fn dotted(&mut self, numbers: &[u32]) -> Result<(), AllocError>
         ensures ok { OnOk result (self.new ≡ self.old ++ token.string (dotted numbers.now) ∷ []) }
         ensures err { OnErr result (self.new ≡ self.old) }
@@ -159,6 +179,8 @@ impl JsonText {
     }
 
     /// A whole number.
+    ///
+    /// Its contract is an equation but for memory.
     pub fn integer(&mut self, integer: i64) -> Result<(), AllocError>
         ensures ok { OnOk result (self.new ≡ self.old ++ token.number (signed_decimal integer) ∷ []) }
         ensures err { OnErr result (self.new ≡ self.old) }
@@ -174,6 +196,8 @@ impl JsonText {
     }
 
     /// A number of things.
+    ///
+    /// Its contract is an equation but for memory.
     pub fn count(&mut self, count: u64) -> Result<(), AllocError>
         ensures ok { OnOk result (self.new ≡ self.old ++ token.number (decimal count) ∷ []) }
         ensures err { OnErr result (self.new ≡ self.old) }
@@ -189,6 +213,8 @@ impl JsonText {
     }
 
     /// `true` or `false`.
+    ///
+    /// Its contract is an equation but for memory.
     pub fn boolean(&mut self, flag: bool) -> Result<(), AllocError>
         ensures ok { OnOk result (self.new ≡ self.old ++ token.boolean flag ∷ []) }
         ensures err { OnErr result (self.new ≡ self.old) }
@@ -203,6 +229,8 @@ impl JsonText {
     }
 
     /// `null`
+    ///
+    /// Its contract is an equation but for memory.
     pub fn null(&mut self) -> Result<(), AllocError>
         ensures ok { OnOk result (self.new ≡ self.old ++ token.null ∷ []) }
         ensures err { OnErr result (self.new ≡ self.old) }
@@ -213,6 +241,8 @@ impl JsonText {
     }
 
     /// The text of the tokens, without spaces, which is moved and not copied.
+    ///
+    /// Its contract is an equation.
     pub fn into_string(self) -> String
         ensures { string_bytes result ≡ print self }
     {

@@ -30,6 +30,8 @@ pub struct Suite<'a> {
 }
 
 /// How many errors a suite has, by what was told of its file: one where anything was.
+///
+/// Its contract is an equation.
 pub fn errors(error: &Option<Items<u8>>) -> u64
     ensures value { result ≡ errors error.now }
     ensures most { result ≤ 1 }
@@ -41,6 +43,8 @@ pub fn errors(error: &Option<Items<u8>>) -> u64
 }
 
 /// How many of these tests failed.
+///
+/// Its contract is an equation.
 #[tactic(auto, using(crate::proofs::Lists::counted_more, crate::proofs::Lists::counted_same))]
 pub fn failed(cases: &[Case]) -> u64
     ensures value { result ≡ failed cases.now }

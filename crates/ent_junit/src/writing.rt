@@ -147,6 +147,8 @@ fn push_suites(alloc: Global, suites: &[Suite<'_>], text: &mut Vec<u8>) -> Resul
 /// # Errors
 ///
 /// `AllocError` if memory runs out.
+///
+/// Its contract is an equation but for memory.
 pub fn junit_of(alloc: Global, suites: &[Suite<'_>]) -> Result<Vec<u8>, AllocError>
     ensures { IfOk result (λ v. v.items ≡ junit_of suites.now) }
 {

@@ -51,6 +51,8 @@ fn is_asking<J: JsonTree>(command: &Command<'_, J>) -> bool
 /// # Errors
 ///
 /// `AllocError` if memory runs out.
+///
+/// Its contract is an equation but for memory.
 pub fn only_asks(alloc: Global, line: &[u8]) -> Result<bool, AllocError>
     ensures { IfOk result (λ asks. asks ≡ only_asks line.now) }
 {
@@ -69,6 +71,8 @@ pub fn only_asks(alloc: Global, line: &[u8]) -> Result<bool, AllocError>
 /// # Errors
 ///
 /// `AllocError` if memory runs out.
+///
+/// Its contract is an equation but for memory.
 pub fn command_words(alloc: Global) -> Result<Vec<&'static str>, AllocError>
     ensures { IfOk result (λ all. (word : List ℕ)
         → list_any (bytes_eq word) (map (λ w. w.now) all.items) ≡ is_some (form_of word)) }

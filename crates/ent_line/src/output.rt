@@ -18,6 +18,8 @@ pub(crate) fn send<W: Write>(writer: &mut W, bytes: &[u8]) -> Result<(), ServeFa
 }
 
 /// Writes the parts one after the other, or a front of them where the writer fails. Takes no memory.
+///
+/// Its contract leaves open: how much a failing writer took.
 pub fn send_all<W: Write>(writer: &mut W, parts: &[&[u8]]) -> Result<(), ServeFault>
     ensures { SendsTo W.contents writer.old writer.new (flat_map (λ p. p.now) parts.now) result }
 {

@@ -47,6 +47,8 @@ pub enum Refusal {
 
 impl Refusal {
     /// The number by which the refusal is told.
+    ///
+    /// Its contract is an equation.
     pub fn code(self) -> u8
         ensures { result ≡ code_of self }
     {
@@ -70,6 +72,8 @@ impl Refusal {
     }
 
     /// The sub-code that is told beside the number, of a document.
+    ///
+    /// Its contract is an equation.
     pub fn sub_code(self) -> Option<u8>
         ensures { result ≡ sub_of self }
     {

@@ -70,6 +70,8 @@ fn fill(alloc: Global, scratch: &mut Vec<Scratch>) -> Result<(), AllocError>
 
 impl<A: Attributes, P: Policies> Service<A, P> {
     /// A service over a desk as it stands.
+    ///
+    /// Its contract is an equation.
     pub fn new(alloc: Global, desk: Desk<A, P>) -> Service<A, P>
         ensures { result ≡ desk }
     {

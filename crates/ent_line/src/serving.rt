@@ -55,6 +55,9 @@ fn is_at_hand(is_followed: bool, look: u32, looks: u32) -> bool
 /// input, before a read fault is told, and at the end. The line buffer is taken at the start, and `Memory` comes only
 /// there. Where the last look doesn't show the end the call ends with `Read`. A look shows no more than one line, so
 /// no more lines than looks are answered.
+///
+/// Its contract leaves open: when it ends by a read fault or for want of memory, which it may with no line read; how
+/// much a failing writer took of the last reply.
 pub fn serve_within<S: Answering, R: BufRead, W: Write>(
     alloc: Global,
     service: &mut S,
@@ -102,6 +105,8 @@ pub fn serve_within<S: Answering, R: BufRead, W: Write>(
 
 /// Answers each line of the reader by one line into the writer, and gives their number, as `serve_within` does it
 /// with 4,294,967,295 looks.
+///
+/// Its contract leaves open: as of `serve_within`.
 pub fn serve<S: Answering, R: BufRead, W: Write>(
     alloc: Global,
     service: &mut S,
@@ -126,6 +131,8 @@ pub fn serve<S: Answering, R: BufRead, W: Write>(
 /// Serves a review: each line of the reader has its reply in the writer, as `serve` does it, and each reply is what
 /// evaluating every request afresh gives on what the accepted edits leave (section 7). What `work` is answered is the
 /// number of evaluations that the lines before it made, and those before the first.
+///
+/// Its contract leaves open: as of `serve_within`, for the headline.
 pub fn serve_review<A: Attributes, P: Policies, R: BufRead, W: Write>(
     alloc: Global,
     service: &mut Service<A, P>,

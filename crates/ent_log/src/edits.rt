@@ -14,6 +14,8 @@ use std::mem;
 
 impl<K: Ord + Drop, A: Drop> Log<K, A> {
     /// The log of a table that wasn't edited yet, for which nothing is allocated.
+    ///
+    /// Its contract leaves open: nothing that a call tells: that no edit is being logged is said by `IsClosed`.
     pub fn new(alloc: Global) -> Log<K, A>
         ensures from { result.from ≡ 0 }
         ensures serial { result.serial ≡ 0 }
@@ -27,6 +29,8 @@ impl<K: Ord + Drop, A: Drop> Log<K, A> {
     }
 
     /// How many edits there were.
+    ///
+    /// Its contract is an equation.
     pub fn serial(&self) -> u64
         ensures { result ≡ self.now.serial }
     {
@@ -34,6 +38,8 @@ impl<K: Ord + Drop, A: Drop> Log<K, A> {
     }
 
     /// The least serial whose table is known.
+    ///
+    /// Its contract is an equation.
     pub fn kept_from(&self) -> u64
         ensures value { result ≡ self.now.from }
         ensures within { result ≤ self.now.serial }
@@ -42,6 +48,8 @@ impl<K: Ord + Drop, A: Drop> Log<K, A> {
     }
 
     /// Makes room for that many old answers. Whatever the result, the log is as before.
+    ///
+    /// Its contract leaves open: how much more room there is than was asked for.
     pub fn reserve(&mut self, count: usize) -> Result<(), AllocError>
         ensures room { OnOk result (count ≤ room_of self.new) }
         ensures grows { room_of self.old ≤ room_of self.new }
@@ -52,6 +60,8 @@ impl<K: Ord + Drop, A: Drop> Log<K, A> {
 
     /// Logs an old answer of the edit that is being made. It takes no memory. The table at each serial so far stays
     /// what it was.
+    ///
+    /// Its contract is an equation.
     pub fn put(&mut self, old: OldAnswer<K, A>)
         requires { 0 < room_of self.old }
         ensures from { self.new.from ≡ self.old.from }
@@ -66,6 +76,8 @@ impl<K: Ord + Drop, A: Drop> Log<K, A> {
     }
 
     /// Counts the edit whose old answers were logged. The table at the new serial is the present one.
+    ///
+    /// Its contract is an equation.
     pub fn close(&mut self)
         requires { self.old.serial < 2 ^ 64 - 1 }
         ensures from { self.new.from ≡ self.old.from }
@@ -79,6 +91,8 @@ impl<K: Ord + Drop, A: Drop> Log<K, A> {
 
     /// Logs an edit by the old answers of what it changed, and counts it. It takes no memory. The table at each serial
     /// so far stays what it was.
+    ///
+    /// Its contract leaves open: how old answers are kept, as long as the table at each serial stays what it was.
     pub fn push(&mut self, old: Items<OldAnswer<K, A>>)
         requires room { length old ≤ room_of self.old }
         requires serial { self.old.serial < 2 ^ 64 - 1 }
@@ -96,6 +110,8 @@ impl<K: Ord + Drop, A: Drop> Log<K, A> {
 
     /// Forgets the tables before a serial. It takes no memory. The table at each serial from there on stays what it
     /// was. Where the tables before the serial are forgotten already, nothing changes.
+    ///
+    /// Its contract is an equation.
     pub fn forget_before(&mut self, serial: u64)
         requires { serial ≤ self.old.serial }
         ensures from { self.new.from ≡ max serial self.old.from }

@@ -91,6 +91,9 @@ impl<K: Ord + Drop, A: Eq + Drop> Log<K, A> {
     /// The difference of the table at a serial and the present one: each key to which they give different answers once,
     /// in order, with both answers. It takes time in proportion to what was logged from that serial on, times a
     /// logarithm.
+    ///
+    /// Its contract leaves open: nothing that differs: the list is said as the difference of two tables, in order, each
+    /// key once.
     pub fn changes_since<P: Present<K, A>>(
         &self,
         alloc: Global,

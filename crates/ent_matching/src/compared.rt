@@ -52,6 +52,8 @@ fn both_fit(alloc: Global, whole: bool, expected: &[u8], text: &[u8]) -> Result<
 /// # Errors
 ///
 /// `AllocError` if memory runs out.
+///
+/// Its contract is an equation but for memory.
 pub fn is_same(alloc: Global, expected: &[u8], text: &[u8]) -> Result<bool, AllocError>
     ensures { IfOk result (λ same. same ≡ is_same expected.now text.now) }
 {
@@ -65,6 +67,8 @@ pub fn is_same(alloc: Global, expected: &[u8], text: &[u8]) -> Result<bool, Allo
 /// # Errors
 ///
 /// `AllocError` if memory runs out.
+///
+/// Its contract is an equation but for memory.
 pub fn is_part(alloc: Global, expected: &[u8], text: &[u8]) -> Result<bool, AllocError>
     ensures { IfOk result (λ part. part ≡ is_part expected.now text.now) }
 {
@@ -78,6 +82,8 @@ pub fn is_part(alloc: Global, expected: &[u8], text: &[u8]) -> Result<bool, Allo
 /// # Errors
 ///
 /// `AllocError` if memory runs out.
+///
+/// Its contract is an equation but for memory.
 pub fn places(
     alloc: Global,
     whole: bool,

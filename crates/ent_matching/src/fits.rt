@@ -65,6 +65,8 @@ fn has_as_many(whole: bool, members: &Map<String, Value>, value: &Value) -> bool
 }
 
 /// Whether two values have the same data, as [`is_same`](crate::is_same) says it of texts.
+///
+/// Its contract is an equation.
 pub fn have_same_data(first: &Value, second: &Value) -> bool
     ensures { result ≡ fits true (view first.now) (view second.now) }
 {

@@ -308,6 +308,8 @@ fn tell_children(
 /// # Errors
 ///
 /// `AllocError` if memory runs out.
+///
+/// Its contract is an equation but for memory.
 #[tactic(auto, using(crate::proofs::Levels::set_told))]
 pub fn warnings(alloc: Global, document: &Document) -> Result<Items<Warning>, AllocError>
     ensures { IfOk result (λ w. w ≡ warnings_of document.now) }

@@ -30,6 +30,8 @@ impl Model for Marked {
 
 impl Marked {
     /// No numbers, for which nothing is allocated.
+    ///
+    /// Its contract is an equation.
     pub fn new(alloc: Global) -> Marked
         ensures { result ≡ [] }
     {
@@ -41,6 +43,8 @@ impl Marked {
     }
 
     /// Begins anew: no number is there.
+    ///
+    /// Its contract is an equation.
     pub fn begin(&mut self, alloc: Global)
         ensures { self.new ≡ [] }
     {
@@ -54,6 +58,8 @@ impl Marked {
     }
 
     /// The numbers, in their order.
+    ///
+    /// Its contract is an equation.
     pub fn as_slice(&self) -> &[usize]
         ensures { result.now ≡ self.now }
     {
@@ -61,6 +67,8 @@ impl Marked {
     }
 
     /// Notes a number, if it isn't there yet.
+    ///
+    /// Its contract is an equation but for memory.
     pub fn note(&mut self, number: usize) -> Result<(), AllocError>
         ensures ok { OnOk result (self.new ≡ insert_key eqb self.old number) }
         ensures err { OnErr result (self.new ≡ self.old) }

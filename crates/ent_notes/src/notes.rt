@@ -51,6 +51,8 @@ impl Model for Notes {
 
 impl Notes {
     /// Of an evaluation that is asked for its answer alone.
+    ///
+    /// Its contract is an equation.
     pub fn unasked(alloc: Global) -> Notes
         ensures { result ≡ record { questions = None; causes = None; failed = false } }
     {
@@ -64,6 +66,8 @@ impl Notes {
     }
 
     /// The keys that are looked up for the questions, each once, if they were asked for.
+    ///
+    /// Its contract leaves open: what it tells where questions weren't asked for, of which nothing is noted.
     pub fn reads(&self, alloc: Global, request: &Request) -> Result<Reads, AllocError>
         ensures { IfOk result (λ r. IfSome self.now.questions (λ questions.
             r ≡ noted [] (flat_map (sources.keys_of request.now) questions))) }
@@ -72,6 +76,9 @@ impl Notes {
     }
 
     /// The numbers of the questions among those of a caller, each once, if they were asked for.
+    ///
+    /// Its contract leaves open: which numbers new questions get; what it tells where they weren't asked for; what is
+    /// left in the notes.
     pub fn numbers_among(
         &mut self,
         alloc: Global,
@@ -86,6 +93,8 @@ impl Notes {
     }
 
     /// Notes that the root is asked for, if it isn't there yet.
+    ///
+    /// Its contract is an equation but for memory.
     pub fn note_root(&mut self, alloc: Global) -> Result<(), AllocError>
         ensures { OnOk result (self.new ≡ with_note self.old (asks Root)) }
     {
@@ -96,6 +105,8 @@ impl Notes {
     }
 
     /// The same of which document a reference names.
+    ///
+    /// Its contract is an equation but for memory.
     pub fn note_reference(&mut self, alloc: Global, reference: &Reference) -> Result<(), AllocError>
         ensures { OnOk result (self.new ≡ with_note self.old (asks (Ref reference.now))) }
     {
@@ -106,6 +117,8 @@ impl Notes {
     }
 
     /// The same of the values of a designator.
+    ///
+    /// Its contract is an equation but for memory.
     pub fn note_values(&mut self, alloc: Global, designator: &Designator) -> Result<(), AllocError>
         ensures { OnOk result (self.new ≡ with_note self.old (asks (Of (asked_of designator.now)))) }
     {
@@ -116,6 +129,8 @@ impl Notes {
     }
 
     /// Notes that something fails where the evaluation is.
+    ///
+    /// Its contract is an equation but for memory.
     pub fn fail(&mut self, alloc: Global, reason: Reason<'_>) -> Result<(), AllocError>
         ensures { OnOk result (self.new ≡ with_note self.old (fails (record {
           path = [];
@@ -132,6 +147,8 @@ impl Notes {
     }
 
     /// Whether anything failed.
+    ///
+    /// Its contract is an equation.
     pub fn has_failed(&self) -> bool
         ensures { result ≡ self.now.failed }
     {
@@ -139,6 +156,8 @@ impl Notes {
     }
 
     /// Whether something failed that isn't passed over, if what failed is asked for.
+    ///
+    /// Its contract is an equation.
     #[inline(always)]
     pub fn is_named(&self) -> bool
         ensures { result ≡ is_named self.now }
@@ -151,6 +170,8 @@ impl Notes {
 
     /// Behind a part of the evaluation: what failed in it is passed over unless it is Indeterminate. Whether something
     /// that failed before isn't is given: then nothing has to be done.
+    ///
+    /// Its contract is an equation.
     #[inline(always)]
     pub fn settle(&mut self, was_named: bool, is_indeterminate: bool)
         ensures { self.new ≡ settling was_named is_indeterminate self.old }
@@ -164,6 +185,9 @@ impl Notes {
     }
 
     /// What failed, each cause once, if that is asked for: the first that isn't passed over before the others.
+    ///
+    /// Its contract leaves open: what it tells where causes weren't asked for; what is left in the notes, which end
+    /// with it.
     pub fn take_causes(&mut self, alloc: Global) -> Result<Items<Cause>, AllocError>
         ensures { IfOk result (λ causes. IfSome self.old.causes (λ k.
             causes ≡ named_first k.told.named k.told.causes)) }
@@ -175,6 +199,8 @@ impl Notes {
     }
 
     /// Goes into a policy or a set.
+    ///
+    /// Its contract is an equation but for memory.
     #[inline(always)]
     pub fn enter(
         &mut self,
@@ -196,6 +222,8 @@ impl Notes {
     }
 
     /// And out of it.
+    ///
+    /// Its contract is an equation.
     #[inline(always)]
     pub fn leave(&mut self)
         ensures { self.new ≡ leaving self.old }
@@ -206,6 +234,8 @@ impl Notes {
     }
 
     /// Goes into a rule. What it was in before is given.
+    ///
+    /// Its contract is an equation but for memory.
     #[inline(always)]
     pub fn enter_rule(&mut self, alloc: Global, id: &Text) -> Result<Option<Text>, AllocError>
         ensures notes { OnOk result (self.new ≡ in_rule self.old (Some id.now)) }
@@ -218,6 +248,8 @@ impl Notes {
     }
 
     /// And out of it.
+    ///
+    /// Its contract is an equation.
     #[inline(always)]
     pub fn leave_rule(&mut self, outer: Option<Text>)
         ensures { self.new ≡ in_rule self.old outer }
@@ -228,6 +260,8 @@ impl Notes {
     }
 
     /// The keys of a path.
+    ///
+    /// Its contract is an equation but for memory.
     pub fn path(
         &mut self,
         alloc: Global,
@@ -255,6 +289,8 @@ impl Model for Notebook {
 
 impl Notebook {
     /// Nothing is kept.
+    ///
+    /// Its contract leaves open: all of it: a notebook keeps room, and nothing that a call tells.
     pub fn new(alloc: Global) -> Notebook {
         Notebook {
             notes: Notes::unasked(alloc),
@@ -262,6 +298,8 @@ impl Notebook {
     }
 
     /// The notes of an evaluation before its first question, by whether its questions are asked for, and its causes.
+    ///
+    /// Its contract leaves open: what is left in the notebook, which keeps room and nothing that a call tells.
     pub fn open(&mut self, alloc: Global, is_asked: bool, is_told: bool) -> Notes
         ensures { result ≡ record {
           questions = if is_asked then Some [] else None;
@@ -285,6 +323,8 @@ impl Notebook {
     }
 
     /// Keeps them behind it.
+    ///
+    /// Its contract leaves open: all of it: a notebook keeps room, and nothing that a call tells.
     pub fn close(&mut self, notes: Notes) {
         self.notes = notes;
     }

@@ -177,6 +177,9 @@ fn walk<'a, J: JsonTree>(
 /// # Errors
 ///
 /// `AllocError` if memory runs out.
+///
+/// Its contract leaves open: which faults are told behind the first, and in which order, where the search was cut;
+/// whether it is cut.
 pub fn places_of<'a, J: JsonTree>(
     alloc: Global,
     json: &'a J,

@@ -29,6 +29,8 @@ pub(crate) fn is_fault(fault: DocFault, told: Option<DocFault>) -> bool
 /// # Errors
 ///
 /// `AllocError` if memory runs out.
+///
+/// Its contract is an equation but for memory.
 pub fn is_faulty<J: JsonTree>(
     alloc: Global,
     fault: DocFault,

@@ -197,6 +197,8 @@ const ASSIGNMENT: &[(&str, Part)] = &[
 
 impl Part {
     /// The keys that an object of this part may have, with the part that stands at each; none where it isn't an object.
+    ///
+    /// Its contract is an equation.
     pub fn rows(self) -> &'static [(&'static str, Part)]
         ensures { map (λ r. (r.0.now, r.1)) result.now ≡ rows self }
     {
@@ -226,6 +228,8 @@ impl Part {
     }
 
     /// What each member of a list of this part is, where it is a list.
+    ///
+    /// Its contract is an equation.
     pub fn item(self) -> Option<Part>
         ensures { result ≡ item self }
     {

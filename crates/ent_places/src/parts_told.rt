@@ -30,6 +30,8 @@ use std::alloc::{AllocError, Global};
 /// # Errors
 ///
 /// `AllocError` if memory runs out.
+///
+/// Its contract is an equation but for memory.
 pub fn told<J: JsonTree>(
     alloc: Global,
     part: Part,
@@ -46,6 +48,8 @@ pub fn told<J: JsonTree>(
 /// # Errors
 ///
 /// `AllocError` if memory runs out.
+///
+/// Its contract is an equation but for memory.
 pub fn scope_told<J: JsonTree>(
     alloc: Global,
     scope: &Scope<'_, J>,

@@ -338,6 +338,8 @@ fn smallest<'a, J: JsonTree>(
 /// # Errors
 ///
 /// `AllocError` if memory runs out.
+///
+/// Its contract leaves open: which place, where several parts have the fault.
 pub fn place_of<'a, J: JsonTree>(
     alloc: Global,
     json: &'a J,

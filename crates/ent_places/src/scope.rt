@@ -63,6 +63,8 @@ fn with_flag(
 
 impl<'a, J: JsonTree> Scope<'a, J> {
     /// The scope of what stands in no policy.
+    ///
+    /// Its contract is an equation.
     pub fn nowhere(alloc: Global) -> Scope<'a, J>
         ensures scope { scope_of J.content result ≡ nowhere }
         ensures clear { result.clear ≡ false }
@@ -121,6 +123,8 @@ impl<'a, J: JsonTree> Scope<'a, J> {
     /// # Errors
     ///
     /// `AllocError` if memory runs out.
+    ///
+    /// Its contract is an equation but for memory.
     pub fn copied(&self, alloc: Global) -> Result<Scope<'a, J>, AllocError>
         ensures same { IfOk result (λ s. scope_of J.content s ≡ scope_of J.content self.now) }
         ensures clear { IfOk result (λ s. s.clear ≡ self.now.clear) }

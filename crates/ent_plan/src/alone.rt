@@ -25,6 +25,8 @@ impl Task {
     /// # Errors
     ///
     /// `AllocError` if memory runs out.
+    ///
+    /// Its contract is an equation but for memory.
     pub fn tested<'a, L: LookUps>(
         &'a self,
         alloc: Global,

@@ -53,6 +53,9 @@ impl From<AllocError> for NoPlan {
 /// # Errors
 ///
 /// `AllocError` if memory runs out.
+///
+/// Its contract leaves open: when it answers `None`, which it may always: its caller then evaluates; how entries are
+/// cut, as long as they list the same tests.
 pub fn plan_of<L: LookUps>(alloc: Global, held: &L) -> Result<Option<Items<Entry>>, AllocError>
     ensures { IfOk result (λ plan. IfSome plan (IsPlan (L.looks held.now))) }
 {

@@ -53,6 +53,8 @@ pub trait Outcomes {
 /// # Errors
 ///
 /// `AllocError` if memory runs out.
+///
+/// Its contract leaves open: which numbers outcomes have that weren't there before, and what else is learnt.
 pub fn sign<O: Outcomes>(
     outcomes: &mut O,
     entries: &[Entry],

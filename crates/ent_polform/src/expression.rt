@@ -31,6 +31,8 @@ fn literal<J: JsonTree>(alloc: Global, value: &J) -> Result<RawLiteral, CheckFau
 }
 
 /// An AttributeValue (section 5.31), as read. The only fault that is found here is one of its form.
+///
+/// Its contract is an equation but for memory.
 #[tactic(auto, unfolding(crate::specs::Expressions::value_of))]
 pub fn attribute_value<J: JsonTree>(alloc: Global, object: &J) -> Result<RawValue, CheckFault>
     ensures { Gives result (value_of (J.content object.now)) }
@@ -45,6 +47,8 @@ pub fn attribute_value<J: JsonTree>(alloc: Global, object: &J) -> Result<RawValu
 }
 
 /// An AttributeDesignator (section 5.29), as read. The only fault that is found here is one of its form.
+///
+/// Its contract is an equation but for memory.
 #[tactic(auto, unfolding(crate::specs::Expressions::designator_of))]
 pub fn designator<J: JsonTree>(alloc: Global, object: &J) -> Result<RawDesignator, CheckFault>
     ensures { Gives result (designator_of (J.content object.now)) }
@@ -96,6 +100,8 @@ fn nested_expression<J: JsonTree>(alloc: Global, json: &J) -> Result<RawExpressi
 }
 
 /// The expression that has that body at that key, as read. The only fault that is found here is one of its form.
+///
+/// Its contract is an equation but for memory.
 #[cycle(expression)]
 #[tactic(auto, unfolding(crate::specs::Expressions::expression_named))]
 pub fn named<J: JsonTree>(alloc: Global, key: &str, body: &J) -> Result<RawExpression, CheckFault>
@@ -149,6 +155,8 @@ fn expressions<J: JsonTree>(alloc: Global, values: &[J]) -> Result<Items<RawExpr
 }
 
 /// An expression (section 5.25), as read. The only fault that is found here is one of its form.
+///
+/// Its contract is an equation but for memory.
 pub fn expression<J: JsonTree>(alloc: Global, json: &J) -> Result<RawExpression, CheckFault>
     ensures { Gives result (expression_of (J.content json.now)) }
 {

@@ -23,6 +23,8 @@ use ent_values::Items;
 use std::alloc::Global;
 
 /// A VariableDefinition (section 5.23), as read. The only fault that is found here is one of its form.
+///
+/// Its contract is an equation but for memory.
 #[tactic(auto, unfolding(crate::specs::Form::definition_of))]
 pub fn definition<J: JsonTree>(
     alloc: Global,
@@ -54,6 +56,8 @@ fn definitions<J: JsonTree>(
 }
 
 /// A Rule (section 5.21), as read. The only fault that is found here is one of its form.
+///
+/// Its contract is an equation but for memory.
 #[tactic(auto, unfolding(crate::specs::Form::rule_of))]
 pub fn rule<J: JsonTree>(alloc: Global, object: &J) -> Result<RawRule, CheckFault>
     ensures { Gives result (rule_of (J.content object.now)) }
@@ -98,6 +102,8 @@ fn rules<J: JsonTree>(alloc: Global, values: &[J]) -> Result<Items<RawRule>, Che
 }
 
 /// A Policy (section 5.14), as read. The only fault that is found here is one of its form.
+///
+/// Its contract is an equation but for memory.
 #[tactic(auto, unfolding(crate::specs::Form::policy_of, crate::specs::Form::id_named))]
 pub fn policy<J: JsonTree>(alloc: Global, object: &J) -> Result<RawPolicy, CheckFault>
     ensures read { Gives result (policy_of (J.content object.now)) }
@@ -138,6 +144,8 @@ pub fn policy<J: JsonTree>(alloc: Global, object: &J) -> Result<RawPolicy, Check
 }
 
 /// A PolicySet (section 5.1), as read. The only fault that is found here is one of its form.
+///
+/// Its contract is an equation but for memory.
 #[cycle(child)]
 #[tactic(auto, unfolding(crate::specs::Form::set_by, crate::specs::Form::id_named))]
 pub fn set<J: JsonTree>(alloc: Global, object: &J) -> Result<RawPolicySet, CheckFault>
@@ -190,6 +198,8 @@ fn children<J: JsonTree>(alloc: Global, values: &[J]) -> Result<Items<RawChild>,
 }
 
 /// A child of a set, a reference or a document, as read. The only fault that is found here is one of its form.
+///
+/// Its contract is an equation but for memory.
 #[cycle(child)]
 pub fn child<J: JsonTree>(alloc: Global, json: &J) -> Result<RawChild, CheckFault>
     ensures { Gives result (child_by child_of (J.content json.now)) }
@@ -223,6 +233,8 @@ fn document<J: JsonTree>(alloc: Global, key: &str, body: &J) -> Result<RawDocume
 }
 
 /// The document that a JSON value spells, as read. The only fault that is found here is one of its form.
+///
+/// Its contract is an equation but for memory.
 #[tactic(auto, unfolding(crate::specs::Form::raw_of, crate::specs::Form::id_of))]
 pub fn raw_document<J: JsonTree>(alloc: Global, json: &J) -> Result<RawDocument, CheckFault>
     ensures read { Gives result (raw_of (J.content json.now)) }
@@ -258,6 +270,8 @@ pub fn raw_document<J: JsonTree>(alloc: Global, json: &J) -> Result<RawDocument,
 /// Then the first fault that [`ent_policy::check`] finds. [`CheckFault::Memory`] if memory runs out, never where the
 /// value is no object of one key Policy or PolicySet, or where the object at that key has a key that isn't one of the
 /// above, or no text as its id.
+///
+/// Its contract is an equation but for memory.
 #[tactic(auto, unfolding(crate::specs::Form::document_of), using(crate::proofs::IdLemmas::id_read))]
 pub fn read_document<J: JsonTree>(alloc: Global, json: &J) -> Result<Document, CheckFault>
     ensures document { Gives result (document_of (J.content json.now)) }

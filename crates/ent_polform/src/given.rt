@@ -29,6 +29,8 @@ pub(crate) fn effect(word: &str) -> Option<Effect>
 }
 
 /// An AttributeAssignmentExpression (section 5.41), as read. The only fault that is found here is one of its form.
+///
+/// Its contract is an equation but for memory.
 #[tactic(auto, unfolding(crate::specs::Given::assignment_of))]
 pub fn assignment<J: JsonTree>(alloc: Global, object: &J) -> Result<RawAssignment, CheckFault>
     ensures { Gives result (assignment_of (J.content object.now)) }
@@ -63,6 +65,8 @@ fn assignments<J: JsonTree>(alloc: Global, values: &[J]) -> Result<Items<RawAssi
 
 /// An ObligationExpression (section 5.39) or an AdviceExpression (section 5.40), by the keys of its id and of its
 /// effect, as read. The only fault that is found here is one of its form.
+///
+/// Its contract is an equation but for memory.
 #[tactic(auto, unfolding(crate::specs::Given::given_by))]
 pub fn given_expression<J: JsonTree>(
     alloc: Global,

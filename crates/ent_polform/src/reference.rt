@@ -22,6 +22,8 @@ pub(crate) fn reference_key(kind: Kind) -> &'static str
 }
 
 /// The kind of document to which a reference of that key leads.
+///
+/// Its contract is an equation.
 pub fn kind(key: &str) -> Option<Kind>
     ensures { result ≡ kind_of key.now }
 {
@@ -46,6 +48,8 @@ fn has_reference_form<J: JsonTree>(body: &J) -> bool
 
 /// A reference to a document of that kind (sections 5.10 and 5.11), as read. The only fault that is found here is one of
 /// its form.
+///
+/// Its contract is an equation but for memory.
 #[tactic(auto, unfolding(crate::specs::Reference::reference_by))]
 pub fn reference<J: JsonTree>(
     alloc: Global,
@@ -75,6 +79,8 @@ pub fn reference<J: JsonTree>(
 ///
 /// [`DocFault::Form`] for any other value. Then the first fault that [`ent_policy::check_reference`] finds.
 /// [`CheckFault::Memory`] if memory runs out, never where the form is wrong.
+///
+/// Its contract is an equation but for memory.
 #[tactic(auto, unfolding(crate::specs::Reference::reference_of), using(crate::proofs::ReferenceLemmas::keeps_form))]
 pub fn read_reference<J: JsonTree>(alloc: Global, json: &J) -> Result<Reference, CheckFault>
     ensures reference { Gives result (reference_of (J.content json.now)) }

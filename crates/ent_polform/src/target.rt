@@ -15,6 +15,8 @@ use ent_values::Items;
 use std::alloc::Global;
 
 /// A Match (section 5.9), as read. The only fault that is found here is one of its form.
+///
+/// Its contract is an equation but for memory.
 #[tactic(auto, unfolding(crate::specs::Targets::match_of))]
 pub fn one_match<J: JsonTree>(alloc: Global, object: &J) -> Result<RawMatch, CheckFault>
     ensures { Gives result (match_of (J.content object.now)) }
@@ -46,6 +48,8 @@ fn matches<J: JsonTree>(alloc: Global, values: &[J]) -> Result<Items<RawMatch>, 
 }
 
 /// A member of AllOf (section 5.8), as read. The only fault that is found here is one of its form.
+///
+/// Its contract is an equation but for memory.
 #[tactic(auto, unfolding(crate::specs::Targets::one_all_of))]
 pub fn all_of<J: JsonTree>(alloc: Global, object: &J) -> Result<RawAllOf, CheckFault>
     ensures { Gives result (one_all_of (J.content object.now)) }
@@ -70,6 +74,8 @@ fn all_of_list<J: JsonTree>(alloc: Global, values: &[J]) -> Result<Items<RawAllO
 }
 
 /// A member of AnyOf (section 5.7), as read. The only fault that is found here is one of its form.
+///
+/// Its contract is an equation but for memory.
 #[tactic(auto, unfolding(crate::specs::Targets::one_any_of))]
 pub fn any_of<J: JsonTree>(alloc: Global, object: &J) -> Result<RawAnyOf, CheckFault>
     ensures { Gives result (one_any_of (J.content object.now)) }
@@ -94,6 +100,8 @@ fn any_of_list<J: JsonTree>(alloc: Global, values: &[J]) -> Result<Items<RawAnyO
 }
 
 /// A Target (section 5.6), as read. The only fault that is found here is one of its form.
+///
+/// Its contract is an equation but for memory.
 #[tactic(auto, unfolding(crate::specs::Targets::target_of))]
 pub fn target<J: JsonTree>(alloc: Global, object: &J) -> Result<RawTarget, CheckFault>
     ensures { Gives result (target_of (J.content object.now)) }

@@ -61,6 +61,8 @@ fn write_reference_body(
 /// # Errors
 ///
 /// `AllocError` if memory runs out; a front of the reference may have been written.
+///
+/// Its contract is an equation but for memory.
 pub fn write_reference_text(
     alloc: Global,
     out: &mut JsonText,
@@ -254,6 +256,8 @@ fn write_child(alloc: Global, out: &mut JsonText, child: &Child) -> Result<(), A
 /// # Errors
 ///
 /// `AllocError` if memory runs out; a front of the document may have been written.
+///
+/// Its contract is an equation but for memory.
 #[tactic(auto, using(crate::proofs::WrittenLemmas::set_is_written))]
 pub fn write_document_text(
     alloc: Global,

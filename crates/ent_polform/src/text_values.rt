@@ -15,6 +15,8 @@ use std::alloc::{AllocError, Global};
 /// # Errors
 ///
 /// `AllocError` if memory runs out.
+///
+/// Its contract is an equation but for memory.
 #[tactic(auto, unfolding(crate::specs::Written::value_written), using(crate::proofs::TextLemmas::integer_tokens))]
 pub fn write_value_text(alloc: Global, out: &mut JsonText, value: &Value) -> Result<(), AllocError>
     ensures { OnOk result (out.new ≡ out.old ++ tokens_of (value_written value.now)) }

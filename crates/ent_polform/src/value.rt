@@ -16,6 +16,8 @@ use std::alloc::Global;
 ///
 /// [`ValueFault::BadValue`] for any other JSON value. [`ValueFault::Memory`] if memory runs out, which only a text
 /// takes whose type is string or anyURI.
+///
+/// Its contract is an equation but for memory.
 #[tactic(auto, using(crate::proofs::ScalarLemmas::value_is))]
 pub fn read_value<J: JsonTree>(
     alloc: Global,

@@ -33,6 +33,8 @@ fn document_text(alloc: Global, document: &Document) -> Result<String, AllocErro
 /// # Errors
 ///
 /// `AllocError` if memory runs out.
+///
+/// Its contract is an equation but for memory.
 pub fn write_document(alloc: Global, document: &Document) -> Result<Json, AllocError>
     ensures written { IfOk result (λ v. view v ≡ written document.now) }
     ensures read_back { IfOk result (λ v. ReadsBack document.now (view v)) }

@@ -30,6 +30,8 @@ fn written(alloc: Global, value: &Value) -> Result<Json, AllocError>
 /// # Errors
 ///
 /// `AllocError` if memory runs out, which only what is written as a text takes.
+///
+/// Its contract is an equation but for memory.
 pub fn write_value(alloc: Global, value: &Value) -> Result<Json, AllocError>
     ensures written { IfOk result (λ v. view v ≡ value_written value.now) }
     ensures read_back { IfOk result (λ v. ValueReadsBack value.now (view v)) }

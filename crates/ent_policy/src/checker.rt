@@ -27,6 +27,8 @@ use std::alloc::{AllocError, Global};
 /// used: a match gives a boolean (section 7.6), and so does a condition (section 5.26); an assignment of an obligation
 /// or an advice gives a value or a bag (section 5.41), and in those of a set no variable is defined. The texts are
 /// moved, not copied.
+///
+/// Its contract is an equation but for memory.
 #[tactic(auto, unfolding(crate::specs::Check::checked, crate::specs::Check::fault_of))]
 pub fn check(alloc: Global, raw: RawDocument) -> Result<Document, CheckFault>
     ensures { Gives result (checked raw) }
@@ -51,6 +53,8 @@ fn passed(alloc: Global, read: Read<Tree>) -> Result<Document, CheckFault>
 
 /// The reference that was read, or its first fault: an id that has no byte or more than 256, or a version pattern that
 /// can't be read.
+///
+/// Its contract is an equation but for memory.
 #[tactic(auto, unfolding(crate::specs::Check::reference_checked))]
 pub fn check_reference(alloc: Global, raw: RawReference) -> Result<Reference, CheckFault>
     ensures { Gives result (reference_checked raw) }

@@ -167,6 +167,8 @@ impl Document {
     /// The policy or the policy set that the document holds: what the checker passed, within the limits of names,
     /// lists, nodes and depth, each variable defined, and each expression of its type. Each integer in it is within
     /// signed 64 bits, each date is a day of the calendar, and each time is one of a day.
+    ///
+    /// Its contract is an equation.
     pub fn tree(&self) -> &Tree
         ensures same { result.now ≡ self.now }
         ensures checked { IsChecked result.now }
@@ -178,6 +180,8 @@ impl Document {
     }
 
     /// The name under which the document is stored.
+    ///
+    /// Its contract is an equation but for memory.
     pub fn key(&self, alloc: Global) -> Result<DocKey, AllocError>
         ensures { IfOk result (λ k. k ≡ key_of self.now) }
     {

@@ -31,6 +31,8 @@ pub enum DocFault {
 
 impl DocFault {
     /// The sub-code by which the fault is told.
+    ///
+    /// Its contract is an equation.
     pub fn code(self) -> u8
         ensures { result ≡ sub_code self }
     {

@@ -36,6 +36,8 @@ pub struct GivenExpressions {
 
 impl GivenExpressions {
     /// No obligation and no advice, for which nothing is allocated.
+    ///
+    /// Its contract is an equation.
     pub fn none(alloc: Global) -> GivenExpressions
         ensures obligations { result.obligations ≡ [] }
         ensures advice { result.advice ≡ [] }

@@ -20,6 +20,8 @@ impl Kind {
     ghost use Rattle.ent_policy.specs.Key.{kind_word};
 
     /// The element's name of such a document, as reports show it (sections 5.1 and 5.14).
+    ///
+    /// Its contract is an equation.
     pub fn word<'v>(self) -> &'v str
         ensures { result.now ≡ kind_word self }
     {
@@ -49,6 +51,8 @@ pub struct Reference {
 
 impl DocKey {
     /// An equal key.
+    ///
+    /// Its contract is an equation but for memory.
     pub fn copy(&self, alloc: Global) -> Result<DocKey, AllocError>
         ensures { IfOk result (λ k. k ≡ self.now) }
     {
@@ -62,6 +66,8 @@ impl DocKey {
 
 impl Reference {
     /// Whether a key has the kind and the id of the reference. Its version may be any.
+    ///
+    /// Its contract is an equation.
     pub fn is_of(&self, key: &DocKey) -> bool
         ensures { result ≡ is_of self.now key.now }
     {
@@ -69,6 +75,8 @@ impl Reference {
     }
 
     /// An equal reference.
+    ///
+    /// Its contract is an equation but for memory.
     pub fn copy(&self, alloc: Global) -> Result<Reference, AllocError>
         ensures { IfOk result (λ r. r ≡ self.now) }
     {

@@ -46,6 +46,8 @@ fn fault_in<L: Limited>(parts: &[L]) -> Option<DocFault>
 }
 
 /// Whether an identifier has no byte or more than 256.
+///
+/// Its contract is an equation.
 pub fn is_bad_name(name: &str) -> bool
     ensures { result ≡ is_bad_name name.now }
 {

@@ -55,6 +55,8 @@ fn text_as(alloc: Global, text: Text, datatype: DataType) -> Result<Option<Value
 }
 
 /// The value of a type that a JSON boolean is: `None`, unless the type is boolean.
+///
+/// Its contract is an equation.
 pub fn boolean_as(boolean: bool, datatype: DataType) -> Option<Value>
     ensures { result ≡ boolean_as boolean datatype }
 {
@@ -65,6 +67,8 @@ pub fn boolean_as(boolean: bool, datatype: DataType) -> Option<Value>
 }
 
 /// The value of a type that a JSON number is: `None`, unless the type is integer.
+///
+/// Its contract is an equation.
 pub fn integer_as(integer: i64, datatype: DataType) -> Option<Value>
     ensures { result ≡ integer_as integer datatype }
 {

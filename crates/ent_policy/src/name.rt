@@ -32,6 +32,8 @@ impl Model for Name {
 
 impl Name {
     /// The name, unless the text is empty or has more than 256 bytes.
+    ///
+    /// Its contract is an equation.
     pub fn new(text: Text) -> Option<Name>
         ensures { result ≡ name_of text }
     {
@@ -51,6 +53,8 @@ impl Name {
     }
 
     /// The name as a `&str`, which has 1 to 256 bytes.
+    ///
+    /// Its contract is an equation.
     pub fn as_str(&self) -> &str
         ensures value { result.now ≡ self.now }
         ensures within { is_bad_name self.now ≡ false }
@@ -59,6 +63,8 @@ impl Name {
     }
 
     /// An equal name.
+    ///
+    /// Its contract is an equation but for memory.
     pub fn copy(&self, alloc: Global) -> Result<Name, AllocError>
         ensures { IfOk result (λ n. n ≡ self.now) }
     {

@@ -117,6 +117,8 @@ pub fn what_a_pattern_accepts()
 
 impl VersionMatch {
     /// The pattern that a text writes, if it writes one. It takes no memory.
+    ///
+    /// Its contract is an equation.
     pub fn parse(text: &str) -> Option<VersionMatch>
         ensures { result ≡ pattern_of text.now }
     {
@@ -138,6 +140,8 @@ impl VersionMatch {
     }
 
     /// The text of the pattern: its parts, numbers in decimal, with dots between them.
+    ///
+    /// Its contract is an equation but for memory.
     pub fn text(&self, alloc: Global) -> Result<Text, AllocError>
         ensures { IfOk result (λ t. t ≡ pattern_text self.now) }
     {
@@ -145,6 +149,8 @@ impl VersionMatch {
     }
 
     /// The parts of the pattern, in their order: 1 to 8, each number of at most 9 digits, and `+` last.
+    ///
+    /// Its contract is an equation.
     pub fn parts(&self) -> &[PatternPart]
         ensures value { result.now ≡ self.now }
         ensures within { IsTrue (is_pattern self.now) }
@@ -153,6 +159,8 @@ impl VersionMatch {
     }
 
     /// An equal pattern. It takes no memory.
+    ///
+    /// Its contract is an equation.
     pub fn copy(&self) -> VersionMatch
         ensures { result ≡ self.now }
     {
@@ -245,6 +253,8 @@ impl VersionConstraints {
     ghost use Rattle.ent_policy.specs.Constraints.{meets, unconstrained};
 
     /// No constraints: every version is accepted.
+    ///
+    /// Its contract is an equation.
     pub fn none() -> VersionConstraints
         ensures { result ≡ unconstrained }
     {
@@ -256,6 +266,8 @@ impl VersionConstraints {
     }
 
     /// Whether a version meets each constraint that is there. It takes no memory.
+    ///
+    /// Its contract is an equation.
     pub fn meets(&self, version: &Version) -> bool
         ensures { result ≡ meets self.now version.now }
     {
@@ -275,6 +287,8 @@ impl VersionConstraints {
     }
 
     /// Equal constraints. It takes no memory.
+    ///
+    /// Its contract is an equation.
     pub fn copy(&self) -> VersionConstraints
         ensures { result ≡ self.now }
     {

@@ -101,6 +101,8 @@ pub struct RawGivenExpressions {
 
 impl RawGivenExpressions {
     /// No obligation and no advice, for which nothing is allocated.
+    ///
+    /// Its contract is an equation.
     pub fn none(alloc: Global) -> RawGivenExpressions
         ensures obligations { result.obligations ≡ [] }
         ensures advice { result.advice ≡ [] }

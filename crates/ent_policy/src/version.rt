@@ -139,6 +139,8 @@ pub fn text_reads_back()
 
 impl Version {
     /// The version that a text writes: 1 to 8 numbers of 1 to 9 digits, with dots between them. Leading zeros are read.
+    ///
+    /// Its contract is an equation.
     #[tactic(auto, unfolding(crate::specs::Versions::version_of))]
     pub fn parse(text: &str) -> Option<Version>
         ensures { result ≡ version_of text.now }
@@ -158,6 +160,8 @@ impl Version {
     }
 
     /// The text of the version: its numbers in decimal, with dots between them.
+    ///
+    /// Its contract is an equation but for memory.
     pub fn text(&self, alloc: Global) -> Result<Text, AllocError>
         ensures { IfOk result (λ t. t ≡ version_text self.now) }
     {
@@ -165,6 +169,8 @@ impl Version {
     }
 
     /// The numbers of the version, the first of them the most significant: 1 to 8, each of at most 9 digits.
+    ///
+    /// Its contract is an equation.
     pub fn numbers(&self) -> &[u32]
         ensures value { result.now ≡ self.now }
         ensures within { IsTrue (is_version self.now) }
@@ -173,6 +179,8 @@ impl Version {
     }
 
     /// An equal version. It takes no memory.
+    ///
+    /// Its contract is an equation.
     pub fn copy(&self) -> Version
         ensures { result ≡ self.now }
     {

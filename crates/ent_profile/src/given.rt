@@ -31,6 +31,8 @@ pub(crate) fn read_again(alloc: Global, text: &str) -> Result<Value, AllocError>
 /// # Errors
 ///
 /// `AllocError` if memory runs out.
+///
+/// Its contract is an equation but for memory.
 pub fn write_given(alloc: Global, given: &[Given]) -> Result<Value, AllocError>
     ensures { IfOk result (λ v. view v ≡ array (items_of (map given_written given.now))) }
 {

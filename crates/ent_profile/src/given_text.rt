@@ -71,6 +71,8 @@ fn write_each(alloc: Global, out: &mut JsonText, given: &[Given]) -> Result<(), 
 /// # Errors
 ///
 /// `AllocError` if memory runs out; a front of the list may have been written.
+///
+/// Its contract is an equation but for memory.
 pub fn write_given_text(
     alloc: Global,
     out: &mut JsonText,

@@ -86,6 +86,8 @@ fn request<J: JsonTree>(alloc: Global, object: &J) -> Result<Request, RequestFau
 ///
 /// [`RequestFault::Bad`] if the value asks for no request: also where it has any other key, or asks for a combined
 /// decision or for a list of policies. [`RequestFault::Memory`] if memory runs out.
+///
+/// Its contract is an equation but for memory.
 #[tactic(auto, unfolding(crate::specs::Asks::asks))]
 pub fn read_request<J: JsonTree>(alloc: Global, json: &J) -> Result<Request, RequestFault>
     ensures { Reads result (asks (J.content json.now)) }

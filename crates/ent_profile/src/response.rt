@@ -45,6 +45,8 @@ pub(crate) fn status_uri(status: Status) -> &'static str
 /// # Errors
 ///
 /// `AllocError` if memory runs out.
+///
+/// Its contract is an equation but for memory.
 pub fn write_response(
     alloc: Global,
     answer: &Answer,

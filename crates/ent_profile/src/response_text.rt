@@ -81,6 +81,8 @@ fn write_whole(
 /// # Errors
 ///
 /// `AllocError` if memory runs out.
+///
+/// Its contract is an equation but for memory.
 pub fn write_response_text(
     alloc: Global,
     answer: &Answer,

@@ -198,6 +198,9 @@ fn act<R: Files + Input + Print + Eprint + AllocGlobal>(
 /// Runs the program with the words of its command line, where standard input is a terminal or not, and gives its exit
 /// status: 0 where all went well, 1 where the command line can't be used, a file was refused, the input is no dump or a
 /// test failed, 2 where a limit can't be taken or reading or writing failed, and 3 for want of memory.
+///
+/// Its contract leaves open: which end: any status from 0 to 4 would do, whatever the words ask for. Trials and stored
+/// runs show which.
 pub fn run<R: Env + Files + Input + Print + Eprint + AllocGlobal>(rt: &R, is_terminal: bool) -> u8
     ensures { Ends result }
 {

@@ -290,6 +290,9 @@ pub(crate) fn check<W: Write>(
 /// The line is `ok KIND ID VERSION`, the id as it stands; `refused 1` for more bytes; `refused 2` for what isn't JSON;
 /// or `refused 6 SUB` with the sub-code of the document's first fault. Faults: the reader's, the writer's, which may
 /// have taken a front of the line, and want of memory. The writer is flushed behind the line.
+///
+/// Its contract leaves open: how much of a longer input is read, when it answers a read fault or want of memory, and
+/// how much a failing writer took.
 pub fn check_from<R: Read, W: Write>(
     alloc: Global,
     reader: &mut R,

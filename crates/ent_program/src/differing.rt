@@ -201,6 +201,8 @@ fn send_difference<W: Write>(
 /// ([`shown`](ent_compare::shown)), or Markdown ([`markdown`](ent_compare::markdown)). Where a line is refused, it is
 /// told by two lines, `NAME:LINE: expected no refusal` and `NAME:LINE: replied REPLY`, and nothing is compared. Faults:
 /// the writer's, which may have taken a front of what is written, and want of memory.
+///
+/// Its contract leaves open: when it answers want of memory, and how much a failing writer took.
 #[tactic(auto, using(crate::proofs::Differences::compared, crate::proofs::Differences::refused_second))]
 pub fn compare_from<W: Write>(
     alloc: Global,

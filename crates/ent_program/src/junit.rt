@@ -19,6 +19,8 @@ const BROKEN_OFF: &[u8] = b"the tests didn't run to their end: standard error sa
 
 /// Writes what became of the tests of files as JUnit XML ([`junit_of`]), and flushes the writer. Faults: the writer's,
 /// which may have taken a front of it, and want of memory.
+///
+/// Its contract leaves open: when it answers want of memory, and how much a failing writer took.
 pub fn send_junit<W: Write>(
     alloc: Global,
     suites: &[Suite<'_>],

@@ -79,6 +79,8 @@ fn limits_of<'a>(options: &ArgMatches<'a>) -> Result<Limits, WrongLimit<'a>>
 
 /// The limits that words of the command line give which it takes: those that hold where none are given, except where
 /// an option of the subcommand gives another.
+///
+/// Its contract leaves open: which option is told, where several write no limit.
 pub fn given_limits<'a>(matches: &ArgMatches<'a>) -> Result<Limits, WrongLimit<'a>>
     ensures limits { IfOk result (AreLimitsOf (subcommand_rows_of matches.now)) }
     ensures within { IfOk result IsWithinGreatest }

@@ -54,6 +54,8 @@ fn tell_chosen<W: Write>(
 /// `NAME:LINE: SESSION`, and counts them as passed. None runs. Bytes that haven't the form of sessions, or that have
 /// none, count as one that failed, and it is written as by [`test_from`](crate::test_from). Faults: the writer's, which
 /// may have taken a front of what is written, and want of memory.
+///
+/// Its contract leaves open: when it answers want of memory, and how much a failing writer took.
 #[tactic(auto, using(crate::proofs::Headings::all_listed, crate::proofs::Headings::misplaced_listed))]
 pub fn list_tests<W: Write>(
     alloc: Global,

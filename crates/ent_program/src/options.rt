@@ -71,6 +71,9 @@ fn check_task<'m, 'a: 'm>(options: &'m ArgMatches<'a>) -> Option<Task<'m, 'a>>
 }
 
 /// What is asked for by words that the command line takes: which subcommand, with how many modules or on which files.
+///
+/// Its contract leaves open: what stands in a task beside what its words are read as: places in the command line's own
+/// values.
 pub fn task_of<'m, 'a: 'm>(matches: &'m ArgMatches<'a>) -> Option<Task<'m, 'a>>
     ensures few { HasFew result }
     ensures task { IsTaskOf (subcommand_rows_of matches.now) result }

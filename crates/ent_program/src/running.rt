@@ -89,6 +89,8 @@ fn serve_over<A: Attributes, P: Policies, R: BufRead, W: Write>(
 
 /// Answers each line of the reader by one line into the writer, by a service within those limits whose modules,
 /// of those numbers, hold nothing before the first of them, and gives their number.
+///
+/// Its contract leaves open: as of `serve_review`, from a service that holds nothing.
 pub fn serve_from<R: BufRead, W: Write>(
     alloc: Global,
     count: Modules,

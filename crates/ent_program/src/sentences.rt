@@ -13,6 +13,8 @@ use ent_line::{LinesFault, ServeFault};
 use ent_policy::DocFault;
 
 /// What is said of a fault by which serving or a check ended early.
+///
+/// Its contract is an equation.
 pub fn fault_sentence(fault: ServeFault) -> &'static str
     ensures { result.now ≡ fault_sentence fault }
 {
@@ -24,6 +26,8 @@ pub fn fault_sentence(fault: ServeFault) -> &'static str
 }
 
 /// What is said where the lines of a dump weren't written, or not all.
+///
+/// Its contract is an equation.
 pub fn lines_sentence(fault: LinesFault) -> &'static str
     ensures { result.now ≡ lines_sentence fault }
 {
@@ -36,6 +40,8 @@ pub fn lines_sentence(fault: LinesFault) -> &'static str
 }
 
 /// What is said where the words of the command line can't be had.
+///
+/// Its contract is an equation.
 pub fn words_sentence(fault: WordsFault) -> &'static str
     ensures { result.now ≡ words_sentence fault }
 {
@@ -46,6 +52,8 @@ pub fn words_sentence(fault: WordsFault) -> &'static str
 }
 
 /// What is said of the first fault of a document in a file.
+///
+/// Its contract is an equation.
 pub fn document_sentence(fault: DocFault) -> &'static str
     ensures { result.now ≡ document_sentence fault }
 {
@@ -76,6 +84,8 @@ pub fn document_sentence(fault: DocFault) -> &'static str
 const _: () = prove!(FILE_LIMIT == 1_048_576);
 
 /// What is said of a file that is refused.
+///
+/// Its contract is an equation.
 pub fn file_sentence(fault: FileFault) -> &'static str
     ensures { result.now ≡ file_sentence fault }
 {
@@ -87,6 +97,8 @@ pub fn file_sentence(fault: FileFault) -> &'static str
 }
 
 /// What is said of a document that asks for an attribute, or compares with a value, which isn't declared.
+///
+/// Its contract is an equation.
 pub fn undeclared_sentence() -> &'static str
     ensures { result.now ≡ undeclared_sentence }
 {
@@ -94,6 +106,8 @@ pub fn undeclared_sentence() -> &'static str
 }
 
 /// What is said of a file of declared attributes that can't be used.
+///
+/// Its contract is an equation.
 pub fn declared_sentence(fault: DeclaredFault) -> &'static str
     ensures { result.now ≡ declared_sentence fault }
 {
@@ -105,6 +119,8 @@ pub fn declared_sentence(fault: DeclaredFault) -> &'static str
 }
 
 /// What is said of a file of a state that can't be used.
+///
+/// Its contract is an equation.
 pub fn state_sentence() -> &'static str
     ensures { result.now ≡ state_sentence }
 {
@@ -112,6 +128,8 @@ pub fn state_sentence() -> &'static str
 }
 
 /// What is said of lines with which something is wrong.
+///
+/// Its contract is an equation.
 pub fn line_sentence() -> &'static str
     ensures { result.now ≡ line_sentence }
 {
@@ -119,6 +137,8 @@ pub fn line_sentence() -> &'static str
 }
 
 /// What is said where lines are named, and no attributes.
+///
+/// Its contract is an equation.
 pub fn lines_alone_sentence() -> &'static str
     ensures { result.now ≡ lines_alone_sentence }
 {
@@ -126,6 +146,8 @@ pub fn lines_alone_sentence() -> &'static str
 }
 
 /// What is said where the folders that are named have no documents.
+///
+/// Its contract is an equation.
 pub fn no_files_sentence() -> &'static str
     ensures { result.now ≡ no_files_sentence }
 {
@@ -133,6 +155,8 @@ pub fn no_files_sentence() -> &'static str
 }
 
 /// What is said where standard input is named more than once.
+///
+/// Its contract is an equation.
 pub fn input_twice_sentence() -> &'static str
     ensures { result.now ≡ input_twice_sentence }
 {
@@ -140,6 +164,8 @@ pub fn input_twice_sentence() -> &'static str
 }
 
 /// What is said where a file for JUnit XML can't be meant.
+///
+/// Its contract is an equation.
 pub fn junit_sentence() -> &'static str
     ensures { result.now ≡ junit_sentence }
 {
@@ -147,6 +173,8 @@ pub fn junit_sentence() -> &'static str
 }
 
 /// What somebody is told who serves lines that are typed at a terminal.
+///
+/// Its contract is an equation.
 pub fn terminal_sentence() -> &'static str
     ensures { result.now ≡ terminal_sentence }
 {

@@ -20,6 +20,8 @@ pub enum Source<'a> {
 
 impl<'a> Source<'a> {
     /// The source that a word of the command line names: `-` is standard input, any other word a path.
+    ///
+    /// Its contract is an equation.
     pub fn named(word: &'a str) -> Source<'a>
         ensures { path_of result ≡ path_named word.now }
     {
@@ -31,6 +33,8 @@ impl<'a> Source<'a> {
     }
 
     /// What a source is called where it can't be read: a file by its path.
+    ///
+    /// Its contract is an equation.
     pub fn name(self) -> &'a str
         ensures { result.now ≡ name_of self.entry }
     {

@@ -69,6 +69,8 @@ pub(crate) fn fault_status(fault: ServeFault) -> u8
 }
 
 /// Says on standard error why serving ended early, and gives the exit status for it.
+///
+/// Its contract is an equation.
 pub fn status_of(rt: &impl Eprint, fault: ServeFault) -> u8
     ensures { result ≡ fault_status fault }
 {
@@ -86,6 +88,8 @@ pub(crate) fn unmet_status(unmet: Unmet) -> u8
 }
 
 /// The exit status of serving; a fault is told on standard error.
+///
+/// Its contract is an equation.
 pub fn serve_status(rt: &impl Eprint, served: Result<u64, ServeFault>) -> u8
     ensures { result ≡ serve_status served }
 {
@@ -129,6 +133,8 @@ fn lines_status_of(rt: &impl Eprint, fault: LinesFault) -> u8
 }
 
 /// The exit status of writing the lines of a dump; a fault is told on standard error.
+///
+/// Its contract is an equation.
 pub fn lines_status(rt: &impl Eprint, written: Result<(), LinesFault>) -> u8
     ensures { result ≡ lines_status written }
 {
@@ -140,6 +146,8 @@ pub fn lines_status(rt: &impl Eprint, written: Result<(), LinesFault>) -> u8
 
 /// The exit status of tests, by how many passed and how many failed: all passed only where there is one. A fault is
 /// told on standard error.
+///
+/// Its contract is an equation.
 pub fn test_status(rt: &impl Eprint, tested: Result<Tally, ServeFault>) -> u8
     ensures { result ≡ test_status tested }
 {
@@ -185,6 +193,8 @@ pub(crate) fn compare_status(failing: Option<Failing>, compared: Result<Ending, 
 }
 
 /// Says on standard error why the words of the command line can't be had, and gives the exit status for it.
+///
+/// Its contract is an equation.
 pub fn words_status(rt: &impl Eprint, fault: WordsFault) -> u8
     ensures { result ≡ words_status fault }
 {
@@ -209,6 +219,8 @@ pub(crate) fn limit_status(rt: &impl Eprint, wrong: WrongLimit<'_>) -> u8
 }
 
 /// The exit status where the command line asks for help, or can't be used.
+///
+/// Its contract is an equation.
 pub fn usage_status(error: &clap::Error) -> u8
     ensures { result ≡ usage_status (kind_of error.now) }
 {

@@ -20,6 +20,8 @@ pub struct Tally {
 
 impl Tally {
     /// No test.
+    ///
+    /// Its contract is an equation.
     pub fn none() -> Tally
         ensures passed { result.passed ≡ 0 }
         ensures failed { result.failed ≡ 0 }
@@ -31,6 +33,8 @@ impl Tally {
     }
 
     /// One test, which failed.
+    ///
+    /// Its contract is an equation.
     pub fn one_failed() -> Tally
         ensures { result ≡ record { passed = 0; failed = 1 } }
     {
@@ -41,6 +45,8 @@ impl Tally {
     }
 
     /// The tests of a file. One whose tests couldn't run counts as a test that failed.
+    ///
+    /// Its contract is an equation.
     pub fn of(suite: &Suite<'_>) -> Tally
         ensures { result ≡ tally_of suite.now }
     {
@@ -53,6 +59,8 @@ impl Tally {
     }
 
     /// The tests of both, each number at most `u64::MAX`.
+    ///
+    /// Its contract is an equation.
     pub fn and(self, other: Tally) -> Tally
         ensures passed { result.passed ≡ min (self.passed + other.passed) (2 ^ 64 - 1) }
         ensures failed { result.failed ≡ min (self.failed + other.failed) (2 ^ 64 - 1) }
@@ -65,6 +73,8 @@ impl Tally {
 }
 
 /// Writes how many tests passed and how many failed, as `N passed, M failed` with a newline.
+///
+/// Its contract leaves open: how much a failing writer took.
 pub fn send_tally<W: Write>(writer: &mut W, tally: Tally) -> Result<(), ServeFault>
     ensures { Sends (W.contents writer.old) (W.contents writer.new) (tally_line tally) result }
 {

@@ -43,6 +43,8 @@ pub struct Plan<'a> {
 
 impl Plan<'_> {
     /// No lines, all tests run, and the limits are those that hold where none are given.
+    ///
+    /// Its contract leaves open: the name of the file of the state, of which there is none.
     pub fn all() -> Plan<'static>
         ensures state { result.state.now ≡ [] }
         ensures only { result.only ≡ None }
@@ -344,6 +346,9 @@ fn test_bytes<'n, W: Write>(
 /// written; nor of one that has no session. The writer is flushed at the end. Faults: the reader's, after which nothing
 /// was written, the writer's, which may have taken a front of what is written, and want of memory, also of a service
 /// that replies so where that isn't expected.
+///
+/// Its contract leaves open: how much of a longer input is read, when it answers a read fault or want of memory, and
+/// how much a failing writer took.
 pub fn test_from<'n, R: Read, W: Write>(
     alloc: Global,
     plan: Plan<'_>,

@@ -16,6 +16,8 @@ pub enum WordsFault {
 }
 
 /// The words with which the program was called, its name first.
+///
+/// Its contract leaves open: all of it: what the words are, the system says.
 pub fn given_words<R: Env + AllocGlobal>(rt: &R) -> Result<Vec<String>, WordsFault> {
     let given = match env::args(rt) {
         Ok(given) => given,
@@ -345,6 +347,9 @@ fn compare<'a>(alloc: Global) -> Result<Command<'a>, AllocError> {
 }
 
 /// What the program takes: the subcommands `serve`, `check`, `lines`, `test` and `compare`.
+///
+/// Its contract leaves open: all of it: which words are taken is tried in the trials, and read by `task_of` and
+/// `given_limits`.
 pub fn command<'a>(alloc: Global) -> Result<Command<'a>, AllocError> {
     Command::new(alloc, "review")
         .about("Answers XACML requests, and keeps a review table of their answers")

@@ -35,6 +35,8 @@ impl Model for Reached {
 
 impl Reached {
     /// Whether a place is among them, in time logarithmic in their number. It takes no memory.
+    ///
+    /// Its contract is an equation.
     pub fn has(&self, place: &Place) -> bool
         ensures { result ≡ has_place place.now self.now }
     {
@@ -66,6 +68,8 @@ fn begin<P: Policies>(
 /// # Errors
 ///
 /// `AllocError` if memory runs out.
+///
+/// Its contract is an equation but for memory.
 pub fn reached_places<P: Policies>(
     alloc: Global,
     policies: &P,

@@ -72,6 +72,8 @@ fn oldest(marks: &[Option<u64>], serial: u64) -> u64
 
 impl<A: Attributes, P: Policies> Desk<A, P> {
     /// A desk with a review and no marks.
+    ///
+    /// Its contract is an equation.
     pub fn new(alloc: Global, review: Review<A, P>) -> Desk<A, P>
         ensures world { result.world ≡ record { state = review.state; marks = unmarked } }
         ensures past { result.past ≡ review.past }
@@ -90,6 +92,8 @@ impl<A: Attributes, P: Policies> Desk<A, P> {
     }
 
     /// The review.
+    ///
+    /// Its contract is an equation.
     pub fn review(&self) -> &Review<A, P>
         ensures { result.now ≡ review_of self.now }
     {
@@ -97,6 +101,8 @@ impl<A: Attributes, P: Policies> Desk<A, P> {
     }
 
     /// The serial of each session's mark, in the order of the sessions.
+    ///
+    /// Its contract is an equation.
     pub fn marks(&self) -> &[Option<u64>]
         ensures { result.now ≡ mark_serials self.now.world }
     {
@@ -117,6 +123,8 @@ impl<A: Attributes, P: Policies> Desk<A, P> {
     ///
     /// An accepted edit counts one evaluation of each cell that it touches. Dropping a name evaluates nothing and takes
     /// no memory.
+    ///
+    /// Its contract is an equation but for memory.
     pub fn edit(&mut self, edit: Edit) -> Result<Accepted, EditFault>
         ensures step { Edits (λ s. step s edit) self.old.world.state self.new.world.state result }
         ensures sure { IsSure edit self.old.world.state result }
@@ -141,6 +149,8 @@ impl<A: Attributes, P: Policies> Desk<A, P> {
     /// # Errors
     ///
     /// `AllocError` if memory runs out.
+    ///
+    /// Its contract is an equation but for memory.
     pub fn ask(&mut self, request: &Request) -> Result<Answer, AllocError>
         ensures answer { IfOk result (λ a. a ≡ answer_in self.old.world.state request.now) }
         ensures rest { self.new ≡ record self.old { evaluations = raised self.old.evaluations 1 } }
@@ -155,6 +165,8 @@ impl<A: Attributes, P: Policies> Desk<A, P> {
     /// # Errors
     ///
     /// `AllocError` if memory runs out.
+    ///
+    /// Its contract is an equation but for memory.
     pub fn explain(&mut self, request: &Request) -> Result<Explained, AllocError>
         ensures answer { IfOk result (λ e. e.answer ≡ answer_in self.old.world.state request.now) }
         ensures reads { IfOk result (λ e. e.reads ≡ recorded_in self.old.world.state request.now) }
@@ -167,6 +179,8 @@ impl<A: Attributes, P: Policies> Desk<A, P> {
     /// Marks the present table for a session in place of its last mark, and gives the number of edits so far. It takes
     /// no memory, so there is always a serial. Nothing is evaluated, and nothing is kept of what changed before the
     /// mark that is now the oldest.
+    ///
+    /// Its contract leaves open: how much is forgotten of the tables before the oldest mark.
     pub fn mark(&mut self, session: u8) -> Result<u64, AllocError>
         requires { session < 16 }
         ensures serial { result ≡ Ok self.old.world.state.serial }
@@ -193,6 +207,8 @@ impl<A: Attributes, P: Policies> Desk<A, P> {
 
     /// The requests whose answers differ between the session's mark and now, in byte order of person, then action, then
     /// resource. The mark stays. It takes time in proportion to what edits changed since the mark, times a logarithm.
+    ///
+    /// Its contract is an equation but for memory.
     pub fn notices(&self, session: u8) -> Result<Items<Notice>, NoticeFault>
         requires { session < 16 }
         ensures { IsNoticedIn self.now.world session result }
@@ -210,6 +226,8 @@ impl<A: Attributes, P: Policies> Desk<A, P> {
     /// # Errors
     ///
     /// `NoticeFault::NoMark` if the table at the serial isn't known; `NoticeFault::Memory` if memory runs out.
+    ///
+    /// Its contract is an equation but for memory.
     pub fn changes_since(&self, serial: u64) -> Result<Items<Notice>, NoticeFault>
         ensures { IsNoticed (known_of self.now serial) self.now.world.state result }
     {
@@ -230,6 +248,8 @@ impl<A: Attributes, P: Policies> Desk<A, P> {
 
     /// How many cells have each decision. It takes no memory, and visits no cell where `keep_counts` was called since
     /// the last edit.
+    ///
+    /// Its contract is an equation.
     pub fn counts(&self) -> Counts
         ensures { result ≡ counts self.now.world.state }
     {
@@ -241,6 +261,8 @@ impl<A: Attributes, P: Policies> Desk<A, P> {
 
     /// Counts the cells of each decision if that wasn't done since the last edit, and keeps the counts until the next
     /// one. It takes no memory.
+    ///
+    /// Its contract is an equation.
     pub fn keep_counts(&mut self)
         ensures { self.new ≡ record self.old { counts = Some (counts self.old.world.state) } }
     {
@@ -248,6 +270,8 @@ impl<A: Attributes, P: Policies> Desk<A, P> {
     }
 
     /// What a person may do: the actions and resources of the person's Permit cells, in list order.
+    ///
+    /// Its contract is an equation but for memory.
     pub fn can(&self, person: &str) -> Result<Items<(Text, Text)>, ReportFault>
         ensures { IsReported (can self.now.world.state person.now) result }
     {
@@ -258,6 +282,8 @@ impl<A: Attributes, P: Policies> Desk<A, P> {
     }
 
     /// Who may do an action to a resource: the people of the Permit cells, in list order.
+    ///
+    /// Its contract is an equation but for memory.
     pub fn who(&self, action: &str, resource: &str) -> Result<Items<Text>, ReportFault>
         ensures { IsReported (who self.now.world.state action.now resource.now) result }
     {
@@ -275,6 +301,8 @@ impl<A: Attributes, P: Policies> Desk<A, P> {
     /// # Errors
     ///
     /// `ReportFault::Memory` if memory runs out, and never `ReportFault::NotThere`.
+    ///
+    /// Its contract is an equation but for memory.
     pub fn by_rule(
         &self,
         policy: &str,

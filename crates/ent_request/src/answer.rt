@@ -46,6 +46,8 @@ pub struct Answer {
 
 impl WhyEntry {
     /// An equal entry.
+    ///
+    /// Its contract is an equation but for memory.
     pub fn copy(&self, alloc: Global) -> Result<WhyEntry, AllocError>
         ensures { IfOk result (λ w. w ≡ self.now) }
     {
@@ -58,6 +60,8 @@ impl WhyEntry {
 
 impl Answer {
     /// What isn't applicable.
+    ///
+    /// Its contract is an equation.
     pub fn not_applicable(alloc: Global) -> Answer
         ensures { result ≡ nothing }
     {
@@ -71,6 +75,8 @@ impl Answer {
     }
 
     /// What is Indeterminate.
+    ///
+    /// Its contract is an equation.
     pub fn indeterminate(alloc: Global, kind: IndKind, status: Status) -> Answer
         ensures { result ≡ indeterminate kind status }
     {
@@ -84,6 +90,8 @@ impl Answer {
     }
 
     /// A reference that isn't resolved.
+    ///
+    /// Its contract is an equation.
     pub fn unresolved(alloc: Global) -> Answer
         ensures { result ≡ unresolved }
     {
@@ -91,6 +99,8 @@ impl Answer {
     }
 
     /// A set of which more than one child applies, or nobody can say.
+    ///
+    /// Its contract is an equation.
     pub fn bad(alloc: Global, status: Status) -> Answer
         ensures { result ≡ bad status }
     {
@@ -98,6 +108,8 @@ impl Answer {
     }
 
     /// An equal answer.
+    ///
+    /// Its contract is an equation but for memory.
     pub fn copy(&self, alloc: Global) -> Result<Answer, AllocError>
         ensures { IfOk result (λ a. a ≡ self.now) }
     {
@@ -123,6 +135,8 @@ fn copied_why(alloc: Global, why: &[WhyEntry]) -> Result<Items<WhyEntry>, AllocE
 }
 
 /// An equal optional text.
+///
+/// Its contract is an equation but for memory.
 pub fn copied_text(alloc: Global, text: &Option<Text>) -> Result<Option<Text>, AllocError>
     ensures { IfOk result (λ t. t ≡ text.now) }
 {

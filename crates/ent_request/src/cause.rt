@@ -47,6 +47,9 @@ pub struct Cause {
 
 impl What {
     /// Whether it is what is told of a reason.
+    ///
+    /// Its contract leaves open: when it answers `false`, which it may always: its callers then look or compare
+    /// otherwise.
     pub fn is_of(&self, reason: Reason<'_>) -> bool
         ensures { IsTrue result → self.now ≡ what_of reason.entry }
     {
@@ -83,6 +86,8 @@ pub enum Reason<'b> {
 
 impl Reason<'_> {
     /// What is told of it.
+    ///
+    /// Its contract is an equation but for memory.
     pub fn what(self, alloc: Global) -> Result<What, AllocError>
         ensures { IfOk result (λ w. w ≡ what_of self.entry) }
     {
@@ -96,6 +101,8 @@ impl Reason<'_> {
     }
 
     /// Its status.
+    ///
+    /// Its contract is an equation.
     pub fn status(self) -> Status
         ensures { result ≡ status_of (what_of self.entry) }
     {
@@ -106,6 +113,8 @@ impl Reason<'_> {
     }
 
     /// A number made of it, of that of the policies in which it is, and of the rule. Few others have the same.
+    ///
+    /// Its contract leaves open: all of it: it is a number by which causes are sought.
     pub fn number(self, policies: u64, rule: &Option<Text>) -> u64 {
         let mut state = FoldHasher::default();
         policies.hash(&mut state);

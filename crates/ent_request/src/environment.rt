@@ -18,6 +18,8 @@ pub enum Environment {
 
 impl Environment {
     /// That of a day, or of none.
+    ///
+    /// Its contract is an equation.
     pub fn of_day(day: Option<Date>) -> Environment
         ensures { result ≡ of_day day }
     {
@@ -28,6 +30,8 @@ impl Environment {
     }
 
     /// That of a moment, or of none.
+    ///
+    /// Its contract is an equation.
     pub fn of_moment(moment: Option<DateTime>) -> Environment
         ensures { result ≡ of_moment moment }
     {
@@ -38,6 +42,8 @@ impl Environment {
     }
 
     /// The date, if it is known.
+    ///
+    /// Its contract is an equation.
     pub fn date(self) -> Option<Date>
         ensures { result ≡ date_in self }
     {
@@ -49,6 +55,8 @@ impl Environment {
     }
 
     /// The time of day, if it is known: of a moment alone.
+    ///
+    /// Its contract is an equation.
     pub fn time(self) -> Option<Time>
         ensures { result ≡ time_in self }
     {
@@ -59,6 +67,8 @@ impl Environment {
     }
 
     /// The date and time, if both are known: of a moment alone.
+    ///
+    /// Its contract is an equation.
     pub fn date_time(self) -> Option<DateTime>
         ensures { result ≡ date_time_in self }
     {

@@ -24,6 +24,8 @@ pub struct Given {
 
 impl Assignment {
     /// An equal assignment.
+    ///
+    /// Its contract is an equation but for memory.
     pub fn copy(&self, alloc: Global) -> Result<Assignment, AllocError>
         ensures { IfOk result (λ a. a ≡ self.now) }
     {
@@ -38,6 +40,8 @@ impl Assignment {
 
 impl Given {
     /// An equal obligation or advice.
+    ///
+    /// Its contract is an equation but for memory.
     pub fn copy(&self, alloc: Global) -> Result<Given, AllocError>
         ensures { IfOk result (λ g. g ≡ self.now) }
     {

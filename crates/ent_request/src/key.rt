@@ -26,6 +26,8 @@ pub enum ReadKey {
 
 impl ReadKey {
     /// An equal key. Only that of a reference or of a key of attributes takes memory.
+    ///
+    /// Its contract is an equation but for memory.
     pub fn copy(&self, alloc: Global) -> Result<ReadKey, AllocError>
         ensures value { IfOk result (λ k. k ≡ self.now) }
         ensures memory { OnErr result (has_texts self.now ≡ true) }

@@ -34,6 +34,8 @@ impl<'a> Model for LentBag<'a> {
 
 impl<'a> LentBag<'a> {
     /// The empty bag of a type.
+    ///
+    /// Its contract is an equation.
     pub fn empty(datatype: DataType) -> LentBag<'a>
         ensures { result ≡ record { datatype = datatype; values = [] } }
     {
@@ -44,6 +46,8 @@ impl<'a> LentBag<'a> {
     }
 
     /// Of values that all have that type.
+    ///
+    /// Its contract is an equation.
     pub fn lying(datatype: DataType, values: &'a [Value]) -> LentBag<'a>
         requires { AllOfType datatype values.now }
         ensures { result ≡ record { datatype = datatype; values = values.now } }
@@ -55,6 +59,8 @@ impl<'a> LentBag<'a> {
     }
 
     /// Of a bag, which is moved and not copied.
+    ///
+    /// Its contract is an equation but for memory.
     pub fn owned(alloc: Global, bag: Bag) -> Result<LentBag<'a>, AllocError>
         ensures { IfOk result (λ b. b ≡ bag) }
     {
@@ -65,6 +71,8 @@ impl<'a> LentBag<'a> {
     }
 
     /// The values, which all have the bag's type.
+    ///
+    /// Its contract is an equation.
     pub fn values(&self) -> &[Value]
         ensures value { result.now ≡ self.now.values }
         ensures types { AllOfType self.now.datatype self.now.values }
@@ -76,6 +84,8 @@ impl<'a> LentBag<'a> {
     }
 
     /// The same bag. No value is copied.
+    ///
+    /// Its contract is an equation but for memory.
     pub fn copy(&self) -> Result<LentBag<'a>, AllocError>
         ensures { IfOk result (λ b. b ≡ self.now) }
     {
@@ -89,6 +99,8 @@ impl<'a> LentBag<'a> {
     }
 
     /// An equal bag.
+    ///
+    /// Its contract is an equation but for memory.
     pub fn to_bag(&self, alloc: Global) -> Result<Bag, AllocError>
         ensures { IfOk result (λ b. b ≡ self.now) }
     {

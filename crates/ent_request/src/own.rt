@@ -24,6 +24,8 @@ pub struct Sought<'a> {
 
 impl<'a> Sought<'a> {
     /// What a designator names.
+    ///
+    /// Its contract is an equation.
     pub fn of(designator: &'a Designator) -> Sought<'a>
         ensures { designator_of result ≡ record designator.now { must_be_present = false } }
     {
@@ -46,6 +48,8 @@ impl<'a> Sought<'a> {
 }
 
 /// The request's own values, where one slice has them all: where they don't lie in several attributes.
+///
+/// Its contract is an equation.
 pub fn own_values<'a>(request: &'a Request, sought: &Sought<'_>) -> Option<&'a [Value]>
     ensures { MatchOption result (AreSeveral (own_values (designator_of sought.now) request.now))
         (λ v. IsWhole sought.now.datatype (own_values (designator_of sought.now) request.now) v.now) }
@@ -113,6 +117,8 @@ fn has_issuer(wanted: Option<&str>, issuer: &Option<Text>) -> bool
 }
 
 /// Whether two texts are equal. Most that differ do so in their lengths already, which lie nearer than their bytes.
+///
+/// Its contract is an equation.
 pub fn same_text(first: &str, second: &str) -> bool
     ensures { result ≡ bytes_eq first.now second.now }
 {
@@ -120,6 +126,8 @@ pub fn same_text(first: &str, second: &str) -> bool
 }
 
 /// Whether two issuers are the same, or neither is there.
+///
+/// Its contract leaves open: when it answers `false`, which it may always: its callers then look or compare otherwise.
 pub fn same_issuer(first: &Option<Text>, second: &Option<Text>) -> bool
     ensures { IsTrue result → first.now ≡ second.now }
 {

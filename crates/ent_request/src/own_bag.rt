@@ -86,6 +86,8 @@ fn add_copies(alloc: Global, values: &[Value], bag: &mut Bag) -> Result<(), Allo
 }
 
 /// Whether a request has no values of its own.
+///
+/// Its contract is an equation.
 pub fn lacks(request: &Request, sought: &Sought<'_>) -> bool
     ensures { result ≡ is_empty (own_values (designator_of sought.now) request.now) }
 {
@@ -97,6 +99,8 @@ pub fn lacks(request: &Request, sought: &Sought<'_>) -> bool
 }
 
 /// Whether a value is one of several.
+///
+/// Its contract is an equation.
 pub fn is_among(value: &Value, values: &[Value]) -> bool
     ensures { result ≡ is_among value.now values.now }
 {
@@ -109,6 +113,8 @@ pub fn is_among(value: &Value, values: &[Value]) -> bool
 }
 
 /// The only one of a request's own values, if there is exactly one.
+///
+/// Its contract is an equation.
 pub fn only_own<'a>(request: &'a Request, sought: &Sought<'_>) -> Option<&'a Value>
     ensures { option_copied result ≡ sole_value (own_values (designator_of sought.now) request.now) }
 {
@@ -119,6 +125,8 @@ pub fn only_own<'a>(request: &'a Request, sought: &Sought<'_>) -> Option<&'a Val
 }
 
 /// Whether there is no value.
+///
+/// Its contract is an equation.
 pub fn is_empty(values: &[Value]) -> bool
     ensures { result ≡ is_empty values.now }
 {

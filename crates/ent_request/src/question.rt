@@ -42,6 +42,8 @@ pub enum Question {
 
 impl Asked {
     /// What a designator asks for.
+    ///
+    /// Its contract is an equation but for memory.
     pub fn of(alloc: Global, designator: &Designator) -> Result<Asked, AllocError>
         ensures { IfOk result (λ a. a ≡ asked_of designator.now) }
     {
@@ -79,6 +81,9 @@ impl Asked {
     }
 
     /// Whether a designator asks for it. Most that don't differ in the attribute already.
+    ///
+    /// Its contract leaves open: when it answers `false`, which it may always: its callers then look or compare
+    /// otherwise.
     pub fn is_of(&self, designator: &Designator) -> bool
         ensures { IsTrue result → self.now ≡ asked_of designator.now }
     {
@@ -89,6 +94,8 @@ impl Asked {
     }
 
     /// The key by which its values of an entity are looked up.
+    ///
+    /// Its contract is an equation but for memory.
     pub fn key(&self, alloc: Global, entity: &Text) -> Result<AttrKey, AllocError>
         ensures { IfOk result (λ k. k ≡ key_for (designator_for self.now) entity.now) }
     {
@@ -102,6 +109,8 @@ impl Asked {
     }
 
     /// What is looked for in a request.
+    ///
+    /// Its contract is an equation.
     pub fn sought(&self) -> Sought<'_>
         ensures { designator_of result ≡ designator_for self.now }
     {
@@ -116,6 +125,8 @@ impl Asked {
 
 impl Question {
     /// The question that a key is looked up for.
+    ///
+    /// Its contract is an equation but for memory.
     pub fn of_key(alloc: Global, key: &ReadKey) -> Result<Question, AllocError>
         ensures { IfOk result (λ q. q ≡ question_of key.now) }
     {
@@ -150,6 +161,8 @@ impl Question {
     }
 
     /// An equal question.
+    ///
+    /// Its contract is an equation but for memory.
     pub fn copy(&self, alloc: Global) -> Result<Question, AllocError>
         ensures { IfOk result (λ q. q ≡ self.now) }
     {
@@ -178,6 +191,8 @@ impl Hash for Question {
 }
 
 /// Whether two references are equal.
+///
+/// Its contract leaves open: when it answers `false`, which it may always: its callers then look or compare otherwise.
 #[tactic(auto, using(crate::proofs::Sames::equal_references))]
 pub fn same_reference(first: &Reference, second: &Reference) -> bool
     ensures { IsTrue result → first.now ≡ second.now }

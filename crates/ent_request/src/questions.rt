@@ -38,6 +38,8 @@ impl Model for Questions {
 
 impl Questions {
     /// No questions, for which nothing is allocated.
+    ///
+    /// Its contract is an equation.
     pub fn new(alloc: Global) -> Questions
         ensures { result ≡ [] }
     {
@@ -47,6 +49,8 @@ impl Questions {
     }
 
     /// How many there are.
+    ///
+    /// Its contract is an equation.
     pub fn len(&self) -> usize
         ensures { result ≡ length self.now }
     {
@@ -54,6 +58,8 @@ impl Questions {
     }
 
     /// Whether there are none.
+    ///
+    /// Its contract is an equation.
     pub fn is_empty(&self) -> bool
         ensures { IsTrue result ↔ (self.now ≡ []) }
     {
@@ -61,6 +67,8 @@ impl Questions {
     }
 
     /// The questions, in the order of their numbers.
+    ///
+    /// Its contract is an equation.
     pub fn as_slice(&self) -> &[Question]
         ensures { result.now ≡ self.now }
     {
@@ -68,6 +76,8 @@ impl Questions {
     }
 
     /// The question of a number, if it is one's.
+    ///
+    /// Its contract is an equation.
     pub fn get(&self, number: u32) -> Option<&Question>
         ensures { option_copied result ≡ slice_get self.now number }
     {
@@ -75,6 +85,8 @@ impl Questions {
     }
 
     /// The number of a question, if it has one.
+    ///
+    /// Its contract is an equation.
     pub fn number_of(&self, question: &Question) -> Option<u32>
         ensures number { result ≡ questions.number_of self.now question.now }
         ensures found { is_some result ≡ is_asked self.now question.now }
@@ -96,6 +108,9 @@ impl Questions {
 
     /// The number of a question, which is likely this one. It gets one, if it has none. After a refusal all is as
     /// before.
+    ///
+    /// Its contract leaves open: nothing, as long as no question stands there twice: the number is said by what stands
+    /// at it.
     pub fn note(
         &mut self,
         alloc: Global,

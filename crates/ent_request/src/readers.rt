@@ -37,6 +37,8 @@ pub enum Readers {
 
 impl Readers {
     /// Those of a key.
+    ///
+    /// Its contract is an equation.
     pub fn of(key: &ReadKey) -> Readers
         ensures { result ≡ readers.readers_of key.now }
     {
@@ -53,6 +55,8 @@ impl Readers {
     }
 
     /// Whether the listed request of three names is among them, of a key that names an entity.
+    ///
+    /// Its contract is an equation.
     pub fn have(self, entity: &str, person: &Text, action: &Text, resource: &Text) -> bool
         ensures { result ≡ readers.is_reader self entity.now person.now action.now resource.now }
     {
@@ -69,6 +73,8 @@ impl Readers {
 
 impl Place {
     /// The name at a place, of three.
+    ///
+    /// Its contract is an equation.
     pub fn name<'t>(self, person: &'t Text, action: &'t Text, resource: &'t Text) -> &'t Text
         ensures { result.now ≡ name_at self person.now action.now resource.now }
     {
@@ -82,6 +88,8 @@ impl Place {
 
 impl ReadKey {
     /// The entity whose values a key names: none, where it names no values.
+    ///
+    /// Its contract is an equation.
     pub fn entity(&self) -> &str
         ensures { result.now ≡ entity_in self.now }
     {
@@ -108,6 +116,8 @@ fn readers_in(category: &str) -> Readers
 }
 
 /// Whether listed requests have values of their own for what a key asks.
+///
+/// Its contract is an equation.
 pub fn is_own(key: &AttrKey) -> bool
     ensures { result ≡ is_own key.now }
 {

@@ -28,6 +28,8 @@ impl Model for Reads {
 
 impl Reads {
     /// No keys, for which nothing is allocated.
+    ///
+    /// Its contract is an equation.
     pub fn new(alloc: Global) -> Reads
         ensures { result ≡ [] }
     {
@@ -37,6 +39,8 @@ impl Reads {
     }
 
     /// How many keys there are.
+    ///
+    /// Its contract is an equation.
     pub fn len(&self) -> usize
         ensures { result ≡ length self.now }
     {
@@ -44,6 +48,8 @@ impl Reads {
     }
 
     /// Whether a key is there.
+    ///
+    /// Its contract is an equation.
     pub fn contains(&self, key: &ReadKey) -> bool
         ensures { result ≡ has_key self.now key.now }
     {
@@ -51,6 +57,8 @@ impl Reads {
     }
 
     /// The keys, in their order. They are moved and not copied, into one list that is allocated for them.
+    ///
+    /// Its contract is an equation but for memory.
     pub fn into_items(self, alloc: Global) -> Result<Items<ReadKey>, AllocError>
         ensures { IfOk result (λ keys. keys ≡ self) }
     {
@@ -62,6 +70,8 @@ impl Reads {
     }
 
     /// Notes a key, if it isn't there yet. After a refusal the keys are as before. A key that is there takes no memory.
+    ///
+    /// Its contract is an equation but for memory.
     pub fn note(&mut self, key: ReadKey) -> Result<(), AllocError>
         ensures ok { OnOk result (self.new ≡ with_key self.old key) }
         ensures err { OnErr result (self.new ≡ self.old) }
@@ -72,6 +82,8 @@ impl Reads {
     }
 
     /// The same of the key of a reference, of which a copy is noted.
+    ///
+    /// Its contract is an equation but for memory.
     #[inline(never)]
     pub fn note_reference(&mut self, alloc: Global, reference: &Reference) -> Result<(), AllocError>
         ensures { OnOk result (self.new ≡ with_key self.old (Ref reference.now)) }

@@ -35,6 +35,8 @@ pub struct Request {
 impl Request {
     /// Whether a person may do an action with a resource, each by its id, a text without an issuer (appendix B.2 and
     /// B.4 to B.6).
+    ///
+    /// Its contract is an equation but for memory.
     pub fn listed(
         alloc: Global,
         person: &str,

@@ -26,6 +26,8 @@ use std::alloc::{AllocError, Global};
 
 /// The values of a designator: the request's own, or else those of its source. They are copied only where they don't
 /// lie in one place.
+///
+/// Its contract is an equation but for memory.
 pub fn designated<'a, L: LookUps>(
     alloc: Global,
     held: &'a L,
@@ -140,6 +142,8 @@ fn known<'a>(
 }
 
 /// Whether an attribute of the environment is looked for, of a type, without an issuer.
+///
+/// Its contract is an equation.
 pub fn asks_for(sought: &Sought<'_>, attribute: &str, datatype: DataType) -> bool
     ensures { result ≡ asks_for attribute.now datatype (designator_of sought.now) }
 {
@@ -151,6 +155,8 @@ pub fn asks_for(sought: &Sought<'_>, attribute: &str, datatype: DataType) -> boo
 
 /// The id attribute of a category whose values modules hold: of access-subject, resource or action (appendix B.4 to
 /// B.6).
+///
+/// Its contract is an equation.
 pub fn id_attribute(category: &str) -> Option<&str>
     ensures { option_copied result ≡ id_attribute category.now }
 {
@@ -166,6 +172,8 @@ pub fn id_attribute(category: &str) -> Option<&str>
 }
 
 /// The entity of a category: the only string that the request has of its id attribute.
+///
+/// Its contract is an equation.
 pub fn entity_of<'a>(request: &'a Request, category: &'a str) -> Option<&'a Text>
     ensures { option_copied result ≡ entity_of request.now category.now }
 {

@@ -27,6 +27,8 @@ use std::alloc::Global;
 ///
 /// [`SessionFault::Form`] with the number of the first line that can't stand behind those before it, and why, and
 /// [`SessionFault::Memory`] where memory is refused: copies take as many bytes as they write.
+///
+/// Its contract is an equation but for memory.
 pub fn read_sessions(alloc: Global, bytes: &[u8]) -> Result<Items<Session>, SessionFault>
     ensures read { IfOk result (λ sessions. sessions_of bytes.now ≡ Ok sessions) }
     ensures fault { IfErr result (λ e. (e ≡ Memory) ⊎ (sessions_of bytes.now ≡ Err e)) }

@@ -27,6 +27,8 @@ fn sent(alloc: Global, number: u64, line: &[u8]) -> Result<Step, AllocError>
 /// # Errors
 ///
 /// `AllocError` if memory runs out.
+///
+/// Its contract is an equation but for memory.
 pub fn read_lines(alloc: Global, bytes: &[u8]) -> Result<Items<Step>, AllocError>
     ensures { IfOk result (λ steps. steps ≡ sent_in bytes.now) }
 {

@@ -98,6 +98,8 @@ fn merge<R: Row>(alloc: Global, order: &[Text], lists: &[Items<R>]) -> Result<It
 
 /// Who can do something in the whole, by who can in each part. The order is that of the whole's people: the one in
 /// which they were added.
+///
+/// Its contract is an equation but for memory.
 #[tactic(auto, using(crate::proofs::Merging::who_of_the_whole))]
 pub fn merge_who(
     alloc: Global,
@@ -111,6 +113,8 @@ pub fn merge_who(
 }
 
 /// The requests of the whole whose decision a rule gave, by those of each part, in the order of the whole's people.
+///
+/// Its contract is an equation but for memory.
 #[tactic(auto, using(crate::proofs::Merging::by_rule_of_the_whole))]
 pub fn merge_by_rule(
     alloc: Global,

@@ -20,6 +20,8 @@ fn plus(one: Counts, other: Counts) -> Option<Counts>
 
 /// How many cells of the whole have each decision, by the counts of all parts. None only if there are 2^64 cells or
 /// more.
+///
+/// Its contract is an equation.
 pub fn sum_counts(parts: &[Counts]) -> Option<Counts>
     ensures sum { IfSome result (λ counts. counts ≡ summed parts.now) }
     ensures whole { IfSome result (AreCountsOfTheWhole parts.now) }
@@ -39,6 +41,8 @@ pub fn sum_counts(parts: &[Counts]) -> Option<Counts>
 
 /// How many cells of the whole have another answer than before, by how many have in each part: none in a part that was
 /// told nothing. None only if there are 2^64 or more.
+///
+/// Its contract is an equation.
 pub fn sum_changes(parts: &[u64]) -> Option<u64>
     ensures sum { IfSome result (λ changes. changes ≡ sum parts.now) }
     ensures whole { IfSome result (AreChangesOfTheWhole parts.now) }

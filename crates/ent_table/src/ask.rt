@@ -19,6 +19,8 @@ impl<A: Attributes, P: Policies> Review<A, P> {
     /// # Errors
     ///
     /// `AllocError` if memory runs out.
+    ///
+    /// Its contract is an equation but for memory.
     pub fn ask(&mut self, request: &Request) -> Result<Answer, AllocError>
         ensures answer { IfOk result (λ a. a ≡ answer_in self.old.state request.now) }
         ensures rest { self.new ≡ record self.old { evaluations = raised self.old.evaluations 1 } }

@@ -25,6 +25,8 @@ use std::alloc::AllocError;
 pub const MOST_VALUES: usize = 256;
 
 /// Whether the attribute is the id of what its category is about: no module holds its values (appendix B.4 to B.6).
+///
+/// Its contract is an equation.
 pub fn is_reserved(category: &str, attribute: &str) -> bool
     ensures { result ≡ is_reserved category.now attribute.now }
 {

@@ -18,6 +18,8 @@ impl<A: Attributes, P: Policies> Review<A, P> {
     /// # Errors
     ///
     /// `AllocError` if memory runs out.
+    ///
+    /// Its contract is an equation but for memory.
     pub fn explain(&mut self, request: &Request) -> Result<Explained, AllocError>
         ensures answer { IfOk result (λ e. e.answer ≡ answer_in self.old.state request.now) }
         ensures reads { IfOk result (λ e. e.reads ≡ recorded_in self.old.state request.now) }

@@ -15,6 +15,8 @@ pub struct Limits {
 
 impl Limits {
     /// Those that hold where none are given: 256 people, 32 actions, 256 resources, 65,536 cells and 1,024 documents.
+    ///
+    /// Its contract is an equation.
     pub fn standard() -> Limits
         ensures { result ≡ standard_limits }
     {

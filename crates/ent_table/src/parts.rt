@@ -15,6 +15,8 @@ use std::slice;
 impl<A: Attributes, P: Policies> Review<A, P> {
     /// The cells of a person in list order of action, then resource: none where the person isn't listed. No other cell
     /// is visited.
+    ///
+    /// Its contract is an equation.
     pub fn cells_of(&self, person: &str) -> Cells<'_>
         ensures { cells_left result ≡ cells_of person.now (table_of self.now.state) }
     {
@@ -38,6 +40,8 @@ impl<A: Attributes, P: Policies> Review<A, P> {
 
     /// The people in list order, each with the answer to an action and a resource: none where one of these isn't
     /// listed. No other cell is visited.
+    ///
+    /// Its contract is an equation.
     pub fn answers_to(&self, action: &str, resource: &str) -> Column<'_>
         ensures { column_left result ≡ answers_to action.now resource.now (table_of self.now.state) }
     {

@@ -13,6 +13,8 @@ use ent_values::Text;
 
 impl<A: Attributes, P: Policies> Review<A, P> {
     /// The decision point of which the table tells.
+    ///
+    /// Its contract is an equation.
     pub fn pdp(&self) -> &Pdp<A, P>
         ensures held { held_by result.now ≡ self.now.state.held }
         ensures counted { result.now.evaluations ≡ self.now.evaluations }
@@ -21,6 +23,8 @@ impl<A: Attributes, P: Policies> Review<A, P> {
     }
 
     /// How large the review may grow.
+    ///
+    /// Its contract is an equation.
     pub fn limits(&self) -> Limits
         ensures { result ≡ self.now.state.limits }
     {
@@ -28,6 +32,8 @@ impl<A: Attributes, P: Policies> Review<A, P> {
     }
 
     /// The names of a list, in order.
+    ///
+    /// Its contract is an equation.
     pub fn names(&self, list: List) -> &[Text]
         ensures { result.now ≡ list_of list self.now.state.names }
     {
@@ -35,6 +41,8 @@ impl<A: Attributes, P: Policies> Review<A, P> {
     }
 
     /// The name at a place of a list, counted from 0, if the list has so many.
+    ///
+    /// Its contract is an equation.
     pub fn name(&self, list: List, place: usize) -> Option<&str>
         ensures { option_map (λ name. name.now) result ≡ slice_get (list_of list self.now.state.names) place }
     {

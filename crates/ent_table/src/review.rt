@@ -54,6 +54,9 @@ impl<A: Attributes, P: Policies> Model for Review<A, P> {
 
 impl<A: Attributes, P: Policies> Review<A, P> {
     /// A review of what a decision point holds, with no names listed. No limit may be above the greatest one.
+    ///
+    /// Its contract leaves open: how the tables before are kept, of which there are none. State, count and the first
+    /// serial are said.
     pub fn new(alloc: Global, pdp: Pdp<A, P>, limits: Limits) -> Review<A, P>
         requires { IsWithinGreatest limits }
         ensures state { result.state ≡ initial (held_by pdp) limits }
@@ -79,6 +82,8 @@ impl<A: Attributes, P: Policies> Review<A, P> {
     /// far stays what it was, and the one at the new serial is the fresh one.
     ///
     /// Dropping a name evaluates nothing and takes no memory.
+    ///
+    /// Its contract is an equation but for memory.
     pub fn edit(&mut self, edit: Edit) -> Result<Accepted, EditFault>
         ensures step { Edits (λ s. step s edit) self.old.state self.new.state result }
         ensures sure { IsSure edit self.old.state result }
@@ -107,6 +112,8 @@ impl<A: Attributes, P: Policies> Review<A, P> {
     }
 
     /// The answer to a listed request.
+    ///
+    /// Its contract is an equation.
     pub fn cell(&self, person: &str, action: &str, resource: &str) -> Option<&Answer>
         ensures { option_copied result
             ≡ answer_at self.now.state (triple_of person.now action.now resource.now) }
@@ -130,6 +137,8 @@ impl<A: Attributes, P: Policies> Review<A, P> {
     }
 
     /// The listed requests with their answers in list order, people outermost, then actions, then resources.
+    ///
+    /// Its contract is an equation.
     pub fn cells(&self) -> Cells<'_>
         ensures { cells_left result ≡ table_of self.now.state }
     {
@@ -144,6 +153,8 @@ impl<A: Attributes, P: Policies> Review<A, P> {
     }
 
     /// The cells in list order, each with whether a part of it came to Indeterminate by itself, whatever its decision.
+    ///
+    /// Its contract is an equation.
     pub fn judged(&self) -> Judged<'_>
         ensures { judged_left result ≡ judged self.now.state }
     {
@@ -151,6 +162,8 @@ impl<A: Attributes, P: Policies> Review<A, P> {
     }
 
     /// Whether a list has the name.
+    ///
+    /// Its contract is an equation.
     pub fn listed(&self, list: List, name: &str) -> bool
         ensures { result ≡ has_name name.now (list_of list self.now.state.names) }
     {
@@ -158,6 +171,8 @@ impl<A: Attributes, P: Policies> Review<A, P> {
     }
 
     /// How many edits were accepted.
+    ///
+    /// Its contract is an equation.
     pub fn serial(&self) -> u64
         ensures value { result ≡ self.now.state.serial }
         ensures from { self.now.past.from ≤ result }
@@ -167,6 +182,8 @@ impl<A: Attributes, P: Policies> Review<A, P> {
     }
 
     /// How many times a request was evaluated.
+    ///
+    /// Its contract is an equation.
     pub fn evaluations(&self) -> u128
         ensures { result ≡ self.now.evaluations }
     {
@@ -174,6 +191,8 @@ impl<A: Attributes, P: Policies> Review<A, P> {
     }
 
     /// How many cells the table has.
+    ///
+    /// Its contract is an equation.
     pub fn cell_count(&self) -> usize
         ensures { result ≡ length (table_of self.now.state) }
     {

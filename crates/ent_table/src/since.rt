@@ -71,6 +71,8 @@ impl<A: Attributes, P: Policies> Present<Who, Answer> for Review<A, P> {
 
 impl<A: Attributes, P: Policies> Review<A, P> {
     /// The least serial whose table is known: 0 for a new review.
+    ///
+    /// Its contract is an equation.
     pub fn kept_from(&self) -> u64
         ensures { result ≡ self.now.past.from }
     {
@@ -84,6 +86,8 @@ impl<A: Attributes, P: Policies> Review<A, P> {
     /// # Errors
     ///
     /// `AllocError` if memory runs out.
+    ///
+    /// Its contract is an equation but for memory.
     pub fn changes_since(&self, serial: u64) -> Result<Items<Change>, AllocError>
         requires kept { self.now.past.from ≤ serial }
         requires reached { serial ≤ self.now.state.serial }
@@ -98,6 +102,8 @@ impl<A: Attributes, P: Policies> Review<A, P> {
 
     /// Forgets the tables before a serial: those at the serials from there on stay known. It takes no memory. Where the
     /// tables before the serial are forgotten already, nothing changes.
+    ///
+    /// Its contract leaves open: how the tables are kept that stay known. Each of them is said to be as it was.
     pub fn forget_before(&mut self, serial: u64)
         requires { serial ≤ self.old.state.serial }
         ensures rest { self.new ≡ record self.old { past = self.new.past } }

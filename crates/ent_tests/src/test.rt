@@ -28,6 +28,8 @@ pub struct Test {
 
 impl Test {
     /// Without outcomes, whatever the test is. Nothing is allocated.
+    ///
+    /// Its contract leaves open: what stands in it: any test without outcomes would do.
     pub fn new(alloc: Global) -> Test
         ensures { (at : Looks) (questions : List Question) (bags : List Contents) (test : Looks → Request → Came)
             → IsTest at questions bags test result }
@@ -39,6 +41,8 @@ impl Test {
     }
 
     /// The number of the outcome at the end of the way of what a request finds, if one leads there.
+    ///
+    /// Its contract leaves open: when it answers `None`, which it may always: its caller then evaluates and learns.
     pub fn known<L: LookUps>(
         &self,
         scene: &Scene<'_, L>,
@@ -54,6 +58,9 @@ impl Test {
     }
 
     /// Learns what the test came to for a request, and gives its number. The others keep theirs, whatever comes.
+    ///
+    /// Its contract leaves open: which number a new outcome gets, whether it is found again, and what else findings
+    /// keep.
     pub fn learn<L: LookUps>(
         &mut self,
         scene: &Scene<'_, L>,

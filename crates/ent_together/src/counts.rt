@@ -64,6 +64,8 @@ fn none(alloc: Global, rows: &[Vec<usize>]) -> Result<Vec<u64>, AllocError>
 /// # Errors
 ///
 /// `AllocError` if memory runs out.
+///
+/// Its contract is an equation but for memory.
 pub fn counts_after(alloc: Global, rows: &[Vec<usize>], hops: usize) -> Result<Vec<u64>, AllocError>
     ensures { IfOk result (λ counts. counts.items ≡ counts_after (2 ^ 64 - 1) (map (λ row. row.items) rows.now) hops) }
 {

@@ -23,6 +23,8 @@ pub struct Found {
 
 impl Found {
     /// No reference was looked for.
+    ///
+    /// Its contract leaves open: what stands in it: any that found nothing would do.
     pub fn new(alloc: Global) -> Found
         ensures { (docs : Docs) → AreFound docs result }
     {
@@ -32,6 +34,8 @@ impl Found {
     }
 
     /// The number of the document that a reference finds, if it finds one. It is looked for once.
+    ///
+    /// Its contract leaves open: what it keeps of references that were sought.
     pub fn number(
         &mut self,
         alloc: Global,
@@ -54,6 +58,8 @@ impl Found {
     }
 
     /// Whether a reference finds a document.
+    ///
+    /// Its contract is an equation.
     pub fn finds(&self, docs: &MapDocs, reference: &Reference) -> bool
         requires { AreFound (held docs.now) self.now }
         ensures { result ≡ is_some (most_recent reference.now (held docs.now)) }

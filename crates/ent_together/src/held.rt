@@ -46,6 +46,8 @@ fn put<'a>(all: &mut Vec<Held<'a>>, slot: &'a DocSlot) -> Result<(), AllocError>
 /// # Errors
 ///
 /// `AllocError` if memory runs out.
+///
+/// Its contract is an equation but for memory.
 pub fn held_in<'a>(alloc: Global, docs: &'a MapDocs) -> Result<Vec<Held<'a>>, AllocError>
     ensures { IfOk result (λ all. map entry_of all.items ≡ entries (held docs.now)) }
 {

@@ -181,6 +181,9 @@ impl Links {
     /// # Errors
     ///
     /// `AllocError` if memory runs out.
+    ///
+    /// Its contract leaves open: what `found` keeps of references that were sought; the links, chains and counts are
+    /// said by views.
     pub fn of(alloc: Global, docs: &MapDocs, hops: usize, steps: usize) -> Result<Links, AllocError>
         ensures rows { IfOk result (λ l.
             rows_lead (held docs.now) (map (λ row. row.items) l.rows.items) ≡ leads (held docs.now)) }

@@ -28,6 +28,8 @@ fn finds_none(docs: &MapDocs, found: &Found, placed: &PlacedReference) -> bool
 /// # Errors
 ///
 /// `AllocError` if memory runs out.
+///
+/// Its contract is an equation but for memory.
 pub fn unfound(
     alloc: Global,
     docs: &MapDocs,
@@ -77,6 +79,8 @@ pub(crate) fn turned(alloc: Global, reference: &Reference) -> Result<Reference, 
 /// # Errors
 ///
 /// `AllocError` if memory runs out.
+///
+/// Its contract is an equation but for memory.
 pub fn namesakes<'a>(
     alloc: Global,
     all: &[Held<'a>],

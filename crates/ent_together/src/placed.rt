@@ -100,6 +100,8 @@ fn gather_set(
 /// # Errors
 ///
 /// `AllocError` if memory runs out.
+///
+/// Its contract is an equation but for memory.
 #[tactic(auto, using(crate::proofs::Levels::set_level))]
 pub fn references_of(
     alloc: Global,

@@ -89,6 +89,8 @@ fn reached_in(alloc: Global, docs: MapDocs, root: &Option<Reference>) -> Result<
 /// # Errors
 ///
 /// `AllocError` if memory runs out.
+///
+/// Its contract is an equation but for memory.
 pub fn unreached(
     alloc: Global,
     docs: MapDocs,

@@ -69,6 +69,8 @@ fn versions(alloc: Global, keys: &[&DocKey]) -> Result<String, AllocError> {
 /// # Errors
 ///
 /// `AllocError` if memory runs out.
+///
+/// Its contract leaves open: all of it: the sentence is shown by the stored run `together_told`.
 pub fn unfound_sentence(
     alloc: Global,
     all: &[Held<'_>],
@@ -98,6 +100,8 @@ pub fn unfound_sentence(
 /// # Errors
 ///
 /// `AllocError` if memory runs out.
+///
+/// Its contract leaves open: all of it: the name is shown by the stored run `together_told`.
 pub fn named(alloc: Global, key: &DocKey) -> Result<String, AllocError> {
     let (kind, id) = (key.kind.word(), key.id.as_str());
     let version = key.version.text(alloc)?;
@@ -165,6 +169,8 @@ fn put_name(
 /// # Errors
 ///
 /// `AllocError` if memory runs out.
+///
+/// Its contract leaves open: all of it: the sentence is shown by the stored run `together_told`.
 pub fn endless_sentence(
     alloc: Global,
     all: &[Held<'_>],
@@ -181,6 +187,8 @@ pub fn endless_sentence(
 /// # Errors
 ///
 /// `AllocError` if memory runs out.
+///
+/// Its contract leaves open: all of it: the sentence is shown by the stored run `together_told`.
 pub fn unreached_sentence(alloc: Global, keys: &[&DocKey]) -> Result<String, AllocError> {
     let mut text = String::new(alloc);
     for key in keys.iter().take(MOST_VERSIONS) {

@@ -66,6 +66,8 @@ pub(crate) fn put(alloc: Global, docs: &mut MapDocs, document: Document) -> Resu
 
 impl State {
     /// No documents and no root.
+    ///
+    /// Its contract is an equation.
     pub fn new(alloc: Global) -> State
         ensures { stored_in result ≡ nothing }
     {
@@ -176,6 +178,8 @@ impl State {
     /// # Errors
     ///
     /// The number of the first line that isn't one of a dump; or memory runs out.
+    ///
+    /// Its contract is an equation but for memory.
     pub fn of(alloc: Global, text: &[u8]) -> Result<State, StateFault>
         ensures ok { IfOk result (λ state. stored_of text.now ≡ Some (stored_in state)) }
         ensures err { IfErr result (λ e. IsNotDump e → stored_of text.now ≡ None) }

@@ -93,6 +93,8 @@ fn pointer(alloc: Global, path: &Items<usize>) -> Result<String, AllocError> {
 
 impl<'a> Together<'a> {
     /// The documents of a state, which is called so.
+    ///
+    /// Its contract is an equation.
     pub fn new(alloc: Global, name: &'a str, state: State) -> Together<'a>
         ensures state { result.state ≡ state }
         ensures files { file_keys result ≡ [] }
@@ -117,6 +119,9 @@ impl<'a> Together<'a> {
     /// # Errors
     ///
     /// `AllocError` if memory runs out.
+    ///
+    /// Its contract leaves open: the words that are told of a document that is there already; by which file it is named
+    /// later.
     pub fn add(&mut self, name: &'a str, text: &'a [u8]) -> Result<Option<String>, AllocError>
         ensures { IfOk result (λ told. Adds (document_in text.now) (is_some told) self.old self.new) }
     {
@@ -285,6 +290,9 @@ impl<'a> Together<'a> {
     /// # Errors
     ///
     /// `AllocError` if memory runs out.
+    ///
+    /// Its contract leaves open: the texts of faults and warnings, and in which order they stand; how many faults there
+    /// are is said.
     pub fn told(self) -> Result<Told, AllocError>
         ensures { IfOk result (λ told. vec_len told.faults
             ≡ faults_together (held self.entry.state.docs)

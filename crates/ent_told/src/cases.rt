@@ -27,6 +27,8 @@ impl Model for ToldCases {
 
 impl ToldCases {
     /// No cases, for which nothing is allocated.
+    ///
+    /// Its contract is an equation.
     pub fn new(alloc: Global) -> ToldCases
         ensures { result ≡ [] }
     {
@@ -37,6 +39,8 @@ impl ToldCases {
     }
 
     /// A case of a way, if one is found.
+    ///
+    /// Its contract leaves open: when it answers `None`, which it may always: its caller then joins or evaluates.
     pub fn find(&self, way: &[u32]) -> Option<&Told>
         ensures { IfSome result (λ c. HasWay self.now way.now c.now) }
     {
@@ -49,6 +53,9 @@ impl ToldCases {
 
     /// Puts a case behind the others, of which the older ones are dropped where there are many. After a refusal it may
     /// be there or not.
+    ///
+    /// Its contract leaves open: whether the case is kept, which cases go, and in which order they stand: one that does
+    /// nothing would do.
     pub fn put(&mut self, alloc: Global, case: Told) -> Result<(), AllocError>
         ensures { IsPut case self.old self.new }
     {

@@ -203,6 +203,8 @@ impl<L: LookUps> Signing<'_, L> {
 }
 
 /// Whether what stands below a test counts, by what it came to.
+///
+/// Its contract is an equation.
 pub fn goes_on(task: &Task, tested: &Tested) -> bool
     ensures { (g : Gist) → result ≡ task_goes_on task.now (came_by tested.now g) }
 {

@@ -27,6 +27,8 @@ pub struct Tests {
 
 impl Tests {
     /// Of no entries. Nothing is allocated.
+    ///
+    /// Its contract leaves open: what it counts of places and outcomes.
     pub fn new(alloc: Global) -> Tests
         ensures { result.list.items ≡ [] }
     {
@@ -42,6 +44,9 @@ impl Tests {
     /// # Errors
     ///
     /// `AllocError` if memory runs out.
+    ///
+    /// Its contract leaves open: how much of each test is there beside that nothing is known of it; what is counted of
+    /// places and outcomes.
     pub fn of(alloc: Global, entries: &[Entry]) -> Result<Tests, AllocError>
         ensures { (at : Looks) (questions : List Question) (bags : List Contents)
             → IfOk result (λ x. AreTestsOf at questions bags entries.now x.list.items) }

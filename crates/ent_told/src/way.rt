@@ -24,6 +24,9 @@ use std::mem;
 /// # Errors
 ///
 /// `AllocError` if memory runs out. What is known is kept, and what was learnt till then.
+///
+/// Its contract leaves open: which numbers outcomes, bags and questions have that weren't there before, and what else
+/// is learnt.
 pub fn way_of<L: LookUps>(
     alloc: Global,
     held: &L,

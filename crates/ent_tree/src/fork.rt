@@ -31,6 +31,8 @@ impl<K> Fork<K> {
     }
 
     /// The place to which a number leads, if it was found before.
+    ///
+    /// Its contract is an equation.
     pub fn branch(&self, number: u32) -> Option<usize>
         ensures { result ≡ branch_of self.now number }
     {
@@ -54,6 +56,8 @@ impl<K> Fork<K> {
 
 impl<K: Copy> Fork<K> {
     /// The question.
+    ///
+    /// Its contract is an equation.
     pub fn key(&self) -> K
         ensures { result ≡ self.now.key }
     {

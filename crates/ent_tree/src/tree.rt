@@ -23,6 +23,8 @@ pub struct Tree<K, L> {
 
 impl<K, L> Tree<K, L> {
     /// A tree without places, for which nothing is allocated.
+    ///
+    /// Its contract is an equation.
     pub fn new(alloc: Global) -> Tree<K, L>
         ensures { result.nodes.items ≡ [] }
     {
@@ -32,6 +34,8 @@ impl<K, L> Tree<K, L> {
     }
 
     /// How many places there are.
+    ///
+    /// Its contract is an equation.
     pub fn len(&self) -> usize
         ensures { result ≡ length self.now.nodes.items }
     {
@@ -39,6 +43,8 @@ impl<K, L> Tree<K, L> {
     }
 
     /// What stands at a place, if it is one.
+    ///
+    /// Its contract is an equation.
     pub fn get(&self, place: usize) -> Option<&Node<K, L>>
         ensures there { option_copied result ≡ slice_get self.now.nodes.items place }
         ensures tree { IsTree self.now.nodes.items }
@@ -49,6 +55,8 @@ impl<K, L> Tree<K, L> {
 
 impl<K: Drop, L: Drop> Tree<K, L> {
     /// Makes the first place, if there is none: nothing stands there then.
+    ///
+    /// Its contract leaves open: how places stand in the list, as long as the same ways lead to the same ends.
     pub fn begin(&mut self) -> Result<(), AllocError>
         ensures stays { Stays self.old.nodes.items self.new.nodes.items }
         ensures ok { OnOk result (0 < length self.new.nodes.items) }
@@ -61,6 +69,8 @@ impl<K: Drop, L: Drop> Tree<K, L> {
 
     /// Asks a question at a place where nothing stands, with a branch for one number, and gives the place to which that
     /// leads. After a refusal all is as before.
+    ///
+    /// Its contract leaves open: which place is the new one, and how places stand in the list.
     pub fn ask(
         &mut self,
         alloc: Global,
@@ -81,6 +91,8 @@ impl<K: Drop, L: Drop> Tree<K, L> {
 
     /// Adds a branch for a number that the question at a place didn't find before, and gives the place to which it
     /// leads. After a refusal the same ways lead to the same ends.
+    ///
+    /// Its contract leaves open: which place is the new one, and how places stand in the list.
     pub fn branch(&mut self, place: usize, number: u32) -> Result<usize, AllocError>
         requires asks { IsSome (key_at self.old.nodes.items place) }
         requires free { next_at self.old.nodes.items place number ≡ None }
@@ -107,6 +119,8 @@ impl<K: Drop, L: Drop> Tree<K, L> {
     }
 
     /// Ends a way at a place where nothing stands. It takes no memory.
+    ///
+    /// Its contract leaves open: how places stand in the list, as long as each way leads where it is said to.
     pub fn end(&mut self, place: usize, leaf: L)
         requires { slice_get self.old.nodes.items place ≡ Some Nothing }
         ensures { (way : List (Turn K)) → Reaches self.old.nodes.items place way

@@ -32,6 +32,8 @@ impl Bag {
     ghost use Rattle.ent_values.specs.Types.{datatype_of};
 
     /// The empty bag of a type, for which nothing is allocated.
+    ///
+    /// Its contract is an equation.
     pub fn new(alloc: Global, datatype: DataType) -> Bag
         ensures { result ≡ record { datatype = datatype; values = [] } }
     {
@@ -42,6 +44,8 @@ impl Bag {
     }
 
     /// The bag of values that all have that type. They are moved and not copied.
+    ///
+    /// Its contract is an equation.
     pub fn of(datatype: DataType, values: Items<Value>) -> Bag
         requires { AllOfType datatype values }
         ensures { result ≡ record { datatype = datatype; values = values } }
@@ -50,6 +54,8 @@ impl Bag {
     }
 
     /// The bag of one value, with at most one allocation.
+    ///
+    /// Its contract is an equation but for memory.
     pub fn of_one(alloc: Global, value: Value) -> Result<Bag, AllocError>
         ensures { IfOk result (λ b. b ≡ record { datatype = datatype_of value; values = value ∷ [] }) }
     {
@@ -59,6 +65,8 @@ impl Bag {
     }
 
     /// The type of the values.
+    ///
+    /// Its contract is an equation.
     pub fn datatype(&self) -> DataType
         ensures { result ≡ self.now.datatype }
     {
@@ -66,6 +74,8 @@ impl Bag {
     }
 
     /// The values, which all have the bag's type.
+    ///
+    /// Its contract is an equation.
     pub fn values(&self) -> &[Value]
         ensures value { result.now ≡ self.now.values }
         ensures types { AllOfType self.now.datatype self.now.values }
@@ -74,6 +84,8 @@ impl Bag {
     }
 
     /// The values as a list, which is moved and not copied.
+    ///
+    /// Its contract is an equation.
     pub fn into_values(self) -> Items<Value>
         ensures value { result ≡ self.values }
         ensures types { AllOfType self.datatype self.values }
@@ -86,6 +98,8 @@ impl Bag {
     }
 
     /// How many values there are.
+    ///
+    /// Its contract is an equation.
     pub fn len(&self) -> usize
         ensures { result ≡ length self.now.values }
     {
@@ -93,6 +107,8 @@ impl Bag {
     }
 
     /// Whether there is no value.
+    ///
+    /// Its contract is an equation.
     pub fn is_empty(&self) -> bool
         ensures { IsTrue result ↔ (self.now.values ≡ []) }
     {
@@ -100,6 +116,8 @@ impl Bag {
     }
 
     /// Puts a value of the bag's type last. After a refusal the bag is as before.
+    ///
+    /// Its contract is an equation but for memory.
     pub fn push(&mut self, value: Value) -> Result<(), AllocError>
         requires { datatype_of value ≡ self.old.datatype }
         ensures ok { OnOk result (self.new ≡ record self.old { values = self.old.values ++ value ∷ [] }) }
@@ -109,6 +127,8 @@ impl Bag {
     }
 
     /// An equal bag. The copy of an empty bag takes no memory, so it isn't refused.
+    ///
+    /// Its contract is an equation but for memory.
     pub fn copy(&self, alloc: Global) -> Result<Bag, AllocError>
         ensures value { IfOk result (λ b. b ≡ self.now) }
         ensures memory { OnErr result (¬ (self.now.values ≡ [])) }

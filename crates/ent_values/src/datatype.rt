@@ -40,6 +40,8 @@ impl DataType {
 
     /// The type of that name: a full URI, or the short name of this profile, its last word. None if there is no such
     /// type.
+    ///
+    /// Its contract is an equation.
     #[tactic(auto, unfolding(crate::specs::Types::type_of))]
     pub fn from_name(name: &str) -> Option<DataType>
         ensures { result ≡ type_of name.now }
@@ -49,6 +51,8 @@ impl DataType {
     }
 
     /// The full URI of the type.
+    ///
+    /// Its contract is an equation.
     #[tactic(auto, unfolding(crate::specs::Types::uri_of))]
     pub fn uri(self) -> &'static str
         ensures { result.now ≡ uri_of self }
@@ -66,6 +70,8 @@ impl DataType {
     }
 
     /// The short name of the type, the last word of its URI.
+    ///
+    /// Its contract is an equation.
     #[tactic(auto, unfolding(crate::specs::Types::short_name_of))]
     pub fn short_name(self) -> &'static str
         ensures { result.now ≡ short_name_of self }

@@ -34,6 +34,8 @@ impl Model for Date {
 
 impl Date {
     /// The date of a year, a month and a day of it. None if the calendar has no such day, or the year isn't 1 to 9999.
+    ///
+    /// Its contract is an equation.
     pub fn new(year: u16, month: u8, day: u8) -> Option<Date>
         ensures { result ≡ day_of year month day }
     {
@@ -51,6 +53,8 @@ impl Date {
     }
 
     /// The year, from 1 to 9999.
+    ///
+    /// Its contract is an equation.
     pub fn year(self) -> u16
         ensures value { result ≡ self.year }
         ensures real { is_date self.year self.month self.day ≡ true }
@@ -59,6 +63,8 @@ impl Date {
     }
 
     /// The month of the year, from 1 to 12.
+    ///
+    /// Its contract is an equation.
     pub fn month(self) -> u8
         ensures value { result ≡ self.month }
         ensures real { is_date self.year self.month self.day ≡ true }
@@ -67,6 +73,8 @@ impl Date {
     }
 
     /// The day of the month, from 1 to 31.
+    ///
+    /// Its contract is an equation.
     pub fn day(self) -> u8
         ensures value { result ≡ self.day }
         ensures real { is_date self.year self.month self.day ≡ true }
@@ -75,6 +83,8 @@ impl Date {
     }
 
     /// The last day of the date's month.
+    ///
+    /// Its contract is an equation.
     pub fn last_of_month(self) -> Date
         ensures { result ≡ record { year = self.year; month = self.month; day = days_of_month self.year self.month } }
     {

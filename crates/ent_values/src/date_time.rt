@@ -14,6 +14,8 @@ pub struct DateTime {
 
 impl DateTime {
     /// The dateTime of a date and a time.
+    ///
+    /// Its contract is an equation.
     pub fn new(date: Date, time: Time) -> DateTime
         ensures { result ≡ record { date = date; time = time } }
     {
@@ -21,6 +23,8 @@ impl DateTime {
     }
 
     /// The date.
+    ///
+    /// Its contract is an equation.
     pub fn date(&self) -> Date
         ensures { result ≡ self.now.date }
     {
@@ -28,6 +32,8 @@ impl DateTime {
     }
 
     /// The time of that date.
+    ///
+    /// Its contract is an equation.
     pub fn time(&self) -> Time
         ensures { result ≡ self.now.time }
     {

@@ -29,6 +29,8 @@ impl Model for YearMonth {
 
 impl YearMonth {
     /// The duration of that many months, None if they are more than a duration can have.
+    ///
+    /// Its contract is an equation.
     pub fn new(months: i64) -> Option<YearMonth>
         ensures { result ≡ months_of months }
     {
@@ -40,6 +42,8 @@ impl YearMonth {
     }
 
     /// All the months, negative if the duration goes back.
+    ///
+    /// Its contract is an equation.
     pub fn months(self) -> i64
         ensures value { result ≡ self }
         ensures within { is_duration result ≡ true }

@@ -29,6 +29,8 @@ impl Value {
     ///
     /// Any other text is a `BadValue`. Memory is asked for the text of a string or a URI alone, so no other type is
     /// refused.
+    ///
+    /// Its contract is an equation but for memory.
     #[tactic(auto, unfolding(crate::specs::Reading::value_of))]
     pub fn parse(alloc: Global, datatype: DataType, text: &str) -> Result<Value, ValueFault>
         ensures read { IfOk result (λ v. value_of datatype text.now ≡ Some v) }
@@ -68,6 +70,8 @@ fn integer(text: &str) -> Option<i64>
 }
 
 /// The number that 1 to 9 digits write, and none of any other text.
+///
+/// Its contract is an equation.
 #[tactic(auto, unfolding(crate::specs::Reading::count_of))]
 pub fn number_of_digits(text: &[u8]) -> Option<u32>
     ensures value { result ≡ count_of text.now }

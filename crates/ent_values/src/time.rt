@@ -35,6 +35,8 @@ impl Model for Time {
 impl Time {
     /// The time of an hour, a minute and a second. None if no clock shows it: the hour is above 23, or the minute or
     /// the second above 59.
+    ///
+    /// Its contract is an equation.
     pub fn new(hour: u8, minute: u8, second: u8) -> Option<Time>
         ensures { result ≡ time_of_day hour minute second }
     {
@@ -49,6 +51,8 @@ impl Time {
     }
 
     /// The hour, from 0 to 23.
+    ///
+    /// Its contract is an equation.
     pub fn hour(self) -> u8
         ensures value { result ≡ self.hour }
         ensures real { is_time self.hour self.minute self.second ≡ true }
@@ -57,6 +61,8 @@ impl Time {
     }
 
     /// The minute of the hour, from 0 to 59.
+    ///
+    /// Its contract is an equation.
     pub fn minute(self) -> u8
         ensures value { result ≡ self.minute }
         ensures real { is_time self.hour self.minute self.second ≡ true }
@@ -65,6 +71,8 @@ impl Time {
     }
 
     /// The second of the minute, from 0 to 59.
+    ///
+    /// Its contract is an equation.
     pub fn second(self) -> u8
         ensures value { result ≡ self.second }
         ensures real { is_time self.hour self.minute self.second ≡ true }

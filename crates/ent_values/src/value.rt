@@ -41,6 +41,8 @@ pub enum Value {
 
 impl Value {
     /// The type of the value.
+    ///
+    /// Its contract is an equation.
     pub fn datatype(&self) -> DataType
         ensures { result ≡ datatype_of self.now }
     {
@@ -57,6 +59,8 @@ impl Value {
     }
 
     /// An equal value. Memory is asked for the text of a string or a URI alone, so no other value is refused.
+    ///
+    /// Its contract is an equation but for memory.
     pub fn copy(&self, alloc: Global) -> Result<Value, AllocError>
         ensures value { IfOk result (λ v. v ≡ self.now) }
         ensures memory { OnErr result (is_textual (datatype_of self.now) ≡ true) }

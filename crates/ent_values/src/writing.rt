@@ -18,6 +18,8 @@ impl Value {
     /// duration as `P` with its years and the months left over, where a part of zero is left out and no months at all
     /// are `P0M`, with `-` in front of a negative one. A string and a URI are written as they are. The text reads as the
     /// value again, unless it is a duration of more than 999,999,999 whole years.
+    ///
+    /// Its contract is an equation but for memory.
     pub fn text(&self, alloc: Global) -> Result<Text, AllocError>
         ensures value { IfOk result (λ t. t ≡ text_of self.now) }
         ensures reads_back { IfOk result (λ t. IsReadBack self.now t) }

@@ -24,6 +24,8 @@ pub struct Gathering {
 }
 
 /// No children.
+///
+/// Its contract is an equation.
 pub fn no_children(alloc: Global, algorithm: RuleAlg) -> Gathering
     ensures { HasGathered algorithm result [] }
 {
@@ -37,6 +39,8 @@ pub fn no_children(alloc: Global, algorithm: RuleAlg) -> Gathering
 
 impl Gathering {
     /// One more child, and whether it fixes the decision.
+    ///
+    /// Its contract leaves open: which value stands for the children so far; what is told at each is said whole.
     pub fn take(&mut self, answer: Option<Answer>) -> Result<Progress, AllocError>
         ensures gathered { OnOk result (Gathers self.old self.new (or_nothing answer)) }
         ensures progress { IfOk result (Tells self.old (or_nothing answer)) }
@@ -48,6 +52,8 @@ impl Gathering {
     }
 
     /// One more child, which isn't applicable.
+    ///
+    /// Its contract leaves open: which value stands for the children so far; what is told at each is said whole.
     pub fn pass(&mut self) -> Progress
         ensures gathered { Gathers self.old self.new nothing }
         ensures progress { Tells self.old nothing result }
@@ -89,6 +95,8 @@ impl Gathering {
     }
 
     /// What the children of the element at the end of the path come to.
+    ///
+    /// Its contract leaves open: what is told of a value that stands for no list of children, which no caller comes to.
     pub fn finish(
         self,
         alloc: Global,

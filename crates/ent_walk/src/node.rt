@@ -172,6 +172,8 @@ fn is_ind(decision: Outcome) -> bool
 }
 
 /// What an element comes to with a target that is Indeterminate.
+///
+/// Its contract is an equation.
 pub fn under(alloc: Global, status: Status, answer: Option<Answer>) -> Option<Answer>
     ensures { or_nothing result ≡ under_target status (or_nothing answer).decision }
 {

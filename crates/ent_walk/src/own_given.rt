@@ -26,6 +26,8 @@ pub(crate) struct Due<'b> {
 
 impl<L: LookUps> Walk<'_, L> {
     /// An element with its own obligations and advice, which are evaluated where it gives a decision (section 7.18).
+    ///
+    /// Its contract is an equation but for memory.
     #[tactic(auto, using(crate::proofs::Typing::both_true), unfolding(ent_policy::specs::Typing::given_is_typed))]
     pub fn finished(
         &mut self,
@@ -195,6 +197,8 @@ fn effect_of(decision: Outcome) -> Option<Effect>
 }
 
 /// The Indeterminate of an effect.
+///
+/// Its contract is an equation.
 pub fn indeterminate_of(effect: Effect) -> IndKind
     ensures { result ≡ indeterminate_of effect }
 {

@@ -115,6 +115,8 @@ impl<'a, L: LookUps> Walk<'a, L> {
     }
 
     /// A condition (section 7.9). An absent one is true.
+    ///
+    /// Its contract is an equation but for memory.
     #[tactic(auto, unfolding(ent_policy::specs::Typing::condition_is_typed))]
     pub fn condition(
         &mut self,
@@ -136,6 +138,8 @@ impl<'a, L: LookUps> Walk<'a, L> {
     }
 
     /// A rule with a target that matches, by its condition (section 7.11).
+    ///
+    /// Its contract is an equation but for memory.
     pub fn decide(
         &mut self,
         path: &Path<'_>,

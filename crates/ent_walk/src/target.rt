@@ -26,6 +26,8 @@ pub enum Targeted {
 impl<'a, L: LookUps> Walk<'a, L> {
     /// Whether a target matches (section 7.7). What fails in it is passed over unless it is Indeterminate; so it is with
     /// its elements.
+    ///
+    /// Its contract is an equation but for memory.
     #[tactic(auto, unfolding(ent_policy::specs::Typing::target_is_typed))]
     pub fn target(&mut self, target: &'a Target) -> Result<Targeted, AllocError>
         requires { target_is_typed target.now ≡ true }

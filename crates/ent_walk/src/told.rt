@@ -24,6 +24,8 @@ pub struct Told {
 
 impl Told {
     /// No children.
+    ///
+    /// Its contract is an equation.
     pub fn nothing(alloc: Global) -> Told
         ensures { result ≡ record { any = false; why = []; obligations = []; advice = [] } }
     {
@@ -36,6 +38,8 @@ impl Told {
     }
 
     /// One child more. Its lists are moved, not copied.
+    ///
+    /// Its contract is an equation but for memory.
     pub fn add(&mut self, more: Told) -> Result<(), AllocError>
         ensures { OnOk result (self.new ≡ told_more self.old more) }
     {
@@ -46,6 +50,8 @@ impl Told {
     }
 
     /// The same with the entry of the element at the end of the path behind it, where that decides by default.
+    ///
+    /// Its contract is an equation but for memory.
     pub fn with_default(
         self,
         alloc: Global,
@@ -78,6 +84,8 @@ impl Told {
     }
 
     /// An element with that decision, of which this is told.
+    ///
+    /// Its contract is an equation.
     pub fn decided(self, decision: Outcome) -> Answer
         ensures { result ≡ record {
           decision = decision;

@@ -31,6 +31,8 @@ pub struct Walk<'a, L: LookUps> {
 
 impl<'a, L: LookUps> Walk<'a, L> {
     /// Before its first question.
+    ///
+    /// Its contract is an equation.
     pub fn over(alloc: Global, held: &'a L, request: &'a Request, notes: Notes) -> Walk<'a, L>
         ensures held { result.lender.held ≡ held.now }
         ensures request { result.lender.request ≡ request.now }
@@ -104,6 +106,8 @@ impl<'a, L: LookUps> Walk<'a, L> {
     }
 
     /// The answer to the request.
+    ///
+    /// Its contract is an equation but for memory.
     pub fn answer(&mut self) -> Result<Answer, AllocError>
         ensures comes { IfOk result (Comes
             (in_walk L.looks self.old answer_part) self.old self.new) }
