@@ -1,6 +1,6 @@
 //! The values that a request itself has for a designator, and where they lie.
 
-ghost use Rattle.std.specs.Prelude.{◌≡◌, IsTrue, MatchOption, false, option_copied};
+ghost use Rattle.std.specs.Prelude.{◌≡◌, ◌↔◌, IsTrue, MatchOption, false, option_copied};
 ghost use Rattle.std.specs.Str.{bytes_eq};
 ghost use Rattle.ent_values.specs.Bags.{AllOfType};
 ghost use Rattle.ent_request.specs.Own.{attributes_in, has_issuer, is_designated, own_values, values_in};
@@ -129,7 +129,7 @@ pub fn same_text(first: &str, second: &str) -> bool
 ///
 /// Its contract leaves open: when it answers `false`, which it may always: its callers then look or compare otherwise.
 pub fn same_issuer(first: &Option<Text>, second: &Option<Text>) -> bool
-    ensures { IsTrue result → first.now ≡ second.now }
+    ensures { IsTrue result ↔ first.now ≡ second.now }
 {
     match (first, second) {
         (None, None) => true,

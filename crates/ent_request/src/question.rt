@@ -1,6 +1,6 @@
 //! What an evaluation asks.
 
-ghost use Rattle.std.specs.Prelude.{◌≡◌, IfOk, IsTrue};
+ghost use Rattle.std.specs.Prelude.{◌≡◌, ◌↔◌, IfOk, IsTrue};
 ghost use Rattle.ent_request.specs.QuestionOf.{of_environment, question_of};
 ghost use Rattle.ent_request.specs.Sources.{asked_of, designator_for, key_for};
 ghost use Rattle.ent_request.specs.proofs_only.Hashed.{question_alike, question_input};
@@ -85,7 +85,7 @@ impl Asked {
     /// Its contract leaves open: when it answers `false`, which it may always: its callers then look or compare
     /// otherwise.
     pub fn is_of(&self, designator: &Designator) -> bool
-        ensures { IsTrue result → self.now ≡ asked_of designator.now }
+        ensures { IsTrue result ↔ self.now ≡ asked_of designator.now }
     {
         same_text(self.attribute.as_str(), designator.attribute.as_str())
             && same_text(self.category.as_str(), designator.category.as_str())
