@@ -127,7 +127,7 @@ pub fn same_text(first: &str, second: &str) -> bool
 
 /// Whether two issuers are the same, or neither is there.
 ///
-/// Its contract leaves open: when it answers `false`, which it may always: its callers then look or compare otherwise.
+/// Its contract is an equation.
 pub fn same_issuer(first: &Option<Text>, second: &Option<Text>) -> bool
     ensures { IsTrue result ↔ first.now ≡ second.now }
 {

@@ -82,8 +82,7 @@ impl Asked {
 
     /// Whether a designator asks for it. Most that don't differ in the attribute already.
     ///
-    /// Its contract leaves open: when it answers `false`, which it may always: its callers then look or compare
-    /// otherwise.
+    /// Its contract is an equation.
     pub fn is_of(&self, designator: &Designator) -> bool
         ensures { IsTrue result ↔ self.now ≡ asked_of designator.now }
     {
