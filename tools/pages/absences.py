@@ -16,7 +16,8 @@ COMMANDS = (r'"(?:(?:person|action|resource)\.(?:add|drop)|(?:attr|day|moment|ro
             r'|policy\.(?:add|replace|withdraw))')
 PROGRAMS = ['conformance', 'faults_told', 'attributes_told', 'together_told', 'review', 'review_with_options']
 EVALUATING = ['ent_request', 'ent_notes', 'ent_walk', 'ent_heard', 'ent_plan', 'ent_found', 'ent_tests', 'ent_told',
-              'ent_joined', 'ent_eval']
+              'ent_joined', 'ent_eval', 'ent_evaluator']
+PARTS_OF_AN_EVALUATOR = [f'ent_evaluator/src/{name}.rt' for name in ('parts', 'listed', 'asking', 'exchange', 'evaluator')]
 BELOW_LINES = ['ent_values', 'ent_functions', 'ent_combine', 'ent_policy', 'ent_copies', 'ent_meaning', 'ent_finder',
                *EVALUATING, 'ent_tree', 'ent_reach', 'ent_index', 'ent_log', 'ent_cells', 'ent_table', 'ent_rebuild']
 
@@ -108,9 +109,15 @@ def table_in_the_log():
 
 def evaluations():
     cells = [f'ent_cells/src/{name}.rt' for name in ('evaluate', 'store')]
-    yield from found(r'\.evaluate(?:_listed)?\(|Pdp::evaluate', but=['ent_eval/', *cells] + TRIALS)
-    yield from found(r'pdp\.explain\(|Pdp::explain', but=['ent_eval/', 'ent_table/src/explain.rt'] + TRIALS)
-    yield from found(r'pdp\.answer\(|Pdp::answer', but=['ent_eval/', 'ent_cells/src/live.rt'] + TRIALS)
+    yield from found(r'\.evaluate(?:_listed)?\(|Pdp::evaluate', but=['ent_eval/', 'ent_evaluator/', *cells] + TRIALS)
+    yield from found(r'pdp\.explain\(|Pdp::explain', but=['ent_eval/', 'ent_evaluator/'] + TRIALS)
+    yield from found(r'pdp\.answer\(|Pdp::answer', but=['ent_eval/', 'ent_evaluator/'] + TRIALS)
+
+
+def remembering():
+    yield from named(['ent_evaluator'], but=['ent_program'] + TRIALS)
+    memory = ['ent_found', 'ent_tests', 'ent_told', 'ent_joined', 'ent_plan', 'ent_heard', 'ent_tree']
+    yield from named(memory, but=memory + ['ent_evaluator'])
 
 
 def unchecked_documents():
@@ -228,10 +235,11 @@ CHECKS = {
     'the table in the log and in the index': table_in_the_log,
     'finders and modules in the evaluator':
         lambda: found(r'\b(?:Attributes|Policies)\b', EVALUATING,
-                      but=['ent_eval/src/pdp.rt', 'ent_eval/src/listed.rt']),
+                      but=['ent_eval/src/pdp.rt', 'ent_eval/src/evaluates.rt', *PARTS_OF_AN_EVALUATOR]),
     'keys of look-ups above the table':
         lambda: found(r'\bReadKey\b', ['ent_report', 'ent_dump', 'ent_line', 'ent_program'], ('src', 'specs')),
     'evaluations made elsewhere': evaluations,
+    'what is remembered above the evaluator': remembering,
     "documents that weren't checked": unchecked_documents,
     'boxed modules that a library makes': boxed_modules,
     'files, streams, the command line below `ent_program`': files_and_streams,

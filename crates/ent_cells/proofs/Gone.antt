@@ -8,7 +8,7 @@ use Rattle.std.proofs.lemmas.List.Folds.{list_any-append}
 use Rattle.slab.specs.Slab.{Slab, get}
 use Rattle.ent_request.specs.declared.answer.Answer.{Answer}
 use Rattle.ent_log.proofs.Before.{undoes-listed}
-use Rattle.ent_cells.specs.declared.who.Who.{Who}
+use Rattle.ent_eval.specs.declared.who.Who.{Who}
 use Rattle.ent_cells.specs.Cell.{Kept}
 use Rattle.ent_cells.specs.Entries.{Entry, kept_of}
 use Rattle.ent_cells.specs.Grid.{IsGrid, entries_of, values}

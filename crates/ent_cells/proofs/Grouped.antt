@@ -13,7 +13,7 @@ use Rattle.ent_index.specs.declared.names.Names.{Names}
 use Rattle.ent_index.specs.Groups.{HasSameNames, IsNamed, KeepsGroups, KeepsGroupsBut, KeepsNamesBut, holds_in, is_under, numbers_in, numbers_of}
 use Rattle.ent_cells.specs.declared.cell.Cell.{Cell}
 use Rattle.ent_cells.specs.declared.cell.Grouped.{Grouped}
-use Rattle.ent_cells.specs.declared.who.Who.{Who}
+use Rattle.ent_eval.specs.declared.who.Who.{Who}
 use Rattle.ent_cells.specs.proofs_only.Grouping.{IsGrouped, IsHeld, IsStore, KeepsCell, KeepsIn, KeepsOthers, StaysIn, entry_in, said_of, seen}
 use Rattle.ent_cells.proofs.Seen.{all_same}
 
@@ -34,6 +34,9 @@ questions_stay q q' begins ns h = ap (λ (x : List Question). at_numbers x ns) b
 
 pub begins_itself : (q : List Question) → BeginsWith q q
 begins_itself q = ([], sym (append-nil q))
+
+pub same_begins : (q q' : List Question) → q' ≡ q → BeginsWith q' q
+same_begins q q' e = subst (λ (x : List Question). BeginsWith x q) (sym e) (begins_itself q)
 
 -- ---- a cell that stays
 

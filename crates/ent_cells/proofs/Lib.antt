@@ -1,4 +1,3 @@
-pub mod Alike
 pub mod Among
 pub mod Confirmed
 pub mod Gone

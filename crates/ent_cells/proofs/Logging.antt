@@ -9,7 +9,7 @@ use Rattle.ent_log.specs.Entries.{table_before}
 use Rattle.ent_log.specs.declared.entry.OldAnswer.{OldAnswer}
 use Rattle.ent_log.specs.declared.log.Log.{Log}
 use Rattle.ent_log.proofs.Before.{table_at-same, table_before-append}
-use Rattle.ent_cells.specs.declared.who.Who.{Who}
+use Rattle.ent_eval.specs.declared.who.Who.{Who}
 use Rattle.ent_cells.specs.Entries.{Entry}
 use Rattle.ent_cells.specs.Grid.{times}
 use Rattle.ent_cells.specs.proofs_only.Logging.{Puts, gone_in, old_of}

@@ -15,7 +15,7 @@ use Rattle.ent_request.specs.Same.{same_answer}
 use Rattle.ent_request.proofs.Sames.{answer-Decides}
 use Rattle.ent_log.specs.declared.entry.OldAnswer.{OldAnswer}
 use Rattle.ent_log.proofs.Before.{undoes-listed}
-use Rattle.ent_cells.specs.declared.who.Who.{Who}
+use Rattle.ent_eval.specs.declared.who.Who.{Who}
 use Rattle.ent_cells.specs.Cell.{IsRightBut, Kept, answers_in, reads_any, renewed, says, unlike_count}
 use Rattle.ent_cells.specs.Entries.{Entry, IsLive, kept_of}
 use Rattle.ent_cells.specs.proofs_only.Entries.{changes, touched_at}

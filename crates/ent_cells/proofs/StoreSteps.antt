@@ -15,7 +15,7 @@ use Rattle.ent_cells.proofs.Grouped.{Stays, begins_itself, grouped_stays, held_s
 use Rattle.ent_cells.proofs.Seen.{all_same, get_by, still_by, updates_by}
 use Rattle.ent_cells.specs.declared.cell.Cell.{Cell}
 use Rattle.ent_cells.specs.declared.cell.Grouped.{Grouped}
-use Rattle.ent_cells.specs.declared.who.Who.{Who}
+use Rattle.ent_eval.specs.declared.who.Who.{Who}
 use Rattle.ent_cells.specs.Cell.{Said, says}
 use Rattle.ent_cells.specs.Entries.{Entry}
 use Rattle.ent_cells.specs.proofs_only.Entries.{Becomes, Inserts, IsFree, entry_of_cell, given_up, no_entries, settled}

@@ -3,15 +3,13 @@ use Rattle.std.specs.Prelude.{◌≡◌, ℕ, ◌+◌, List, [], ◌∷◌, Bool
 use Rattle.std.specs.List.{list_any}
 use Rattle.ent_request.specs.declared.answer.Answer.{Answer}
 use Rattle.ent_request.specs.declared.key.ReadKey.{ReadKey}
-use Rattle.ent_request.specs.declared.question.Question.{Question}
-use Rattle.ent_eval.specs.Memory.{Remembers}
-use Rattle.ent_eval.specs.declared.memory.Memory.{Memory}
+use Rattle.ent_eval.specs.Evaluator.{Evaluator}
 use Rattle.ent_walk.specs.Answer.{answer, has_cause, recorded}
 use Rattle.ent_request.specs.Listed.{listed}
 use Rattle.ent_request.specs.Looks.{Looks}
 use Rattle.ent_request.specs.Noted.{has_key}
 use Rattle.ent_request.specs.Same.{same_answer}
-use Rattle.ent_cells.specs.declared.who.Who.{Who}
+use Rattle.ent_eval.specs.declared.who.Who.{Who}
 
 -- what a request is answered, the keys of the look-ups that this rests on, and whether a part of the evaluation failed by itself
 pub record Said : Type 0 where
@@ -68,13 +66,9 @@ unlike_count [] bs = 0
 unlike_count (a ∷ as_) [] = 0
 unlike_count (a ∷ as_) (b ∷ bs) = (if same_answer a b then 0 else 1) + unlike_count as_ bs
 
--- ---- what is remembered for them
+-- ---- with what evaluates them
 
--- the cells of a table in list order, and the questions that were asked for such cells, by number
+-- the cells of a table in list order, and the evaluator of their requests
 pub record Cells : Type 0 where
   pub kept : List Kept
-  pub questions : List Question
-
--- what is remembered, by the numbers of these questions, is so over these look-ups
-abbrev pub Knows : Looks → Cells → Memory → Type 0
-Knows looks cells memory = Remembers looks cells.questions memory
+  pub evaluator : Evaluator

@@ -1,7 +1,7 @@
 -- Cells under keys that last, each beside what is to be said of it next, if an edit has that ready.
 use Rattle.std.specs.Prelude.{◌≡◌, ℕ, List, map, Option, Some, None}
 use Rattle.slab.specs.Slab.{Slab, get}
-use Rattle.ent_request.specs.declared.question.Question.{Question}
+use Rattle.ent_eval.specs.Evaluator.{Evaluator}
 use Rattle.ent_cells.specs.Cell.{Kept, Said}
 use Rattle.ent_cells.specs.Grid.{IsGrid, entries_of, values}
 
@@ -10,10 +10,10 @@ pub record Entry : Type 0 where
   pub kept : Kept
   pub next : Option Said
 
--- cells under their keys, and the questions that are asked for them, by number
+-- cells under their keys, and the evaluator of their requests
 pub record Stored : Type 0 where
   pub cells : Slab Entry
-  pub questions : List Question
+  pub evaluator : Evaluator
 
 -- nothing is ready of any cell
 abbrev pub AreFree : Slab Entry → Type 0

@@ -6,7 +6,7 @@ use Rattle.ent_request.specs.declared.answer.Answer.{Answer}
 use Rattle.ent_log.specs.Tables.{KeepsTables, Undoes}
 use Rattle.ent_log.specs.declared.entry.OldAnswer.{OldAnswer}
 use Rattle.ent_log.specs.declared.log.Log.{Log}
-use Rattle.ent_cells.specs.declared.who.Who.{Who}
+use Rattle.ent_eval.specs.declared.who.Who.{Who}
 use Rattle.ent_cells.specs.Cell.{Kept}
 use Rattle.ent_cells.specs.Order.{request_order}
 

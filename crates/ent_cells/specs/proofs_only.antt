@@ -3,5 +3,4 @@ pub mod Codes
 pub mod Entries
 pub mod Grouping
 pub mod Logging
-pub mod Named
 pub mod Phases

@@ -1,16 +1,14 @@
 //! Cells of requests that have none, which are put last.
 
 ghost use Rattle.std.specs.Prelude.{◌≡◌, ◌++◌, ◌∷◌, [], OnErr, OnOk, length, map, take};
+ghost use Rattle.ent_eval.specs.Evaluator.{OnlyCounts};
 ghost use Rattle.ent_eval.specs.LooksOf.{looks_of};
-ghost use Rattle.ent_eval.specs.Memory.{Remembers};
 ghost use Rattle.ent_cells.specs.Cell.{cell_of};
 ghost use Rattle.ent_cells.specs.Count.{Counts, CountsAtMost};
 ghost use Rattle.ent_cells.specs.Entries.{IsLive, kept_of};
 
 use crate::store::Store;
-use crate::who::Who;
-use ent_eval::{Memory, Pdp};
-use ent_finder::{Attributes, Policies};
+use ent_eval::{Evaluates, Who};
 use ent_values::{Items, Shared};
 use std::alloc::AllocError;
 
@@ -25,57 +23,52 @@ fn near(keys: &[usize], apart: usize) -> [usize; 2] {
 }
 
 /// Evaluates a request that has no cell, and puts its cell last. After a refusal the cells are as before.
-fn push<A: Attributes, P: Policies>(
-    store: &mut Store,
+fn push<E: Evaluates>(
+    store: &mut Store<E>,
     keys: &mut Vec<usize>,
-    pdp: &mut Pdp<A, P>,
-    memory: &mut Memory,
     apart: usize,
     who: Shared<Who>,
 ) -> Result<(), AllocError>
-    requires live { IsLive store.old.cells keys.old.items }
-    requires remembers { Remembers (looks_of pdp.old) store.old.questions memory.old }
+    requires { IsLive store.old.cells keys.old.items }
     ensures live { IsLive store.new.cells keys.new.items }
     ensures ok { OnOk result (kept_of store.new.cells keys.new.items
-        ≡ kept_of store.old.cells keys.old.items ++ cell_of (looks_of pdp.old) who ∷ []) }
+        ≡ kept_of store.old.cells keys.old.items ++ cell_of (looks_of store.old.evaluator.pdp) who ∷ []) }
     ensures err { OnErr result
         (kept_of store.new.cells keys.new.items ≡ kept_of store.old.cells keys.old.items) }
-    ensures remembers { Remembers (looks_of pdp.old) store.new.questions memory.new }
-    ensures counted { OnOk result (Counts pdp.old.evaluations pdp.new.evaluations 1) }
-    ensures bound { CountsAtMost pdp.old.evaluations pdp.new.evaluations 1 }
-    ensures rest { pdp.new ≡ record pdp.old { evaluations = pdp.new.evaluations } }
+    ensures counted { OnOk result
+        (Counts store.old.evaluator.pdp.evaluations store.new.evaluator.pdp.evaluations 1) }
+    ensures bound { CountsAtMost store.old.evaluator.pdp.evaluations store.new.evaluator.pdp.evaluations 1 }
+    ensures rest { OnlyCounts store.old.evaluator.pdp store.new.evaluator.pdp }
 {
     keys.reserve(1)?;
     let near = near(keys, apart);
-    let key = store.insert(pdp, memory, who, &near)?;
+    let key = store.insert(who, &near)?;
     keys.push(key)?;
     Ok(())
 }
 
-/// Evaluates requests that have no cells, each once, and puts their cells last. What is remembered serves
-/// them. After a refusal the cells of some may be there.
-pub(crate) fn push_all<A: Attributes, P: Policies>(
-    store: &mut Store,
+/// Evaluates requests that have no cells, each once, and puts their cells last. After a refusal the cells of some may be
+/// there.
+pub(crate) fn push_all<E: Evaluates>(
+    store: &mut Store<E>,
     keys: &mut Vec<usize>,
-    pdp: &mut Pdp<A, P>,
-    memory: &mut Memory,
     apart: usize,
     requests: Items<Shared<Who>>,
 ) -> Result<(), AllocError>
-    requires live { IsLive store.old.cells keys.old.items }
-    requires remembers { Remembers (looks_of pdp.old) store.old.questions memory.old }
+    requires { IsLive store.old.cells keys.old.items }
     ensures live { IsLive store.new.cells keys.new.items }
     ensures ok { OnOk result (kept_of store.new.cells keys.new.items
-        ≡ kept_of store.old.cells keys.old.items ++ map (cell_of (looks_of pdp.old)) requests) }
+        ≡ kept_of store.old.cells keys.old.items ++ map (cell_of (looks_of store.old.evaluator.pdp)) requests) }
     ensures err { OnErr result (take (length keys.old.items) (kept_of store.new.cells keys.new.items)
         ≡ kept_of store.old.cells keys.old.items) }
-    ensures remembers { Remembers (looks_of pdp.old) store.new.questions memory.new }
-    ensures counted { OnOk result (Counts pdp.old.evaluations pdp.new.evaluations (length requests)) }
-    ensures bound { CountsAtMost pdp.old.evaluations pdp.new.evaluations (length requests) }
-    ensures rest { pdp.new ≡ record pdp.old { evaluations = pdp.new.evaluations } }
+    ensures counted { OnOk result (Counts store.old.evaluator.pdp.evaluations
+        store.new.evaluator.pdp.evaluations (length requests)) }
+    ensures bound { CountsAtMost store.old.evaluator.pdp.evaluations
+        store.new.evaluator.pdp.evaluations (length requests) }
+    ensures rest { OnlyCounts store.old.evaluator.pdp store.new.evaluator.pdp }
 {
     for who in requests.into_vec() {
-        push(store, keys, pdp, memory, apart, who)?;
+        push(store, keys, apart, who)?;
     }
     Ok(())
 }

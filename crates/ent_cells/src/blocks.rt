@@ -10,8 +10,7 @@ ghost use Rattle.ent_cells.specs.proofs_only.Logging.{Puts, gone_in};
 ghost use Rattle.ent_cells.specs.Shape.{woven, taken_out, left_of};
 
 use crate::store::Store;
-use crate::who::Who;
-use ent_eval::Answer;
+use ent_eval::{Answer, Evaluates, Who};
 use ent_log::Log;
 use std::cmp::min;
 
@@ -34,9 +33,9 @@ fn split(keys: &[usize], count: usize) -> (&[usize], &[usize])
 }
 
 /// Takes the cells under some keys out. It takes no memory.
-fn remove_all(store: &mut Store, keys: &[usize])
+fn remove_all<E: Evaluates>(store: &mut Store<E>, keys: &[usize])
     ensures cells { (q : ℕ) → get store.new.cells q ≡ left_of store.old.cells keys.now q }
-    ensures questions { store.new.questions ≡ store.old.questions }
+    ensures evaluator { store.new.evaluator ≡ store.old.evaluator }
 {
     for key in keys {
         store.remove(*key);
@@ -44,20 +43,20 @@ fn remove_all(store: &mut Store, keys: &[usize])
 }
 
 /// Takes out the cells whose keys stand from place `from` on. It takes no memory.
-pub(crate) fn remove_from(store: &mut Store, keys: &[usize], from: usize)
+pub(crate) fn remove_from<E: Evaluates>(store: &mut Store<E>, keys: &[usize], from: usize)
     ensures cells { (q : ℕ) → get store.new.cells q ≡ left_of store.old.cells (drop from keys.now) q }
-    ensures questions { store.new.questions ≡ store.old.questions }
+    ensures evaluator { store.new.evaluator ≡ store.old.evaluator }
 {
     let (_, gone) = split(keys, from);
     remove_all(store, gone);
 }
 
 /// Takes the cell under a key out, if there is one, and logs its answer. It takes no memory.
-fn remove_one(store: &mut Store, log: &mut Log<Who, Answer>, key: usize)
+fn remove_one<E: Evaluates>(store: &mut Store<E>, log: &mut Log<Who, Answer>, key: usize)
     requires { 0 < room_of log.old }
     ensures cells { Updates store.old.cells store.new.cells key None }
     ensures logged { Puts (gone_in store.old.cells (key ∷ [])) log.old log.new }
-    ensures questions { store.new.questions ≡ store.old.questions }
+    ensures evaluator { store.new.evaluator ≡ store.old.evaluator }
 {
     if let Some(old) = store.remove(key) {
         log.put(old);
@@ -65,12 +64,12 @@ fn remove_one(store: &mut Store, log: &mut Log<Who, Answer>, key: usize)
 }
 
 /// Takes the cells under some keys out, and logs their answers. It takes no memory.
-fn remove_logged(store: &mut Store, log: &mut Log<Who, Answer>, keys: &[usize])
+fn remove_logged<E: Evaluates>(store: &mut Store<E>, log: &mut Log<Who, Answer>, keys: &[usize])
     requires once { (c : ℕ) → times c keys.now ≤ 1 }
     requires room { length keys.now ≤ room_of log.old }
     ensures cells { (q : ℕ) → get store.new.cells q ≡ left_of store.old.cells keys.now q }
     ensures logged { Puts (gone_in store.old.cells keys.now) log.old log.new }
-    ensures questions { store.new.questions ≡ store.old.questions }
+    ensures evaluator { store.new.evaluator ≡ store.old.evaluator }
 {
     for key in keys {
         remove_one(store, log, *key);
@@ -79,8 +78,8 @@ fn remove_logged(store: &mut Store, log: &mut Log<Who, Answer>, keys: &[usize])
 
 /// Takes out the cells of a name, which stand from place `from` on in each of the blocks, and logs their answers. It
 /// takes no memory.
-pub(crate) fn remove_blocks(
-    store: &mut Store,
+pub(crate) fn remove_blocks<E: Evaluates>(
+    store: &mut Store<E>,
     log: &mut Log<Who, Answer>,
     keys: &[usize],
     blocks: Blocks,
@@ -93,7 +92,7 @@ pub(crate) fn remove_blocks(
         ≡ left_of store.old.cells (taken_out blocks.count blocks.width from blocks.each keys.now) q }
     ensures logged { Puts (gone_in store.old.cells (taken_out blocks.count blocks.width from blocks.each keys.now))
         log.old log.new }
-    ensures questions { store.new.questions ≡ store.old.questions }
+    ensures evaluator { store.new.evaluator ≡ store.old.evaluator }
 {
     let mut rest = keys;
     for done in 0..blocks.count {
@@ -145,14 +144,14 @@ fn append(room: &mut Vec<usize>, keys: &[usize])
 }
 
 /// Whether there is a cell under a key.
-fn is_present(store: &Store, key: usize) -> bool
+fn is_present<E: Evaluates>(store: &Store<E>, key: usize) -> bool
     ensures { result ≡ is_some (get store.now.cells key) }
 {
     store.under(key).is_some()
 }
 
 /// Keeps the keys that have a cell. It takes no memory.
-pub(crate) fn keep_present(keys: &mut Vec<usize>, store: &Store)
+pub(crate) fn keep_present<E: Evaluates>(keys: &mut Vec<usize>, store: &Store<E>)
     ensures { keys.new.items ≡ filter (λ q. is_some (get store.now.cells q)) keys.old.items }
 {
     keys.retain(|key| is_present(store, *key));

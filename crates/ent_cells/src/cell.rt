@@ -1,7 +1,6 @@
 //! What is kept of a cell.
 
-use crate::who::Who;
-use ent_eval::Answer;
+use ent_eval::{Answer, Who};
 use ent_values::Shared;
 
 /// An answer, whether a part of its evaluation failed by itself, and the group of the cells for whose answers the same

@@ -1,35 +1,30 @@
 //! The evaluation of a request of the table.
 
 ghost use Rattle.std.specs.Prelude.{◌≡◌, IfOk, OnOk};
+ghost use Rattle.ent_eval.specs.Evaluator.{OnlyCounts};
 ghost use Rattle.ent_eval.specs.LooksOf.{looks_of};
-ghost use Rattle.ent_eval.specs.Memory.{Remembers};
 ghost use Rattle.ent_request.specs.Questions.{AreNumbers, BeginsWith};
 ghost use Rattle.ent_cells.specs.Cell.{says};
 ghost use Rattle.ent_cells.specs.Count.{Counts, CountsAtMost};
 ghost use Rattle.ent_cells.specs.proofs_only.Grouping.{said_in};
 
-use crate::who::Who;
-use ent_eval::{ListedEvaluation, Memory, Pdp, Questions};
-use ent_finder::{Attributes, Policies};
+use ent_eval::{Evaluates, ListedEvaluation, Who};
 use std::alloc::AllocError;
 
-/// Evaluates the request of a cell, once, by what was found in the same edit where that serves, and gives each question
-/// that is asked for it a number, if it has none.
-pub(crate) fn evaluate<A: Attributes, P: Policies>(
-    pdp: &mut Pdp<A, P>,
-    memory: &mut Memory,
-    questions: &mut Questions,
+/// Evaluates the request of a cell, once, and gives each question that is asked for it a number, if it has none.
+pub(crate) fn evaluate<E: Evaluates>(
+    evaluator: &mut E,
     who: &Who,
 ) -> Result<ListedEvaluation, AllocError>
-    requires { Remembers (looks_of pdp.old) questions.old memory.old }
-    ensures said { IfOk result
-        (λ e. said_in questions.new who.now e ≡ says (looks_of pdp.old) who.now) }
-    ensures within { IfOk result (λ e. AreNumbers questions.new e.asked) }
-    ensures begins { BeginsWith questions.new questions.old }
-    ensures remembers { Remembers (looks_of pdp.old) questions.new memory.new }
-    ensures counted { OnOk result (Counts pdp.old.evaluations pdp.new.evaluations 1) }
-    ensures bound { CountsAtMost pdp.old.evaluations pdp.new.evaluations 1 }
-    ensures rest { pdp.new ≡ record pdp.old { evaluations = pdp.new.evaluations } }
+    ensures said { IfOk result (λ e. said_in (E.evaluator evaluator.new).questions who.now e
+        ≡ says (looks_of (E.evaluator evaluator.old).pdp) who.now) }
+    ensures within { IfOk result (λ e. AreNumbers (E.evaluator evaluator.new).questions e.asked) }
+    ensures begins { BeginsWith (E.evaluator evaluator.new).questions (E.evaluator evaluator.old).questions }
+    ensures counted { OnOk result
+        (Counts (E.evaluator evaluator.old).pdp.evaluations (E.evaluator evaluator.new).pdp.evaluations 1) }
+    ensures bound { CountsAtMost
+        (E.evaluator evaluator.old).pdp.evaluations (E.evaluator evaluator.new).pdp.evaluations 1 }
+    ensures rest { OnlyCounts (E.evaluator evaluator.old).pdp (E.evaluator evaluator.new).pdp }
 {
-    pdp.evaluate_listed(memory, questions, &who.person, &who.action, &who.resource)
+    evaluator.evaluate(who)
 }

@@ -9,14 +9,12 @@ mod cell;
 mod confirm;
 mod evaluate;
 mod live;
-mod names;
 mod old;
 mod phases;
 mod sharing;
 mod steps;
 mod store;
-mod who;
 
 pub use blocks::Blocks;
+pub use ent_eval::Who;
 pub use live::Live;
-pub use who::Who;

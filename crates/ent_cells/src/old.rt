@@ -5,8 +5,7 @@ ghost use Rattle.slab.specs.Slab.{get};
 ghost use Rattle.ent_cells.specs.proofs_only.Logging.{answer_in, replaced_in};
 
 use crate::cell::Cell;
-use crate::who::Who;
-use ent_eval::Answer;
+use ent_eval::{Answer, Who};
 use ent_log::OldAnswer;
 use slab::Slab;
 use std::alloc::AllocError;

@@ -6,7 +6,7 @@ ghost use Rattle.ent_index.specs.Groups.{HasSameNames, IsNamed, KeepsGroups, hol
 ghost use Rattle.ent_cells.specs.proofs_only.Grouping.{KeepsCell, KeepsIn, KeepsOthers, replaced, unready};
 
 use crate::cell::{Cell, Grouped};
-use crate::who::Who;
+use ent_eval::Who;
 use ent_index::Groups;
 use slab::Slab;
 use std::alloc::AllocError;

@@ -14,7 +14,7 @@ use crate::edits::{
     write_day_line, write_format_line, write_moment_line, write_name_line, write_root_line,
     write_row_line, write_slot_line,
 };
-use ent_eval::{Environment, Pdp};
+use ent_eval::{Environment, Evaluates, Pdp};
 use ent_finder::{Attributes, Policies};
 use ent_json::JsonText;
 use ent_policy::Reference;
@@ -149,10 +149,10 @@ fn write_held<A: Attributes, P: Policies>(
 }
 
 /// Writes the lines of all edits that make a review's state anew.
-fn write_edits<A: Attributes, P: Policies>(
+fn write_edits<E: Evaluates>(
     alloc: Global,
     out: &mut JsonText,
-    review: &Review<A, P>,
+    review: &Review<E>,
 ) -> Result<(), AllocError>
     ensures { OnOk result (out.new ≡ out.old ++ line_tokens (rebuilding review.now.state)) }
 {
@@ -163,10 +163,10 @@ fn write_edits<A: Attributes, P: Policies>(
 }
 
 /// Writes the reply that tells the dump of a review.
-fn write_dump<A: Attributes, P: Policies>(
+fn write_dump<E: Evaluates>(
     alloc: Global,
     out: &mut JsonText,
-    review: &Review<A, P>,
+    review: &Review<E>,
     version: u64,
 ) -> Result<(), AllocError>
     ensures { OnOk result (out.new ≡ out.old ++ tokens_of (dump_data version review.now.state)) }
@@ -191,9 +191,9 @@ fn write_dump<A: Attributes, P: Policies>(
 /// `AllocError` if memory runs out.
 ///
 /// Its contract is an equation but for memory.
-pub fn dump_text<A: Attributes, P: Policies>(
+pub fn dump_text<E: Evaluates>(
     alloc: Global,
-    review: &Review<A, P>,
+    review: &Review<E>,
     version: u64,
 ) -> Result<String, AllocError>
     ensures { IfOk result (λ s. string_bytes s ≡ dump_text version review.now.state) }

@@ -1,5 +1,3 @@
-pub mod Fitting
-pub mod PlanStands
-pub mod Remembering
-pub mod Shelved
-pub mod TestsKept
+pub mod AtEnd
+pub mod RowsSwapped
+pub mod SlotsSwapped

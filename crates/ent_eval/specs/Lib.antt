@@ -1,7 +1,8 @@
-pub mod Held
+pub mod Evaluated
+pub mod Evaluator
+pub mod Exchange
 pub mod Lending
 pub mod LooksOf
-pub mod Memory
+pub mod Names
 pub mod Point
-pub mod Tests
 pub mod proofs_only

@@ -1,17 +1,11 @@
-//! The evaluator of requests (OASIS XACML 3.0 core, section 7): the decision point, which holds what is looked up, and
-//! the memory of listed evaluations.
+//! The decision point (OASIS XACML 3.0 core, section 7), which holds what is looked up and answers requests, and what an
+//! evaluator gives to those above it.
 #![tactic(auto)]
 
-mod case;
-mod cases;
-mod front;
-mod listed;
-mod memory;
+mod evaluates;
+mod exchange;
 mod pdp;
-mod plan;
-mod shelf;
-mod tests;
-mod worth;
+mod who;
 
 pub use ent_request::{
     ACCESS_SUBJECT, ACTION, Answer, Asked, Assignment, Attribute, Category, Cause, Environment,
@@ -26,5 +20,7 @@ pub use ent_walk::{
     equal_findings_give_equal_answers, equal_look_ups_give_equal_answers,
     what_is_looked_up_is_recorded,
 };
-pub use memory::Memory;
+pub use evaluates::Evaluates;
+pub use exchange::Exchange;
 pub use pdp::{Evaluation, Explained, ListedEvaluation, Pdp};
+pub use who::{Names, Who};

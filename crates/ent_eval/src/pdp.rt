@@ -8,7 +8,7 @@ ghost use Rattle.ent_eval.specs.LooksOf.{looks_of};
 ghost use Rattle.ent_notes.specs.proofs_only.Noted.{noting};
 ghost use Rattle.ent_request.specs.Questions.{BeginsWith};
 ghost use Rattle.ent_eval.specs.Point.{point_of};
-ghost use Rattle.ent_eval.specs.proofs_only.Remembered.{IsEvaluated};
+ghost use Rattle.ent_eval.specs.Evaluated.{IsEvaluated};
 
 use ent_finder::{AttrKey, AttributeFinder, Attributes, Policies, PolicyFinder};
 use ent_notes::{Notebook, Notes};
@@ -171,8 +171,11 @@ impl<A: Attributes, P: Policies> Pdp<A, P> {
         })
     }
 
-    // The same of a listed one, with the numbers of its questions among those of the caller. It isn't counted.
-    pub(crate) fn evaluate_numbered(
+    /// The same of a listed one, with the numbers of its questions among those of the caller. One that has none there
+    /// gets one; the others keep theirs, whatever comes. It isn't counted.
+    ///
+    /// Its contract leaves open: which numbers new questions get.
+    pub fn evaluate_numbered(
         &mut self,
         questions: &mut Questions,
         request: &Request,
@@ -210,13 +213,10 @@ impl<A: Attributes, P: Policies> Pdp<A, P> {
         Ok(answer)
     }
 
-    // What it allocates with.
-    pub(crate) fn alloc(&self) -> Global {
-        self.alloc
-    }
-
-    // Counts an evaluation.
-    pub(crate) fn count(&mut self)
+    /// Counts an evaluation that is made by what it holds.
+    ///
+    /// Its contract is an equation.
+    pub fn count(&mut self)
         ensures { self.new ≡ record self.old { evaluations = min (self.old.evaluations + 1) (2 ^ 128 - 1) } }
     {
         self.evaluations = raised(self.evaluations);
@@ -235,7 +235,7 @@ impl<A: Attributes, P: Policies> Pdp<A, P> {
     }
 
     // The same, which isn't counted.
-    pub(crate) fn walked(&self, notes: &mut Notes, request: &Request) -> Result<Answer, AllocError>
+    fn walked(&self, notes: &mut Notes, request: &Request) -> Result<Answer, AllocError>
         ensures answer { IfOk result (λ a. a ≡ answer (looks_of self.now) request.now) }
         ensures notes { OnOk result (notes.new
             ≡ noting notes.old (answer_part (looks_of self.now) request.now).notes) }
@@ -247,8 +247,7 @@ impl<A: Attributes, P: Policies> Pdp<A, P> {
         came
     }
 
-    /// How many times `evaluate`, `explain`, `evaluate_listed` or `answer` was called. The count stays at its greatest
-    /// value.
+    /// How many times `evaluate`, `explain`, `answer` or `count` was called. The count stays at its greatest value.
     ///
     /// Its contract is an equation.
     pub fn evaluations(&self) -> u128

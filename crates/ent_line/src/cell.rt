@@ -12,7 +12,7 @@ ghost use Rattle.ent_line.specs.Cells.{cell_reply, decision_text, table_reply};
 ghost use Rattle.ent_line.specs.proofs_only.Writing.{Adds, Spells, Writes, WritesEach};
 
 use ent_combine::{IndKind, Outcome};
-use ent_eval::{Answer, Given, Request, Status, WhyEntry};
+use ent_eval::{Answer, Evaluates, Given, Request, Status, WhyEntry};
 use ent_held::{status_text, write_path, write_rule};
 use ent_json::JsonText;
 use ent_profile::{write_given_text, write_response_text};
@@ -170,7 +170,11 @@ pub(crate) fn write_cell(
 }
 
 /// Writes the cells that are left, to the end of their list.
-fn write_cells(alloc: Global, out: &mut JsonText, cells: Cells<'_>) -> Result<(), AllocError>
+fn write_cells<E: Evaluates>(
+    alloc: Global,
+    out: &mut JsonText,
+    cells: Cells<'_, E>,
+) -> Result<(), AllocError>
     ensures { WritesEach cell_data (cells_left cells.entry) out.old out.new result }
 {
     for (person, action, resource, answer) in cells {
@@ -180,7 +184,11 @@ fn write_cells(alloc: Global, out: &mut JsonText, cells: Cells<'_>) -> Result<()
 }
 
 /// Writes the list of the cells that are left.
-fn write_list(alloc: Global, out: &mut JsonText, cells: Cells<'_>) -> Result<(), AllocError>
+fn write_list<E: Evaluates>(
+    alloc: Global,
+    out: &mut JsonText,
+    cells: Cells<'_, E>,
+) -> Result<(), AllocError>
     ensures { Writes (list_data cell_data (cells_left cells.entry)) out.old out.new result }
 {
     out.begin_array()?;
@@ -188,7 +196,11 @@ fn write_list(alloc: Global, out: &mut JsonText, cells: Cells<'_>) -> Result<(),
 }
 
 /// Writes the reply to `table`.
-fn write_table(alloc: Global, out: &mut JsonText, cells: Cells<'_>) -> Result<(), AllocError>
+fn write_table<E: Evaluates>(
+    alloc: Global,
+    out: &mut JsonText,
+    cells: Cells<'_, E>,
+) -> Result<(), AllocError>
     ensures { Writes (reply_data (codes "table") (list_data cell_data (cells_left cells.entry)))
         out.old out.new result }
 {
@@ -217,7 +229,10 @@ fn write_one_cell(
 }
 
 /// The text of the reply to `table`.
-pub(crate) fn table_text(alloc: Global, cells: Cells<'_>) -> Result<String, AllocError>
+pub(crate) fn table_text<E: Evaluates>(
+    alloc: Global,
+    cells: Cells<'_, E>,
+) -> Result<String, AllocError>
     ensures { Spells (table_reply (cells_left cells.entry)) result }
 {
     let mut out = JsonText::with_room(alloc)?;

@@ -10,8 +10,7 @@ use crate::refusal::Refusal;
 use crate::reply::Reply;
 use crate::service::Service;
 use ent_dump::dump_text;
-use ent_eval::Environment;
-use ent_finder::{Attributes, Policies};
+use ent_eval::{Environment, Evaluates};
 use itoa::Buffer;
 use std::alloc::{AllocError, Global};
 
@@ -48,7 +47,7 @@ fn format_text(alloc: Global, version: u64) -> Result<String, AllocError>
     Ok(text)
 }
 
-impl<A: Attributes, P: Policies> Service<A, P> {
+impl<E: Evaluates> Service<E> {
     /// `format`.
     #[tactic(auto, unfolding(crate::specs::Commands::format_told))]
     pub(crate) fn format(&self, version: Option<u64>) -> Result<Reply, AllocError>

@@ -18,7 +18,7 @@ use crate::cell::{write_cell, write_decided, write_reason};
 use crate::refusal::Refusal;
 use crate::reply::Reply;
 use crate::service::Service;
-use ent_eval::{Answer, Cause, Explained, Pdp, Reads, Request};
+use ent_eval::{Answer, Cause, Evaluates, Explained, Pdp, Reads, Request};
 use ent_finder::{Attributes, Policies};
 use ent_held::{untold, write_causes, write_facts};
 use ent_json::{JsonText, JsonTree, write_count};
@@ -124,7 +124,7 @@ fn answer_explained_text<A: Attributes, P: Policies>(
     Ok(out.into_string())
 }
 
-impl<A: Attributes, P: Policies> Service<A, P> {
+impl<E: Evaluates> Service<E> {
     /// `explain` of a cell.
     #[tactic(auto, using(crate::proofs::KeptLemmas::ask_keeps), unfolding(crate::specs::Commands::cell_explained))]
     pub(crate) fn explain_cell(

@@ -14,8 +14,7 @@ use crate::cell::{write_decision, write_names};
 use crate::reply::Reply;
 use crate::reports::begin_list;
 use crate::service::Service;
-use ent_eval::Answer;
-use ent_finder::{Attributes, Policies};
+use ent_eval::{Answer, Evaluates};
 use ent_json::{JsonText, write_text};
 use ent_table::Judged;
 use std::alloc::{AllocError, Global};
@@ -39,7 +38,7 @@ fn write_fault(
 }
 
 /// Writes those of the cells that are left of which a part failed, to the end of their list.
-fn write_failed(out: &mut JsonText, cells: Judged<'_>) -> Result<(), AllocError>
+fn write_failed<E: Evaluates>(out: &mut JsonText, cells: Judged<'_, E>) -> Result<(), AllocError>
     ensures { WritesEach fault_data (failed_in (judged_left cells.entry)) out.old out.new result }
 {
     for (person, action, resource, answer, failed) in cells {
@@ -51,7 +50,7 @@ fn write_failed(out: &mut JsonText, cells: Judged<'_>) -> Result<(), AllocError>
 }
 
 /// Writes the reply to `faults`.
-fn write_reply(out: &mut JsonText, cells: Judged<'_>) -> Result<(), AllocError>
+fn write_reply<E: Evaluates>(out: &mut JsonText, cells: Judged<'_, E>) -> Result<(), AllocError>
     ensures { Writes
         (reply_data (codes "faults") (list_data fault_data (failed_in (judged_left cells.entry))))
         out.old out.new result }
@@ -62,7 +61,7 @@ fn write_reply(out: &mut JsonText, cells: Judged<'_>) -> Result<(), AllocError>
 }
 
 /// The text of the reply to `faults`.
-fn faults_text(alloc: Global, cells: Judged<'_>) -> Result<String, AllocError>
+fn faults_text<E: Evaluates>(alloc: Global, cells: Judged<'_, E>) -> Result<String, AllocError>
     ensures { Spells (faults_reply (failed_in (judged_left cells.entry))) result }
 {
     let mut out = JsonText::with_room(alloc)?;
@@ -70,7 +69,7 @@ fn faults_text(alloc: Global, cells: Judged<'_>) -> Result<String, AllocError>
     Ok(out.into_string())
 }
 
-impl<A: Attributes, P: Policies> Service<A, P> {
+impl<E: Evaluates> Service<E> {
     /// `faults`.
     #[tactic(auto, unfolding(crate::specs::Commands::faults_told))]
     pub(crate) fn faults(&self) -> Result<Reply, AllocError>

@@ -7,11 +7,11 @@ ghost use Rattle.ent_line.specs.proofs_only.Replying.{Tells};
 use crate::refusal::Refusal;
 use crate::reply::Reply;
 use crate::service::Service;
-use ent_finder::{Attributes, Policies};
+use ent_eval::Evaluates;
 use ent_held::{attributes_text, documents_text};
 use std::alloc::AllocError;
 
-impl<A: Attributes, P: Policies> Service<A, P> {
+impl<E: Evaluates> Service<E> {
     /// `attributes`.
     #[tactic(auto, unfolding(crate::specs::Commands::attributes_told, ent_held::specs::Attributes::attributes_text))]
     pub(crate) fn attributes(

@@ -15,7 +15,7 @@ use crate::reply::Reply;
 use crate::reports::{begin_list, write_people};
 use crate::service::Service;
 use crate::standing::document_count;
-use ent_finder::{Attributes, Policies};
+use ent_eval::Evaluates;
 use ent_json::{JsonText, write_count};
 use ent_table::{List, Review};
 use ent_values::Text;
@@ -34,10 +34,7 @@ fn write_limit(out: &mut JsonText, key: &str, most: usize, taken: u64) -> Result
 }
 
 /// Writes how large a review may grow.
-fn write_limits<A: Attributes, P: Policies>(
-    out: &mut JsonText,
-    review: &Review<A, P>,
-) -> Result<(), AllocError>
+fn write_limits<E: Evaluates>(out: &mut JsonText, review: &Review<E>) -> Result<(), AllocError>
     ensures { Writes (limits_data review.now.state) out.old out.new result }
 {
     let limits = review.limits();
@@ -55,9 +52,9 @@ fn write_limits<A: Attributes, P: Policies>(
 }
 
 /// Writes the reply to `limits`.
-fn write_limits_reply<A: Attributes, P: Policies>(
+fn write_limits_reply<E: Evaluates>(
     out: &mut JsonText,
-    review: &Review<A, P>,
+    review: &Review<E>,
 ) -> Result<(), AllocError>
     ensures { Writes (reply_data (codes "limits") (limits_data review.now.state))
         out.old out.new result }
@@ -69,10 +66,7 @@ fn write_limits_reply<A: Attributes, P: Policies>(
 }
 
 /// The text of the reply to `limits`.
-fn limits_text<A: Attributes, P: Policies>(
-    alloc: Global,
-    review: &Review<A, P>,
-) -> Result<String, AllocError>
+fn limits_text<E: Evaluates>(alloc: Global, review: &Review<E>) -> Result<String, AllocError>
     ensures { Spells (limits_reply review.now.state) result }
 {
     let mut out = JsonText::with_room(alloc)?;
@@ -109,7 +103,7 @@ fn some_of(names: &[Text], from: u64, count: u64) -> &[Text]
     &rest[..count]
 }
 
-impl<A: Attributes, P: Policies> Service<A, P> {
+impl<E: Evaluates> Service<E> {
     /// `limits`.
     #[tactic(auto, unfolding(crate::specs::Commands::limits_told))]
     pub(crate) fn limits(&self) -> Result<Reply, AllocError>

@@ -13,11 +13,11 @@ use crate::reports::{
     by_rule_text, can_text, changes_text, counts_text, notices_text, who_text, work_text,
 };
 use crate::service::Service;
-use ent_finder::{Attributes, Policies};
+use ent_eval::Evaluates;
 use ent_report::{NoticeFault, ReportFault};
 use std::alloc::AllocError;
 
-impl<A: Attributes, P: Policies> Service<A, P> {
+impl<E: Evaluates> Service<E> {
     /// `counts`. They are kept until the next edit.
     #[tactic(auto, unfolding(crate::specs::Commands::counts_told))]
     pub(crate) fn counts(&mut self) -> Result<Reply, AllocError>

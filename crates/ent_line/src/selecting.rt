@@ -24,8 +24,7 @@ use crate::reply::Reply;
 use crate::service::Service;
 use crate::wanted::{Wanted, is_word_of};
 use ent_combine::{IndKind, Outcome};
-use ent_eval::Answer;
-use ent_finder::{Attributes, Policies};
+use ent_eval::{Answer, Evaluates};
 use ent_json::{JsonText, JsonTree};
 use ent_table::{Cells, List};
 use std::alloc::{AllocError, Global};
@@ -134,11 +133,11 @@ impl<'a> Selection<'a> {
 }
 
 /// Writes the selected cells of those that are left, to the end of their list.
-fn write_selected(
+fn write_selected<E: Evaluates>(
     alloc: Global,
     out: &mut JsonText,
     selection: Selection<'_>,
-    cells: Cells<'_>,
+    cells: Cells<'_, E>,
 ) -> Result<(), AllocError>
     ensures { WritesEach cell_data (filter (selects selection.entry) (cells_left cells.entry))
         out.old out.new result }
@@ -152,11 +151,11 @@ fn write_selected(
 }
 
 /// Writes the reply to `cells`.
-fn write_reply(
+fn write_reply<E: Evaluates>(
     alloc: Global,
     out: &mut JsonText,
     selection: Selection<'_>,
-    cells: Cells<'_>,
+    cells: Cells<'_, E>,
 ) -> Result<(), AllocError>
     ensures { Writes
         (only_member (codes "cells")
@@ -171,10 +170,10 @@ fn write_reply(
 }
 
 /// The text of the reply to `cells`.
-fn cells_text(
+fn cells_text<E: Evaluates>(
     alloc: Global,
     selection: Selection<'_>,
-    cells: Cells<'_>,
+    cells: Cells<'_, E>,
 ) -> Result<String, AllocError>
     ensures { Spells (cells_reply
         (filter (selects selection.entry) (cells_left cells.entry))) result }
@@ -184,7 +183,7 @@ fn cells_text(
     Ok(out.into_string())
 }
 
-impl<A: Attributes, P: Policies> Service<A, P> {
+impl<E: Evaluates> Service<E> {
     /// Whether a name is listed, if one is given.
     fn is_listed(&self, list: List, name: Option<&str>) -> bool
         ensures { result ≡ option_map_or

@@ -23,7 +23,7 @@ use crate::input::LINE_LIMIT;
 use crate::making::{NoEdit, read_edit};
 use crate::refusal::{Refusal, refused_edit};
 use crate::reply::Reply;
-use ent_finder::{AttributeFinder, Attributes, Policies, PolicyFinder};
+use ent_eval::Evaluates;
 use ent_json::{JsonTree, read_json};
 use ent_profile::{RequestFault, read_request};
 use ent_report::Desk;
@@ -40,13 +40,13 @@ use std::mem;
 /// question changes nothing but the count of evaluations, and a mark keeps the present table for its session. A refused
 /// line changes nothing, but where memory is wanting its evaluations may be counted.
 #[derive(Drop)]
-pub struct Service<A: Attributes = AttributeFinder, P: Policies = PolicyFinder> {
+pub struct Service<E: Evaluates> {
     pub(crate) alloc: Global,
-    pub(crate) desk: Desk<A, P>,
+    pub(crate) desk: Desk<E>,
     scratch: Vec<Scratch>,
 }
 
-impl<A: Attributes, P: Policies> Model for Service<A, P> {
+impl<E: Evaluates> Model for Service<E> {
     ghost use Rattle.ent_report.specs.Desk.{Desked};
     ghost use Rattle.ent_report.specs.proofs_only.Codes.{desked_code};
 
@@ -68,11 +68,11 @@ fn fill(alloc: Global, scratch: &mut Vec<Scratch>) -> Result<(), AllocError>
     Ok(())
 }
 
-impl<A: Attributes, P: Policies> Service<A, P> {
+impl<E: Evaluates> Service<E> {
     /// A service over a desk as it stands.
     ///
     /// Its contract is an equation.
-    pub fn new(alloc: Global, desk: Desk<A, P>) -> Service<A, P>
+    pub fn new(alloc: Global, desk: Desk<E>) -> Service<E>
         ensures { result ≡ desk }
     {
         Service {
@@ -157,8 +157,8 @@ impl<A: Attributes, P: Policies> Service<A, P> {
     {
         match read_request(self.alloc, json) {
             Ok(request) => {
-                let answer = self.desk.ask(&request)?;
-                let text = response_text(self.alloc, &answer, &request)?;
+                let answer = self.desk.ask_shared(&request)?;
+                let text = response_text(self.alloc, answer.get(), &request)?;
                 Ok(Reply::Text(text))
             }
             Err(RequestFault::Bad) => Ok(Reply::Refused(Refusal::Request)),
@@ -273,7 +273,7 @@ impl<A: Attributes, P: Policies> Service<A, P> {
     }
 }
 
-impl<A: Attributes, P: Policies> Answering for Service<A, P> {
+impl<E: Evaluates> Answering for Service<E> {
     ghost use Rattle.ent_line.specs.Answering.{reply_view};
     ghost use Rattle.ent_line.specs.Kept.{Remembers};
     ghost use Rattle.ent_line.specs.Step.{Counted, Counts};

@@ -12,7 +12,7 @@ use crate::input::{LINE_LIMIT, Piece, take_piece};
 use crate::law::replies_are_fresh;
 use crate::reply::send_reply;
 use crate::service::Service;
-use ent_finder::{Attributes, Policies};
+use ent_eval::Evaluates;
 use std::alloc::Global;
 use std::io::{BufRead, Write};
 
@@ -133,9 +133,9 @@ pub fn serve<S: Answering, R: BufRead, W: Write>(
 /// number of evaluations that the lines before it made, and those before the first.
 ///
 /// Its contract leaves open: as of `serve_within`, for the headline.
-pub fn serve_review<A: Attributes, P: Policies, R: BufRead, W: Write>(
+pub fn serve_review<E: Evaluates, R: BufRead, W: Write>(
     alloc: Global,
-    service: &mut Service<A, P>,
+    service: &mut Service<E>,
     reader: &mut R,
     writer: &mut W,
 ) -> Result<u64, ServeFault>

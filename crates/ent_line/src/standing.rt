@@ -19,7 +19,7 @@ ghost use Rattle.ent_line.specs.proofs_only.Writing.{Adds, Spells, Writes, Write
 
 use crate::reply::Reply;
 use crate::service::Service;
-use ent_eval::Environment;
+use ent_eval::{Environment, Evaluates};
 use ent_finder::{Attributes, Policies, Row};
 use ent_json::{JsonText, write_count, write_text};
 use ent_polform::write_reference_text;
@@ -196,10 +196,10 @@ fn write_end(out: &mut JsonText, rows: u64, serial: u64) -> Result<(), AllocErro
 }
 
 /// Writes what stands, in numbers.
-fn write_state<A: Attributes, P: Policies>(
+fn write_state<E: Evaluates>(
     alloc: Global,
     out: &mut JsonText,
-    desk: &Desk<A, P>,
+    desk: &Desk<E>,
 ) -> Result<(), AllocError>
     ensures { Writes (state_data desk.now.world) out.old out.new result }
 {
@@ -221,10 +221,10 @@ fn write_state<A: Attributes, P: Policies>(
 }
 
 /// Writes the reply to `state`.
-fn write_state_reply<A: Attributes, P: Policies>(
+fn write_state_reply<E: Evaluates>(
     alloc: Global,
     out: &mut JsonText,
-    desk: &Desk<A, P>,
+    desk: &Desk<E>,
 ) -> Result<(), AllocError>
     ensures { Writes (reply_data (codes "state") (state_data desk.now.world))
         out.old out.new result }
@@ -236,10 +236,7 @@ fn write_state_reply<A: Attributes, P: Policies>(
 }
 
 /// The text of the reply to `state`.
-fn state_text<A: Attributes, P: Policies>(
-    alloc: Global,
-    desk: &Desk<A, P>,
-) -> Result<String, AllocError>
+fn state_text<E: Evaluates>(alloc: Global, desk: &Desk<E>) -> Result<String, AllocError>
     ensures { Spells (state_reply desk.now.world) result }
 {
     let mut out = JsonText::with_room(alloc)?;
@@ -247,7 +244,7 @@ fn state_text<A: Attributes, P: Policies>(
     Ok(out.into_string())
 }
 
-impl<A: Attributes, P: Policies> Service<A, P> {
+impl<E: Evaluates> Service<E> {
     /// `state`.
     #[tactic(auto, unfolding(crate::specs::Commands::state_told))]
     pub(crate) fn state(&self) -> Result<Reply, AllocError>

@@ -10,6 +10,7 @@ ghost use Rattle.ent_table.specs.Limits.{IsWithinGreatest};
 
 use crate::options::Modules;
 use ent_eval::{ACCESS_SUBJECT, ACTION, Pdp, RESOURCE};
+use ent_evaluator::Evaluator;
 use ent_finder::{
     AttributeFinder, AttributeFinderModule, Attributes, MapDocs, MapRows, Policies, PolicyFinder,
     PolicyFinderModule,
@@ -82,7 +83,7 @@ fn serve_over<A: Attributes, P: Policies, R: BufRead, W: Write>(
     }) result }
 {
     let pdp = Pdp::new(alloc, attributes, policies);
-    let review = Review::new(alloc, pdp, limits);
+    let review: Review<Evaluator<A, P>> = Review::new(alloc, pdp, limits);
     let mut service = Service::new(alloc, Desk::new(alloc, review));
     serve_review(alloc, &mut service, reader, writer)
 }

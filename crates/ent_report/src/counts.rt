@@ -6,6 +6,7 @@ ghost use Rattle.ent_report.specs.Reports.{counts_in};
 ghost use Rattle.ent_table.specs.Left.{cells_left};
 
 use ent_combine::Outcome;
+use ent_eval::Evaluates;
 use ent_table::Cells;
 
 /// How many cells have each decision. An Indeterminate counts as one whatever it could have been.
@@ -47,7 +48,7 @@ fn with_one(counts: Counts, decision: Outcome) -> Counts
 }
 
 /// The counts of the cells that are left. It takes no memory.
-pub(crate) fn counted(cells: Cells<'_>) -> Counts
+pub(crate) fn counted<E: Evaluates>(cells: Cells<'_, E>) -> Counts
     requires { length (cells_left cells) < 2 ^ 64 }
     ensures { result ≡ counts_in (cells_left cells.entry) }
 {

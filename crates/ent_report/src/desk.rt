@@ -20,10 +20,9 @@ use crate::counts::{Counts, counted};
 use crate::fault::{NoticeFault, ReportFault};
 use crate::notices::{Notice, notices_of};
 use crate::reports::{by_rule_in, can_in, who_in};
-use ent_eval::{Answer, Explained, Request};
-use ent_finder::{AttributeFinder, Attributes, Policies, PolicyFinder};
+use ent_eval::{Answer, Evaluates, Explained, Request};
 use ent_table::{Accepted, Edit, EditFault, List, Review};
-use ent_values::{Items, Text};
+use ent_values::{Items, Shared, Text};
 use std::alloc::{AllocError, Global};
 use std::marker::Model;
 
@@ -34,15 +33,15 @@ pub const SESSIONS: u8 = 16;
 /// what edits changed since the oldest mark, and nothing from before it. Counts of the table may be kept until the next
 /// edit.
 #[derive(Drop)]
-pub struct Desk<A: Attributes = AttributeFinder, P: Policies = PolicyFinder> {
+pub struct Desk<E: Evaluates> {
     pub(crate) alloc: Global,
-    pub(crate) review: Review<A, P>,
+    pub(crate) review: Review<E>,
     pub(crate) marks: [Option<u64>; 16],
     // The counts of the present table, if they were kept since the last edit.
     pub(crate) counts: Option<Counts>,
 }
 
-impl<A: Attributes, P: Policies> Model for Desk<A, P> {
+impl<E: Evaluates> Model for Desk<E> {
     ghost use Rattle.ent_report.specs.Desk.{Desked};
     ghost use Rattle.ent_report.specs.proofs_only.Codes.{desked_code};
 
@@ -70,11 +69,11 @@ fn oldest(marks: &[Option<u64>], serial: u64) -> u64
     least
 }
 
-impl<A: Attributes, P: Policies> Desk<A, P> {
+impl<E: Evaluates> Desk<E> {
     /// A desk with a review and no marks.
     ///
     /// Its contract is an equation.
-    pub fn new(alloc: Global, review: Review<A, P>) -> Desk<A, P>
+    pub fn new(alloc: Global, review: Review<E>) -> Desk<E>
         ensures world { result.world ≡ record { state = review.state; marks = unmarked } }
         ensures past { result.past ≡ review.past }
         ensures evaluations { result.evaluations ≡ review.evaluations }
@@ -94,7 +93,7 @@ impl<A: Attributes, P: Policies> Desk<A, P> {
     /// The review.
     ///
     /// Its contract is an equation.
-    pub fn review(&self) -> &Review<A, P>
+    pub fn review(&self) -> &Review<E>
         ensures { result.now ≡ review_of self.now }
     {
         &self.review
@@ -156,6 +155,20 @@ impl<A: Attributes, P: Policies> Desk<A, P> {
         ensures rest { self.new ≡ record self.old { evaluations = raised self.old.evaluations 1 } }
     {
         self.review.ask(request)
+    }
+
+    /// The same, as one of its owners: who only reads the answer makes no copy of it.
+    ///
+    /// # Errors
+    ///
+    /// `AllocError` if memory runs out.
+    ///
+    /// Its contract is an equation but for memory.
+    pub fn ask_shared(&mut self, request: &Request) -> Result<Shared<Answer>, AllocError>
+        ensures answer { IfOk result (λ a. a ≡ answer_in self.old.world.state request.now) }
+        ensures rest { self.new ≡ record self.old { evaluations = raised self.old.evaluations 1 } }
+    {
+        self.review.ask_shared(request)
     }
 
     /// The answer to any request, listed or not, with the look-ups that it rests on, each once, and its causes: the

@@ -8,6 +8,7 @@ ghost use Rattle.ent_report.specs.Reports.{by_rule_in, is_permit};
 
 use crate::rules::has_rule;
 use ent_combine::Outcome;
+use ent_eval::Evaluates;
 use ent_table::{Cells, Column};
 use ent_values::{Items, Text};
 use std::alloc::{AllocError, Global};
@@ -22,7 +23,10 @@ fn is_permit(decision: Outcome) -> bool
 }
 
 /// The actions and resources of the Permit cells among those of a person.
-pub(crate) fn can_in(alloc: Global, cells: Cells<'_>) -> Result<Items<(Text, Text)>, AllocError>
+pub(crate) fn can_in<E: Evaluates>(
+    alloc: Global,
+    cells: Cells<'_, E>,
+) -> Result<Items<(Text, Text)>, AllocError>
     ensures { IfOk result (λ found. found ≡ permitted (cells_left cells.entry)) }
 {
     let mut found = Vec::new(alloc);
@@ -37,7 +41,10 @@ pub(crate) fn can_in(alloc: Global, cells: Cells<'_>) -> Result<Items<(Text, Tex
 }
 
 /// The people whose answer is a Permit, among the answers to an action and a resource.
-pub(crate) fn who_in(alloc: Global, answers: Column<'_>) -> Result<Items<Text>, AllocError>
+pub(crate) fn who_in<E: Evaluates>(
+    alloc: Global,
+    answers: Column<'_, E>,
+) -> Result<Items<Text>, AllocError>
     ensures { IfOk result (λ found. found ≡ permitted_people (column_left answers.entry)) }
 {
     let mut found = Vec::new(alloc);
@@ -50,11 +57,11 @@ pub(crate) fn who_in(alloc: Global, answers: Column<'_>) -> Result<Items<Text>, 
 }
 
 /// The requests of the cells whose decision a rule gave.
-pub(crate) fn by_rule_in(
+pub(crate) fn by_rule_in<E: Evaluates>(
     alloc: Global,
     policy: &str,
     rule: Option<&str>,
-    cells: Cells<'_>,
+    cells: Cells<'_, E>,
 ) -> Result<Items<(Text, Text, Text)>, AllocError>
     ensures { IfOk result (λ found. found ≡ by_rule_in policy.now (option_copied rule.entry) (cells_left cells.entry)) }
 {

@@ -1,7 +1,6 @@
 -- An edit that exchanges one thing and makes the cells right again, or takes it back.
 use Rattle.std.proofs.Common.{◌≡◌, ◌≤◌, ◌^◌, List, length, sym, ap, subst, ◌∙◌, arith}
-use Rattle.ent_cells.specs.Cell.{Kept, Knows, answers_in, unlike_count}
-use Rattle.ent_eval.specs.LooksOf.{looks_of}
+use Rattle.ent_cells.specs.Cell.{Kept, answers_in, unlike_count}
 use Rattle.ent_finder.specs.Slots.{document_count}
 use Rattle.ent_log.specs.Entries.{entries_since}
 use Rattle.ent_log.specs.Tables.{IsSameLog, room_of}
@@ -19,13 +18,12 @@ use Rattle.ent_table.proofs.Kept.{fresh_answers}
 pub unlike_changes : (s t : State) (old new : List Kept) → t.names ≡ s.names → old ≡ fresh_cells s → new ≡ fresh_cells t → unlike_count (answers_in old) (answers_in new) ≡ changes s (next t)
 unlike_changes s t old new names was is = (λ i. unlike_count (fresh_answers s old was i) (fresh_answers t new is i)) ∙ sym (changes-same_names s (next t) names)
 
-module _ {A P : Type 0} where
+module _ {E A P : Type 0} where
   -- where state, cells, count of documents and what is logged are as before, the cells are right as before
-  pub fresh_again : (old new : Parts A P) → IsFresh old → new.table.cells.kept ≡ old.table.cells.kept → Knows (looks_of new.pdp) new.table.cells new.memory → new.documents ≡ old.documents
+  pub fresh_again : (old new : Parts E A P) → IsFresh old → new.table.cells.kept ≡ old.table.cells.kept → new.documents ≡ old.documents
       → IsSameLog old.log new.log → room_of old.log ≤ room_of new.log → Stays old new → IsFresh new
-  fresh_again old new is cells knows documents log grows same = record {
+  fresh_again old new is cells documents log grows same = record {
     cells = cells ∙ is.cells ∙ ap (λ (u : State). fresh_cells u) (sym same);
-    knows = knows;
     documents = documents ∙ is.documents ∙ ap (λ (u : State). document_count u.held.modules) (sym same);
     serial = subst (λ n. n ≤ 2 ^ 63) (ap (λ (u : State). u.serial) (sym same)) is.serial;
     limits = subst IsWithinGreatest (ap (λ (u : State). u.limits) (sym same)) is.limits;

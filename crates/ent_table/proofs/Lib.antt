@@ -6,8 +6,8 @@ pub mod Counts
 pub mod Doubles
 pub mod Edited
 pub mod Exchanges
+pub mod Held
 pub mod Kept
-pub mod Knowing
 pub mod Listed
 pub mod Logs
 pub mod Members

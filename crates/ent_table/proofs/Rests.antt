@@ -19,8 +19,8 @@ use Rattle.ent_request.proofs.Keys.{all_noted, by_recursion}
 use Rattle.ent_request.proofs.Lists.{from_recursion}
 use Rattle.ent_request.proofs.SameLooks.{same_look-Decides}
 use Rattle.ent_cells.specs.Cell.{IsRightBut, Kept, cell_of, is_read, reads_any, renewed}
-use Rattle.ent_table.specs.declared.change.Exchange.{Exchange}
-use Rattle.ent_table.specs.declared.change.Exchange.TheVariants.{Document, Row, Root, Environment}
+use Rattle.ent_eval.specs.declared.exchange.Exchange.{Exchange}
+use Rattle.ent_eval.specs.declared.exchange.Exchange.TheVariants.{Document, Row, Root, Environment}
 use Rattle.ent_table.specs.Counted.{touched, touched_count}
 use Rattle.ent_table.specs.proofs_only.Exchange.{with_exchange}
 use Rattle.ent_table.specs.Names.{Names, Triple, is_listed, triples}

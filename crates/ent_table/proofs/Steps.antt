@@ -8,7 +8,7 @@ use Rattle.ent_policy.specs.declared.key.DocKey.{DocKey}
 use Rattle.ent_finder.specs.Slots.{document_count}
 use Rattle.ent_finder.specs.declared.row.RowKey.{RowKey}
 use Rattle.ent_values.specs.declared.value.Value.{Value}
-use Rattle.ent_table.specs.declared.change.Exchange.TheVariants.{Row}
+use Rattle.ent_eval.specs.declared.exchange.Exchange.TheVariants.{Row}
 use Rattle.ent_table.specs.declared.edit.EditFault.TheVariants.{NotThere, AlreadyThere, Limit, Reserved, BadValue, UnknownModule}
 use Rattle.ent_table.specs.declared.edit.EditFault.{EditFault}
 use Rattle.ent_table.specs.declared.edit.List.{List as Which}

@@ -27,8 +27,8 @@ use Rattle.ent_request.proofs.Changes.{document-leaves, environment-leaves, root
 use Rattle.ent_request.proofs.SameLooks.{same_look-Decides}
 use Rattle.ent_index.specs.Asked.{asks_policy}
 use Rattle.ent_cells.specs.Cell.{HasReadKeys, Kept}
-use Rattle.ent_table.specs.declared.change.Exchange.{Exchange}
-use Rattle.ent_table.specs.declared.change.Exchange.TheVariants.{Document, Row, Root, Environment}
+use Rattle.ent_eval.specs.declared.exchange.Exchange.{Exchange}
+use Rattle.ent_eval.specs.declared.exchange.Exchange.TheVariants.{Document, Row, Root, Environment}
 use Rattle.ent_table.specs.declared.look.OfTwo.TheVariants.{Former, Next, Neither}
 use Rattle.ent_table.specs.declared.look.Seen.{Seen}
 use Rattle.ent_table.specs.proofs_only.Exchange.{IsWithin, document_in, taken, with_exchange}

@@ -1,14 +1,15 @@
 -- An exchange that is taken back.
 use Rattle.std.proofs.Common.{◌≡◌, ◌<◌, List, length, refl, ap, subst, ◌∙◌}
 use Rattle.ent_finder.specs.Rows.{Source}
-use Rattle.ent_table.specs.declared.change.Exchange.{Exchange}
-use Rattle.ent_table.specs.declared.change.Exchange.TheVariants.{Document, Row, Root, Environment}
+use Rattle.ent_eval.specs.declared.exchange.Exchange.{Exchange}
+use Rattle.ent_eval.specs.declared.exchange.Exchange.TheVariants.{Document, Row, Root, Environment}
 use Rattle.ent_table.specs.declared.review_parts.Parts.{Parts}
 use Rattle.ent_table.specs.proofs_only.Exchange.{IsMade, IsWithin, OnlyHeld, taken, with_exchange}
-use Rattle.ent_table.specs.Fresh.{state_of}
+use Rattle.ent_table.specs.Fresh.{point_of, state_of}
 use Rattle.ent_table.specs.State.{State}
 use Rattle.ent_table.proofs.Exchanges.{undone}
-use Rattle.ent_table.proofs.Rows.{all_filled, filled_within, values_undone}
+use Rattle.ent_eval.proofs.RowsSwapped.{all_filled, filled_within}
+use Rattle.ent_table.proofs.Rows.{values_undone}
 
 pub exchange-undone : (s : State) (ss : List Source) (x : Exchange) → s.held.sources ≡ all_filled ss → IsWithin s x → with_exchange (with_exchange s x) (taken s x) ≡ s
 exchange-undone s ss (Document number key document) are h = undone s number key document h.0
@@ -18,28 +19,22 @@ exchange-undone s ss (Row number key values) are h = values_undone s ss number k
 exchange-undone s ss (Root root) are h = refl
 exchange-undone s ss (Environment environment) are h = refl
 
-module _ {A P : Type 0} where
+module _ {E A P : Type 0} where
   -- of two changes each left all but what is held
-  pub held_twice : (old between new : Parts A P) → OnlyHeld old between → OnlyHeld between new → OnlyHeld old new
+  pub held_twice : (old between new : Parts E A P) → OnlyHeld old between → OnlyHeld between new → OnlyHeld old new
   held_twice old between new one two =
       two
-      ∙ ap (λ (v : Parts A P). record v {
-        pdp = record v.pdp {
-          sources = new.pdp.sources;
-          slots = new.pdp.slots;
-          root = new.pdp.root;
-          environment = new.pdp.environment;
-        };
-        memory = new.memory;
+      ∙ ap (λ (v : Parts E A P). record v {
+        table = record v.table { cells = record v.table.cells { evaluator = new.table.cells.evaluator } };
       }) one
 
-module _ {A P : Type 0} where
+module _ {E A P : Type 0} where
   -- where what was exchanged is exchanged with what stood there, the state is as before both
-  pub taken_back : (old between new : Parts A P) (x back : Exchange) → IsWithin (state_of old) x → state_of between ≡ with_exchange (state_of old) x → back ≡ taken (state_of old) x
+  pub taken_back : (old between new : Parts E A P) (x back : Exchange) → IsWithin (state_of old) x → state_of between ≡ with_exchange (state_of old) x → back ≡ taken (state_of old) x
       → state_of new ≡ with_exchange (state_of between) back → state_of new ≡ state_of old
   taken_back old between new x back h there is again =
-      again ∙ (λ i. with_exchange (there i) (is i)) ∙ exchange-undone (state_of old) old.pdp.sources x refl h
+      again ∙ (λ i. with_exchange (there i) (is i)) ∙ exchange-undone (state_of old) (point_of old).sources x refl h
 
-  pub made_back : (before now new : Parts A P) (back : Exchange) → IsMade before now back → state_of new ≡ with_exchange (state_of now) back
+  pub made_back : (before now new : Parts E A P) (back : Exchange) → IsMade before now back → state_of new ≡ with_exchange (state_of now) back
       → state_of new ≡ state_of before
   made_back before now new back made again = taken_back before now new made.0 back made.1 made.2 made.3 again

@@ -3,7 +3,7 @@ use Rattle.std.specs.Prelude.{ℕ, String, string_bytes, ◌*◌, List, [], ◌�
 use Rattle.std.specs.Prelude.{Bool, not, ◌&&◌, filter, length, map, nat_eq}
 use Rattle.std.specs.Cmp.Lexicographic.{pointwise}
 use Rattle.std.specs.List.{flat_map, list_any}
-use Rattle.ent_cells.specs.declared.who.Who.{Who}
+use Rattle.ent_eval.specs.declared.who.Who.{Who}
 use Rattle.ent_table.specs.declared.edit.List.{List as Which}
 use Rattle.ent_table.specs.declared.edit.List.TheVariants as which
 

@@ -1,6 +1,6 @@
 -- What a review is, to those who call it.
 use Rattle.std.specs.Prelude.{ℕ, List}
-use Rattle.ent_cells.specs.declared.who.Who.{Who}
+use Rattle.ent_eval.specs.declared.who.Who.{Who}
 use Rattle.ent_request.specs.declared.answer.Answer.{Answer}
 use Rattle.ent_log.specs.declared.entry.Logged.{Logged}
 use Rattle.ent_table.specs.State.{State}

@@ -1,25 +1,22 @@
 //! Edits of values of attributes.
 
-ghost use Rattle.std.specs.Prelude.{◌≡◌, ◌<◌, false, IsSome, None, OnErr, OnOk, length};
+ghost use Rattle.std.specs.Prelude.{◌≡◌, ◌<◌, false, OnOk, length};
 ghost use Rattle.std.specs.List.{list_all};
 ghost use Rattle.std.specs.Option.{option_map_or};
 ghost use Rattle.ent_values.specs.Bags.{AllOfType};
 ghost use Rattle.ent_values.specs.Same.{same_type};
 ghost use Rattle.ent_values.specs.Types.{datatype_of};
 ghost use Rattle.ent_policy.specs.Names.{is_bad_name};
-ghost use Rattle.ent_table.specs.proofs_only.Change.{Becomes, Counted, Keeps, Makes, Stays, Tries};
+ghost use Rattle.ent_table.specs.proofs_only.Change.{Counted, Keeps, Makes, Tries};
 ghost use Rattle.ent_table.specs.Fresh.{IsFresh, state_of};
-ghost use Rattle.ent_table.specs.proofs_only.Exchange.{OnlySources, row_at, row_in};
-ghost use Rattle.ent_table.specs.Step.{attribute_set, is_bad_row, is_reserved, is_source, with_values};
+ghost use Rattle.ent_table.specs.Step.{attribute_set, is_bad_row, is_reserved, is_source};
 
-use crate::change::Exchange;
 use crate::edit::{Accepted, EditFault};
 use crate::review_parts::Parts;
-use ent_eval::id_attribute;
-use ent_finder::{Attributes, Policies, RowKey};
+use ent_eval::{Evaluates, Exchange, id_attribute};
+use ent_finder::{Attributes, RowKey};
 use ent_policy::is_bad_name;
 use ent_values::{DataType, Items, Text, Value};
-use std::alloc::AllocError;
 
 /// The most values of a row.
 pub const MOST_VALUES: usize = 256;
@@ -63,7 +60,7 @@ fn is_bad_row(key: &RowKey, values: &[Value]) -> bool
         || !are_of(key.datatype, values)
 }
 
-impl<A: Attributes, P: Policies> Parts<A, P> {
+impl<E: Evaluates> Parts<E> {
     pub(crate) fn set_attribute(
         &mut self,
         number: usize,
@@ -106,32 +103,7 @@ impl<A: Attributes, P: Policies> Parts<A, P> {
     fn is_source(&self, number: usize, category: &str) -> bool
         ensures { result ≡ is_source (state_of self.now) number category.now }
     {
-        let attributes = self.pdp.attributes();
+        let attributes = self.pdp().attributes();
         number < attributes.len() && attributes.supports(number, category)
-    }
-
-    /// Exchanges what a module has in the row of a key with `values`. Once this is done, it can be done again without
-    /// memory.
-    pub(crate) fn exchange_row(
-        &mut self,
-        number: usize,
-        key: &RowKey,
-        values: &mut Items<Value>,
-    ) -> Result<(), AllocError>
-        requires number { number < length (state_of self.old).held.sources }
-        requires types { AllOfType key.now.datatype values.old }
-        ensures swapped { OnOk result
-            (Becomes (λ s. with_values s number key.now values.old) self.old self.new) }
-        ensures taken { OnOk result (values.new ≡ row_at (state_of self.old) number key.now) }
-        ensures own { AllOfType key.now.datatype values.new }
-        ensures there { OnOk result (IsSome (row_in self.new.pdp number key.now)) }
-        ensures absent { OnErr result (row_in self.old.pdp number key.now ≡ None) }
-        ensures kept { OnErr result (Stays self.old self.new) }
-        ensures modules { length (state_of self.new).held.sources
-            ≡ length (state_of self.old).held.sources }
-        ensures rest { OnlySources self.old self.new }
-    {
-        self.pdp.attributes_mut().swap_row(number, key, values)?;
-        Ok(())
     }
 }

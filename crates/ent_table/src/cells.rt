@@ -9,12 +9,12 @@ ghost use Rattle.ent_table.specs.proofs_only.Left.{HasTurned, HasTurnedAction};
 ghost use Rattle.ent_table.specs.Names.{all_triples, texts};
 
 use ent_cells::Live;
-use ent_eval::Answer;
+use ent_eval::{Answer, Evaluates};
 
 /// The listed requests with their answers: person, action, resource and answer, people outermost, then actions, then
 /// resources.
 #[derive(Drop)]
-pub struct Cells<'a> {
+pub struct Cells<'a, E: Evaluates> {
     // What is left of the first person and its first action, and all lists for those that follow.
     people: &'a [String],
     actions: &'a [String],
@@ -22,19 +22,19 @@ pub struct Cells<'a> {
     all_actions: &'a [String],
     all_resources: &'a [String],
     // The answers, and the place of the next one.
-    answers: &'a Live,
+    answers: &'a Live<E>,
     place: usize,
 }
 
-impl<'a> Cells<'a> {
+impl<'a, E: Evaluates> Cells<'a, E> {
     /// The requests of these names, with the answers from a place on.
     pub(crate) fn new(
         people: &'a [String],
         actions: &'a [String],
         resources: &'a [String],
-        answers: &'a Live,
+        answers: &'a Live<E>,
         place: usize,
-    ) -> Cells<'a>
+    ) -> Cells<'a, E>
         ensures { cells_left result
             ≡ zip (all_triples (texts people.now) (texts actions.now) (texts resources.now))
             (drop place (answers_in answers.now.kept)) }
@@ -51,7 +51,7 @@ impl<'a> Cells<'a> {
     }
 }
 
-impl<'a> Cells<'a> {
+impl<'a, E: Evaluates> Cells<'a, E> {
     /// Turns to the next action, where no resource is left of this one.
     fn next_action(&mut self)
         ensures same { cells_left self.new ≡ cells_left self.old }
@@ -85,7 +85,7 @@ impl<'a> Cells<'a> {
     }
 }
 
-impl<'a> Iterator for Cells<'a> {
+impl<'a, E: Evaluates> Iterator for Cells<'a, E> {
     type Item = (&'a str, &'a str, &'a str, &'a Answer);
 
     ghost next_gives = { YieldsFirstBy cell_of cells_left };

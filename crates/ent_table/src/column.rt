@@ -7,28 +7,28 @@ ghost use Rattle.ent_table.specs.Names.{texts};
 ghost use Rattle.ent_table.specs.Parts.{answer_of, column, column_left};
 
 use ent_cells::Live;
-use ent_eval::Answer;
+use ent_eval::{Answer, Evaluates};
 use std::cmp::min;
 
 /// The people in list order, each with the answer to the person's request of one action and one resource.
 #[derive(Drop)]
-pub struct Column<'a> {
+pub struct Column<'a, E: Evaluates> {
     // The people that are left.
     people: &'a [String],
     // All answers, the place of the next one, and how many places the next person's is behind it.
-    answers: &'a Live,
+    answers: &'a Live<E>,
     place: usize,
     stride: usize,
 }
 
-impl<'a> Column<'a> {
+impl<'a, E: Evaluates> Column<'a, E> {
     /// The answer at a place for the first person, and a stride further for each of the others.
     pub(crate) fn new(
         people: &'a [String],
-        answers: &'a Live,
+        answers: &'a Live<E>,
         place: usize,
         stride: usize,
-    ) -> Column<'a>
+    ) -> Column<'a, E>
         ensures { column_left result ≡ column stride (texts people.now) (drop place (answers_in answers.now.kept)) }
     {
         Column {
@@ -48,7 +48,7 @@ impl<'a> Column<'a> {
     }
 }
 
-impl<'a> Iterator for Column<'a> {
+impl<'a, E: Evaluates> Iterator for Column<'a, E> {
     type Item = (&'a str, &'a Answer);
 
     ghost next_gives = { YieldsFirstBy answer_of column_left };

@@ -6,11 +6,10 @@ ghost use Rattle.ent_table.specs.Ask.{answer_in};
 ghost use Rattle.ent_table.specs.Rests.{causes_in, recorded_in};
 
 use crate::review::Review;
-use ent_eval::{Explained, Request};
-use ent_finder::{Attributes, Policies};
+use ent_eval::{Evaluates, Explained, Request};
 use std::alloc::AllocError;
 
-impl<A: Attributes, P: Policies> Review<A, P> {
+impl<E: Evaluates> Review<E> {
     /// The answer to any request, listed or not, with the look-ups that it rests on, each once, and its causes: the
     /// parts that came to Indeterminate by themselves, that of the answer first, the others in the order of evaluation.
     /// The answer is that of [`Review::ask`], and the call counts as that does.
@@ -26,6 +25,6 @@ impl<A: Attributes, P: Policies> Review<A, P> {
         ensures causes { IfOk result (λ e. e.causes ≡ causes_in self.old.state request.now) }
         ensures rest { self.new ≡ record self.old { evaluations = raised self.old.evaluations 1 } }
     {
-        self.parts.pdp.explain(request)
+        self.parts.table.cells.explain(request)
     }
 }

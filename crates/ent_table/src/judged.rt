@@ -8,21 +8,21 @@ ghost use Rattle.ent_table.specs.Left.{cells_left, judged_left, judged_of};
 
 use crate::cells::Cells;
 use ent_cells::Live;
-use ent_eval::Answer;
+use ent_eval::{Answer, Evaluates};
 
 /// The listed requests with their answers, as [`Cells`] has them, each with whether a part of it came to Indeterminate
 /// by itself.
 #[derive(Drop)]
-pub struct Judged<'a> {
-    cells: Cells<'a>,
+pub struct Judged<'a, E: Evaluates> {
+    cells: Cells<'a, E>,
     // The marks, and the place of the next one.
-    marks: &'a Live,
+    marks: &'a Live<E>,
     place: usize,
 }
 
-impl<'a> Judged<'a> {
+impl<'a, E: Evaluates> Judged<'a, E> {
     /// The cells that are left, with these marks.
-    pub(crate) fn new(cells: Cells<'a>, marks: &'a Live) -> Judged<'a>
+    pub(crate) fn new(cells: Cells<'a, E>, marks: &'a Live<E>) -> Judged<'a, E>
         ensures { judged_left result ≡ zip (cells_left cells.entry) (drop 0 (failures_in marks.now.kept)) }
     {
         Judged {
@@ -47,7 +47,7 @@ impl<'a> Judged<'a> {
     }
 }
 
-impl<'a> Iterator for Judged<'a> {
+impl<'a, E: Evaluates> Iterator for Judged<'a, E> {
     type Item = (&'a str, &'a str, &'a str, &'a Answer, bool);
 
     ghost next_gives = { YieldsFirstBy judged_of judged_left };

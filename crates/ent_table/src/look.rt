@@ -7,15 +7,14 @@ ghost use Rattle.ent_policy.specs.Same.{same_document};
 ghost use Rattle.ent_cells.specs.Cell.{HasReadKeys};
 ghost use Rattle.ent_request.specs.Held.{looks_in};
 ghost use Rattle.ent_table.specs.proofs_only.Change.{Becomes, Stays};
-ghost use Rattle.ent_table.specs.proofs_only.Exchange.{IsThere, IsWithin, OnlyHeld, StillKnows, document_in};
+ghost use Rattle.ent_table.specs.proofs_only.Exchange.{CountsSame, IsThere, IsWithin, OnlyHeld, document_in};
 ghost use Rattle.ent_table.specs.proofs_only.Exchange.{taken, with_exchange};
 ghost use Rattle.ent_table.specs.proofs_only.Look.{AreChanged, IsSeen, asks, environment_keys};
 ghost use Rattle.ent_table.specs.proofs_only.Look.{finds_another, found_by, is_another, keys_in, look_of, which};
 ghost use Rattle.ent_table.specs.Fresh.{state_of};
 
-use crate::change::Exchange;
 use crate::review_parts::Parts;
-use ent_eval::ReadKey;
+use ent_eval::{Evaluates, Exchange, ReadKey};
 use ent_finder::{AttrKey, Attributes, Policies};
 use ent_policy::{Document, Reference};
 use ent_values::{Bag, Date, DateTime, Items, Time, Value};
@@ -97,19 +96,17 @@ fn which(former: Option<&Document>, next: Option<&Document>, found: Option<&Docu
     }
 }
 
-impl Exchange {
-    /// The document that is to be exchanged, if it is one.
-    fn document(&self) -> Option<&Document>
-        ensures { option_copied result ≡ document_in self.now }
-    {
-        match self {
-            Exchange::Document(_, _, document) => document.as_ref(),
-            Exchange::Row(_, _, _) | Exchange::Root(_) | Exchange::Environment(_) => None,
-        }
+/// The document that is to be exchanged, if it is one.
+fn document(exchange: &Exchange) -> Option<&Document>
+    ensures { option_copied result ≡ document_in exchange.now }
+{
+    match exchange {
+        Exchange::Document(_, _, document) => document.as_ref(),
+        Exchange::Row(_, _, _) | Exchange::Root(_) | Exchange::Environment(_) => None,
     }
 }
 
-impl<A: Attributes, P: Policies> Parts<A, P> {
+impl<E: Evaluates> Parts<E> {
     /// Makes an exchange, which then has what was there before, and tells which of the keys that cells read give
     /// another for it. After a refusal all is as before. It evaluates nothing.
     pub(crate) fn exchange_and_tell(
@@ -124,8 +121,8 @@ impl<A: Attributes, P: Policies> Parts<A, P> {
         ensures changed { IfOk result
             (AreChanged (state_of self.old) exchange.old self.new.table.cells.kept) }
         ensures kept { OnErr result (Stays self.old self.new) }
-        ensures knows { StillKnows self.old self.new }
         ensures rest { OnlyHeld self.old self.new }
+        ensures counted { CountsSame self.old self.new }
     {
         let seen = self.seen(exchange)?;
         self.exchange(exchange)?;
@@ -173,12 +170,12 @@ impl<A: Attributes, P: Policies> Parts<A, P> {
         requires { IsWithin (state_of self.now) exchange.now }
         ensures { IfOk result (λ look. look ≡ look_of (state_of self.now) exchange.now key.now) }
     {
-        let environment = self.pdp.environment();
+        let environment = self.pdp().environment();
         match key {
-            ReadKey::Root => Ok(Look::Root(copied(self.alloc, self.pdp.root())?)),
+            ReadKey::Root => Ok(Look::Root(copied(self.alloc, self.pdp().root())?)),
             ReadKey::Ref(reference) => {
                 let former = self.standing(exchange);
-                let of_two = which(former, exchange.document(), self.found(reference));
+                let of_two = which(former, document(exchange), self.found(reference));
                 Ok(Look::Document(of_two))
             }
             ReadKey::Attr(key) => Ok(Look::Values(self.given(key)?)),
@@ -193,7 +190,7 @@ impl<A: Attributes, P: Policies> Parts<A, P> {
         ensures { option_copied result
             ≡ (looks_in (state_of self.now).held).document reference.now }
     {
-        let (_, document) = self.pdp.policies().resolve(reference)?;
+        let (_, document) = self.pdp().policies().resolve(reference)?;
         Some(document)
     }
 
@@ -203,7 +200,7 @@ impl<A: Attributes, P: Policies> Parts<A, P> {
         ensures { option_copied result ≡ document_in (taken (state_of self.now) exchange.now) }
     {
         match exchange {
-            Exchange::Document(number, key, _) => self.pdp.policies().document_at(*number, key),
+            Exchange::Document(number, key, _) => self.pdp().policies().document_at(*number, key),
             Exchange::Row(_, _, _) | Exchange::Root(_) | Exchange::Environment(_) => None,
         }
     }
@@ -214,7 +211,7 @@ impl<A: Attributes, P: Policies> Parts<A, P> {
             (λ values. values ≡ (looks_in (state_of self.now).held).values key.now) }
     {
         let mut bag = Bag::new(self.alloc, key.datatype);
-        self.pdp.attributes().look(key, &mut bag)?;
+        self.pdp().attributes().look(key, &mut bag)?;
         Ok(bag.into_values())
     }
 
@@ -269,7 +266,7 @@ impl<A: Attributes, P: Policies> Parts<A, P> {
     {
         let found = self.found_by(key);
         match of_two {
-            OfTwo::Former => !is_same(exchange.document(), found),
+            OfTwo::Former => !is_same(document(exchange), found),
             OfTwo::Next => !is_same(self.standing(exchange), found),
             OfTwo::Neither => is_same(self.standing(exchange), found),
         }

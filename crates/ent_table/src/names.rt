@@ -8,11 +8,11 @@ ghost use Rattle.ent_table.specs.proofs_only.Names.{Exceeds};
 
 use crate::edit::{Accepted, EditFault, List};
 use crate::review_parts::Parts;
-use ent_finder::{Attributes, Policies};
+use ent_eval::Evaluates;
 use ent_policy::is_bad_name;
 use ent_values::Text;
 
-impl<A: Attributes, P: Policies> Parts<A, P> {
+impl<E: Evaluates> Parts<E> {
     /// Puts a name last in its list. The other answers stay, so only the requests of the name are evaluated.
     pub(crate) fn add_name(&mut self, list: List, name: Text) -> Result<Accepted, EditFault>
         requires { IsFresh self.old }
@@ -22,15 +22,7 @@ impl<A: Attributes, P: Policies> Parts<A, P> {
         ensures tables { Keeps self.old self.new }
     {
         self.name_fault(list, &name)?;
-        let table = &mut self.table;
-        match table.add(
-            self.alloc,
-            &mut self.pdp,
-            &mut self.memory,
-            &mut self.log,
-            list,
-            name,
-        ) {
+        match self.table.add(self.alloc, &mut self.log, list, name) {
             Ok(olds) => Ok(self.log_edit(olds)),
             Err(_) => Err(EditFault::Memory),
         }
@@ -45,7 +37,7 @@ impl<A: Attributes, P: Policies> Parts<A, P> {
             (λ fault. name_dropped (state_of self.old) list name.now ≡ Err fault) }
         ensures counted { Counted (λ s. name_dropped s list name.now) self.old self.new result }
         ensures tables { Keeps self.old self.new }
-        ensures idle { self.new.pdp ≡ self.old.pdp }
+        ensures idle { self.new.table.cells.evaluator ≡ self.old.table.cells.evaluator }
     {
         if !self.table.names.has(list, name.as_str()) {
             return Err(EditFault::NotThere);

@@ -9,15 +9,15 @@ use crate::cells::Cells;
 use crate::column::Column;
 use crate::edit::List;
 use crate::review::Review;
-use ent_finder::{Attributes, Policies};
+use ent_eval::Evaluates;
 use std::slice;
 
-impl<A: Attributes, P: Policies> Review<A, P> {
+impl<E: Evaluates> Review<E> {
     /// The cells of a person in list order of action, then resource: none where the person isn't listed. No other cell
     /// is visited.
     ///
     /// Its contract is an equation.
-    pub fn cells_of(&self, person: &str) -> Cells<'_>
+    pub fn cells_of(&self, person: &str) -> Cells<'_, E>
         ensures { cells_left result ≡ cells_of person.now (table_of self.now.state) }
     {
         let table = &self.parts.table;
@@ -42,7 +42,7 @@ impl<A: Attributes, P: Policies> Review<A, P> {
     /// listed. No other cell is visited.
     ///
     /// Its contract is an equation.
-    pub fn answers_to(&self, action: &str, resource: &str) -> Column<'_>
+    pub fn answers_to(&self, action: &str, resource: &str) -> Column<'_, E>
         ensures { column_left result ≡ answers_to action.now resource.now (table_of self.now.state) }
     {
         let table = &self.parts.table;

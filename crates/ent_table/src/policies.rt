@@ -1,22 +1,19 @@
 //! Edits of documents.
 
-ghost use Rattle.std.specs.Prelude.{◌≡◌, ◌<◌, IfOk, IsSome, None, OnErr, OnOk, length};
-ghost use Rattle.std.specs.Option.{ForSome};
+ghost use Rattle.std.specs.Prelude.{◌≡◌, IfOk};
 ghost use Rattle.ent_policy.specs.Key.{key_of};
-ghost use Rattle.ent_table.specs.proofs_only.Change.{Becomes, Counted, Keeps, Makes, Stays, Tries};
+ghost use Rattle.ent_table.specs.proofs_only.Change.{Counted, Keeps, Makes, Tries};
 ghost use Rattle.ent_table.specs.Fresh.{IsFresh, state_of};
-ghost use Rattle.ent_table.specs.proofs_only.Exchange.{OnlySlots, policy_at, slot_in};
 ghost use Rattle.ent_table.specs.Step.{is_module, module_holds, module_lacks, policy_added};
-ghost use Rattle.ent_table.specs.Step.{policy_replaced, policy_withdrawn, with_policy};
+ghost use Rattle.ent_table.specs.Step.{policy_replaced, policy_withdrawn};
 
-use crate::change::Exchange;
 use crate::edit::{Accepted, EditFault};
 use crate::review_parts::Parts;
-use ent_finder::{Attributes, Policies};
+use ent_eval::{Evaluates, Exchange};
+use ent_finder::Policies;
 use ent_policy::{DocKey, Document, is_bad_name};
-use std::alloc::AllocError;
 
-impl<A: Attributes, P: Policies> Parts<A, P> {
+impl<E: Evaluates> Parts<E> {
     pub(crate) fn add_policy(
         &mut self,
         number: usize,
@@ -129,47 +126,20 @@ impl<A: Attributes, P: Policies> Parts<A, P> {
     fn is_module(&self, number: usize) -> bool
         ensures { result ≡ is_module (state_of self.now) number }
     {
-        number < self.pdp.policies().len()
+        number < self.pdp().policies().len()
     }
 
     /// Whether there is a module of that number that holds a document with that key.
     fn holds(&self, number: usize, key: &DocKey) -> bool
         ensures { result ≡ module_holds (state_of self.now) number key.now }
     {
-        self.is_module(number) && self.pdp.policies().holds(number, key)
+        self.is_module(number) && self.pdp().policies().holds(number, key)
     }
 
     /// Whether there is a module of that number that holds no document with that key.
     fn lacks(&self, number: usize, key: &DocKey) -> bool
         ensures { result ≡ module_lacks (state_of self.now) number key.now }
     {
-        self.is_module(number) && !self.pdp.policies().holds(number, key)
-    }
-
-    /// Exchanges what a module holds under a key with `document`. Once this is done, it can be done again without
-    /// memory.
-    pub(crate) fn exchange_document(
-        &mut self,
-        number: usize,
-        key: &DocKey,
-        document: &mut Option<Document>,
-    ) -> Result<(), AllocError>
-        requires number { number < length (state_of self.old).held.modules }
-        requires key { ForSome document.old (λ d. key_of d ≡ key.now) }
-        ensures swapped { OnOk result
-            (Becomes (λ s. with_policy s number key.now document.old) self.old self.new) }
-        ensures taken { OnOk result (document.new ≡ policy_at (state_of self.old) number key.now) }
-        ensures own { ForSome document.new (λ d. key_of d ≡ key.now) }
-        ensures there { OnOk result (IsSome (slot_in self.new.pdp number key.now)) }
-        ensures absent { OnErr result (slot_in self.old.pdp number key.now ≡ None) }
-        ensures kept { OnErr result (Stays self.old self.new) }
-        ensures modules { length (state_of self.new).held.modules
-            ≡ length (state_of self.old).held.modules }
-        ensures rest { OnlySlots self.old self.new }
-    {
-        self.pdp
-            .policies_mut()
-            .swap_document(number, key, document)?;
-        Ok(())
+        self.is_module(number) && !self.pdp().policies().holds(number, key)
     }
 }

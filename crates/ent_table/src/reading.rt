@@ -7,19 +7,18 @@ ghost use Rattle.ent_table.specs.Names.{list_of};
 use crate::edit::List;
 use crate::limits::Limits;
 use crate::review::Review;
-use ent_eval::Pdp;
-use ent_finder::{Attributes, Policies};
+use ent_eval::{Evaluates, Pdp};
 use ent_values::Text;
 
-impl<A: Attributes, P: Policies> Review<A, P> {
+impl<E: Evaluates> Review<E> {
     /// The decision point of which the table tells.
     ///
     /// Its contract is an equation.
-    pub fn pdp(&self) -> &Pdp<A, P>
+    pub fn pdp(&self) -> &Pdp<E::Attributes, E::Policies>
         ensures held { held_by result.now ≡ self.now.state.held }
         ensures counted { result.now.evaluations ≡ self.now.evaluations }
     {
-        &self.parts.pdp
+        self.parts.pdp()
     }
 
     /// How large the review may grow.

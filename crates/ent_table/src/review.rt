@@ -14,14 +14,13 @@ ghost use Rattle.ent_table.specs.Step.{step};
 ghost use Rattle.ent_table.specs.Tables.{IsFreshAtSerial, KeepsTables};
 
 use crate::cells::Cells;
-use crate::change::Exchange;
 use crate::edit::{Accepted, Edit, EditFault, List};
 use crate::judged::Judged;
 use crate::limits::Limits;
 use crate::review_parts::Parts;
 use crate::table::Table;
-use ent_eval::{Answer, Environment, Memory, Pdp};
-use ent_finder::{AttributeFinder, Attributes, Policies, PolicyFinder};
+use ent_eval::{Answer, Environment, Evaluates, Exchange, Pdp};
+use ent_finder::Policies;
 use ent_log::Log;
 use ent_values::Shared;
 use std::alloc::Global;
@@ -33,11 +32,11 @@ pub const LAST_SERIAL: u64 = 9_223_372_036_854_775_808;
 /// The review table: for each listed person, action and resource the answer to that request, kept right over every
 /// edit.
 #[derive(Drop)]
-pub struct Review<A: Attributes = AttributeFinder, P: Policies = PolicyFinder> {
-    pub(crate) parts: Parts<A, P>,
+pub struct Review<E: Evaluates> {
+    pub(crate) parts: Parts<E>,
 }
 
-impl<A: Attributes, P: Policies> Model for Review<A, P> {
+impl<E: Evaluates> Model for Review<E> {
     ghost use Rattle.ent_table.specs.Reviewed.{Reviewed};
     ghost use Rattle.ent_table.specs.proofs_only.Codes.{reviewed_code};
 
@@ -52,12 +51,12 @@ impl<A: Attributes, P: Policies> Model for Review<A, P> {
     ghost invariant = { λ r. IsFresh r.parts };
 }
 
-impl<A: Attributes, P: Policies> Review<A, P> {
+impl<E: Evaluates> Review<E> {
     /// A review of what a decision point holds, with no names listed. No limit may be above the greatest one.
     ///
     /// Its contract leaves open: how the tables before are kept, of which there are none. State, count and the first
     /// serial are said.
-    pub fn new(alloc: Global, pdp: Pdp<A, P>, limits: Limits) -> Review<A, P>
+    pub fn new(alloc: Global, pdp: Pdp<E::Attributes, E::Policies>, limits: Limits) -> Review<E>
         requires { IsWithinGreatest limits }
         ensures state { result.state ≡ initial (held_by pdp) limits }
         ensures counted { result.evaluations ≡ pdp.evaluations }
@@ -68,10 +67,8 @@ impl<A: Attributes, P: Policies> Review<A, P> {
         Review {
             parts: Parts {
                 alloc,
-                pdp,
                 limits,
-                table: Table::new(alloc),
-                memory: Memory::new(alloc),
+                table: Table::new(alloc, E::of(alloc, pdp)),
                 log: Log::new(alloc),
                 documents,
             },
@@ -95,7 +92,7 @@ impl<A: Attributes, P: Policies> Review<A, P> {
     {
         let parts = &mut self.parts;
         // The count is within its type.
-        let _evaluations = parts.pdp.evaluations();
+        let _evaluations = parts.pdp().evaluations();
         match edit {
             Edit::AddPolicy(number, document) => parts.add_policy(number, document),
             Edit::ReplacePolicy(number, document) => parts.replace_policy(number, document),
@@ -139,7 +136,7 @@ impl<A: Attributes, P: Policies> Review<A, P> {
     /// The listed requests with their answers in list order, people outermost, then actions, then resources.
     ///
     /// Its contract is an equation.
-    pub fn cells(&self) -> Cells<'_>
+    pub fn cells(&self) -> Cells<'_, E>
         ensures { cells_left result ≡ table_of self.now.state }
     {
         let table = &self.parts.table;
@@ -155,7 +152,7 @@ impl<A: Attributes, P: Policies> Review<A, P> {
     /// The cells in list order, each with whether a part of it came to Indeterminate by itself, whatever its decision.
     ///
     /// Its contract is an equation.
-    pub fn judged(&self) -> Judged<'_>
+    pub fn judged(&self) -> Judged<'_, E>
         ensures { judged_left result ≡ judged self.now.state }
     {
         Judged::new(self.cells(), &self.parts.table.cells)
@@ -187,7 +184,7 @@ impl<A: Attributes, P: Policies> Review<A, P> {
     pub fn evaluations(&self) -> u128
         ensures { result ≡ self.now.evaluations }
     {
-        self.parts.pdp.evaluations()
+        self.parts.pdp().evaluations()
     }
 
     /// How many cells the table has.

@@ -2,40 +2,43 @@
 
 ghost use Rattle.std.specs.Prelude.{◌≡◌, ◌+◌, ◌<◌, ◌≤◌, ◌^◌, length};
 ghost use Rattle.ent_log.specs.Tables.{room_of};
-ghost use Rattle.ent_table.specs.Fresh.{IsFresh, state_of};
+ghost use Rattle.ent_table.specs.Fresh.{IsFresh, point_of, state_of};
 ghost use Rattle.ent_table.specs.Step.{is_last};
 ghost use Rattle.ent_table.specs.Tables.{Logs};
 ghost use Rattle.ent_table.specs.proofs_only.Change.{Counted, Keeps, Makes};
 ghost use Rattle.ent_table.specs.proofs_only.Exchange.{IsWithin, count_with, exchanged, exchanged_unless_last};
 
-use crate::change::Exchange;
 use crate::edit::{Accepted, EditFault};
 use crate::limits::Limits;
 use crate::review::LAST_SERIAL;
 use crate::table::Table;
 use ent_cells::Who;
-use ent_eval::{Answer, Memory, Pdp};
-use ent_finder::{Attributes, Policies};
+use ent_eval::{Answer, Evaluates, Exchange, Pdp};
 use ent_log::{Log, OldAnswer};
 use ent_values::Items;
 use std::alloc::Global;
 
 /// The parts of a review. Between the phases of an edit they don't fit each other, so they are no review then.
 #[derive(Drop)]
-pub(crate) struct Parts<A: Attributes, P: Policies> {
+pub(crate) struct Parts<E: Evaluates> {
     pub(crate) alloc: Global,
-    pub(crate) pdp: Pdp<A, P>,
     pub(crate) limits: Limits,
-    pub(crate) table: Table,
-    // What is remembered for evaluations of its cells.
-    pub(crate) memory: Memory,
+    // What is held stands in its evaluator.
+    pub(crate) table: Table<E>,
     // What edits changed, and how many were accepted.
     pub(crate) log: Log<Who, Answer>,
     // How many documents are held.
     pub(crate) documents: u128,
 }
 
-impl<A: Attributes, P: Policies> Parts<A, P> {
+impl<E: Evaluates> Parts<E> {
+    /// The decision point.
+    pub(crate) fn pdp(&self) -> &Pdp<E::Attributes, E::Policies>
+        ensures { result.now ≡ point_of self.now }
+    {
+        self.table.cells.pdp()
+    }
+
     /// Makes an exchange that is refused at the last serial alone, and leaves how many documents are held.
     pub(crate) fn set(&mut self, exchange: Exchange) -> Result<Accepted, EditFault>
         requires fresh { IsFresh self.old }
@@ -72,8 +75,8 @@ impl<A: Attributes, P: Policies> Parts<A, P> {
         let Ok(changed) = self.exchange_and_tell(&mut exchange) else {
             return Err(EditFault::Memory);
         };
-        let (cells, memory) = (&mut self.table.cells, &mut self.memory);
-        match cells.settle(&mut self.pdp, memory, &mut self.log, changed.as_slice()) {
+        let cells = &mut self.table.cells;
+        match cells.settle(&mut self.log, changed.as_slice()) {
             Ok(olds) => {
                 self.documents = documents;
                 Ok(self.log_edit(olds))

@@ -5,8 +5,7 @@ ghost use Rattle.ent_table.specs.Tables.{AreTheDifference, LeavesTables, change_
 
 use crate::review::Review;
 use ent_cells::Who;
-use ent_eval::Answer;
-use ent_finder::{Attributes, Policies};
+use ent_eval::{Answer, Evaluates};
 use ent_log::{Change as Logged, Present};
 use ent_values::{Items, Shared, Text};
 use std::alloc::{AllocError, Global};
@@ -53,7 +52,7 @@ fn all_named(alloc: Global, logged: Items<Logged<Who, Answer>>) -> Result<Items<
     Ok(Items::from_vec(changes))
 }
 
-impl<A: Attributes, P: Policies> Present<Who, Answer> for Review<A, P> {
+impl<E: Evaluates> Present<Who, Answer> for Review<E> {
     ghost use Rattle.ent_table.specs.State.{answer_at};
 
     ghost can_answer = { λ _. Unit {0} };
@@ -69,7 +68,7 @@ impl<A: Attributes, P: Policies> Present<Who, Answer> for Review<A, P> {
     }
 }
 
-impl<A: Attributes, P: Policies> Review<A, P> {
+impl<E: Evaluates> Review<E> {
     /// The least serial whose table is known: 0 for a new review.
     ///
     /// Its contract is an equation.

@@ -4,6 +4,7 @@ ghost use Rattle.ent_table.specs.Limits.{IsWithinGreatest};
 
 use crate::serving::{Narrow, Slow};
 use ent_eval::Pdp;
+use ent_evaluator::Evaluator;
 use ent_finder::{
     AttributeFinder, AttributeFinderModule, Attributes, MapDocs, MapRows, Policies, PolicyFinder,
     PolicyFinderModule,
@@ -62,7 +63,7 @@ fn is_answered_over<A: Attributes, P: Policies>(
     requires { IsWithinGreatest limits }
 {
     let pdp = Pdp::new(alloc, attributes, policies);
-    let review = Review::new(alloc, pdp, limits);
+    let review: Review<Evaluator<A, P>> = Review::new(alloc, pdp, limits);
     let mut service = Service::new(alloc, Desk::new(alloc, review));
     answers(alloc, &mut service, case)
 }

@@ -4,8 +4,9 @@ use Rattle.std.specs.Coded.{Coded, code_by, coded×, coded_bool, coded_list, cod
 use Rattle.slab.specs.Slab.{Slab, slab_code}
 use Rattle.ent_request.specs.declared.answer.Answer.{Answer}
 use Rattle.ent_request.specs.declared.key.ReadKey.{ReadKey}
-use Rattle.ent_request.specs.declared.question.Question.{Question}
-use Rattle.ent_cells.specs.declared.who.Who.{Who}
+use Rattle.ent_eval.specs.Evaluator.{Evaluator}
+use Rattle.ent_eval.specs.proofs_only.Codes.{evaluator_code}
+use Rattle.ent_eval.specs.declared.who.Who.{Who}
 use Rattle.ent_cells.specs.Cell.{Cells, Kept, Said}
 use Rattle.ent_cells.specs.Entries.{Entry, Stored}
 
@@ -23,11 +24,11 @@ entry_code whos answers keys =
     code_by (Kept × Option Said) (coded× (kept_code whos answers keys) (coded_option (said_code answers keys))) (λ e. (e.kept, e.next)) (λ p. record { kept = p.0; next = p.1 }) (λ _. refl)
 
 -- what is stored, as the pair of both
-abbrev pub stored_code : Coded Who → Coded Answer → Coded ReadKey → Coded Question → Coded Stored
-stored_code whos answers keys questions =
-    code_by (Slab Entry × List Question) (coded× (slab_code (entry_code whos answers keys)) (coded_list questions)) (λ s. (s.cells, s.questions)) (λ p. record { cells = p.0; questions = p.1 }) (λ _. refl)
+abbrev pub stored_code : Coded Who → Coded Answer → Coded ReadKey → Coded Stored
+stored_code whos answers keys =
+    code_by (Slab Entry × Evaluator) (coded× (slab_code (entry_code whos answers keys)) evaluator_code) (λ s. (s.cells, s.evaluator)) (λ p. record { cells = p.0; evaluator = p.1 }) (λ _. refl)
 
--- cells in list order and questions, as the pair of both
-abbrev pub cells_code : Coded Who → Coded Answer → Coded ReadKey → Coded Question → Coded Cells
-cells_code whos answers keys questions =
-    code_by (List Kept × List Question) (coded× (coded_list (kept_code whos answers keys)) (coded_list questions)) (λ c. (c.kept, c.questions)) (λ p. record { kept = p.0; questions = p.1 }) (λ _. refl)
+-- cells in list order and their evaluator, as the pair of both
+abbrev pub cells_code : Coded Who → Coded Answer → Coded ReadKey → Coded Cells
+cells_code whos answers keys =
+    code_by (List Kept × Evaluator) (coded× (coded_list (kept_code whos answers keys)) evaluator_code) (λ c. (c.kept, c.evaluator)) (λ p. record { kept = p.0; evaluator = p.1 }) (λ _. refl)

@@ -3,7 +3,7 @@ use Rattle.std.specs.Prelude.{◌≡◌, ℕ, List, [], Bool, false, not, Option
 use Rattle.slab.specs.Slab.{Slab, Updates, get}
 use Rattle.ent_request.specs.declared.key.ReadKey.{ReadKey}
 use Rattle.ent_request.specs.Same.{same_answer}
-use Rattle.ent_cells.specs.declared.who.Who.{Who}
+use Rattle.ent_eval.specs.declared.who.Who.{Who}
 use Rattle.ent_cells.specs.Cell.{Kept, Said, reads_any}
 use Rattle.ent_cells.specs.Entries.{Entry}
 

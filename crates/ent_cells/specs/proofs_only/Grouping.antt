@@ -13,7 +13,7 @@ use Rattle.ent_index.specs.declared.wanted.Wanted.{Wanted}
 use Rattle.ent_index.specs.Groups.{IsNamed, holds, is_wanted, numbers_of, reads_in}
 use Rattle.ent_cells.specs.declared.cell.Cell.{Cell}
 use Rattle.ent_cells.specs.declared.cell.Grouped.{Grouped}
-use Rattle.ent_cells.specs.declared.who.Who.{Who}
+use Rattle.ent_eval.specs.declared.who.Who.{Who}
 use Rattle.ent_cells.specs.Cell.{Kept, Said}
 use Rattle.ent_cells.specs.Entries.{Entry}
 

@@ -6,7 +6,7 @@ use Rattle.ent_log.specs.Tables.{KeepsTables, room_of}
 use Rattle.ent_log.specs.declared.entry.OldAnswer.{OldAnswer}
 use Rattle.ent_log.specs.declared.log.Log.{Log}
 use Rattle.ent_cells.specs.declared.cell.Cell.{Cell}
-use Rattle.ent_cells.specs.declared.who.Who.{Who}
+use Rattle.ent_eval.specs.declared.who.Who.{Who}
 use Rattle.ent_cells.specs.Entries.{Entry}
 use Rattle.ent_cells.specs.proofs_only.Entries.{changes}
 use Rattle.ent_cells.specs.proofs_only.Grouping.{replaces}

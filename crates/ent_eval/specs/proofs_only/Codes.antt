@@ -13,6 +13,9 @@ use Rattle.ent_finder.specs.Slots.{Slots}
 use Rattle.ent_finder.specs.proofs_only.Rows.{source_code}
 use Rattle.ent_request.specs.contracts.environment.Environment as environment
 use Rattle.ent_request.specs.declared.environment.Environment.{Environment}
+use Rattle.ent_request.specs.contracts.question.Question as question
+use Rattle.ent_request.specs.declared.question.Question.{Question}
+use Rattle.ent_eval.specs.Evaluator.{Evaluator}
 use Rattle.ent_eval.specs.Point.{Point}
 
 -- a decision point is stored as its five parts
@@ -25,3 +28,9 @@ point_code =
     (λ p. (p.sources, (p.slots, (p.root, (p.environment, p.evaluations)))))
     (λ p. record { sources = p.0; slots = p.1.0; root = p.1.1.0; environment = p.1.1.1.0; evaluations = p.1.1.1.1 })
     (λ _. refl)
+
+-- an evaluator, as the pair of both
+abbrev pub evaluator_code : Coded Evaluator
+evaluator_code =
+    code_by (Point × List Question) (coded× point_code (coded_list question.the_row.coded)) (λ e. (e.pdp, e.questions))
+    (λ p. record { pdp = p.0; questions = p.1 }) (λ _. refl)

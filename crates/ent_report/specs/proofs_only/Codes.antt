@@ -3,7 +3,7 @@ use Rattle.std.specs.Prelude.{ℕ, List, Option, refl}
 use Rattle.std.specs.Coded.{Coded, code_by, coded×, coded_list, coded_option, coded_ℕ}
 use Rattle.std.specs.FinMap.{code}
 use Rattle.ent_request.specs.contracts.answer.Answer as answer
-use Rattle.ent_cells.specs.contracts.who.Who as whose
+use Rattle.ent_eval.specs.contracts.who.Who as whose
 use Rattle.ent_table.specs.AnswerMap.{AnswerMap}
 use Rattle.ent_table.specs.Reviewed.{Past}
 use Rattle.ent_table.specs.State.{State}

@@ -16,8 +16,8 @@ use Rattle.ent_request.specs.contracts.environment.Environment as environment
 use Rattle.ent_request.specs.declared.answer.Answer.{Answer}
 use Rattle.ent_request.specs.declared.environment.Environment.{Environment}
 use Rattle.ent_request.specs.Held.{Held}
-use Rattle.ent_cells.specs.contracts.who.Who as whose
-use Rattle.ent_cells.specs.declared.who.Who.{Who}
+use Rattle.ent_eval.specs.contracts.who.Who as whose
+use Rattle.ent_eval.specs.declared.who.Who.{Who}
 use Rattle.ent_log.specs.contracts.entry.Logged as logged
 use Rattle.ent_log.specs.declared.entry.Logged.{Logged}
 use Rattle.ent_table.specs.contracts.limits.Limits as limits

@@ -13,8 +13,8 @@ use Rattle.ent_request.specs.declared.key.ReadKey.TheVariants as keys
 use Rattle.ent_index.specs.Asked.{asks_policy, asks_row}
 use Rattle.ent_cells.specs.Cell.{Kept, is_read}
 use Rattle.ent_table.specs.contracts.look.LookPartialEq.TheImpl as looks
-use Rattle.ent_table.specs.declared.change.Exchange.{Exchange}
-use Rattle.ent_table.specs.declared.change.Exchange.TheVariants.{Document, Row, Root, Environment}
+use Rattle.ent_eval.specs.declared.exchange.Exchange.{Exchange}
+use Rattle.ent_eval.specs.declared.exchange.Exchange.TheVariants.{Document, Row, Root, Environment}
 use Rattle.ent_table.specs.declared.look.Look.{Look}
 use Rattle.ent_table.specs.declared.look.Look.TheVariants as look
 use Rattle.ent_table.specs.declared.look.OfTwo.{OfTwo}

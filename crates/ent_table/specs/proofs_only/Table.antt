@@ -1,8 +1,9 @@
 -- The table as one value: the names, and a cell for each of the requests that they make.
 use Rattle.std.specs.Prelude.{◌≡◌, ℕ, ◌+◌, List, [], ◌∷◌, length, map, Option, Some, None, true, false}
+use Rattle.ent_eval.specs.Evaluator.{Evaluator}
 use Rattle.ent_cells.specs.Cell.{Kept}
 use Rattle.ent_cells.specs.declared.blocks.Blocks.{Blocks}
-use Rattle.ent_cells.specs.declared.who.Who.{Who}
+use Rattle.ent_eval.specs.declared.who.Who.{Who}
 use Rattle.ent_request.specs.declared.answer.Answer.{Answer}
 use Rattle.ent_log.specs.declared.entry.OldAnswer.{OldAnswer}
 use Rattle.ent_table.specs.declared.edit.List.{List as Which}
@@ -15,12 +16,12 @@ use Rattle.ent_table.specs.Names.{with_list, with_name, without_name}
 abbrev pub unanswered : List Triple → List (OldAnswer Who Answer)
 unanswered xs = map (λ x. record { key = x; answer = None }) xs
 
--- no names, and so no cells
-abbrev pub empty_table : Table
-empty_table = record { names = no_names; cells = record { kept = []; questions = [] } }
+-- no names, and so no cells of an evaluator's requests
+abbrev pub empty_table : {E A P : Type 0} → Evaluator → Table E A P
+empty_table evaluator = record { names = no_names; cells = record { kept = []; evaluator = evaluator } }
 
 -- each cell is what f makes of its request
-abbrev pub IsFilled : (Triple → Kept) → Table → Type 0
+abbrev pub IsFilled : {E A P : Type 0} → (Triple → Kept) → Table E A P → Type 0
 IsFilled f t = t.cells.kept ≡ map f (triples t.names)
 
 -- the requests of a new name of a list
@@ -33,24 +34,24 @@ behind which.People b = record b { count = 0 }
 behind which.Actions b = b
 behind which.Resources b = b
 
--- the names and the cells are the same, whatever questions have got numbers
-pub record HasSameCells (old new : Table) : Type 0 where
+-- the names and the cells are the same, whatever was evaluated
+pub record HasSameCells {E A P : Type 0} (old new : Table E A P) : Type 0 where
   pub names : new.names ≡ old.names
   pub cells : new.cells.kept ≡ old.cells.kept
 
 -- a name was put last in its list, and what f makes of its requests where it belongs
-pub record IsAdded (f : Triple → Kept) (list : Which) (name : List ℕ) (old new : Table) : Type 0 where
+pub record IsAdded {E A P : Type 0} (f : Triple → Kept) (list : Which) (name : List ℕ) (old new : Table E A P) : Type 0 where
   pub names : new.names ≡ with_name list name old.names
   pub cells : IsFilled f old → IsFilled f new
 
 -- a name was taken out of its list, and that many cells with it: those of its requests
-pub record IsDropped (list : Which) (name : List ℕ) (old new : Table) (count : ℕ) : Type 0 where
+pub record IsDropped {E A P : Type 0} (list : Which) (name : List ℕ) (old new : Table E A P) (count : ℕ) : Type 0 where
   pub there : has_name name (list_of list old.names) ≡ true
   pub names : new.names ≡ without_name list name old.names
   pub cells : (f : Triple → Kept) → IsFilled f old → IsFilled f new
   pub counted : length old.cells.kept ≡ count + length new.cells.kept
 
 -- so many cells were dropped with a name, or the list lacks it and nothing changed
-abbrev pub Drops : Which → List ℕ → Table → Table → Option ℕ → Type 0
+abbrev pub Drops : {E A P : Type 0} → Which → List ℕ → Table E A P → Table E A P → Option ℕ → Type 0
 Drops list name old new None = (has_name name (list_of list old.names) ≡ false) × (new ≡ old)
 Drops list name old new (Some count) = IsDropped list name old new count

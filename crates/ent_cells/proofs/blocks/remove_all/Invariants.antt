@@ -4,7 +4,7 @@ use Rattle.ent_cells.specs.Shape.{left_of}
 use Rattle.ent_cells.proofs.blocks.remove_all.Given as goal
 
 abbrev pub invariant-loop-key : goal.invariant-loop-key
-invariant-loop-key l = record {
+invariant-loop-key g l = record {
   cells : (q : ℕ) → get l.store.cells q ≡ left_of l.initial.store.cells (take l.key-index l.keys) q;
-  questions : l.store.questions ≡ l.initial.store.questions;
+  evaluator : l.store.evaluator ≡ l.initial.store.evaluator;
 }

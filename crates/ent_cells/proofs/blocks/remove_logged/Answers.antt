@@ -8,13 +8,13 @@ use Rattle.ent_cells.proofs.Shapes.{left_more}
 use Rattle.ent_cells.proofs.blocks.remove_logged.Goals as goal
 
 pub remove_one-requires : goal.remove_one-requires
-remove_one-requires c =
+remove_one-requires g c =
     let i : ℕ = c.loop-key.key-index in
     let few : length (gone_in c.args.store.now.cells (take i c.args.keys.now)) ≤ length (take i c.args.keys.now) = gone_length c.args.store.now.cells (take i c.args.keys.now) in
     omega (arith, c.loop-key.invariant.logged.room, few, length-take i c.args.keys.now, c.loop-key-test.true, c.requires.room)
 
 pub loop-key-preserved : goal.loop-key-preserved
-loop-key-preserved c =
+loop-key-preserved g c =
     let i : ℕ = c.loop-key.key-index in
     let keys : List ℕ = c.args.keys.now in
     let k : ℕ = slice_index_or keys i 0 in
@@ -29,5 +29,5 @@ loop-key-preserved c =
           puts-as (gone_in s (take i keys) ++ gone_in c.loop-key.store.cells (k ∷ [])) (gone_in s (take (i + 1) keys)) c.args.log.now c.remove_one.new.log
           (ap (λ os. gone_in s (take i keys) ++ os) one ∙ sym (gone_more s keys i c.loop-key-test.true))
           (puts-append (gone_in s (take i keys)) (gone_in c.loop-key.store.cells (k ∷ [])) c.args.log.now c.loop-key.log c.remove_one.new.log c.loop-key.invariant.logged c.remove_one.ensures.logged);
-      questions = c.remove_one.ensures.questions ∙ c.loop-key.invariant.questions;
+      evaluator = c.remove_one.ensures.evaluator ∙ c.loop-key.invariant.evaluator;
     }

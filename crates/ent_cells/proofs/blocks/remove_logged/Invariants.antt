@@ -5,8 +5,8 @@ use Rattle.ent_cells.specs.Shape.{left_of}
 use Rattle.ent_cells.proofs.blocks.remove_logged.Given as goal
 
 abbrev pub invariant-loop-key : goal.invariant-loop-key
-invariant-loop-key l = record {
+invariant-loop-key g l = record {
   cells : (q : ℕ) → get l.store.cells q ≡ left_of l.initial.store.cells (take l.key-index l.keys) q;
   logged : Puts (gone_in l.initial.store.cells (take l.key-index l.keys)) l.initial.log l.log;
-  questions : l.store.questions ≡ l.initial.store.questions;
+  evaluator : l.store.evaluator ≡ l.initial.store.evaluator;
 }

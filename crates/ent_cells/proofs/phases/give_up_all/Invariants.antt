@@ -5,7 +5,7 @@ use Rattle.ent_cells.specs.proofs_only.Phases.{changed_at}
 use Rattle.ent_cells.proofs.phases.give_up_all.Given as goal
 
 abbrev pub invariant-loop-key : goal.invariant-loop-key
-invariant-loop-key l = record {
+invariant-loop-key g l = record {
   cells : (c : ℕ) → get l.store.cells c ≡ changed_at given_up (take l.key-index l.keys) c (get l.initial.store.cells c);
-  questions : l.store.questions ≡ l.initial.store.questions;
+  evaluator : l.store.evaluator ≡ l.initial.store.evaluator;
 }

@@ -4,7 +4,7 @@ use Rattle.ent_cells.proofs.phases.old_answers.Goals as goal
 use Rattle.ent_cells.proofs.phases.old_answers.Goals.{in-Some+in_ok-push, in_default}
 
 pub loop-key-preserved : goal.loop-key-preserved
-loop-key-preserved c =
+loop-key-preserved g c =
     let s = c.args.store.now.cells in
     let keys = c.args.keys.now in
     let i = c.loop-key.key-index in

@@ -6,5 +6,5 @@ use Rattle.ent_line.proofs.cell.table_text.Goals as goal
 
 pub returns : goal.returns
 unfolding table_reply
-returns c =
+returns g c =
     c.into_string.ensures ∙ written (table_reply (cells_left c.args.cells)) _ _ c.in_ok-out.ensures c.in_ok-write_table.ensures

@@ -11,11 +11,11 @@ use Rattle.ent_line.proofs.cell.write_table.Goals as goal
 
 pub raw-requires : goal.raw-requires
 unfolding lex punctuate content print_from escape_byte
-raw-requires c = refl
+raw-requires g c = refl
 
 pub returns : goal.returns
 unfolding lex punctuate content
-returns c =
+returns g c =
     let cells = tokens_of (list_data cell_data (cells_left c.args.cells)) in
     ends _ _ _ _ (token.begin_object ∷ token.key (codes "table") ∷ []) _ c.in_ok-raw.ensures.ok
     (ends _ _ _ _ cells _ c.in_ok-write_list.ensures c.end_object.ensures.ok)

@@ -7,5 +7,5 @@ use Rattle.ent_line.proofs.faulting.faults_text.Goals as goal
 
 pub returns : goal.returns
 unfolding faults_reply
-returns c =
+returns g c =
     c.into_string.ensures ∙ written (faults_reply (failed_in (judged_left c.args.cells))) _ _ c.in_ok-out.ensures c.in_ok-write_reply.ensures

@@ -6,6 +6,6 @@ use Rattle.ent_line.specs.proofs_only.Failing.{failed_in}
 use Rattle.ent_line.proofs.faulting.write_failed.Given as goal
 
 abbrev pub invariant-loop-person : goal.invariant-loop-person
-invariant-loop-person l =
+invariant-loop-person g l =
     l.out ++ items_tokens_of (map fault_data (failed_in (judged_left l.person-iterator)))
     ≡ l.fn.out ++ items_tokens_of (map fault_data (failed_in (judged_left l.fn.cells)))

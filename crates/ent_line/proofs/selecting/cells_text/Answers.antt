@@ -8,5 +8,5 @@ use Rattle.ent_line.proofs.selecting.cells_text.Goals as goal
 
 pub returns : goal.returns
 unfolding cells_reply
-returns c =
+returns g c =
     c.into_string.ensures ∙ written (cells_reply (filter (selects c.args.selection) (cells_left c.args.cells))) _ _ c.in_ok-out.ensures c.in_ok-write_reply.ensures

@@ -9,7 +9,7 @@ use Rattle.ent_line.proofs.TextLemmas.{ends}
 use Rattle.ent_line.proofs.selecting.write_reply.Goals as goal
 
 pub returns : goal.returns
-returns c =
+returns g c =
     let cells = filter (selects c.args.selection) (cells_left c.args.cells) in
     ends _ _ _ _ (token.begin_object ∷ []) _ c.in_ok-begin_object.ensures.ok
     (ends _ _ _ _ (token.key (codes "cells") ∷ []) _ c.in_ok-key.ensures.ok

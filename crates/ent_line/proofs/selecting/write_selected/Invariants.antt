@@ -7,6 +7,6 @@ use Rattle.ent_line.specs.proofs_only.Selecting.{selects}
 use Rattle.ent_line.proofs.selecting.write_selected.Given as goal
 
 abbrev pub invariant-loop-person : goal.invariant-loop-person
-invariant-loop-person l =
+invariant-loop-person g l =
     l.out ++ items_tokens_of (map cell_data (filter (selects l.selection) (cells_left l.person-iterator)))
     ≡ l.fn.out ++ items_tokens_of (map cell_data (filter (selects l.fn.selection) (cells_left l.fn.cells)))

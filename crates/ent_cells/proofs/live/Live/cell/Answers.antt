@@ -7,7 +7,7 @@ use Rattle.ent_cells.proofs.Listed.{shown_at, shown_past}
 use Rattle.ent_cells.proofs.live.Live.cell.Goals as goal
 
 pub returns-in_err-key-clause-cell : goal.returns-in_err-key-clause-cell
-returns-in_err-key-clause-cell c =
+returns-in_err-key-clause-cell g c =
     let past : length c.deref.result.now ≤ c.args.place = ltb-false c.args.place (length c.deref.result.now) (sym c.in_err-key.ensures.lookup.0) in
     let none : slice_get c.self.inside.keys.items c.args.place ≡ None = ap (λ ks. slice_get ks c.args.place) (sym c.deref.ensures.value) ∙ slice_get_past c.deref.result.now c.args.place past in
     ap (λ o. option_map shown (option_copied o)) c.from_residual.ensures
@@ -15,7 +15,7 @@ returns-in_err-key-clause-cell c =
     ∙ ap (λ es. slice_get (map shown_kept es) c.args.place) (ap (λ (x : Cells). x.kept) c.self.view_is)
 
 pub returns-in_err-cell-clause-cell : goal.returns-in_err-cell-clause-cell
-returns-in_err-cell-clause-cell c =
+returns-in_err-cell-clause-cell g c =
     let key = c.in_ok-key.key.now in
     let within = rw c.deref.ensures.value at (ltb-true c.args.place (length c.deref.result.now) (sym c.in_ok-key.ensures.lookup.0)) in
     let read = rw c.deref.ensures.value at c.in_ok-key.ensures.lookup.1 in
@@ -25,7 +25,7 @@ returns-in_err-cell-clause-cell c =
     ∙ ap (λ es. slice_get (map shown_kept es) c.args.place) (ap (λ (x : Cells). x.kept) c.self.view_is)
 
 pub returns-clause-cell : goal.returns-clause-cell
-returns-clause-cell c =
+returns-clause-cell g c =
     let key = c.in_ok-key.key.now in
     let within = rw c.deref.ensures.value at (ltb-true c.args.place (length c.deref.result.now) (sym c.in_ok-key.ensures.lookup.0)) in
     let read = rw c.deref.ensures.value at c.in_ok-key.ensures.lookup.1 in

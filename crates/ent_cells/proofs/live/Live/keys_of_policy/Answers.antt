@@ -8,7 +8,7 @@ use Rattle.ent_cells.proofs.Listed.{are_listed}
 use Rattle.ent_cells.proofs.live.Live.keys_of_policy.Goals as goal
 
 pub returns : goal.returns
-returns c =
+returns g c =
     let asks = asks_policy c.args.kind c.args.id.now in
     let s = c.self.inside.store.cells in
     let ks = c.self.inside.keys.items in

@@ -3,7 +3,7 @@ use Rattle.slab.specs.Slab.{Slab, get}
 use Rattle.ent_request.specs.declared.answer.Answer.{Answer}
 use Rattle.ent_log.specs.Tables.{room_of}
 use Rattle.ent_log.specs.declared.log.Log.{Log}
-use Rattle.ent_cells.specs.declared.who.Who.{Who}
+use Rattle.ent_eval.specs.declared.who.Who.{Who}
 use Rattle.ent_cells.specs.Cell.{Cells, Kept}
 use Rattle.ent_cells.specs.Entries.{Entry, kept_of}
 use Rattle.ent_cells.specs.Grid.{IsGrid, times}
@@ -24,14 +24,14 @@ keys_once : (s : Slab Entry) (ks : List ℕ) → IsGrid s ks → (c : ℕ) → t
 keys_once s ks grid c = at_most_one (is_some (get s c)) (times c ks) (grid c)
 
 pub remove_blocks-requires-clause-once : goal.remove_blocks-requires-clause-once
-remove_blocks-requires-clause-once c = rw c.deref.ensures.value (keys_once c.self.inside.store.cells c.self.inside.keys.items c.self.invariant.grid)
+remove_blocks-requires-clause-once g c = rw c.deref.ensures.value (keys_once c.self.inside.store.cells c.self.inside.keys.items c.self.invariant.grid)
 
 pub remove_blocks-requires-clause-room : goal.remove_blocks-requires-clause-room
-remove_blocks-requires-clause-room c =
+remove_blocks-requires-clause-room g c =
     omega (arith, c.requires.room, ap length c.deref.ensures.value, kept_long c.self.inside.store.cells c.self.inside.keys.items c.self.invariant.grid, ap length (ap (λ (x : Cells). x.kept) c.self.view_is))
 
 pub invariant_of-self : goal.invariant_of-self
-invariant_of-self c =
+invariant_of-self g c =
     let cleared = rw c.deref.ensures.value at c.remove_blocks.ensures.cells in
     let is = c.keep_present.ensures ∙ narrow_filter c.self.inside.store.cells c.remove_blocks.new.store.cells c.args.blocks.count c.args.blocks.width c.args.from c.args.blocks.each c.self.inside.keys.items c.self.invariant.grid cleared in
     rw is (narrow_live c.self.inside.store.cells c.remove_blocks.new.store.cells c.args.blocks.count c.args.blocks.width c.args.from c.args.blocks.each c.self.inside.keys.items c.self.invariant cleared)
@@ -54,7 +54,7 @@ module _ (s t : Slab Entry) (m w o n : ℕ) (ks left : List ℕ) (grid : IsGrid 
       omega (arith, enough, puts.room, ap length new_is, rest)
 
 pub returns-clause-cells : goal.returns-clause-cells
-returns-clause-cells c =
+returns-clause-cells g c =
     let cleared = rw c.deref.ensures.value at c.remove_blocks.ensures.cells in
     let is = c.keep_present.ensures ∙ narrow_filter c.self.inside.store.cells c.remove_blocks.new.store.cells c.args.blocks.count c.args.blocks.width c.args.from c.args.blocks.each c.self.inside.keys.items c.self.invariant.grid cleared in
     ap (kept_of c.remove_blocks.new.store.cells) is
@@ -62,7 +62,7 @@ returns-clause-cells c =
     ∙ ap (without c.args.blocks.count c.args.blocks.width c.args.from c.args.blocks.each) (ap (λ (x : Cells). x.kept) c.self.view_is)
 
 pub returns-clause-logged : goal.returns-clause-logged
-returns-clause-logged c =
+returns-clause-logged g c =
     let cleared = rw c.deref.ensures.value at c.remove_blocks.ensures.cells in
     let puts = rw c.deref.ensures.value at c.remove_blocks.ensures.logged in
     let is = c.keep_present.ensures ∙ narrow_filter c.self.inside.store.cells c.remove_blocks.new.store.cells c.args.blocks.count c.args.blocks.width c.args.from c.args.blocks.each c.self.inside.keys.items c.self.invariant.grid cleared in
@@ -73,7 +73,7 @@ returns-clause-logged c =
     c.args.self.now.kept (ap (λ (x : Cells). x.kept) c.self.view_is) new_is
 
 pub returns-clause-room : goal.returns-clause-room
-returns-clause-room c =
+returns-clause-room g c =
     let cleared = rw c.deref.ensures.value at c.remove_blocks.ensures.cells in
     let puts = rw c.deref.ensures.value at c.remove_blocks.ensures.logged in
     let is = c.keep_present.ensures ∙ narrow_filter c.self.inside.store.cells c.remove_blocks.new.store.cells c.args.blocks.count c.args.blocks.width c.args.from c.args.blocks.each c.self.inside.keys.items c.self.invariant.grid cleared in
@@ -83,5 +83,5 @@ returns-clause-room c =
     still_room c.self.inside.store.cells c.remove_blocks.new.store.cells c.args.blocks.count c.args.blocks.width c.args.from c.args.blocks.each c.self.inside.keys.items c.keep_present.new.keys.items c.self.invariant.grid c.args.log.now c.remove_blocks.new.log puts
     c.args.self.now.kept (ap (λ (x : Cells). x.kept) c.self.view_is) new_is c.requires.room
 
-pub returns-clause-questions : goal.returns-clause-questions
-returns-clause-questions c = c.remove_blocks.ensures.questions ∙ ap (λ (x : Cells). x.questions) c.self.view_is
+pub returns-clause-evaluator : goal.returns-clause-evaluator
+returns-clause-evaluator g c = c.remove_blocks.ensures.evaluator ∙ ap (λ (x : Cells). x.evaluator) c.self.view_is

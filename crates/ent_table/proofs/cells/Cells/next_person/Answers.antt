@@ -4,7 +4,7 @@ use Rattle.ent_table.proofs.Turns.{nothing_left, people_left-all, no_resources, 
 use Rattle.ent_table.proofs.cells.Cells.next_person.Goals as goal
 
 pub returns-then-not-is_empty-clause-turned : goal.returns-then-not-is_empty-clause-turned
-returns-then-not-is_empty-clause-turned c =
+returns-then-not-is_empty-clause-turned g c =
     let old = c.args.self.now in
     let some : old.actions.now ≡ [] → ⊥ = λ e. true≢false (sym (c.is_empty.ensures ∙ eq-eqb (length old.actions.now) 0 (ap length e)) ∙ c.if-not-is_empty.true) in
     λ h. elim h [
@@ -16,7 +16,7 @@ returns-then-not-is_empty-clause-turned c =
     ]
 
 pub returns-in-Some-clause-turned : goal.returns-in-Some-clause-turned
-returns-in-Some-clause-turned c =
+returns-in-Some-clause-turned g c =
     let people = texts c.in-Some.people.now in
     let actions = texts c.args.self.now.all_actions.now in
     let resources = texts c.args.self.now.all_resources.now in

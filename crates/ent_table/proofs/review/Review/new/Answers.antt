@@ -1,26 +1,26 @@
 use Rattle.std.proofs.Common.{◌≡◌, ◌≤◌, ◌^◌, List, length, map, sym, ap, subst, ◌∙◌, arith}
 use Rattle.ent_cells.specs.Cell.{cell_of}
-use Rattle.ent_eval.specs.LooksOf.{looks_of}
+use Rattle.ent_eval.specs.Evaluator.{Evaluator}
+use Rattle.ent_eval.specs.LooksOf.{held_by, looks_of}
 use Rattle.ent_finder.specs.Slots.{Slots, document_count, held}
 use Rattle.ent_log.specs.Tables.{room_of}
-use Rattle.ent_table.specs.declared.table.Table.{Table}
 use Rattle.ent_table.specs.Names.{triples}
 use Rattle.ent_table.proofs.review.Review.new.Goals as goal
 
 pub invariant_of-result : goal.invariant_of-result
 invariant_of-result g c =
-    let looks = looks_of c.args.pdp in
-    let table = c.new.result in
     let empty = c.new.ensures in
-    let log = c.new-3.result in
+    let log = c.new-2.result in
+    let made : c.new.result.cells.evaluator.pdp ≡ c.args.pdp =
+    ap (λ t. t.cells.evaluator.pdp) empty ∙ ap (λ (e : Evaluator). e.pdp) c.of.ensures in
     record {
-      cells = ap (λ (t : Table). t.cells.kept) empty
-          ∙ sym (ap (λ (t : Table). map (cell_of looks) (triples t.names)) empty);
-      knows = c.new-2.ensures looks table.cells.questions;
+      cells = ap (λ t. t.cells.kept) empty
+          ∙ sym (ap (λ t. map (cell_of (looks_of c.new.result.cells.evaluator.pdp)) (triples t.names)) empty);
       documents = c.document_count-documents.ensures
-          ∙ ap (λ (slots : List Slots). document_count (map held slots)) c.policies.ensures;
-      serial = subst (λ n. n ≤ 2 ^ 63) (sym c.new-3.ensures.serial) (omega arith);
+          ∙ ap (λ (slots : List Slots). document_count (map held slots)) c.policies.ensures
+          ∙ ap (λ p. document_count (held_by p).modules) (sym made);
+      serial = subst (λ n. n ≤ 2 ^ 63) (sym c.new-2.ensures.serial) (omega arith);
       limits = c.requires;
-      closed = c.new-3.ensures.closed;
-      room = subst (λ (t : Table). length t.cells.kept ≤ room_of log) (sym empty) (omega arith);
+      closed = c.new-2.ensures.closed;
+      room = subst (λ t. length t.cells.kept ≤ room_of log) (sym empty) (omega arith);
     }

@@ -1,14 +1,12 @@
 use Rattle.std.proofs.Common.{◌≡◌, ◌+◌, ◌≤◌, ◌^◌, length, None, Ok, refl, sym, ap, subst, ◌∙◌, arith}
 use Rattle.std.proofs.lemmas.List.{length-map}
 use Rattle.ent_finder.specs.Slots.{document_count}
-use Rattle.ent_cells.specs.Cell.{Knows}
 use Rattle.ent_cells.specs.Order.{request_order}
-use Rattle.ent_eval.specs.LooksOf.{held_by, looks_of}
+use Rattle.ent_eval.specs.LooksOf.{held_by}
 use Rattle.ent_log.specs.Tables.{Undoes}
-use Rattle.ent_request.specs.Looks.{Looks}
 use Rattle.ent_table.specs.Difference.{changes}
 use Rattle.ent_table.specs.Names.{Names}
-use Rattle.ent_table.specs.Fresh.{state_of}
+use Rattle.ent_table.specs.Fresh.{point_of, state_of}
 use Rattle.ent_table.specs.Limits.{IsWithinGreatest}
 use Rattle.ent_table.specs.State.{State, answer_at, fresh_cells}
 use Rattle.ent_table.specs.Step.{name_added, next}
@@ -34,7 +32,7 @@ returns-in-Ok-clause-step g c =
     let up : c.log_edit.new.self.log.serial ≡ old.log.serial + 1 = counted.logs.serial ∙ ap (λ n. n + 1) c.add.ensures.same.serial in
     let after : state_of c.log_edit.new.self ≡ more_names s list name =
     ap state_of counted.rest
-    ∙ ap (λ n. record s { held = held_by c.add.new.pdp; names = c.add.new.self.names; serial = n }) up
+    ∙ ap (λ n. record s { held = held_by c.add.new.self.cells.evaluator.pdp; names = c.add.new.self.names; serial = n }) up
     ∙ ap (λ p. record (next s) { held = held_by p; names = c.add.new.self.names }) c.in-Ok.ensures.rest
     ∙ ap (λ (n : Names). record (next s) { names = n }) is.names in
     let passes = name_passes s list name c.in_ok-name_fault.ensures in (
@@ -59,10 +57,6 @@ returns-in-Ok-clause-fresh g c =
     let counted = c.log_edit.ensures in
     record {
       cells = ap (λ v. v.table.cells.kept) counted.rest ∙ is.cells ∙ ap (λ (u : State). fresh_cells u) after;
-      knows =
-          subst (λ v. Knows (looks_of v.pdp) v.table.cells v.memory) (sym counted.rest)
-          (subst (λ (l : Looks). Knows l c.add.new.self.cells c.add.new.memory)
-          (sym (ap looks_of c.in-Ok.ensures.rest)) c.in-Ok.ensures.knows);
       documents = ap (λ v. v.documents) counted.rest
           ∙ c.requires.documents ∙ ap (λ (u : State). document_count u.held.modules) after;
       serial = subst (λ n. n ≤ 2 ^ 63) (ap (λ (u : State). u.serial) after)
@@ -92,8 +86,8 @@ returns-in-Ok-clause-counted g c =
     let list = c.args.list in
     let name = c.args.name in
     let passes = name_passes s list name c.in_ok-name_fault.ensures in
-    λ h. made_counts (name_added s list name) s (more_names s list name) c.args.self.now.pdp.evaluations c.log_edit.new.self.pdp.evaluations (length (requests_with list name s.names)) c.log_edit.result
-    passes.1 (sym (touched_more s list name passes.0)) (ap (λ v. v.pdp.evaluations) c.log_edit.ensures.rest ∙ c.in-Ok.ensures.counted h)
+    λ h. made_counts (name_added s list name) s (more_names s list name) (point_of c.args.self.now).evaluations (point_of c.log_edit.new.self).evaluations (length (requests_with list name s.names)) c.log_edit.result
+    passes.1 (sym (touched_more s list name passes.0)) (ap (λ v. (point_of v).evaluations) c.log_edit.ensures.rest ∙ c.in-Ok.ensures.counted h)
 
 pub returns-in-Err-clause-counted : goal.returns-in-Err-clause-counted
 returns-in-Err-clause-counted g c =
@@ -101,7 +95,7 @@ returns-in-Err-clause-counted g c =
     let list = c.args.list in
     let name = c.args.name in
     let passes = name_passes s list name c.in_ok-name_fault.ensures in
-    λ h. wanting_counts (name_added s list name) s (more_names s list name) c.args.self.now.pdp.evaluations c.add.new.pdp.evaluations (length (requests_with list name s.names))
+    λ h. wanting_counts (name_added s list name) s (more_names s list name) (point_of c.args.self.now).evaluations c.add.new.self.cells.evaluator.pdp.evaluations (length (requests_with list name s.names))
     passes.1 (sym (touched_more s list name passes.0)) (c.in-Err.ensures.bound h)
 
 pub returns-in-Err-clause-step : goal.returns-in-Err-clause-step
@@ -113,24 +107,13 @@ returns-in-Err-clause-step g c =
 pub returns-in-Err-clause-fresh : goal.returns-in-Err-clause-fresh
 returns-in-Err-clause-fresh g c =
     let old = c.args.self.now in
-    let new = record old {
-      pdp = c.add.new.pdp;
-      table = c.add.new.self;
-      memory = c.add.new.memory;
-      log = c.add.new.log;
-    } in
+    let new = record old { table = c.add.new.self; log = c.add.new.log } in
     let failed = c.in-Err.ensures in
     fresh_again old new c.requires failed.err.cells
-    (subst (λ (l : Looks). Knows l new.table.cells new.memory) (sym (ap looks_of failed.rest)) failed.knows)
     refl failed.same failed.grows (returns-in-Err-clause-step g c).1
 
 pub returns-in-Err-clause-tables : goal.returns-in-Err-clause-tables
 returns-in-Err-clause-tables g c =
     let old = c.args.self.now in
-    let new = record old {
-      pdp = c.add.new.pdp;
-      table = c.add.new.self;
-      memory = c.add.new.memory;
-      log = c.add.new.log;
-    } in
+    let new = record old { table = c.add.new.self; log = c.add.new.log } in
     kept_stays old new c.in-Err.ensures.same (returns-in-Err-clause-step g c).1

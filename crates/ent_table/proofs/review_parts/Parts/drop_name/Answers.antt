@@ -1,10 +1,10 @@
 use Rattle.std.proofs.Common.{◌≡◌, ◌+◌, ◌≤◌, ◌^◌, ℕ, List, Ok, refl, sym, ap, subst, ◌∙◌, false, arith, leb-false, length}
 use Rattle.ent_cells.specs.Old.{IsLogged}
-use Rattle.ent_eval.specs.LooksOf.{looks_of}
-use Rattle.ent_eval.specs.Memory.{Remembers}
-use Rattle.ent_request.specs.declared.question.Question.{Question}
+use Rattle.ent_eval.specs.Evaluator.{Evaluator}
+use Rattle.ent_eval.specs.LooksOf.{held_by}
+use Rattle.ent_finder.specs.Slots.{document_count}
 use Rattle.ent_table.specs.Difference.{changes}
-use Rattle.ent_table.specs.Fresh.{state_of}
+use Rattle.ent_table.specs.Fresh.{point_of, state_of}
 use Rattle.ent_table.specs.State.{State, fresh_cells}
 use Rattle.ent_table.specs.Step.{is_last, name_dropped, next}
 use Rattle.ent_table.specs.proofs_only.Table.{IsDropped}
@@ -30,7 +30,7 @@ returns-clause-step g c =
     let dropped : IsDropped list name old.table new count = subst (λ (k : List ℕ). IsDropped list k old.table new count) c.as_str-2.ensures c.in-Some.ensures.dropped in
     let is = shows_less s list name old.table new count shows dropped in
     let up : c.close.new.self.serial ≡ old.log.serial + 1 = c.close.ensures.serial ∙ ap (λ n. n + 1) c.remove.ensures.serial in
-    let after : state_of (record old { table = new; log = c.close.new.self }) ≡ less_names s list name = (λ i. record (next s) { names = is.names i; serial = up i }) in
+    let after : state_of (record old { table = new; log = c.close.new.self }) ≡ less_names s list name = (λ i. record (next s) { held = held_by (c.remove.ensures.evaluator i).pdp; names = is.names i; serial = up i }) in
     let open_ : is_last s ≡ false = sym c.is_last.ensures ∙ c.if-is_last.false in (
       name_leaves s list name dropped.there open_ ∙ ap Ok (sym after),
       ap (λ a. a.serial) c.accepted.ensures,
@@ -56,9 +56,8 @@ returns-clause-fresh g c =
     record {
       cells = (shows_less s list name old.table table c.in-Some.changes shows dropped).cells
           ∙ ap (λ (u : State). fresh_cells u) after;
-      knows = subst (λ (questions : List Question). Remembers (looks_of old.pdp) questions old.memory)
-          (sym c.remove.ensures.questions) c.requires.knows;
-      documents = c.requires.documents;
+      documents = c.requires.documents
+          ∙ ap (λ (e : Evaluator). document_count (held_by e.pdp).modules) (sym c.remove.ensures.evaluator);
       serial = subst (λ n. n ≤ 2 ^ 63) (ap (λ (u : State). u.serial) after)
           (omega (arith, leb-false (2 ^ 63) s.serial open_));
       limits = c.requires.limits;
@@ -73,8 +72,8 @@ returns-clause-counted g c =
     let list = c.args.list in
     let name = c.args.name.now in
     let dropped : IsDropped list name old.table c.remove.new.self c.in-Some.changes = subst (λ (k : List ℕ). IsDropped list k old.table c.remove.new.self c.in-Some.changes) c.as_str-2.ensures c.in-Some.ensures.dropped in
-    λ h. made_counts (name_dropped s list name) s (less_names s list name) old.pdp.evaluations old.pdp.evaluations 0 c.accepted.result
-    (name_leaves s list name dropped.there (sym c.is_last.ensures ∙ c.if-is_last.false)) (sym (touched_less s list name)) (sym (raised_none old.pdp.evaluations h))
+    λ h. made_counts (name_dropped s list name) s (less_names s list name) (point_of old).evaluations c.remove.new.self.cells.evaluator.pdp.evaluations 0 c.accepted.result
+    (name_leaves s list name dropped.there (sym c.is_last.ensures ∙ c.if-is_last.false)) (sym (touched_less s list name)) (ap (λ (e : Evaluator). e.pdp.evaluations) c.remove.ensures.evaluator ∙ sym (raised_none (point_of old).evaluations h))
 
 pub returns-clause-tables : goal.returns-clause-tables
 returns-clause-tables g c =

@@ -1,39 +1,21 @@
-use Rattle.std.proofs.Common.{ap, sym, subst}
-use Rattle.ent_cells.specs.Cell.{Knows}
-use Rattle.ent_eval.specs.LooksOf.{looks_of}
-use Rattle.ent_eval.specs.Point.{Point}
-use Rattle.ent_table.proofs.Knowing.{row_leaves, slots_leave}
+use Rattle.std.proofs.Common.{◌≡◌, ap}
+use Rattle.ent_cells.specs.Cell.{Cells}
+use Rattle.ent_request.specs.Held.{Held}
+use Rattle.ent_table.specs.Fresh.{state_of}
+use Rattle.ent_table.proofs.Held.{when_err, when_ok}
 use Rattle.ent_table.proofs.review_parts.Parts.exchange.Goals as goal
 
-pub returns-in-Document-clause-knows : goal.returns-in-Document-clause-knows
-returns-in-Document-clause-knows g c =
-    let old = c.args.self.now in
-    let new = c.exchange_document.new.self in
-    let rest = c.exchange_document.ensures.rest in
-    let leaves = slots_leave (record old { memory = c.forget_documents.new.self }) new rest in
-    λ known. subst (λ v. Knows (looks_of new.pdp) v.table.cells v.memory) (sym rest)
-    (c.forget_documents.ensures (looks_of old.pdp) (looks_of new.pdp) old.table.cells.questions leaves known)
+pub returns-clause-made : goal.returns-clause-made
+returns-clause-made g c =
+    let s = state_of c.args.self.now in
+    when_ok c.exchange.result (λ e. ap (λ (h : Held). record s { held = h }) e) c.exchange.ensures.made
 
-pub returns-in-Row-clause-knows : goal.returns-in-Row-clause-knows
-returns-in-Row-clause-knows g c =
-    let old = c.args.self.now in
-    let new = c.exchange_row.new.self in
-    let done = c.exchange_row.ensures in
-    let leaves = row_leaves (record old { memory = c.forget_name.new.self }) new c.in-Row.number c.in-Row.key
-    c.in-Row.values c.exchange_row.result done.swapped done.kept in
-    λ known. subst (λ v. Knows (looks_of new.pdp) v.table.cells v.memory) (sym done.rest)
-    (c.forget_name.ensures (looks_of old.pdp) (looks_of new.pdp) old.table.cells.questions leaves known)
+pub returns-clause-kept : goal.returns-clause-kept
+returns-clause-kept g c =
+    let s = state_of c.args.self.now in
+    when_err c.exchange.result (λ e. ap (λ (h : Held). record s { held = h }) e) c.exchange.ensures.stayed
 
-pub returns-in-Root-clause-knows : goal.returns-in-Root-clause-knows
-returns-in-Root-clause-knows g c =
+pub returns-clause-rest : goal.returns-clause-rest
+returns-clause-rest g c =
     let old = c.args.self.now in
-    let new = c.set_root-before.new.self in
-    λ known. c.forget_documents-in-Root.ensures (looks_of old.pdp) (looks_of new) old.table.cells.questions
-    (λ key. ap (λ (p : Point). (looks_of p).values key) c.set_root-before.ensures.new) known
-
-pub returns-in-Environment-clause-knows : goal.returns-in-Environment-clause-knows
-returns-in-Environment-clause-knows g c =
-    let old = c.args.self.now in
-    let new = c.set_environment-before.new.self in
-    λ known. c.forget_documents-in-Environment.ensures (looks_of old.pdp) (looks_of new) old.table.cells.questions
-    (λ key. ap (λ (p : Point). (looks_of p).values key) c.set_environment-before.ensures.new) known
+    ap (λ (cells : Cells). record old { table = record old.table { cells = cells } }) c.exchange.ensures.rest

@@ -1,4 +1,4 @@
-use Rattle.std.proofs.Common.{List, sym, ap, subst}
+use Rattle.std.proofs.Common.{List, sym, ap, subst, ◌∙◌}
 use Rattle.ent_cells.specs.Cell.{HasReadKeys, Kept}
 use Rattle.ent_table.specs.proofs_only.Look.{AreChanged, asks, keys_in}
 use Rattle.ent_table.specs.Fresh.{state_of}
@@ -26,5 +26,5 @@ pub returns-in-Err-clause-rest : goal.returns-in-Err-clause-rest
 returns-in-Err-clause-rest g c =
     held_twice c.args.self.now c.exchange.new.self c.take_back.new.self c.in_ok-exchange.ensures.rest c.take_back.ensures.rest
 
-pub returns-in-Err-clause-knows : goal.returns-in-Err-clause-knows
-returns-in-Err-clause-knows g c = λ known. c.take_back.ensures.knows (c.in_ok-exchange.ensures.knows known)
+pub returns-in-Err-clause-counted : goal.returns-in-Err-clause-counted
+returns-in-Err-clause-counted g c = c.take_back.ensures.counted ∙ c.in_ok-exchange.ensures.counted

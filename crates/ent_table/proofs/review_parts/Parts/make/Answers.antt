@@ -1,15 +1,13 @@
 use Rattle.std.proofs.Common.{◌≡◌, ◌+◌, ◌≤◌, ◌^◌, Ok, refl, sym, ap, subst, ◌∙◌, arith}
 use Rattle.ent_cells.specs.Count.{most, raised}
-use Rattle.ent_cells.specs.Cell.{Knows}
-use Rattle.ent_eval.specs.LooksOf.{held_by, looks_of}
-use Rattle.ent_request.specs.Looks.{Looks}
+use Rattle.ent_eval.specs.LooksOf.{held_by}
 use Rattle.ent_finder.specs.Slots.{document_count}
 use Rattle.ent_table.specs.Counted.{touched_count}
 use Rattle.ent_table.specs.Difference.{changes}
 use Rattle.ent_table.specs.proofs_only.Exchange.{with_exchange}
 use Rattle.ent_table.specs.proofs_only.Look.{AreChanged}
 use Rattle.ent_table.specs.Limits.{IsWithinGreatest}
-use Rattle.ent_table.specs.Fresh.{state_of}
+use Rattle.ent_table.specs.Fresh.{point_of, state_of}
 use Rattle.ent_table.specs.State.{State, fresh_cells}
 use Rattle.ent_table.specs.Step.{next}
 use Rattle.ent_table.proofs.Edited.{fresh_again, unlike_changes}
@@ -18,16 +16,13 @@ use Rattle.ent_table.proofs.Rests.{all_renewed, count_touched, names_stay, right
 use Rattle.ent_table.proofs.SerialTables.{kept_over, kept_stays, undone}
 use Rattle.ent_table.proofs.review_parts.Parts.make.Goals as goal
 
-pub settle-requires-clause-right : goal.settle-requires-clause-right
-settle-requires-clause-right g c =
+pub settle-requires : goal.settle-requires
+settle-requires g c =
     let between = c.exchange_and_tell.new.self in
     let one = c.in-Ok.ensures in
     right_but (state_of c.args.self.now) (state_of between) c.args.exchange one.made
     between.table.cells.kept (ap (λ v. v.table.cells.kept) one.rest ∙ c.requires.fresh.cells) c.as_slice.result.now
     (subst (AreChanged (state_of c.args.self.now) c.args.exchange between.table.cells.kept) (sym c.as_slice.ensures) one.changed)
-
-pub settle-requires-clause-knows : goal.settle-requires-clause-knows
-settle-requires-clause-knows g c = c.in-Ok.ensures.knows c.requires.fresh.knows
 
 -- the cells were made right
 pub returns-in-Ok-settle : goal.returns-in-Ok-settle
@@ -46,7 +41,7 @@ returns-in-Ok-settle g c =
     let up : new.log.serial ≡ between.log.serial + 1 = counted.logs.serial ∙ ap (λ n. n + 1) done.log.serial in
     let after : state_of new ≡ next (with_exchange s x) =
     ap state_of counted.rest
-    ∙ ap (λ n. record mid { held = held_by c.settle.new.pdp; serial = n }) up
+    ∙ ap (λ n. record mid { held = held_by c.settle.new.self.evaluator.pdp; serial = n }) up
     ∙ ap (λ p. record (next mid) { held = held_by p }) done.rest
     ∙ ap next one.made in
     let now : new.table.cells.kept ≡ fresh_cells (state_of new) =
@@ -55,13 +50,10 @@ returns-in-Ok-settle g c =
     let log = log_between old.log between.log c.settle.new.log c.settle.new.log (ap (λ v. v.log) one.rest) done.log refl in
     let changed = subst (AreChanged s x between.table.cells.kept) (sym c.as_slice.ensures) one.changed in
     let count = count_touched s mid x one.made between.table.cells.kept was c.as_slice.result.now changed in
-    let begun : between.pdp.evaluations ≡ old.pdp.evaluations = ap (λ v. v.pdp.evaluations) one.rest in
+    let begun : (point_of between).evaluations ≡ (point_of old).evaluations = one.counted in
     record {
       fresh = record {
         cells = now;
-        knows =
-            subst (λ v. Knows (looks_of v.pdp) v.table.cells v.memory) (sym counted.rest)
-            (subst (λ (l : Looks). Knows l c.settle.new.self c.settle.new.memory) (sym (ap looks_of done.rest)) c.settle.ensures.knows);
         documents = ap (λ v. v.documents) counted.rest ∙ c.requires.documents ∙ ap (λ (u : State). document_count u.held.modules) (sym after);
         serial = subst (λ n. n ≤ 2 ^ 63) (sym more) (omega (arith, c.requires.serial));
         limits = subst IsWithinGreatest (sym (ap (λ v. v.limits) counted.rest ∙ ap (λ v. v.limits) one.rest)) c.requires.fresh.limits;
@@ -76,7 +68,7 @@ returns-in-Ok-settle g c =
             ∙ unlike_changes s (with_exchange s x) between.table.cells.kept c.settle.new.self.kept (names_stay s x) was cells
             ∙ ap (λ (u : State). changes s u) (sym after),
       );
-      counted = λ h. ap (λ v. v.pdp.evaluations) counted.rest
+      counted = λ h. ap (λ v. (point_of v).evaluations) counted.rest
           ∙ done.counted (subst (λ n. n ≤ most) (sym begun) h)
           ∙ (λ i. raised (begun i) (count i));
       tables = kept_over old new c.settle.new.log c.in-Ok-settle.olds log counted.logs
@@ -95,7 +87,7 @@ returns g c =
     let one = c.in-Ok.ensures in
     let two = c.take_back.ensures in
     let failed = c.in-Err.ensures in
-    let settled = ap (λ n. record mid { held = held_by c.settle.new.pdp; serial = n }) failed.log.serial
+    let settled = ap (λ n. record mid { held = held_by c.settle.new.self.evaluator.pdp; serial = n }) failed.log.serial
     ∙ ap (λ p. record mid { held = held_by p }) failed.rest in
     let stays = two.before old (x, c.requires.within, settled ∙ one.made, one.taken) in
     let before = ap (λ v. v.log) one.rest in
@@ -104,19 +96,18 @@ returns g c =
     let was = ap (λ v. v.table.cells.kept) one.rest ∙ c.requires.fresh.cells in
     let changed = subst (AreChanged s x between.table.cells.kept) (sym c.as_slice.ensures) one.changed in
     let count = count_touched s mid x one.made between.table.cells.kept was c.as_slice.result.now changed in
-    let begun : between.pdp.evaluations ≡ old.pdp.evaluations = ap (λ v. v.pdp.evaluations) one.rest in
-    let ended : c.settle.new.pdp.evaluations ≡ new.pdp.evaluations = sym (ap (λ v. v.pdp.evaluations) two.rest) in
+    let begun : (point_of between).evaluations ≡ (point_of old).evaluations = one.counted in
+    let ended : c.settle.new.self.evaluator.pdp.evaluations ≡ (point_of new).evaluations = sym two.counted in
     record {
       fresh = fresh_again old new c.requires.fresh
           (ap (λ v. v.table.cells.kept) two.rest ∙ failed.err ∙ ap (λ v. v.table.cells.kept) one.rest)
-          (two.knows (subst (λ (l : Looks). Knows l c.settle.new.self c.settle.new.memory) (sym (ap looks_of failed.rest)) c.settle.ensures.knows))
           (ap (λ v. v.documents) two.rest ∙ ap (λ v. v.documents) one.rest)
           log (room_between old.log between.log c.settle.new.log new.log before failed.grows after) stays;
       step = (tt, stays);
       counted = λ h.
           let up = failed.bound (subst (λ n. n ≤ most) (sym begun) h) in (
-            subst (λ n. n ≤ new.pdp.evaluations) begun (subst (λ n. between.pdp.evaluations ≤ n) ended up.0),
-            subst (λ n. n ≤ raised old.pdp.evaluations (touched_count s (with_exchange s x))) ended (subst (λ n. c.settle.new.pdp.evaluations ≤ n) (λ i. raised (begun i) (count i)) up.1),
+            subst (λ n. n ≤ (point_of new).evaluations) begun (subst (λ n. (point_of between).evaluations ≤ n) ended up.0),
+            subst (λ n. n ≤ raised (point_of old).evaluations (touched_count s (with_exchange s x))) ended (subst (λ n. c.settle.new.self.evaluator.pdp.evaluations ≤ n) (λ i. raised (begun i) (count i)) up.1),
           );
       tables = kept_stays old new log stays;
     }

@@ -20,7 +20,7 @@ returns-in-Ok-clause-olds g c =
 pub returns-in-Ok-clause-room : goal.returns-in-Ok-clause-room
 returns-in-Ok-clause-room g c =
     let b = c.behind.result in
-    let f = cell_of (looks_of c.args.pdp.now) in
+    let f = cell_of (looks_of c.args.self.now.cells.evaluator.pdp) in
     let requests = c.in_ok-requests.requests in
     let long : length c.in_ok-olds.olds ≡ length requests = ap length c.in_ok-olds.ensures ∙ length-map c.as_slice.result.now (λ x. record { key = x; answer = None }) ∙ ap length c.as_slice.ensures in
     let cells : length c.add.new.self.kept ≡ length c.args.self.now.cells.kept + length requests =
@@ -31,7 +31,7 @@ pub returns-in-Ok-clause-ok : goal.returns-in-Ok-clause-ok
 returns-in-Ok-clause-ok g c =
     let old = c.args.self.now in
     let list = c.args.list in
-    let f = cell_of (looks_of c.args.pdp.now) in
+    let f = cell_of (looks_of c.args.self.now.cells.evaluator.pdp) in
     let names = c.in_ok-push.ensures.ok in
     let b : c.behind.result ≡ behind list (blocks_of list old.names) = c.behind.ensures ∙ ap (behind list) c.blocks-blocks.ensures.blocks in
     let requests : c.in_ok-requests.requests ≡ requests_with list c.args.name old.names =

@@ -7,19 +7,19 @@ use Rattle.ent_cells.proofs.Shapes.{length-without}
 use Rattle.ent_table.proofs.table.Table.remove.Goals as goal
 
 pub overflow_sub-result : goal.overflow_sub-result
-overflow_sub-result c =
+overflow_sub-result g c =
     let blocks = c.blocks-blocks.result in
     omega (arith, c.len.ensures, c.len-before.ensures, ap length c.narrow.ensures.cells, length-without blocks.count blocks.width (c.in_ok-place.place * blocks.each) blocks.each c.args.self.now.cells.kept)
 
 pub returns-clause-dropped : goal.returns-clause-dropped
-returns-clause-dropped c =
+returns-clause-dropped g c =
     let old = c.args.self.now in
     let list = c.args.list in
     let name = c.args.name.now in
     let place = c.in_ok-place.place in
     let stands = c.in_ok-place.ensures.taken.0 in
     let names : c.remove.new.self ≡ without_name list name old.names = c.in_ok-place.ensures.rest ∙ ap (λ xs. with_list list xs old.names) c.in_ok-place.ensures.taken.1 in
-    let fewer : length c.narrow.new.self.kept ≤ length old.cells.kept = omega (arith, c.len.ensures, c.len-before.ensures, overflow_sub-result c) in
+    let fewer : length c.narrow.new.self.kept ≤ length old.cells.kept = omega (arith, c.len.ensures, c.len-before.ensures, overflow_sub-result g c) in
     record {
       there = ap (has_name name) stands.is ∙ has_own name stands.before stands.after;
       names = names;

@@ -1,5 +1,0 @@
-use Rattle.std.proofs.Common.{Some, ap, ◌∙◌}
-use Rattle.ent_eval.proofs.plan.is_root.Goals as goal
-
-pub returns-in-Some : goal.returns-in-Some
-returns-in-Some c = λ h. c.in-Some.is ∙ ap Some (c.same_reference.ensures h)

@@ -1,6 +1,0 @@
-use Rattle.std.proofs.Common.{sym, ◌∙◌}
-use Rattle.ent_policy.proofs.Documents.{same_document-Decides}
-use Rattle.ent_eval.proofs.plan.same_tree.Goals as goal
-
-pub returns : goal.returns
-returns c = λ h. (same_document-Decides c.args.first.now c.args.second.now).0 (sym c.eq.ensures ∙ h)
