@@ -59,6 +59,9 @@ func (r run) proxies() error {
 		nginx.Process.Signal(os.Interrupt)
 		nginx.Wait()
 	}()
+	if err := awaited(alone); err != nil {
+		return err
+	}
 	if err := r.passed("nginx alone", alone); err != nil {
 		return err
 	}
@@ -68,6 +71,18 @@ func (r run) proxies() error {
 		}
 	}
 	return nil
+}
+
+// awaited waits until somebody listens at an address.
+func awaited(address string) error {
+	conn, err := net.Dial("tcp", address)
+	for began := time.Now(); err != nil && time.Since(began) < time.Minute; conn, err = net.Dial("tcp", address) {
+		time.Sleep(10 * time.Millisecond)
+	}
+	if err != nil {
+		return err
+	}
+	return conn.Close()
 }
 
 // passedBy measures with so many askers.
@@ -116,18 +131,18 @@ func (r run) passed(what, address string) error {
 	for _, taken := range times {
 		every = append(every, taken...)
 	}
+	if len(every) == 0 {
+		return fmt.Errorf("%s: nothing was answered in %v", what, r.time)
+	}
 	sort.Slice(every, func(i, j int) bool { return every[i] < every[j] })
 	fmt.Printf("%s: %.0f requests a second over %d connections, median %v, of a hundred the slowest %v\n", what,
 		float64(len(every))/took.Seconds(), proxied, every[len(every)/2], every[len(every)*99/100])
 	return nil
 }
 
-// through sends requests over one connection until a time; the first may have to wait for nginx.
+// through sends requests over one connection until a time.
 func through(address string, until time.Time) ([]time.Duration, error) {
 	conn, err := net.Dial("tcp", address)
-	for ; err != nil && time.Now().Before(until); conn, err = net.Dial("tcp", address) {
-		time.Sleep(10 * time.Millisecond)
-	}
 	if err != nil {
 		return nil, err
 	}
