@@ -195,14 +195,17 @@ func TestCheckClinic(t *testing.T) {
 // how he may show who he is; who has no role may not ask.
 func TestCheckTokens(t *testing.T) {
 	s, folder := newSigner(t), t.TempDir()
-	file := checkFile(t, strings.Replace(checked, `{"header": "X-User"}`, `{"token": "Authorization"}`, 1))
+	page := enforcing(t)
+	subject := `{"token": "Authorization", "claims": ` + inline(t, page, `{"groups":`) + `}`
+	file := checkFile(t, strings.Replace(checked, `{"header": "X-User"}`, subject, 1))
 	before := begin(t, folder)
 	before.accept(checkedState()...)
 	before.stop()
-	access := accessFile(t, `{"claim":{"group":"app"},"roles":["ask"]}`, `{"claim":{"group":"none"},"roles":[]}`)
+	access := accessFile(t, inline(t, page, `{"claim":{"scope":"app"}`), `{"claim":{"scope":"none"},"roles":[]}`)
 	f := begin(t, folder, append(s.options(), "--check", file, "--access", access)...)
-	token := func(of *signer, who, group string, ends time.Duration) string {
-		return "Bearer " + of.token(t, who, time.Now().Add(ends), nil, map[string]any{"group": group})
+	token := func(of *signer, who, scope string, ends time.Duration) string {
+		claims := map[string]any{"scope": scope, "groups": []string{"ward"}}
+		return "Bearer " + of.token(t, who, time.Now().Add(ends), nil, claims)
 	}
 	for _, one := range []struct {
 		token  string

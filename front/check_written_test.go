@@ -57,7 +57,7 @@ func TestTraefik(t *testing.T) {
 // prefix, and as its host.
 func TestEnvoy(t *testing.T) {
 	file := checkFile(t, strings.Replace(checked,
-		`"request": {"method": "X-Forwarded-Method", "uri": "X-Forwarded-Uri"},`, `"permit": 200,`, 1))
+		`"request": {"method": "X-Forwarded-Method", "uri": "X-Forwarded-Uri"},`, inline(t, enforcing(t), `"permit"`)+",", 1))
 	f := begin(t, t.TempDir(), "--check", file, "--host", "app.example", "--host", "127.0.0.1")
 	f.accept(checkedState()...)
 	for asked, want := range map[string]int{

@@ -92,10 +92,6 @@ func TestKubernetes(t *testing.T) {
 	if status, body := f.sendReview(string(example)); status != http.StatusOK || !strings.Contains(body, allowed) {
 		t.Errorf("the example is answered %d %s", status, body)
 	}
-	webhook, err := os.ReadFile(filepath.Join("..", "examples", "cluster", "webhook.kubeconfig"))
-	if err != nil || !strings.Contains(string(webhook), ":8443/k8s/authorize\n") {
-		t.Errorf("the example of the webhook asks elsewhere: %v", err)
-	}
 	var groups []string
 	for i := 0; i < 300; i++ {
 		groups = append(groups, fmt.Sprintf("g%d", i))
