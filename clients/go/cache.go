@@ -18,147 +18,109 @@ const silence = 40 * time.Second
 // key is a request of three ids.
 type key struct{ Person, Action, Resource string }
 
-// cache keeps answers of listed requests, which are those of the table. One is kept if it is of a state at least as new
-// as what was told last: what changes it later is told later.
-type cache struct {
-	client  *Client
-	end     context.CancelFunc
-	mutex   sync.Mutex
-	answers map[key]Decision
-	hears   bool
-	told    uint64 // up to which serial changes were told
+// table has answers of listed requests. One is kept if it is of a state at least as new as what was told last: what
+// changes it later is told later.
+type table struct {
+	sync.Mutex
+	answers map[key]Decision // nil while nobody tells what changes
+	told    uint64           // up to which serial changes were told
 }
 
-// listen begins to listen to what changes.
-func listen(client *Client) *cache {
-	ctx, end := context.WithCancel(context.Background())
-	c := &cache{client: client, end: end, answers: map[key]Decision{}}
-	go func() {
-		for ctx.Err() == nil {
-			c.hear(ctx)
-			c.begin(false, 0)
-			select {
-			case <-ctx.Done():
-			case <-time.After(time.Second):
-			}
-		}
-	}()
-	return c
-}
-
-// begin forgets all that was kept.
-func (c *cache) begin(hears bool, told uint64) {
-	c.mutex.Lock()
-	defer c.mutex.Unlock()
-	c.hears, c.told, c.answers = hears, told, map[key]Decision{}
-}
-
-// kept is the answer that is kept, or nil, and whether any may be.
-func (c *cache) kept(k key, atLeast uint64) (*Decision, bool) {
-	c.mutex.Lock()
-	defer c.mutex.Unlock()
-	if found, there := c.answers[k]; there && atLeast <= c.told {
-		return &found, true
+// askTable asks the table, unless its answer is kept. It is false where nobody tells what changes there, where the
+// request isn't listed, and where who asks may not read it.
+func (c *Client) askTable(ctx context.Context, k key, atLeast uint64) (Decision, bool) {
+	c.table.Lock()
+	found, kept := c.table.answers[k]
+	kept, told := kept && atLeast <= c.table.told, c.table.answers != nil
+	c.table.Unlock()
+	if kept || !told {
+		return found, kept
 	}
-	return nil, c.hears
+	var read struct {
+		Cell struct {
+			key
+			Decision, Status    string
+			Obligations, Advice []Duty
+		}
+	}
+	path := "/cells/" + url.PathEscape(k.Person) + "/" + url.PathEscape(k.Action) + "/" + url.PathEscape(k.Resource)
+	serial, err := c.send(ctx, http.MethodGet, path, nil, atLeast, &read)
+	cell := read.Cell
+	if err != nil || cell.key != k {
+		return Decision{}, false
+	}
+	found = made(cell.Decision, cell.Obligations, cell.Advice, cell.Status, serial)
+	c.table.keep(k, found, c.options.Cache)
+	return found, true
 }
 
 // keep keeps an answer, for which others make room.
-func (c *cache) keep(k key, found Decision) {
-	c.mutex.Lock()
-	defer c.mutex.Unlock()
-	if !c.hears || found.Serial < c.told || found.Decision == NoAnswer {
+func (t *table) keep(k key, found Decision, most int) {
+	t.Lock()
+	defer t.Unlock()
+	if t.answers == nil || found.Serial < t.told || found.Decision == NoAnswer {
 		return
 	}
-	delete(c.answers, k)
-	for other := range c.answers {
-		if len(c.answers) < c.client.options.Cache {
+	delete(t.answers, k)
+	for other := range t.answers {
+		if len(t.answers) < most {
 			break
 		}
-		delete(c.answers, other)
+		delete(t.answers, other)
 	}
-	c.answers[k] = found
+	t.answers[k] = found
 }
 
-// ask answers a question of three ids: from what is kept, from the table, or where they aren't listed, or who asks may
-// not read it, as any other.
-func (c *cache) ask(ctx context.Context, q Question) Decision {
-	k := key{q.Person, q.Action, q.Resource}
-	found, hears := c.kept(k, q.AtLeast)
-	if found != nil {
-		return *found
+// listen hears what changes, and begins anew a second after that ended.
+func (c *Client) listen(ctx context.Context) {
+	for ; ctx.Err() == nil; time.Sleep(time.Second) {
+		c.hear(ctx)
+		c.table.Lock()
+		c.table.answers = nil
+		c.table.Unlock()
 	}
-	if hears {
-		path := "/cells/" + url.PathEscape(k.Person) + "/" + url.PathEscape(k.Action) + "/" + url.PathEscape(k.Resource)
-		var read struct {
-			Cell struct {
-				key
-				Decision, Status    string
-				Obligations, Advice []Duty
-			}
-		}
-		serial, err := c.client.send(ctx, http.MethodGet, path, nil, q.AtLeast, &read)
-		if cell := read.Cell; err == nil && cell.key == k {
-			found := made(cell.Decision, cell.Obligations, cell.Advice, cell.Status, serial)
-			c.keep(k, found)
-			return found
-		}
-	}
-	return c.client.Decide(ctx, q.request(), q.AtLeast)
 }
 
 // hear hears what changes, until that ends or nothing is said for too long.
-func (c *cache) hear(ctx context.Context) {
+func (c *Client) hear(ctx context.Context) {
 	ctx, cancel := context.WithCancel(ctx)
 	defer cancel()
 	silent := time.AfterFunc(silence, cancel)
 	defer silent.Stop()
-	answer, err := c.client.do(ctx, http.MethodGet, "/notices", nil, 0)
+	answer, err := c.open(ctx, http.MethodGet, "/notices", nil, 0)
 	if err != nil {
 		return
 	}
 	defer answer.Body.Close()
-	event := map[string]string{}
-	for lines := bufio.NewReader(answer.Body); answer.StatusCode == http.StatusOK; {
-		line, err := lines.ReadString('\n')
-		if err != nil {
-			return
-		}
-		silent.Reset(silence)
-		word, rest, _ := strings.Cut(strings.TrimSuffix(line, "\n"), ": ")
-		switch {
-		case word == "event" || word == "id" || word == "data":
-			event[word] = rest
-		case line == "\n" && event["data"] != "":
-			if !c.tell(event) {
-				return
-			}
-			event = map[string]string{}
-		case line != "\n" && line[0] != ':':
+	lines := bufio.NewScanner(answer.Body)
+	lines.Buffer(nil, mostBytes)
+	for serial := uint64(0); answer.StatusCode == http.StatusOK && err == nil && lines.Scan(); silent.Reset(silence) {
+		switch word, rest, _ := strings.Cut(lines.Text(), ":"); word {
+		case "id":
+			serial, err = strconv.ParseUint(strings.TrimSpace(rest), 10, 64)
+		case "data":
+			err = c.table.tell([]byte(rest), serial)
+		case "", "event":
+		default:
 			return // it says why it ends
 		}
 	}
 }
 
-// tell forgets what an event changes. It is false where that can't be read.
-func (c *cache) tell(event map[string]string) bool {
-	serial, err := strconv.ParseUint(event["id"], 10, 64)
-	if err != nil {
-		return false
-	}
-	if event["event"] != "notices" {
-		c.begin(true, serial)
-		return true
-	}
+// tell forgets what changed up to a serial: all, where it isn't told what.
+func (t *table) tell(data []byte, serial uint64) error {
 	var read struct{ Notices []key }
-	if err := json.Unmarshal([]byte(event["data"]), &read); err != nil {
-		return false
+	if err := json.Unmarshal(data, &read); err != nil {
+		return err
 	}
-	c.mutex.Lock()
-	defer c.mutex.Unlock()
-	c.told = serial
+	t.Lock()
+	defer t.Unlock()
+	t.told = serial
+	if read.Notices == nil {
+		t.answers = map[key]Decision{}
+	}
 	for _, k := range read.Notices {
-		delete(c.answers, k)
+		delete(t.answers, k)
 	}
-	return true
+	return nil
 }

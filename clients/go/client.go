@@ -1,7 +1,4 @@
 // Package review asks a front of `review` for decisions, and denies where there is no answer.
-//
-//	client, err := review.New("http://127.0.0.1:8080", review.Options{Token: "..", Cache: 10_000})
-//	if client.Ask(ctx, review.Question{Person: "ann", Action: "read", Resource: "moss"}).Allowed(fulfil) { .. }
 package review
 
 import (
@@ -21,7 +18,7 @@ const (
 	// NoAnswer is the decision where there is none.
 	NoAnswer  = "NoAnswer"
 	pause     = 50 * time.Millisecond // before it is asked once more
-	mostBytes = 64 << 20              // of an answer
+	mostBytes = 64 << 20              // of an answer, and of what is told at once
 )
 
 // Options is how a client asks.
@@ -32,15 +29,6 @@ type Options struct {
 	Transport http.RoundTripper // nil: http.DefaultTransport
 }
 
-// Client asks one front. Any number of goroutines may use it.
-type Client struct {
-	options Options
-	base    string
-	web     http.Client
-	sent    atomic.Uint64 // how often it asked
-	cache   *cache
-}
-
 // Question is whether a person may do an action to a resource.
 type Question struct {
 	Person, Action, Resource string
@@ -48,21 +36,18 @@ type Question struct {
 	AtLeast                  uint64      // a serial that has to be known
 }
 
-// Attribute is one that a question gives. Its values are texts, booleans or numbers, all of one kind.
+// Attribute is one that a question gives, or that an obligation or an advice assigns.
 type Attribute struct {
-	Category string // as AccessSubject, Action, Resource, Environment, or a URI
-	ID       string
-	Values   []any
+	Category         string `json:",omitempty"` // as AccessSubject, Action, Resource, Environment, or a URI
+	ID               string `json:"AttributeId"`
+	DataType, Issuer string `json:",omitempty"` // may be empty
+	Value            any    // a text, a boolean or a number, or several of one kind
 }
 
 // Duty is an obligation or an advice.
 type Duty struct {
-	ID          string `json:"Id"`
-	Assignments []struct {
-		ID                         string `json:"AttributeId"`
-		DataType, Category, Issuer string
-		Value                      any
-	} `json:"AttributeAssignment"`
+	ID          string      `json:"Id"`
+	Assignments []Attribute `json:"AttributeAssignment"`
 }
 
 // Decision is what was decided: Permit, Deny, NotApplicable, Indeterminate or NoAnswer.
@@ -77,13 +62,21 @@ type Decision struct {
 // Allowed says whether access is to be given: for a Permit each of whose obligations is fulfilled. Those of another
 // decision are handed over too. Without `fulfil` an obligation refuses.
 func (d Decision) Allowed(fulfil func(Duty) error) bool {
-	allowed := d.Decision == "Permit"
+	done := true
 	for _, one := range d.Obligations {
-		if fulfil == nil || fulfil(one) != nil {
-			allowed = false
-		}
+		done = fulfil != nil && fulfil(one) == nil && done
 	}
-	return allowed
+	return done && d.Decision == "Permit"
+}
+
+// Client asks one front. Any number of goroutines may use it.
+type Client struct {
+	options Options
+	base    string
+	web     http.Client
+	sent    atomic.Uint64 // how often it asked
+	end     context.CancelFunc
+	table   table
 }
 
 // New makes a client of the front at an address. With a cache it listens until it is closed.
@@ -94,27 +87,40 @@ func New(base string, options Options) (*Client, error) {
 	if options.Timeout == 0 {
 		options.Timeout = 2 * time.Second
 	}
-	c := &Client{options: options, base: strings.TrimSuffix(base, "/"), web: http.Client{Transport: options.Transport}}
+	ctx, end := context.WithCancel(context.Background())
+	c := &Client{options: options, base: strings.TrimSuffix(base, "/"), end: end}
+	c.web.Transport = options.Transport
 	c.web.CheckRedirect = func(*http.Request, []*http.Request) error { return http.ErrUseLastResponse }
 	if options.Cache > 0 {
-		c.cache = listen(c)
+		go c.listen(ctx)
 	}
 	return c, nil
 }
 
 // Close ends the listening to what changes.
-func (c *Client) Close() {
-	if c.cache != nil {
-		c.cache.end()
-	}
-}
+func (c *Client) Close() { c.end() }
 
-// Ask asks a question.
+// Ask asks a question. One of three ids is asked of the table while that tells what changes.
 func (c *Client) Ask(ctx context.Context, q Question) Decision {
-	if c.cache != nil && len(q.More) == 0 {
-		return c.cache.ask(ctx, q)
+	if len(q.More) == 0 {
+		if found, listed := c.askTable(ctx, key{q.Person, q.Action, q.Resource}, q.AtLeast); listed {
+			return found
+		}
 	}
-	return c.Decide(ctx, q.request(), q.AtLeast)
+	const ids = "urn:oasis:names:tc:xacml:1.0:"
+	given := map[string][]Attribute{
+		"AccessSubject": {{ID: ids + "subject:subject-id", Value: q.Person}},
+		"Action":        {{ID: ids + "action:action-id", Value: q.Action}},
+		"Resource":      {{ID: ids + "resource:resource-id", Value: q.Resource}},
+	}
+	for _, one := range q.More {
+		given[one.Category] = append(given[one.Category], Attribute{"", one.ID, one.DataType, one.Issuer, one.Value})
+	}
+	var all []any
+	for category, attributes := range given {
+		all = append(all, map[string]any{"CategoryId": category, "Attribute": attributes})
+	}
+	return c.Decide(ctx, map[string]any{"Request": map[string]any{"Category": all}}, q.AtLeast)
 }
 
 // Decide asks any request of one question, as the JSON Profile of XACML has it, of at least a serial.
@@ -141,8 +147,18 @@ func (c *Client) Decide(ctx context.Context, request any, atLeast uint64) Decisi
 	return made(one.Decision, one.Obligations, one.AssociatedAdvice, one.Status.StatusCode.Value, serial)
 }
 
+// made is a decision of what was answered. An Indeterminate of the table says more behind a brace.
+func made(decision string, obligations, advice []Duty, status string, serial uint64) Decision {
+	word, _, _ := strings.Cut(decision, "{")
+	switch word {
+	case "Permit", "Deny", "NotApplicable", "Indeterminate":
+		return Decision{word, obligations, advice, status[strings.LastIndex(status, ":")+1:], serial, nil}
+	}
+	return Decision{Decision: NoAnswer, Err: fmt.Errorf("the decision %q is none", decision)}
+}
+
 // Guard passes a request on where what it asks is allowed. Of who asks nothing (false), or isn't allowed, it answers
-// 403, and 503 where there is no answer.
+// 403, and 503 where there is no answer. Without `fulfil` an obligation refuses.
 func (c *Client) Guard(
 	next http.Handler, ask func(*http.Request) (Question, bool), fulfil func(*http.Request, Duty) error,
 ) http.Handler {
@@ -167,54 +183,42 @@ func (c *Client) Guard(
 }
 
 // send asks at most twice, and reads the JSON of an answer of 200, of which it gives the serial.
-func (c *Client) send(
-	ctx context.Context, method, path string, body []byte, atLeast uint64, into any,
-) (serial uint64, err error) {
-	for try, status := 0, 0; try < 2 && ctx.Err() == nil; try++ {
-		if try > 0 {
-			time.Sleep(pause)
-		}
-		serial, status, err = c.sendOnce(ctx, method, path, body, atLeast, into)
-		if status != 0 && status != 502 && status != 503 && status != 504 {
-			return serial, err
-		}
-	}
-	if err == nil {
-		err = ctx.Err()
+func (c *Client) send(ctx context.Context, method, path string, body []byte, atLeast uint64, into any) (uint64, error) {
+	serial, again, err := c.sendOnce(ctx, method, path, body, atLeast, into)
+	if again && ctx.Err() == nil {
+		time.Sleep(pause)
+		serial, _, err = c.sendOnce(ctx, method, path, body, atLeast, into)
 	}
 	return serial, err
 }
 
-// sendOnce asks once. The status is 0 where nothing came that can be read.
+// sendOnce asks once. It is to be asked again where nothing came that can be read, or there was no reply of the program.
 func (c *Client) sendOnce(
 	ctx context.Context, method, path string, body []byte, atLeast uint64, into any,
-) (serial uint64, status int, err error) {
+) (serial uint64, again bool, err error) {
 	c.sent.Add(1)
 	ctx, cancel := context.WithTimeout(ctx, c.options.Timeout)
 	defer cancel()
-	answer, err := c.do(ctx, method, path, body, atLeast)
+	answer, err := c.open(ctx, method, path, body, atLeast)
 	if err != nil {
-		return 0, 0, err
+		return 0, true, err
 	}
 	defer answer.Body.Close()
 	content, err := io.ReadAll(io.LimitReader(answer.Body, mostBytes))
-	if err != nil {
-		return 0, 0, err
+	if status := answer.StatusCode; err == nil && status != http.StatusOK {
+		return 0, 502 <= status && status <= 504, fmt.Errorf("status %d: %s", status, bytes.TrimSpace(content))
 	}
-	if answer.StatusCode != http.StatusOK {
-		return 0, answer.StatusCode, fmt.Errorf("status %d: %s", answer.StatusCode, bytes.TrimSpace(content))
-	}
-	if serial, err = strconv.ParseUint(answer.Header.Get("Review-Serial"), 10, 64); err == nil {
+	if err == nil {
 		err = json.Unmarshal(content, into)
 	}
-	if err != nil {
-		return 0, 0, err
+	if err == nil {
+		serial, err = strconv.ParseUint(answer.Header.Get("Review-Serial"), 10, 64)
 	}
-	return serial, http.StatusOK, nil
+	return serial, err != nil, err
 }
 
-// do asks a path of the front.
-func (c *Client) do(ctx context.Context, method, path string, body []byte, atLeast uint64) (*http.Response, error) {
+// open asks a path of the front, and gives what it answers before that is read.
+func (c *Client) open(ctx context.Context, method, path string, body []byte, atLeast uint64) (*http.Response, error) {
 	asked, err := http.NewRequestWithContext(ctx, method, c.base+path, bytes.NewReader(body))
 	if err != nil {
 		return nil, err
@@ -227,31 +231,4 @@ func (c *Client) do(ctx context.Context, method, path string, body []byte, atLea
 		asked.Header.Set("Review-At-Least", strconv.FormatUint(atLeast, 10))
 	}
 	return c.web.Do(asked)
-}
-
-// request is the request that asks a question.
-func (q Question) request() any {
-	const ids = "urn:oasis:names:tc:xacml:1.0:"
-	given := map[string][]any{}
-	for _, one := range append([]Attribute{
-		{"AccessSubject", ids + "subject:subject-id", []any{q.Person}}, {"Action", ids + "action:action-id", []any{q.Action}},
-		{"Resource", ids + "resource:resource-id", []any{q.Resource}},
-	}, q.More...) {
-		given[one.Category] = append(given[one.Category], map[string]any{"AttributeId": one.ID, "Value": one.Values})
-	}
-	var all []any
-	for category, attributes := range given {
-		all = append(all, map[string]any{"CategoryId": category, "Attribute": attributes})
-	}
-	return map[string]any{"Request": map[string]any{"Category": all}}
-}
-
-// made is a decision of what was answered. An Indeterminate of the table says more behind a brace.
-func made(decision string, obligations, advice []Duty, status string, serial uint64) Decision {
-	word, _, _ := strings.Cut(decision, "{")
-	switch word {
-	case "Permit", "Deny", "NotApplicable", "Indeterminate":
-		return Decision{word, obligations, advice, status[strings.LastIndex(status, ":")+1:], serial, nil}
-	}
-	return Decision{Decision: NoAnswer, Err: fmt.Errorf("the decision %q is none", decision)}
 }

@@ -153,7 +153,7 @@ func TestCache(t *testing.T) {
 		t.Error("a kept answer is given for a later serial")
 	}
 	more := q
-	more.More = []Attribute{{"Environment", "n", []any{1}}}
+	more.More = []Attribute{{Category: "Environment", ID: "n", Value: 1}}
 	if other := (Question{Person: "nobody/else", Action: "write", Resource: "record-moss"}); client.keeps(other) || client.keeps(more) {
 		t.Error("an answer of no cell is kept")
 	}
