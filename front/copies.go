@@ -10,6 +10,7 @@ import (
 	"time"
 
 	"review-front/folder"
+	"review-front/jetstream"
 )
 
 // worded reads the words of a command that reads a folder. Where it has nothing to do it gives the exit status.
@@ -44,9 +45,13 @@ func failed(command string, faults io.Writer, err error) int {
 func verify(words []string, to, faults io.Writer) int {
 	var key string
 	var files list
+	var stream jetstream.Options
 	journal, _, status, ok := worded("verify", words, 0, faults, func(set *flag.FlagSet) {
 		set.StringVar(&key, "key", "", "the `file` of the public key by which heads have to be signed")
-		set.Var(&files, "head", "a `file` of heads that were kept elsewhere; may stand several times")
+		set.Var(&files, "head", "a `file` of heads that were kept elsewhere, or a stream as --heads-to has it; may stand "+
+			"several times")
+		set.StringVar(&stream.Credentials, "log-credentials", "", "a `file` by which its servers know who asks")
+		set.StringVar(&stream.Authority, "log-authority", "", "a `file` with certificates that sign those of its servers")
 	})
 	if !ok {
 		return status
@@ -55,7 +60,7 @@ func verify(words []string, to, faults io.Writer) int {
 	if err != nil {
 		return failed("verify", faults, err)
 	}
-	given, err := readGiven(journal, key, files)
+	given, err := readGiven(journal, key, files, stream)
 	if err != nil {
 		return failed("verify", faults, err)
 	}

@@ -1,6 +1,7 @@
 package main
 
 import (
+	"context"
 	"crypto/ed25519"
 	"errors"
 	"fmt"
@@ -8,15 +9,18 @@ import (
 	"os"
 	"path/filepath"
 	"sort"
+	"strings"
+	"time"
 
 	"review-front/folder"
 	"review-front/heads"
+	"review-front/jetstream"
 	"review-front/logs"
 )
 
 // heads are those of the folder's chain.
 func (o options) heads(held *folder.Folder, log *logs.Log) (*heads.Book, error) {
-	made := heads.Options{Folder: held, To: o.headsTo, Log: log}
+	made := heads.Options{Folder: held, To: o.headsTo, Log: log, Put: o.putHead}
 	if o.signKey != "" {
 		key, err := heads.ReadKey(o.signKey)
 		if err != nil {
@@ -27,6 +31,52 @@ func (o options) heads(held *folder.Folder, log *logs.Log) (*heads.Book, error) 
 	return heads.Open(made)
 }
 
+// putHead puts a head into a stream.
+func (o options) putHead(ctx context.Context, to string, line []byte) error {
+	stream, err := headStream(to, o.stream)
+	if err != nil {
+		return err
+	}
+	return jetstream.PutHead(ctx, stream, line)
+}
+
+// headStream is a stream of heads as it is named: nats://, its servers with commas between, a slash, its name. The rest
+// of how it is reached is as that of edits.
+func headStream(to string, like jetstream.Options) (jetstream.Options, error) {
+	at := strings.LastIndexByte(to, '/')
+	like.Servers, like.Stream = to[:at], to[at+1:]
+	if strings.HasSuffix(like.Servers, "/") || like.Stream == "" || strings.ContainsAny(like.Stream, " \t\r\n.*>\\") {
+		return like, errors.New("no stream is named, as nats://host:4222/heads does")
+	}
+	return like, nil
+}
+
+// headsToStream says whether heads are sent to a stream.
+func (o options) headsToStream() bool {
+	for _, to := range o.headsTo {
+		if heads.IsStream(to) {
+			return true
+		}
+	}
+	return false
+}
+
+// wrongHeads says what is wrong with where heads are sent, or nothing.
+func (o options) wrongHeads() string {
+	for _, to := range o.headsTo {
+		if !heads.IsStream(to) {
+			continue
+		}
+		if _, err := headStream(to, o.stream); err != nil {
+			return "--heads-to: " + err.Error()
+		}
+		if !jetstream.Built {
+			return "--heads-to names a stream, of which this front was built without the client"
+		}
+	}
+	return ""
+}
+
 // given are the heads by which a folder is looked at.
 type given struct {
 	key     ed25519.PublicKey // nil: signatures aren't looked at
@@ -34,8 +84,25 @@ type given struct {
 	inside  []heads.Head // those that stand in the folder
 }
 
+// headsTime is how long it may take to read a stream of heads.
+const headsTime = 5 * time.Minute
+
+// readHeads reads a file of heads, or a stream.
+func readHeads(name string, stream jetstream.Options) ([]byte, error) {
+	if !heads.IsStream(name) {
+		return os.ReadFile(name)
+	}
+	stream, err := headStream(name, stream)
+	if err != nil {
+		return nil, err
+	}
+	ctx, cancel := context.WithTimeout(context.Background(), headsTime)
+	defer cancel()
+	return jetstream.Heads(ctx, stream)
+}
+
 // readGiven reads heads, and the key that is to have signed them.
-func readGiven(journal, key string, files []string) (*given, error) {
+func readGiven(journal, key string, files []string, stream jetstream.Options) (*given, error) {
 	g := &given{}
 	var err error
 	if key != "" {
@@ -44,7 +111,7 @@ func readGiven(journal, key string, files []string) (*given, error) {
 		}
 	}
 	for _, name := range files {
-		content, err := os.ReadFile(name)
+		content, err := readHeads(name, stream)
 		if err != nil {
 			return nil, err
 		}

@@ -10,7 +10,7 @@ FRONT_PATIENCE=${FRONT_PATIENCE:-20} FRONT_EDITS=${FRONT_EDITS:-250}
 export REVIEW_PROGRAM FRONT_PATIENCE FRONT_EDITS
 aside=$(mktemp -d)
 trap 'rm -rf "$aside"' EXIT
-for folder in crates examples tools; do ln -s "$here/../$folder" "$aside/$folder"; done
+for folder in bench clients crates docs examples tools; do ln -s "$here/../$folder" "$aside/$folder"; done
 mkdir "$aside/front"
 (cd "$here" && tar cf - --exclude=./out .) | tar xf - -C "$aside/front"
 cd "$aside/front"
@@ -19,10 +19,8 @@ cd "$aside/front"
 # names, marks, keys), what a client may take of the front (time, room, marks, how much is kept), what it is told and
 # a page of another site is not, bodies with keys and who is written down, the commands that the front knows, damage
 # of a folder, the time of a start, what listeners take, askers, edits that are made behind a serial or whole, requests
-# that are translated, AuthZEN, kept decisions, who may what, a log of several fronts, what edits changed, earlier states,
-# the chain, and what proxies ask.
-# that are translated, AuthZEN, Kubernetes, kept decisions, who may what, a log of several fronts, what edits changed, earlier states,
-# and the chain.
+# that are translated, AuthZEN, Kubernetes, kept decisions, who may what, a log of several fronts, what edits changed,
+# earlier states, the chain, and what proxies ask.
 grep -e "${2:-}" >"$aside/rows" <<'ROWS'
 folder/writing.go . TestOrder s/^\t\terr = f\.sync(f\.current)$/\t\terr = nil/
 folder/writing.go . TestOrder s/^\t\terr = file\.Sync()$/\t\terr = nil/
@@ -195,6 +193,10 @@ folder/survey.go folder TestOlderJournals s/for _, older := range head\.Older {/
 heads.go . TestForged s/if err := h\.Signed(g\.key); err != nil {/if err := h.Signed(g.key); err != nil \&\& false {/
 heads.go . TestForged s/^\tcase h\.Serial > chains\.Ends:$/\tcase false:/
 heads.go . TestForged s/there && chain == h\.Chain:/there \&\& (chain == h.Chain || true):/
+jetstream/heads.go . TestHeadsStream s/DenyDelete: true, DenyPurge: true, //
+jetstream/heads.go . TestHeadsStream s/nats\.MsgIdHdr, hex/"Nothing", hex/
+jetstream/heads.go . TestHeadsOfEdits s/info\.Config\.Description != ofHeads || //
+heads/target.go . TestHeadsWords s/t\.shown = secret\.ReplaceAllString(to, .*$/_ = secret/
 serve.go . TestForged s/signed\.Finish(sendTime)$//
 web/net.go . TestPast s/other, told := s\.otherwise(ctx, asked, n, back)/other, told := back, (*problem)(nil)/
 keeper/snapshot.go . TestKeptLonger s/k\.Folder\.First() != first {/k.Folder.First() != first \&\& false {/

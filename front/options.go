@@ -172,8 +172,8 @@ func (o *options) name(set *flag.FlagSet) {
 		"so then is soon answered; 0: of none")
 	set.IntVar(&o.past, "past", 2, "how many programs of earlier states there are at most, for questions with at")
 	set.StringVar(&o.signKey, "sign-key", "", "a `file` with a key of Ed25519 that signs the heads of the journal")
-	set.Var(&o.headsTo, "heads-to", "a `file` to which each head is added, or behind | a command that is given it; "+
-		"may stand several times")
+	set.Var(&o.headsTo, "heads-to", "a `file` to which each head is added, behind | a command that is given it, or a "+
+		"stream of servers of NATS, as nats://host:4222/heads; may stand several times")
 	set.Uint64Var(&o.snapshotEvery, "snapshot-every", 10_000, "a snapshot is made after so many edits; 0: not by their number")
 	set.DurationVar(&o.replayTime, "replay-time", 5*time.Second, "a snapshot is made when the edits behind the last took "+
 		"so long, as a start would; 0: not by their time")
@@ -254,9 +254,12 @@ func (o options) wrong(rest []string) string {
 // wrongLog says what is wrong with those of a log, or nothing.
 func (o options) wrongLog() string {
 	switch {
-	case o.stream.Servers == "" && (o.stream.Stream != "" || o.copied != "" || o.stream.Credentials != "" ||
-		o.stream.Authority != "" || len(o.others) > 0):
-		return "--stream, --copy, --snapshot-from, --log-credentials and --log-authority need --log"
+	case o.wrongHeads() != "":
+		return o.wrongHeads()
+	case o.stream.Servers == "" && (o.stream.Stream != "" || o.copied != "" || len(o.others) > 0):
+		return "--stream, --copy and --snapshot-from need --log"
+	case o.stream.Servers == "" && !o.headsToStream() && (o.stream.Credentials != "" || o.stream.Authority != ""):
+		return "--log-credentials and --log-authority need --log, or a stream in --heads-to"
 	case o.stream.Servers == "":
 		return ""
 	case o.journal != "":

@@ -23,6 +23,7 @@ type Options struct {
 	Folder *folder.Folder
 	Key    *Key // signs heads; nil: they aren't signed
 	To     []string
+	Put    func(ctx context.Context, to string, line []byte) error // puts a head into a stream
 	Log    *logs.Log
 }
 
@@ -40,7 +41,7 @@ type Book struct {
 func Open(options Options) (*Book, error) {
 	b := &Book{Options: options, done: make(chan struct{})}
 	for _, to := range options.To {
-		b.targets = append(b.targets, newTarget(to, options.Log))
+		b.targets = append(b.targets, newTarget(to, options))
 	}
 	content, err := os.ReadFile(options.Folder.Path(FileName))
 	if errors.Is(err, os.ErrNotExist) {
@@ -145,7 +146,7 @@ func (b *Book) Finish(while time.Duration) {
 	for _, to := range b.targets {
 		for line := to.next(); line != nil && ctx.Err() == nil; line = to.next() {
 			if err := to.give(ctx, line); err != nil {
-				b.Log.Error("a head isn't sent, and is sent by the next start", "to", to.to, "error", err)
+				b.Log.Error("a head isn't sent, and is sent by the next start", "to", to.shown, "error", err)
 				break
 			}
 			to.sent(line)

@@ -5,6 +5,7 @@ import (
 	"context"
 	"fmt"
 	"os/exec"
+	"regexp"
 	"strings"
 	"sync"
 	"time"
@@ -22,17 +23,31 @@ const (
 	mostWaiting = 1000
 )
 
-// target is where heads are sent: a file, or a command behind `|`.
+// target is where heads are sent: a file, a command behind `|`, or a stream.
 type target struct {
 	to      string
+	shown   string // the same without a word by which somebody is known
+	put     func(ctx context.Context, to string, line []byte) error
 	log     *logs.Log
 	mutex   sync.Mutex
 	waiting [][]byte
 	moved   chan struct{}
 }
 
-func newTarget(to string, log *logs.Log) *target {
-	return &target{to: to, log: log, moved: make(chan struct{}, 1)}
+func newTarget(to string, options Options) *target {
+	t := &target{to: to, shown: to, put: options.Put, log: options.Log, moved: make(chan struct{}, 1)}
+	if IsStream(to) {
+		t.shown = secret.ReplaceAllString(to, "$1")
+	}
+	return t
+}
+
+// secret is by what somebody is known to a server.
+var secret = regexp.MustCompile(`(//|,)[^@/,]*@`)
+
+// IsStream says whether heads are sent to, or read from, a stream by such a word: servers of NATS, and a name.
+func IsStream(to string) bool {
+	return strings.HasPrefix(to, "nats://") || strings.HasPrefix(to, "tls://")
 }
 
 // send has a head be sent.
@@ -87,7 +102,7 @@ func (t *target) run(ctx context.Context) {
 		if ctx.Err() != nil {
 			return
 		}
-		t.log.Error("a head can't be sent, and is sent again", "to", t.to, "error", err, "after", pause)
+		t.log.Error("a head can't be sent, and is sent again", "to", t.shown, "error", err, "after", pause)
 		select {
 		case <-time.After(pause):
 		case <-ctx.Done():
@@ -100,11 +115,14 @@ func (t *target) run(ctx context.Context) {
 
 // give gives a head to where it is to be.
 func (t *target) give(ctx context.Context, line []byte) error {
-	if !strings.HasPrefix(t.to, "|") {
-		return appendTo(t.to, line)
-	}
 	ctx, cancel := context.WithTimeout(ctx, commandTime)
 	defer cancel()
+	switch {
+	case IsStream(t.to):
+		return t.put(ctx, t.to, line)
+	case !strings.HasPrefix(t.to, "|"):
+		return appendTo(t.to, line)
+	}
 	command := exec.CommandContext(ctx, "/bin/sh", "-c", t.to[1:])
 	command.Stdin = bytes.NewReader(append(append([]byte(nil), line...), '\n'))
 	if said, err := command.CombinedOutput(); err != nil {

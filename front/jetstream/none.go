@@ -14,7 +14,13 @@ import (
 // Built says whether the front has a client of NATS.
 const Built = false
 
+var errNone = errors.New("this front was built without the client of NATS: golang-github-nats-io-go-nats-dev")
+
 // Open says that there is no client.
-func Open(context.Context, Options, *logs.Log) (replicated.Log, error) {
-	return nil, errors.New("this front was built without the client of NATS: golang-github-nats-io-go-nats-dev")
-}
+func Open(context.Context, Options, *logs.Log) (replicated.Log, error) { return nil, errNone }
+
+// PutHead says that there is no client.
+func PutHead(context.Context, Options, []byte) error { return errNone }
+
+// Heads says that there is no client.
+func Heads(context.Context, Options) ([]byte, error) { return nil, errNone }

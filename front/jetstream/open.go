@@ -87,8 +87,8 @@ func Open(ctx context.Context, options Options, told *logs.Log) (replicated.Log,
 
 // connecting says how the servers are reached. What is to be sent while none is reached isn't kept.
 func (o Options) connecting(told *logs.Log) []nats.Option {
-	how := []nats.Option{
-		nats.Name("review-front"), nats.MaxReconnects(-1), nats.ReconnectWait(firstPause), nats.ReconnectBufSize(-1),
+	return append(o.known(),
+		nats.MaxReconnects(-1), nats.ReconnectWait(firstPause), nats.ReconnectBufSize(-1),
 		nats.RetryOnFailedConnect(true), nats.Timeout(askTime), nats.PingInterval(pingTime), nats.MaxPingsOutstanding(3),
 		nats.DisconnectErrHandler(func(_ *nats.Conn, err error) {
 			if err != nil {
@@ -101,7 +101,12 @@ func (o Options) connecting(told *logs.Log) []nats.Option {
 		nats.ErrorHandler(func(_ *nats.Conn, _ *nats.Subscription, err error) {
 			told.Error("the connection to the stream", "error", err)
 		}),
-	}
+	)
+}
+
+// known says who the front is, and by whom it knows the servers.
+func (o Options) known() []nats.Option {
+	how := []nats.Option{nats.Name("review-front")}
 	if o.Credentials != "" {
 		how = append(how, nats.UserCredentials(o.Credentials))
 	}
