@@ -108,7 +108,7 @@ func (r run) measure(only string) error {
 		name string
 		call func() error
 	}{{"asks", r.asks}, {"edits", r.someEdits}, {"starts", r.starts}, {"snapshots", r.snapshots}, {"beside", r.beside},
-		{"log", r.log}, {"proxies", r.proxies}} {
+		{"log", r.log}, {"proxies", r.proxies}, {"history", r.history}} {
 		if strings.Contains(only, part.name) {
 			if err := part.call(); err != nil {
 				return fmt.Errorf("%s: %w", part.name, err)

@@ -7,7 +7,8 @@
 // 100,000 edits, with a snapshot and without. Asks while a snapshot is made, and between. Asks beside edits of a policy
 // on which a large table rests, without askers and with one and three. Only where it is named (`log`), and nats-server is
 // there: edits and asks over 1, 2 and 4 fronts of a stream that three servers keep; and (`proxies`), where nginx is,
-// requests through it, alone and where it asks the front.
+// requests through it, alone and where it asks the front; and (`history`) a new root over 1,000,000 cells, with and
+// without what edits changed being kept.
 package main
 
 import (
