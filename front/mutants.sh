@@ -196,6 +196,7 @@ heads.go . TestForged s/there && chain == h\.Chain:/there \&\& (chain == h.Chain
 jetstream/heads.go . TestHeadsStream s/DenyDelete: true, DenyPurge: true, //
 jetstream/heads.go . TestHeadsStream s/nats\.MsgIdHdr, hex/"Nothing", hex/
 jetstream/heads.go . TestHeadsOfEdits s/info\.Config\.Description != ofHeads || //
+heads/book.go . TestServingPage s/b\.line != nil && !b\.anew {/b.line != nil {/
 heads/target.go . TestHeadsWords s/t\.shown = secret\.ReplaceAllString(to, .*$/_ = secret/
 serve.go . TestForged s/signed\.Finish(sendTime)$//
 web/net.go . TestPast s/other, told := s\.otherwise(ctx, asked, n, back)/other, told := back, (*problem)(nil)/

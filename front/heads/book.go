@@ -33,6 +33,7 @@ type Book struct {
 	mutex   sync.Mutex
 	last    Head
 	line    []byte // that of the last one
+	anew    bool   // whether it isn't signed by the key that signs now
 	targets []*target
 	done    chan struct{} // closed when Run has ended
 }
@@ -59,6 +60,9 @@ func Open(options Options) (*Book, error) {
 	if len(all) > 0 {
 		lines := bytes.Split(bytes.TrimSpace(content), []byte("\n"))
 		b.last, b.line = all[len(all)-1], lines[len(lines)-1]
+		b.anew = !b.Key.signed(b.last)
+	}
+	if b.line != nil && !b.anew {
 		for _, to := range b.targets {
 			to.send(b.line) // nobody knows whether it was sent
 		}
@@ -73,7 +77,7 @@ func (b *Book) Make(serial uint64, chain folder.Chain, why string) {
 	}
 	b.mutex.Lock()
 	defer b.mutex.Unlock()
-	if serial == 0 || b.line != nil && b.last.Serial == serial && b.last.Chain == chain {
+	if serial == 0 || b.line != nil && !b.anew && b.last.Serial == serial && b.last.Chain == chain {
 		return
 	}
 	h := b.head(serial, chain, why)
@@ -92,7 +96,7 @@ func (b *Book) Make(serial uint64, chain folder.Chain, why string) {
 		b.Log.Error("a head can't be kept", "serial", serial, "error", err)
 		return
 	}
-	b.last, b.line = h, line
+	b.last, b.line, b.anew = h, line, false
 	for _, to := range b.targets {
 		to.send(line)
 	}
@@ -154,10 +158,10 @@ func (b *Book) Finish(while time.Duration) {
 	}
 }
 
-// daily makes a head where the last one is of a day before, or there is none.
+// daily makes a head where the last one is of a day before, or isn't signed as it is to be, or there is none.
 func (b *Book) daily(now time.Time) {
 	b.mutex.Lock()
-	made, none := b.last.Made, b.line == nil
+	made, none := b.last.Made, b.line == nil || b.anew
 	b.mutex.Unlock()
 	const day = "2006-01-02"
 	if none || made.Format(day) != now.UTC().Format(day) {

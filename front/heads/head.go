@@ -123,6 +123,11 @@ func (k *Key) sign(h *Head) error {
 	return nil
 }
 
+// signed says whether a head is signed by a key, or there is none.
+func (k *Key) signed(h Head) bool {
+	return k == nil || h.Signed(k.private.Public().(ed25519.PublicKey)) == nil
+}
+
 // ErrUnsigned says that a head isn't signed by a key.
 var ErrUnsigned = errors.New("it isn't signed by the key")
 
