@@ -1,0 +1,84 @@
+package source
+
+import (
+	"context"
+	"fmt"
+
+	"review-front/source/differ"
+	"review-front/source/served"
+)
+
+// mostAgain is how often a body is made anew since somebody else edits.
+const mostAgain = 100
+
+// run looks, and sends what differs.
+func (r *round) run(ctx context.Context) int {
+	s, err := r.look(ctx)
+	if err == nil {
+		err = r.allowed(ctx, s)
+	}
+	if err == nil {
+		err = r.send(ctx, s)
+	}
+	if err == nil {
+		r.succeeded(s)
+	}
+	return r.status(err, s)
+}
+
+// succeeded tells and counts what was done.
+func (r *round) succeeded(s *seen) {
+	for _, plan := range s.plans {
+		r.counts.done(plan)
+		fmt.Fprintf(r.to, "%s: %s\n", plan.Given.Source.Name, summary(plan))
+	}
+}
+
+// send sends all bodies, each behind the one before and made whole.
+func (r *round) send(ctx context.Context, s *seen) error {
+	serial := s.state.Serial
+	for _, body := range differ.Bodies(s.plans) {
+		front, err := r.front(body.Plan.Given.Source)
+		if err != nil {
+			return err
+		}
+		behind, err := front.Send(ctx, body.Edits(), serial)
+		for again := 0; served.EditedBetween(err) && again < mostAgain; again++ {
+			behind, err = r.sendAgain(ctx, s, body)
+		}
+		if err != nil {
+			r.counts.refuse(body.Plan.Given.Source, refused)
+			return fmt.Errorf("%s: %w", body.Plan.Given.Source.Name, err)
+		}
+		serial = behind
+	}
+	return nil
+}
+
+// sendAgain sends what a body has to be, now that somebody else edited: its names are looked at anew.
+func (r *round) sendAgain(ctx context.Context, s *seen, body differ.Body) (uint64, error) {
+	only := map[served.Entity]bool{}
+	var entities []served.Entity
+	for _, change := range body.Changes {
+		only[change.Entity] = true
+		entities = append(entities, change.Entity)
+	}
+	state, err := s.front.State(ctx)
+	if err != nil {
+		return 0, err
+	}
+	if err := s.front.ReadRows(ctx, state, entities); err != nil {
+		return 0, err
+	}
+	serial := state.Serial
+	for _, anew := range differ.Bodies(differ.Compare(s.given, state, only)) {
+		front, err := r.front(anew.Plan.Given.Source)
+		if err != nil {
+			return 0, err
+		}
+		if serial, err = front.Send(ctx, anew.Edits(), serial); err != nil {
+			return 0, err
+		}
+	}
+	return serial, nil
+}
