@@ -11,8 +11,12 @@ GOPATH="$PWD/out/go:/usr/share/gocode"
 GO111MODULE=off
 GOFLAGS=${GOFLAGS:-}
 # The client of NATS is Debian's golang-github-nats-io-go-nats-dev; without it the front is built without --log.
+# Without golang-github-go-ldap-ldap-dev, and golang-github-lib-pq-dev, review-source is built without directories, and without
+# databases.
 code=/usr/share/gocode/src/github.com tags=
 if [ -d $code/nats-io/nats.go ]; then tags="$tags,nats"; fi
+if [ -d $code/go-ldap/ldap/v3 ]; then tags="$tags,ldap"; fi
+if [ -d $code/lib/pq ]; then tags="$tags,postgres"; fi
 if [ -n "$tags" ]; then GOFLAGS="$GOFLAGS -tags=${tags#,}"; fi
 export GOPATH GO111MODULE GOFLAGS
 cd out/go/src/review-front

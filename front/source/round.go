@@ -6,6 +6,7 @@ import (
 	"fmt"
 	"io"
 	"strings"
+	"sync"
 
 	"review-front/source/differ"
 	"review-front/source/form"
@@ -19,8 +20,10 @@ type round struct {
 	sources []*form.Source
 	fronts  map[*form.Source]*served.Front
 	kept    map[*form.Kind]*records.Kept
+	known   *served.State                   // what the front had, as far as it was read; may be nil
 	counts  *counts
 	to      io.Writer
+	mutex   sync.Mutex
 	faults  io.Writer
 }
 
@@ -87,6 +90,8 @@ func (r *round) read(ctx context.Context) []*differ.Given {
 
 // fault tells of something that isn't as it should be.
 func (r *round) fault(err error) {
+	r.mutex.Lock()
+	defer r.mutex.Unlock()
 	fmt.Fprintln(r.faults, "review-source:", strings.ReplaceAll(err.Error(), "\n", "\n  "))
 }
 
@@ -114,31 +119,40 @@ func (r *round) look(ctx context.Context) (*seen, error) {
 	if s.state, err = s.front.State(ctx); err != nil {
 		return nil, err
 	}
-	if err := s.front.ReadRows(ctx, s.state, s.named()); err != nil {
+	if r.known != nil && r.known.Serial == s.state.Serial {
+		s.state.Rows = r.known.Rows
+	}
+	r.known = nil
+	if err := s.front.ReadRows(ctx, s.state, s.unknown()); err != nil {
 		return nil, err
 	}
+	r.known = s.state
 	s.plans = differ.Compare(s.given, s.state, nil)
 	return s, s.fits()
 }
 
-// named are the names of all lists that a source has, on either side.
-func (s *seen) named() []served.Entity {
-	all := map[served.Entity]bool{}
+// unknown are the names of all lists that a source has, on either side, whose rows aren't known.
+func (s *seen) unknown() []served.Entity {
+	var all []served.Entity
+	seen := map[served.Entity]bool{}
+	add := func(list, name string) {
+		entity := served.Entity{List: list, Name: name}
+		if _, known := s.state.Rows[entity]; !known && !seen[entity] {
+			seen[entity] = true
+			all = append(all, entity)
+		}
+	}
 	for _, one := range s.given {
 		for _, kind := range one.Source.Kinds() {
 			for name := range s.state.Names[kind.List] {
-				all[served.Entity{List: kind.List, Name: name}] = true
+				add(kind.List, name)
 			}
 			for name := range one.Entities[kind.List] {
-				all[served.Entity{List: kind.List, Name: name}] = true
+				add(kind.List, name)
 			}
 		}
 	}
-	listed := make([]served.Entity, 0, len(all))
-	for entity := range all {
-		listed = append(listed, entity)
-	}
-	return listed
+	return all
 }
 
 // fits sees that the lists take what they would have in the end, before anything is sent.

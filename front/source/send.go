@@ -34,16 +34,20 @@ func (r *round) succeeded(s *seen) {
 	}
 }
 
-// send sends all bodies, each behind the one before and made whole.
+// send sends all bodies, each behind the one before and made whole. Behind them it is known what the front has, unless
+// somebody else edited in between.
 func (r *round) send(ctx context.Context, s *seen) error {
-	serial := s.state.Serial
+	serial, alone := s.state.Serial, true
+	var changed []served.Entity
 	for _, body := range differ.Bodies(s.plans) {
+		r.known = nil
 		front, err := r.front(body.Plan.Given.Source)
 		if err != nil {
 			return err
 		}
 		behind, err := front.Send(ctx, body.Edits(), serial)
 		for again := 0; served.EditedBetween(err) && again < mostAgain; again++ {
+			alone = false
 			behind, err = r.sendAgain(ctx, s, body)
 		}
 		if err != nil {
@@ -51,7 +55,18 @@ func (r *round) send(ctx context.Context, s *seen) error {
 			return fmt.Errorf("%s: %w", body.Plan.Given.Source.Name, err)
 		}
 		serial = behind
+		for _, change := range body.Changes {
+			changed = append(changed, change.Entity)
+		}
 	}
+	if len(changed) == 0 || !alone || r.options.every == 0 {
+		return nil
+	}
+	if err := s.front.ReadRows(ctx, s.state, changed); err != nil {
+		return err
+	}
+	s.state.Serial = serial
+	r.known = s.state
 	return nil
 }
 

@@ -110,11 +110,12 @@ type Name struct {
 
 // Attribute says which field becomes an attribute, and how.
 type Attribute struct {
-	From string `json:"from"`
-	Type string `json:"type"`
-	List string `json:"list"`
-	Form string `json:"form"`
-	Case string `json:"case"`
+	From     string `json:"from"`
+	Type     string `json:"type"`
+	List     string `json:"list"`
+	Form     string `json:"form"`
+	Case     string `json:"case"`
+	Optional bool   `json:"optional"` // no record may have it
 }
 
 // UnmarshalJSON takes a text for the field alone.
@@ -282,11 +283,12 @@ func (s *Source) wrong() error {
 	return nil
 }
 
-// Fields are those of a record that are looked at.
+// Fields are those of a record that are looked at, and whether some record has to have each.
 func (k *Kind) Fields() map[string]bool {
-	fields := map[string]bool{k.Name.From: true}
+	fields := map[string]bool{}
 	for _, attribute := range k.Attributes {
-		fields[attribute.From] = true
+		fields[attribute.From] = fields[attribute.From] || !attribute.Optional
 	}
+	fields[k.Name.From] = true
 	return fields
 }

@@ -51,7 +51,7 @@ func fieldsOf(line []byte, wanted map[string]bool) (Fields, error) {
 			return nil, fmt.Errorf("it is no JSON object: %w", err)
 		}
 		name, _ := key.(string)
-		if !wanted[name] {
+		if _, looked := wanted[name]; !looked {
 			continue
 		}
 		if _, there := fields[name]; there {

@@ -12,6 +12,13 @@ import (
 // WithPostgres says whether databases can be asked.
 const WithPostgres = false
 
+var errNoPostgres = errors.New("this review-source was built without a client of PostgreSQL: golang-github-lib-pq-dev")
+
 func readPostgres(context.Context, *form.Source, *form.Postgres, *reading) error {
-	return errors.New("this review-source was built without a client of PostgreSQL: golang-github-lib-pq-dev")
+	return errNoPostgres
+}
+
+// Listen says that there is no client.
+func Listen(*form.Source, *form.Postgres, func(), func(error)) (stop func(), err error) {
+	return nil, errNoPostgres
 }

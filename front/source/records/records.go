@@ -82,21 +82,21 @@ func (r *reading) wrong() error {
 		return errors.New(told)
 	}
 	var missing []string
-	for field := range r.kind.Fields() {
-		if len(r.entities) > 0 && !r.seen[field] {
+	for field, needed := range r.kind.Fields() {
+		if len(r.entities) > 0 && needed && !r.seen[field] {
 			missing = append(missing, fmt.Sprintf("%q", field))
 		}
 	}
 	if sort.Strings(missing); len(missing) > 0 {
-		return fmt.Errorf("no record has %s", strings.Join(missing, ", "))
+		return fmt.Errorf(`no record has %s: say "optional" of an attribute that none may have`, strings.Join(missing, ", "))
 	}
 	return nil
 }
 
 // take takes a record.
 func (r *reading) take(place string, fields Fields) {
-	for field := range fields {
-		if !r.seen[field] {
+	for field, values := range fields {
+		if len(values) > 0 && !r.seen[field] {
 			r.seen[field] = true
 		}
 	}

@@ -26,7 +26,7 @@ type State struct {
 	Permits uint64
 	Limits  map[string]Limit
 	Names   map[string]map[string]bool
-	Rows    map[Entity][]Row
+	Rows    map[Entity][]Row // of those that were asked for
 }
 
 // Entity is a name of a list.
@@ -172,9 +172,7 @@ func (f *Front) readPart(ctx context.Context, state *State, part []Entity, mutex
 	mutex.Lock()
 	defer mutex.Unlock()
 	for i, entity := range part {
-		if len(rows[i]) > 0 {
-			state.Rows[entity] = rows[i]
-		}
+		state.Rows[entity] = rows[i]
 	}
 	return nil
 }
