@@ -20,7 +20,7 @@ type round struct {
 	sources []*form.Source
 	fronts  map[*form.Source]*served.Front
 	kept    map[*form.Kind]*records.Kept
-	known   *served.State                   // what the front had, as far as it was read; may be nil
+	known   *served.State // what the front had, as far as it was read; may be nil
 	counts  *counts
 	to      io.Writer
 	mutex   sync.Mutex

@@ -74,33 +74,39 @@ func Compare(given []*Given, state *served.State, only map[served.Entity]bool) [
 	for i, one := range given {
 		plans[i] = &Plan{Given: one, Marked: map[string]int{}, Leaving: map[string]int{}}
 	}
-	for _, list := range []string{"people", "actions", "resources"} {
-		for _, name := range names(given, state, list) {
-			entity := served.Entity{List: list, Name: name}
-			if only == nil || only[entity] {
-				compareOne(plans, state, entity)
-			}
-		}
+	for _, entity := range entities(given, state, only) {
+		compareOne(plans, state, entity)
 	}
 	return plans
 }
 
-// names are those of a list that the state or a source has, in order.
-func names(given []*Given, state *served.State, list string) []string {
-	all := map[string]bool{}
-	for name := range state.Names[list] {
-		all[name] = true
-	}
-	for _, one := range given {
-		for name := range one.Entities[list] {
-			all[name] = true
+// lists are in the order in which they are compared.
+var lists = map[string]int{"people": 0, "actions": 1, "resources": 2}
+
+// entities are the names that the state or a source has, in order, or those that are looked at alone.
+func entities(given []*Given, state *served.State, only map[served.Entity]bool) []served.Entity {
+	all := only
+	if all == nil {
+		all = map[served.Entity]bool{}
+		for list := range lists {
+			for name := range state.Names[list] {
+				all[served.Entity{List: list, Name: name}] = true
+			}
+			for _, one := range given {
+				for name := range one.Entities[list] {
+					all[served.Entity{List: list, Name: name}] = true
+				}
+			}
 		}
 	}
-	sorted := make([]string, 0, len(all))
-	for name := range all {
-		sorted = append(sorted, name)
+	sorted := make([]served.Entity, 0, len(all))
+	for entity := range all {
+		sorted = append(sorted, entity)
 	}
-	sort.Strings(sorted)
+	sort.Slice(sorted, func(i, j int) bool {
+		one, other := sorted[i], sorted[j]
+		return lists[one.List] < lists[other.List] || one.List == other.List && one.Name < other.Name
+	})
 	return sorted
 }
 
