@@ -28,6 +28,7 @@ type Identity struct {
 	Claims map[string][]string // what is known of him, as the token of an issuer says it
 	Gives  *Gives              // what his requests may say; nil: everything
 	Until  time.Time           // when the time of his token is over; zero: it has none
+	Person string              // which listed person he is, if that is known
 	may    map[string]bool
 }
 
@@ -182,6 +183,9 @@ func (k *known) byClaims(claims map[string][]string, until time.Time) (*Identity
 		}
 		for command := range u.may {
 			who.may[command] = true
+		}
+		if who.Person == "" {
+			who.Person = u.personIn(claims)
 		}
 		if !found {
 			who.Gives = u.Gives

@@ -15,6 +15,12 @@ var Roles = map[string][]string{
 		"person.add", "person.drop", "action.add", "action.drop", "resource.add", "resource.drop", "policy.add",
 		"policy.replace", "policy.withdraw", "root.set", "attr.set", "day.set", "moment.set",
 	},
+	"review": {
+		"campaign.show", "campaign.items", "campaign.keep", "campaign.revoke", "campaign.pass", "campaign.undo",
+	},
+	"campaign": {
+		"campaign.show", "campaign.items", "campaign.all", "campaign.open", "campaign.close", "campaign.evidence",
+	},
 	"operate": {"dump", "day.set", "moment.set", "state", "limits", "work", "format"},
 	Metrics:   {Metrics},
 }

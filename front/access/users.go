@@ -22,9 +22,11 @@ type user struct {
 	Claim       map[string]string   `json:"claim"`
 	Gives       *Gives              `json:"gives"`
 	Claims      map[string][]string `json:"claims"` // what policies of rights see of him
-	place       string              // his line
-	token       []byte
-	may         map[string]bool
+	// Person is which listed person he is: her name, or behind `claim:` the claim of a token that has it.
+	Person string `json:"person"`
+	place  string // his line
+	token  []byte
+	may    map[string]bool
 }
 
 // line is a line of the file: a user, or a role with its commands.
@@ -143,6 +145,9 @@ func (u *user) settle(roles map[string][]string) error {
 	if u.Claims != nil && u.Name == "" {
 		return errors.New("who is known by a subject or a claim has the claims of his token")
 	}
+	if u.Name != "" && strings.HasPrefix(u.Person, inClaim) {
+		return errors.New("who has no token of an issuer is a person by her name")
+	}
 	if u.Token != "" {
 		token, err := hex.DecodeString(strings.ToLower(u.Token))
 		if err != nil || len(token) != 32 {
@@ -165,7 +170,31 @@ func (u *user) settle(roles map[string][]string) error {
 
 // identity is the user as one who asks.
 func (u user) identity() *Identity {
-	return &Identity{Name: u.Name, Claims: u.Claims, Gives: u.Gives, may: u.may}
+	return &Identity{Name: u.Name, Claims: u.Claims, Gives: u.Gives, Person: u.Person, may: u.may}
+}
+
+// inClaim begins which person somebody is that a claim says.
+const inClaim = "claim:"
+
+// personIn is which listed person somebody is who has such claims.
+func (u user) personIn(claims map[string][]string) string {
+	if !strings.HasPrefix(u.Person, inClaim) {
+		return u.Person
+	}
+	if values := claims[strings.TrimPrefix(u.Person, inClaim)]; len(values) == 1 {
+		return values[0]
+	}
+	return ""
+}
+
+// Knows says whether somebody may be known by a name, or is that person: whose names an issuer has isn't known here.
+func (g *Gate) Knows(name string) bool {
+	for _, u := range g.now.Load().users {
+		if u.Name == name || u.Person == name || u.Subject == name || len(u.Claim) > 0 {
+			return true
+		}
+	}
+	return false
 }
 
 // isMeant says whether a user is meant by the claims of a token.

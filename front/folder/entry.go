@@ -13,12 +13,14 @@ import (
 )
 
 // Format is the version of what stands in the files of a folder. Files of the first one are read too: their journals
-// don't follow each other, and don't tell what was known to be on disk. From the third on records are a chain.
+// don't follow each other, and don't tell what was known to be on disk. From the third on records are a chain. Those of
+// the fourth have records of campaigns between edits; a folder without any has files of the third.
 const (
-	Format      = 3
-	first       = 1
-	linkedFrom  = 2
-	chainedFrom = 3
+	Format       = 4
+	first        = 1
+	linkedFrom   = 2
+	chainedFrom  = 3
+	campaignFrom = 4
 )
 
 // Head is the first record of each file: what it is, and of which program.
@@ -78,6 +80,22 @@ type Entry struct {
 	// chain, of the first of a record, is what that goes on from, and raw the edit's JSON.
 	chain string
 	raw   []byte
+}
+
+// campaigning begins the line of a record of a campaign, which is no edit: no program is told it.
+var campaigning = []byte(`{"do":"campaign.`)
+
+// IsCampaign says whether this is a record of a campaign, and no edit.
+func (e Entry) IsCampaign() bool { return bytes.HasPrefix(e.Line, campaigning) }
+
+// haveCampaign says whether one of some entries is a record of a campaign.
+func haveCampaign(entries []Entry) bool {
+	for _, entry := range entries {
+		if entry.IsCampaign() {
+			return true
+		}
+	}
+	return false
 }
 
 // written is an entry as its record has it.
@@ -196,7 +214,9 @@ func readHead(records *frame.Reader, kind string) (Head, error) {
 }
 
 func headRecord(head Head) ([]byte, error) {
-	head.Format = Format
+	if head.Format < campaignFrom {
+		head.Format = chainedFrom
+	}
 	head.Time = time.Now().UTC()
 	record, err := json.Marshal(head)
 	if err != nil {

@@ -45,7 +45,7 @@ func (f *Folder) begin() error {
 		}
 		head.Older, f.chain, f.links = all, chainOf(all), true
 	}
-	head.Chain = f.chain
+	head.Chain, head.Format = f.chain, f.format
 	record, err := headRecord(head)
 	if err != nil {
 		return err
@@ -139,6 +139,11 @@ func (f *Folder) Append(entries []Entry) error {
 	if f.broken != nil {
 		return f.broken
 	}
+	if f.format < campaignFrom && haveCampaign(entries) {
+		if err := f.beginCampaigns(); err != nil {
+			return err
+		}
+	}
 	var records []byte
 	chain := f.chain
 	for left := entries; len(left) > 0; {
@@ -164,6 +169,17 @@ func (f *Folder) Append(entries []Entry) error {
 	f.sum.Write(records)
 	f.size += int64(len(records))
 	f.last, f.chain = entries[len(entries)-1].Serial, chain
+	return nil
+}
+
+// beginCampaigns begins a journal that may have records of campaigns: what doesn't know them is to stop at it.
+func (f *Folder) beginCampaigns() error {
+	f.format = campaignFrom
+	if err := f.begin(); err != nil {
+		f.format = chainedFrom
+		f.broken = fmt.Errorf("a journal with campaigns can't be begun: %w", err)
+		return f.broken
+	}
 	return nil
 }
 

@@ -271,8 +271,8 @@ func (l *streamed) behind(ctx context.Context, known uint64) (uint64, error) {
 	}
 	// In this order: what is accepted between the two has another serial, or else stands behind that sequence.
 	applied := l.applied.Load()
-	if serial := k.serial.Load(); serial != known {
-		return 0, &Otherwise{Known: known, Serial: serial}
+	if err := k.otherwise(known); err != nil {
+		return 0, err
 	}
 	return applied, nil
 }

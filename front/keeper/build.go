@@ -16,6 +16,7 @@ type running struct {
 	*watched
 	numbers *numbers       // which serials its edits have
 	serial  uint64         // that of the last edit behind its state; for the goroutine that reads replies
+	edit    uint64         // the same, without what campaigns have behind it, as it was brought to its state
 	took    time.Duration  // how long the edits behind a snapshot took
 	marks   map[int]uint64 // that it had at first, by session
 }
@@ -55,7 +56,7 @@ func (k *Keeper) try(ctx context.Context, marks map[int]uint64, careful bool) (*
 	}
 	stop := killWith(ctx, w)
 	defer stop()
-	r := &running{watched: w, serial: snapshot.Serial}
+	r := &running{watched: w, serial: snapshot.Serial, edit: snapshot.Serial}
 	kept, err := k.replay(begin(ctx, w, careful), r, snapshot, marks)
 	if err != nil {
 		w.Discard()
@@ -122,6 +123,10 @@ func (k *Keeper) replay(
 // tell tells the program the next edit of a journal.
 func (r *running) tell(replay *replay, entry folder.Entry, place folder.Place) error {
 	r.serial = entry.Serial
+	if entry.IsCampaign() {
+		return nil
+	}
+	r.edit = entry.Serial
 	r.numbers.add(entry.Serial)
 	return replay.send(expected{line: entry.Line, place: place, check: isSame(entry.Changes, r.numbers.own)})
 }

@@ -3,6 +3,8 @@ package keeper
 import (
 	"context"
 	"fmt"
+
+	"review-front/line"
 )
 
 // Otherwise says that there were other edits than somebody who edits knows of.
@@ -123,8 +125,15 @@ func (k *Keeper) matches(ctx context.Context, known *uint64) error {
 	if k.edits.idle(limit) != nil {
 		return after(ctx, ErrBusy)
 	}
-	if serial := k.serial.Load(); serial != *known {
-		return &Otherwise{Known: *known, Serial: serial}
+	return k.otherwise(*known)
+}
+
+// otherwise says that there were other edits than somebody knows of. What campaigns have behind the last one changes
+// nothing of what he read.
+func (k *Keeper) otherwise(known uint64) error {
+	edit := k.lastEdit.Load()
+	if serial := k.serial.Load(); known > serial || known < edit {
+		return &Otherwise{Known: known, Serial: serial}
 	}
 	return nil
 }
@@ -161,9 +170,17 @@ func (k *Keeper) submitEdit(ctx context.Context, call *Call) (<-chan Reply, erro
 func (k *Keeper) count(call *Call) {
 	k.edits.begin(1)
 	call.settle = func(reply *Reply) {
-		if call.differs != nil && (reply.Err != nil || string(reply.Body) != string(call.tried)) {
+		if call.differs != nil && (reply.Err != nil || !isAlike(reply.Body, call.tried)) {
 			k.spare.differs(call.differs)
 		}
 		k.edits.end()
 	}
+}
+
+// isAlike says whether a spare program answered an edit as the table's did. It doesn't count what campaigns have between
+// edits.
+func isAlike(reply, tried []byte) bool {
+	table, ok := line.ReadAccepted(reply)
+	spare, was := line.ReadAccepted(tried)
+	return ok && was && table.Changes == spare.Changes || string(reply) == string(tried)
 }

@@ -9,6 +9,7 @@ import (
 	"sync/atomic"
 	"time"
 
+	"review-front/campaigns"
 	"review-front/folder"
 	"review-front/keys"
 	"review-front/ladder"
@@ -137,6 +138,11 @@ type Call struct {
 	sent     bool         // it was sent to the stream, of a body with a key
 	doubted  uint64       // where it stands if it is appended, of which nobody is sure; 0: that is no question
 	answer   atomic.Int32 // whether its client has an answer
+	// act, if there is one, is a record of a campaign, which the program isn't told.
+	act *act
+	// to, if there is one, takes the reply to what is asked for an act, as it comes, and heard is told that it did.
+	to    io.Writer
+	heard func(error)
 }
 
 // Keeper owns the program.
@@ -146,7 +152,9 @@ type Keeper struct {
 	Notices  *notices.Hub
 	Keys     *keys.Table
 	Marks    *marks.Book
-	ladder   *ladder.Ladder
+	// Campaigns has the reviews of access that the journal has.
+	Campaigns *campaigns.Table
+	ladder    *ladder.Ladder
 
 	streamed *streamed // nil without a stream
 	askers   *askers
@@ -159,6 +167,7 @@ type Keeper struct {
 	ready    *readiness
 	serving  atomic.Pointer[watched] // the program to which lines are sent
 	serial   atomic.Uint64
+	lastEdit atomic.Uint64 // that of the last edit; behind it there may be records of campaigns
 	reached  *progress     // says that it has grown
 	snapshot atomic.Uint64 // the serial of the newest snapshot
 	tried    atomic.Uint64 // the serial at which one was tried last
@@ -178,7 +187,8 @@ func New(options Options) *Keeper {
 	k := &Keeper{
 		Options: options, Sessions: sessions.NewTable(options.MostSessions), Notices: notices.NewHub(options.Kept.Recent),
 		Keys: keys.New(options.Folder), Marks: marks.New(options.Folder), ladder: ladder.New(options.Kept),
-		ready: newReadiness(), queue: make(chan *Call, options.Queue),
+		Campaigns: campaigns.NewTable(),
+		ready:     newReadiness(), queue: make(chan *Call, options.Queue),
 		edited: make(chan struct{}, 1), asked: make(chan struct{}, 1), reached: &progress{}, long: make(chan struct{}, 1),
 	}
 	k.askers, k.edits, k.spare = newAskers(k, options.Askers), newEdits(), newSpare(k)
@@ -255,7 +265,7 @@ func (k *Keeper) Submit(ctx context.Context, call *Call) (<-chan Reply, error) {
 	if call.kind == line.Edit && k.streamed != nil {
 		return k.streamed.submit(ctx, call)
 	}
-	if call.kind == line.Edit {
+	if call.kind == line.Edit && call.act == nil {
 		return k.submitEdit(ctx, call)
 	}
 	if err := k.turn(ctx, call); err != nil {

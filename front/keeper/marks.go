@@ -62,7 +62,7 @@ func (s *serving) address(call *Call) {
 	if !call.asks {
 		return
 	}
-	own, known := s.program.numbers.ownOf(call.since, s.keeper.streamed == nil)
+	own, known := s.program.numbers.ownOf(call.since, s.keeper.streamed == nil, s.keeper.serial.Load())
 	if call.unknown = !known; call.unknown {
 		call.Line = working
 	} else {

@@ -48,8 +48,9 @@ func (n *numbers) at(own uint64) uint64 {
 }
 
 // ownOf is how many edits of the program stand up to a serial. It is false where that lies before the beginning, or behind
-// the last edit that is known, unless none behind it is passed over.
-func (n *numbers) ownOf(serial uint64, whole bool) (own uint64, known bool) {
+// the last edit that is known, unless none behind it is passed over, or it is a serial that stands on disk: behind the
+// last edit campaigns may have had some.
+func (n *numbers) ownOf(serial uint64, whole bool, last uint64) (own uint64, known bool) {
 	n.mutex.Lock()
 	defer n.mutex.Unlock()
 	next := sort.Search(len(n.steps), func(i int) bool { return n.steps[i].serial > serial })
@@ -60,6 +61,9 @@ func (n *numbers) ownOf(serial uint64, whole bool) (own uint64, known bool) {
 	own = before.own + serial - before.serial
 	if next < len(n.steps) && own >= n.steps[next].own {
 		own = n.steps[next].own - 1 // the serial was passed over
+	}
+	if own > n.own && serial <= last {
+		own = n.own
 	}
 	return own, whole || own <= n.own
 }

@@ -25,17 +25,17 @@ func TestNumbers(t *testing.T) {
 		}
 	}
 	for at, want := range owns {
-		if own, known := n.ownOf(at, false); !known || own != want {
+		if own, known := n.ownOf(at, false, 0); !known || own != want {
 			t.Errorf("up to serial %d stand %d, %v, and not %d", at, own, known, want)
 		}
 	}
-	if own, known := n.ownOf(first-1, true); known {
+	if own, known := n.ownOf(first-1, true, 0); known {
 		t.Errorf("before the beginning there are %d edits", own)
 	}
-	if own, known := n.ownOf(serial+3, false); known {
+	if own, known := n.ownOf(serial+3, false, 0); known {
 		t.Errorf("behind the end there are %d edits", own)
 	}
-	if own, known := n.ownOf(serial+3, true); !known || own != n.own+3 {
+	if own, known := n.ownOf(serial+3, true, 0); !known || own != n.own+3 {
 		t.Errorf("where nothing is passed over there are %d edits, %v", own, known)
 	}
 }

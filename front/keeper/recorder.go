@@ -192,7 +192,7 @@ func (p *recorder) trim() {
 		return
 	}
 	p.trimmed = now
-	if err := p.book.Trim(now.Add(-k.KeepHistory)); err != nil {
+	if err := p.book.Trim(k.needed(now.Add(-k.KeepHistory))); err != nil {
 		k.Log.Error("what edits changed long ago couldn't be taken away", "error", err)
 	}
 	if extent, some := p.book.Extent(); some && extent.After > p.floor.Load() {

@@ -132,7 +132,7 @@ type wanted struct {
 func (p *recorder) batch(ctx context.Context, entries []folder.Entry) error {
 	old := time.Time{}
 	if keep := p.keeper.KeepHistory; keep > 0 {
-		old = time.Now().Add(-keep)
+		old = p.keeper.needed(time.Now().Add(-keep))
 	}
 	all := make([]wanted, 0, len(entries))
 	before := p.now.serial
@@ -167,7 +167,10 @@ func (p *recorder) batch(ctx context.Context, entries []folder.Entry) error {
 func (p *recorder) send(all []wanted) error {
 	for _, one := range all {
 		lines := [][]byte{marking, one.Line, noticing}
-		if !one.asked {
+		switch {
+		case one.IsCampaign():
+			lines = nil
+		case !one.asked:
 			lines = lines[1:2]
 		}
 		for _, l := range lines {
@@ -188,9 +191,11 @@ func (p *recorder) receive(all []wanted) error {
 				return err
 			}
 		}
-		r.numbers.add(one.Serial)
-		if err := r.expects(isSame(one.Changes, r.numbers.own)); err != nil {
-			return fmt.Errorf("edit %d: %w", one.Serial, err)
+		if !one.IsCampaign() {
+			r.numbers.add(one.Serial)
+			if err := r.expects(isSame(one.Changes, r.numbers.own)); err != nil {
+				return fmt.Errorf("edit %d: %w", one.Serial, err)
+			}
 		}
 		if err := p.keep(one); err != nil {
 			return err

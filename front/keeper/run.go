@@ -43,6 +43,9 @@ func (k *Keeper) Start(ctx context.Context) (*Started, error) {
 	if err := k.recorder.open(); err != nil {
 		return nil, err
 	}
+	if err := k.resumeCampaigns(ctx); err != nil {
+		return nil, err
+	}
 	if k.version, err = k.says(ctx); err != nil {
 		return nil, err
 	}
@@ -50,7 +53,7 @@ func (k *Keeper) Start(ctx context.Context) (*Started, error) {
 	if err != nil {
 		return nil, err
 	}
-	k.serial.Store(r.serial)
+	k.stands(r)
 	k.ladder.Anew(r.marks)
 	for _, rung := range k.ladder.Rungs() {
 		k.stood(rung)
@@ -93,6 +96,12 @@ func (k *Keeper) recover() error {
 	return nil
 }
 
+// stands says which state a program has that is served next.
+func (k *Keeper) stands(r *running) {
+	k.lastEdit.Store(r.edit)
+	k.serial.Store(r.serial)
+}
+
 // tellTorn logs what was dropped, if something was.
 func (k *Keeper) tellTorn(torn *folder.Torn, what string) {
 	if torn != nil {
@@ -132,7 +141,7 @@ func (s *Started) Run(ctx context.Context) error {
 	defer stop()
 	background, cancel := context.WithCancel(ctx)
 	var done sync.WaitGroup
-	done.Add(8)
+	done.Add(9)
 	var differs error
 	go func() {
 		defer done.Done()
@@ -163,6 +172,10 @@ func (s *Started) Run(ctx context.Context) error {
 	go func() {
 		defer done.Done()
 		k.pasts.run(background)
+	}()
+	go func() {
+		defer done.Done()
+		k.follows(background)
 	}()
 	var damage error
 	go func() {
@@ -240,6 +253,7 @@ func (k *Keeper) again(ctx context.Context, old *running) (*running, error) {
 	k.Meter.Restarted(why)
 	k.Log.Error("the program is started anew", "why", why, "ended", old.Ended(), "process", old.ID())
 	k.shifted = 0
+	k.Campaigns.Cut(k.Folder.Last())
 	if err := k.streamed.rests(ctx); err != nil {
 		return nil, err
 	}
@@ -247,7 +261,7 @@ func (k *Keeper) again(ctx context.Context, old *running) (*running, error) {
 		r, err := k.build(ctx, k.ladder.Marks(k.need()))
 		if err == nil {
 			k.ladder.Anew(r.marks)
-			k.serial.Store(r.serial)
+			k.stands(r)
 			k.changed()
 			return r, nil
 		}

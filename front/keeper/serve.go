@@ -173,6 +173,9 @@ func (s *serving) take(call *Call) {
 		s.keeper.held = append(s.keeper.held, call)
 		return
 	}
+	if call.act != nil {
+		s.judge(call)
+	}
 	s.send(call)
 	for _, next := range call.behind {
 		s.send(next)
@@ -281,7 +284,11 @@ func (s *serving) send(call *Call) {
 	}
 	s.sent = true
 	// If the pipe is closed the reader finds no reply, and says so.
-	_ = s.program.Send(call.Line)
+	if l := call.Line; call.act == nil {
+		_ = s.program.Send(l)
+	} else {
+		_ = s.program.Send(working)
+	}
 }
 
 // own sends a line of the front itself.

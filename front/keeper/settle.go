@@ -45,6 +45,10 @@ func (s *serving) receive() {
 
 // lose is for a line to which the program gives no reply. An edit of a stream is told to the next program.
 func (s *serving) lose(call *Call) {
+	if call.to != nil {
+		call.heard(ErrEnded)
+		return
+	}
 	if call.sequence == 0 {
 		call.finish(Reply{Err: call.lost()})
 		return
@@ -66,6 +70,13 @@ func anew(calls []*Call, lost *Call) []*Call {
 
 // await waits for the reply to a line.
 func (s *serving) await(call *Call) (program.Reply, error) {
+	if call.to != nil {
+		wrote, err := s.program.ReceiveTo(call.to)
+		if err == nil {
+			call.heard(wrote)
+		}
+		return program.Reply{}, err
+	}
 	if call.IsLong() {
 		return s.program.ReceiveLong(s.keeper.Spool)
 	}
@@ -76,7 +87,13 @@ func (s *serving) await(call *Call) (program.Reply, error) {
 // read hands a reply on, which took so long: at once where no edit before it waits for the disk.
 func (s *serving) read(call *Call, said program.Reply, took time.Duration) error {
 	k := s.keeper
+	if call.to != nil {
+		return nil // what it was for has it
+	}
 	next := settled{call: call}
+	if call.act != nil {
+		said.Body = s.acted(&next)
+	}
 	if accepted, ok := line.ReadAccepted(said.Body); ok {
 		if err := s.number(call, accepted); err != nil {
 			return err
@@ -87,7 +104,9 @@ func (s *serving) read(call *Call, said program.Reply, took time.Duration) error
 	} else if call.sequence != 0 && line.NoMemory(said.Body) {
 		return errMemory // others may have had it
 	}
-	next.reply = s.told(call, said)
+	if next.reply = s.told(call, said); call.act != nil {
+		next.reply.Err = call.act.refused
+	}
 	if call.group != nil {
 		if next.entry == nil {
 			return fmt.Errorf("one of %d edits that a spare program accepted is answered %.200s", call.group.count, said.Body)
@@ -145,7 +164,7 @@ func (s *serving) number(call *Call, said line.Accepted) error {
 // entry is the edit as the journal has it.
 func (c *Call) entry(serial, changes uint64) *folder.Entry {
 	at := c.at
-	if c.sequence == 0 {
+	if c.sequence == 0 && c.act == nil {
 		at = time.Now()
 	}
 	return &folder.Entry{Time: at, By: c.By, Serial: serial, Changes: changes, Line: c.Line}
@@ -266,6 +285,11 @@ func (k *Keeper) write(batch []settled) error {
 	k.askers.tell(entries)
 	k.spare.tell(entries)
 	k.recorder.tell(entries)
+	for _, entry := range entries {
+		if !entry.IsCampaign() {
+			k.lastEdit.Store(entry.Serial)
+		}
+	}
 	k.accepted(entries[len(entries)-1].Serial)
 	return nil
 }

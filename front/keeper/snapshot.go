@@ -93,7 +93,7 @@ func (k *Keeper) keep(ctx context.Context, reply Reply) error {
 	}
 	before := time.Time{}
 	if k.Keep != 0 {
-		before = time.Now().Add(-k.Keep)
+		before = k.needed(time.Now().Add(-k.Keep))
 	}
 	first := k.Folder.First()
 	if err := k.Folder.Trim(k.ladder.Floor(k.need()), before); err != nil {

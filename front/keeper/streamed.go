@@ -9,6 +9,7 @@ import (
 	"sync/atomic"
 	"time"
 
+	"review-front/campaigns"
 	"review-front/line"
 	"review-front/replicated"
 )
@@ -263,6 +264,9 @@ func (l *streamed) take(edit replicated.Edit) *Call {
 
 // callOf is the edit of another front. What isn't one, or several that are made all together, each replica refuses.
 func callOf(edit replicated.Edit) *Call {
+	if campaigns.IsRecord(edit.Line) {
+		return &Call{Line: edit.Line, By: edit.By, kind: line.Edit, act: actOf(edit.Line), reply: make(chan Reply, 1)}
+	}
 	lines := [][]byte{edit.Line}
 	if edit.Whole {
 		lines = bytes.Split(edit.Line, newline)

@@ -39,7 +39,7 @@ func (s *spare) due() (edits []folder.Entry) {
 	var last uint64
 	for _, entry := range s.news {
 		last = entry.Serial
-		if last > s.now.serial && s.own[last] != s.broken {
+		if last > s.now.serial && s.own[last] != s.broken && !entry.IsCampaign() {
 			edits = append(edits, entry)
 		}
 	}
@@ -100,7 +100,7 @@ func (l *streamed) turn(ctx context.Context, call *Call) error {
 		if k.edits.take(ctx) != nil {
 			return ErrBusy
 		}
-		if k.TryTime == 0 || call.tried != nil {
+		if k.TryTime == 0 || call.tried != nil || call.act != nil {
 			return nil
 		}
 		k.spare.follow(ctx)

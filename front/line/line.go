@@ -10,6 +10,9 @@ import (
 // Limit is how many bytes a line has at most, without its newline.
 const Limit = 1 << 20
 
+// Ahead is how many lines somebody has on their way at a time who asks many.
+const Ahead = 256
+
 // Sessions is how many sessions the program has.
 const Sessions = 16
 

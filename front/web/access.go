@@ -18,7 +18,10 @@ import (
 // needs has the command that somebody has to be allowed for a path which isn't that of a line.
 var needs = map[string]string{
 	"/notices": "notices", "/metrics": access.Metrics, "/snapshot": "dump", "/snapshot/keys": "dump",
-	"/edits": "changes", "/head": "changes",
+	"/edits": "changes", "/head": "changes", "/campaigns/{campaign}": "campaign.show",
+	"/campaigns/{campaign}/items": "campaign.items", "/campaigns/{campaign}/keep": "campaign.keep",
+	"/campaigns/{campaign}/revoke": "campaign.revoke", "/campaigns/{campaign}/pass": "campaign.pass",
+	"/campaigns/{campaign}/undo": "campaign.undo", "/campaigns/{campaign}/close": "campaign.close",
 	"/sessions": "mark", "/sessions/{session}": "mark", "/sessions/{session}/mark": "mark",
 	"/sessions/{session}/notices": "notices",
 	"/access/v1/search/subject":   "cells", "/access/v1/search/action": "cells", "/access/v1/search/resource": "cells",
@@ -27,7 +30,7 @@ var needs = map[string]string{
 // forKnown are the paths that whoever is known may ask for, as those whose lines are looked at one by one.
 var forKnown = map[string]bool{
 	"/": true, "/openapi.json": true, "/lines": true, "/sessions/{session}/lines": true, "/commands/{command}": true,
-	"/access/v1/evaluation": true, "/access/v1/evaluations": true, kubernetesPath: true,
+	"/access/v1/evaluation": true, "/access/v1/evaluations": true, kubernetesPath: true, "/campaigns": true,
 }
 
 // forAll are the paths that whoever reaches the front may ask for.

@@ -15,7 +15,7 @@ func (s *Server) Admin(hosts *Hosts) http.Handler {
 		case !administered[r.URL.Path] || r.Method != http.MethodGet && r.Method != http.MethodHead:
 			unknown().send(w)
 		default:
-			route, keys, _ := s.find([]string{r.URL.Path[1:]})
+			route, keys, _ := s.find(r.Method, []string{r.URL.Path[1:]})
 			route.serve(&answered{ResponseWriter: w, time: s.WriteTime, last: &s.leaving}, r, keys)
 		}
 	})

@@ -21,7 +21,9 @@ type problem struct {
 	Refused int    `json:"refused,omitempty"` // the number of the program's refusal
 	Sub     int    `json:"sub,omitempty"`     // its sub-code
 	Place   string `json:"place,omitempty"`   // where a request is wrong: a JSON pointer, or of XML the path of an element
-	after   int    // after how many seconds it may be tried again
+	// Changed is what isn't as it was seen, of an act of a campaign.
+	Changed any `json:"changed,omitempty"`
+	after   int // after how many seconds it may be tried again
 }
 
 const (
@@ -77,6 +79,9 @@ func (f *forbids) Error() string { return f.problem.Title }
 // problemFor is what stands in the place of a reply that there is none of.
 func problemFor(err error) problem {
 	if told, is := problemOfPast(err); is {
+		return told
+	}
+	if told, is := problemOfCampaign(err); is {
 		return told
 	}
 	after := 1

@@ -41,6 +41,7 @@ func (s *Server) routes() []route {
 		{http.MethodGet, "/readyz", s.ready},
 		{http.MethodGet, "/metrics", func(w *answered, r *http.Request, _ map[string]string) { s.metrics.ServeHTTP(w, r) }},
 	}
+	all = append(all, s.campaignRoutes()...)
 	for _, q := range questions {
 		serve := s.asking(q)
 		if q.do == "changes" {
@@ -77,14 +78,23 @@ func partsOf(u *url.URL) ([]string, error) {
 	return parts, nil
 }
 
-// find is the route of a path, with what stands at its keys.
-func (s *Server) find(parts []string) (route, map[string]string, bool) {
+// find is the route of a path, with what stands at its keys: that of a method, if there is one.
+func (s *Server) find(method string, parts []string) (found route, keys map[string]string, ok bool) {
 	for _, route := range s.known {
-		if keys, ok := route.match(parts); ok {
-			return route, keys, true
+		at, matches := route.match(parts)
+		if matches && (!ok || route.takes(method)) {
+			found, keys, ok = route, at, true
+			if route.takes(method) {
+				break
+			}
 		}
 	}
-	return route{}, nil, false
+	return found, keys, ok
+}
+
+// takes says whether a route answers a method.
+func (r route) takes(method string) bool {
+	return method == r.method || method == http.MethodHead && r.method == http.MethodGet
 }
 
 func (r route) match(parts []string) (map[string]string, bool) {

@@ -43,6 +43,8 @@ type Options struct {
 	Beat        time.Duration    // how often a listener hears something; 0: as Beat says
 	// RefusedEvery is how often it is logged what was refused; 0: each minute.
 	RefusedEvery time.Duration
+	// Oldest is how old a sign-off may be that a campaign takes over which doesn't say it, as 365d; nothing: as old as it is.
+	Oldest string
 	// Head gives the head of the journal's chain, as a line.
 	Head func() ([]byte, error)
 }
@@ -254,12 +256,12 @@ func (s *Server) answer(w *answered, r *http.Request) string {
 		bad("the path isn't UTF-8 or has a bad escape").send(w)
 		return "unknown"
 	}
-	route, keys, ok := s.find(parts)
+	route, keys, ok := s.find(r.Method, parts)
 	if !ok {
 		unknown().send(w)
 		return "unknown"
 	}
-	if r.Method != route.method && !(r.Method == http.MethodHead && route.method == http.MethodGet) {
+	if !route.takes(r.Method) {
 		w.Header().Set("Allow", s.allowed(parts))
 		problem{Title: "no such method", Status: http.StatusMethodNotAllowed}.send(w)
 		return route.name()
