@@ -43,6 +43,9 @@ func failed(command string, faults io.Writer, err error) int {
 
 // verify tells each fault of a folder by its file and place, and what a start would drop.
 func verify(words []string, to, faults io.Writer) int {
+	if isOfEvidence(words) {
+		return verifyEvidence(words, to, faults)
+	}
 	var key string
 	var files list
 	var stream jetstream.Options

@@ -101,8 +101,8 @@ func readHeads(name string, stream jetstream.Options) ([]byte, error) {
 	return jetstream.Heads(ctx, stream)
 }
 
-// readGiven reads heads, and the key that is to have signed them.
-func readGiven(journal, key string, files []string, stream jetstream.Options) (*given, error) {
+// readOutside reads heads from outside, and the key that is to have signed them.
+func readOutside(key string, files []string, stream jetstream.Options) (*given, error) {
 	g := &given{}
 	var err error
 	if key != "" {
@@ -121,12 +121,21 @@ func readGiven(journal, key string, files []string, stream jetstream.Options) (*
 		}
 		g.outside = append(g.outside, some...)
 	}
+	sort.SliceStable(g.outside, func(i, j int) bool { return g.outside[i].Serial < g.outside[j].Serial })
+	return g, nil
+}
+
+// readGiven reads heads, and the key that is to have signed them.
+func readGiven(journal, key string, files []string, stream jetstream.Options) (*given, error) {
+	g, err := readOutside(key, files, stream)
+	if err != nil {
+		return nil, err
+	}
 	content, err := os.ReadFile(filepath.Join(journal, heads.FileName))
 	if err != nil && !errors.Is(err, os.ErrNotExist) {
 		return nil, err
 	}
 	g.inside, _ = heads.Read(content) // what isn't sound there tells nothing
-	sort.SliceStable(g.outside, func(i, j int) bool { return g.outside[i].Serial < g.outside[j].Serial })
 	sort.SliceStable(g.inside, func(i, j int) bool { return g.inside[i].Serial < g.inside[j].Serial })
 	return g, nil
 }

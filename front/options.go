@@ -8,6 +8,7 @@ import (
 	"strings"
 	"time"
 
+	"review-front/campaigns"
 	"review-front/jetstream"
 	"review-front/limits"
 )
@@ -23,6 +24,8 @@ type options struct {
 	copied           string
 	others           list
 	othersToken      string
+	oldest           string
+	campaignCommand  string
 	checkEvery       uint64
 	listen           string
 	admin            string
@@ -92,6 +95,7 @@ Usage: review-front --program PROGRAM --journal FOLDER [OPTION ..]
        review-front --program PROGRAM --log nats://.. --stream NAME [OPTION ..]
        review-front history --journal FOLDER [--since TIME] [--until TIME] [--by NAME]
        review-front verify --journal FOLDER [--key FILE] [--head FILE ..]
+       review-front verify --evidence FILE [--key FILE] [--head FILE ..]
        review-front repair --journal FOLDER OUT
        review-front restore --journal FOLDER --to SERIAL|TIME OUT
        review-front undo --journal FOLDER SERIAL
@@ -174,6 +178,10 @@ func (o *options) name(set *flag.FlagSet) {
 	set.StringVar(&o.signKey, "sign-key", "", "a `file` with a key of Ed25519 that signs the heads of the journal")
 	set.Var(&o.headsTo, "heads-to", "a `file` to which each head is added, behind | a command that is given it, or a "+
 		"stream of servers of NATS, as nats://host:4222/heads; may stand several times")
+	set.StringVar(&o.oldest, "oldest", "", "how old a sign-off may be that a campaign takes over which doesn't say it, in "+
+		"`days`, as 365d; else as old as it is")
+	set.StringVar(&o.campaignCommand, "campaign-command", "", "a `command` that is given a line of JSON when a campaign is "+
+		"opened, ends, or its reviewers are to be reminded")
 	set.Uint64Var(&o.snapshotEvery, "snapshot-every", 10_000, "a snapshot is made after so many edits; 0: not by their number")
 	set.DurationVar(&o.replayTime, "replay-time", 5*time.Second, "a snapshot is made when the edits behind the last took "+
 		"so long, as a start would; 0: not by their time")
@@ -241,6 +249,8 @@ func (o options) wrong(rest []string) string {
 		return "--sessions is at least 1"
 	case o.spoolBytes < 1<<20:
 		return "--spool-bytes is at least 1048576"
+	case !campaigns.IsOldest(o.oldest):
+		return "--oldest is a number of days, as 365d"
 	case o.keepDaily < 0 || o.past < 1:
 		return "--keep-daily is at least 0, and --past at least 1"
 	case o.replayTime < 0:

@@ -93,6 +93,7 @@ func serve(ctx context.Context, again <-chan os.Signal, o options, log *logs.Log
 		ByHeader: o.byHeader, Trusted: o.trusted,
 		SessionIdle: o.sessionIdle, BodyTime: o.bodyTime, StreamIdle: o.streamIdle, WriteTime: o.writeTime,
 		DryTime: o.dryTime, Access: who.gate, Rights: who.rights, Signed: secrets.signed(),
+		Oldest: o.oldest,
 	})
 	site.Head = signed.Now
 	k.Edited = site.Edited
@@ -185,7 +186,7 @@ func (o options) keeping(
 		Command: o.command(log),
 		Folder:  held, Stream: edits, Spool: kept, Log: log, Meter: meter, Queue: o.queue, Patience: o.patience,
 		SnapshotEvery: o.snapshotEvery, ReplayTime: o.replayTime, Keep: o.keep, Reads: o.reads,
-		KeepHistory: o.keepHistory, KeepDaily: o.keepDaily, Past: o.past,
+		Announce: o.announcing(log), KeepHistory: o.keepHistory, KeepDaily: o.keepDaily, Past: o.past,
 		ReplyTime: o.replyTime, EndingTime: o.half(), Askers: o.askers, TryTime: o.tryTime,
 		Kept:         ladder.Bounds{Changes: o.keepChanges, Took: o.replayTime / 2, Recent: o.returnTime()},
 		MostSessions: o.sessions,

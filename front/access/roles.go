@@ -19,7 +19,8 @@ var Roles = map[string][]string{
 		"campaign.show", "campaign.items", "campaign.keep", "campaign.revoke", "campaign.pass", "campaign.undo",
 	},
 	"campaign": {
-		"campaign.show", "campaign.items", "campaign.all", "campaign.open", "campaign.close", "campaign.evidence",
+		"campaign.show", "campaign.items", "campaign.all", "campaign.tasks", "campaign.open", "campaign.close",
+		"campaign.evidence",
 	},
 	"operate": {"dump", "day.set", "moment.set", "state", "limits", "work", "format"},
 	Metrics:   {Metrics},

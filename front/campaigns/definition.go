@@ -135,6 +135,9 @@ func (d *Definition) wrong() error {
 	return d.wrongReviewers()
 }
 
+// IsOldest says whether this is a number of days, or nothing.
+func IsOldest(written string) bool { return written == "" || isOldest.MatchString(written) }
+
 // wrongReviewers says what is wrong with the reviewers: each has one way, and behind all others stands a name for
 // everything.
 func (d *Definition) wrongReviewers() error {

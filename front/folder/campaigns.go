@@ -36,3 +36,6 @@ func (f *Folder) EachCampaign(call func(Entry) error) error {
 	}
 	return nil
 }
+
+// Raw is an edit as the chain counts it, or nothing where its journal has no chain.
+func (e Entry) Raw() []byte { return e.raw }

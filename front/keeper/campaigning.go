@@ -39,7 +39,11 @@ func (k *Keeper) Act(ctx context.Context, record *campaigns.Record, by string) R
 	if len(l) > line.Limit {
 		return Reply{Err: &campaigns.Refused{Status: 413, Title: "too long", Detail: "an act is of fewer items"}}
 	}
-	return k.Send(ctx, &Call{Line: l, By: by, kind: line.Edit, act: actOf(l)})
+	reply := k.Send(ctx, &Call{Line: l, By: by, kind: line.Edit, act: actOf(l)})
+	if k.Announce != nil && reply.Err == nil {
+		go k.announces(context.Background(), record.Do, reply)
+	}
+	return reply
 }
 
 // judge says whether a record is taken. It is for who sends lines: between its questions there are no others, and

@@ -64,27 +64,28 @@ type Options struct {
 	Folder        *folder.Folder
 	Log           *logs.Log
 	Meter         Meter
-	Queue         int                  // how many lines wait at most
-	Patience      time.Duration        // how long a line waits for room among them
-	SnapshotEvery uint64               // a snapshot is made after so many edits; 0: not by their number
-	ReplayTime    time.Duration        // a snapshot is made when the edits behind the last took so long; 0: not by their time
-	Keep          time.Duration        // how long old journals are kept; 0: for ever
-	KeepHistory   time.Duration        // how long it is kept what edits changed; 0: for ever; less: not at all
-	Reads         uint64               // the program is exchanged before it has looked at its input so often
-	ReplyTime     time.Duration        // how long a reply may take before the program is exchanged; 0: for ever
-	EndingTime    time.Duration        // how long the last snapshot may take, and what still has no reply then
-	Edited        func([]folder.Entry) // is told edits that are on disk, in their order; may be nil
-	Askers        int                  // how many programs beside the table's answer requests
-	TryTime       time.Duration        // how long an edit may take in a spare program; 0: there is none
-	Spool         *spool.Spool         // where long replies wait until they are read
-	Kept          ladder.Bounds        // how much of what changed can be asked
-	MostSessions  int                  // how many sessions and marks clients have at most
-	Stream        replicated.Log       // through which edits go that several fronts make; nil: this front alone has them
-	Others        []Other              // fronts of the same stream
-	KeepDaily     int                  // of how many last days a snapshot is kept
-	Past          int                  // how many programs of earlier states there are at most
-	Heads         Heads                // makes heads of the journal's chain; may be nil
-	CheckEvery    uint64               // after so many edits of a stream fronts compare their states; 0: never
+	Queue         int                   // how many lines wait at most
+	Patience      time.Duration         // how long a line waits for room among them
+	SnapshotEvery uint64                // a snapshot is made after so many edits; 0: not by their number
+	ReplayTime    time.Duration         // a snapshot is made when the edits behind the last took so long; 0: not by their time
+	Keep          time.Duration         // how long old journals are kept; 0: for ever
+	KeepHistory   time.Duration         // how long it is kept what edits changed; 0: for ever; less: not at all
+	Reads         uint64                // the program is exchanged before it has looked at its input so often
+	ReplyTime     time.Duration         // how long a reply may take before the program is exchanged; 0: for ever
+	EndingTime    time.Duration         // how long the last snapshot may take, and what still has no reply then
+	Edited        func([]folder.Entry)  // is told edits that are on disk, in their order; may be nil
+	Askers        int                   // how many programs beside the table's answer requests
+	TryTime       time.Duration         // how long an edit may take in a spare program; 0: there is none
+	Spool         *spool.Spool          // where long replies wait until they are read
+	Kept          ladder.Bounds         // how much of what changed can be asked
+	MostSessions  int                   // how many sessions and marks clients have at most
+	Stream        replicated.Log        // through which edits go that several fronts make; nil: this front alone has them
+	Others        []Other               // fronts of the same stream
+	KeepDaily     int                   // of how many last days a snapshot is kept
+	Past          int                   // how many programs of earlier states there are at most
+	Heads         Heads                 // makes heads of the journal's chain; may be nil
+	Announce      func(campaigns.Event) // is told of campaigns that this front opened, reminded of and ended; may be nil
+	CheckEvery    uint64                // after so many edits of a stream fronts compare their states; 0: never
 }
 
 // Heads makes the head of the chain of the journal behind an edit, and is told why.

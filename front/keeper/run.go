@@ -141,7 +141,7 @@ func (s *Started) Run(ctx context.Context) error {
 	defer stop()
 	background, cancel := context.WithCancel(ctx)
 	var done sync.WaitGroup
-	done.Add(9)
+	done.Add(10)
 	var differs error
 	go func() {
 		defer done.Done()
@@ -176,6 +176,10 @@ func (s *Started) Run(ctx context.Context) error {
 	go func() {
 		defer done.Done()
 		k.follows(background)
+	}()
+	go func() {
+		defer done.Done()
+		k.reminds(background)
 	}()
 	var damage error
 	go func() {

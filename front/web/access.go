@@ -19,7 +19,9 @@ import (
 var needs = map[string]string{
 	"/notices": "notices", "/metrics": access.Metrics, "/snapshot": "dump", "/snapshot/keys": "dump",
 	"/edits": "changes", "/head": "changes", "/campaigns/{campaign}": "campaign.show",
-	"/campaigns/{campaign}/items": "campaign.items", "/campaigns/{campaign}/keep": "campaign.keep",
+	"/campaigns/{campaign}/events": "campaign.show", "/campaigns/{campaign}/tasks": "campaign.tasks",
+	"/campaigns/{campaign}/evidence": "campaign.evidence",
+	"/campaigns/{campaign}/items":    "campaign.items", "/campaigns/{campaign}/keep": "campaign.keep",
 	"/campaigns/{campaign}/revoke": "campaign.revoke", "/campaigns/{campaign}/pass": "campaign.pass",
 	"/campaigns/{campaign}/undo": "campaign.undo", "/campaigns/{campaign}/close": "campaign.close",
 	"/sessions": "mark", "/sessions/{session}": "mark", "/sessions/{session}/mark": "mark",

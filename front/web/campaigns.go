@@ -30,6 +30,9 @@ func (s *Server) campaignRoutes() []route {
 		{http.MethodPost, "/campaigns", s.openCampaign},
 		{http.MethodGet, "/campaigns/{campaign}", s.campaign},
 		{http.MethodGet, "/campaigns/{campaign}/items", s.campaignItems},
+		{http.MethodGet, "/campaigns/{campaign}/tasks", s.tasks},
+		{http.MethodGet, "/campaigns/{campaign}/events", s.campaignEvents},
+		{http.MethodGet, "/campaigns/{campaign}/evidence", s.evidence},
 	}
 	for _, do := range []string{campaigns.Keep, campaigns.Revoke, campaigns.Pass, campaigns.Undo, campaigns.Close} {
 		path := "/campaigns/{campaign}/" + strings.TrimPrefix(do, "campaign.")

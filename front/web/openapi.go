@@ -43,8 +43,31 @@ var operations = map[string]operation{
 		does:  "Tells edits: who made each, when, its line, and what it changed.",
 		gives: []string{jsonType}, has: "edits", keys: editsKeys,
 	},
-	"GET /head":    telling("Gives the head of the journal's chain behind the last edit.", "chain"),
-	"GET /notices": {does: "Tells what edits change, as it happens.", gives: []string{"text/event-stream"}},
+	"GET /campaigns":            telling("Tells of all campaigns.", "campaigns"),
+	"POST /campaigns":           taking("Opens a campaign over the cells of a scope, as they are at its place among edits.", "campaign"),
+	"GET /campaigns/{campaign}": telling("Tells how far a campaign is, what is open by reviewer, and what fell.", "campaign"),
+	"GET /campaigns/{campaign}/items": {
+		does:  "Tells items by groups: those of one person that the same rules give, with the digest of their answers.",
+		gives: []string{jsonType}, has: "groups", keys: itemsKeys,
+	},
+	"GET /campaigns/{campaign}/tasks": {
+		does:  "Tells what is to be revoked and is still there, with what each answer rests on.",
+		gives: []string{jsonType}, has: "tasks", keys: tasksKeys,
+	},
+	"GET /campaigns/{campaign}/events": {
+		does: "Tells what happens to a campaign, as it happens.", gives: []string{"text/event-stream"},
+	},
+	"GET /campaigns/{campaign}/evidence": {
+		does:  "Gives items, acts and falls, with the records of the journal by which they can be checked.",
+		gives: []string{linesType, csvType}, keys: evidenceKeys,
+	},
+	"POST /campaigns/{campaign}/keep":   taking("Signs that items may stay, of which the answers with a digest were seen.", "serial"),
+	"POST /campaigns/{campaign}/revoke": taking("Signs that items are to go, and why.", "serial"),
+	"POST /campaigns/{campaign}/pass":   taking("Says whose the items are.", "serial"),
+	"POST /campaigns/{campaign}/undo":   taking("Takes back what one signed oneself.", "serial"),
+	"POST /campaigns/{campaign}/close":  taking("Ends a campaign.", "serial"),
+	"GET /head":                         telling("Gives the head of the journal's chain behind the last edit.", "chain"),
+	"GET /notices":                      {does: "Tells what edits change, as it happens.", gives: []string{"text/event-stream"}},
 	"POST /sessions": {
 		does: "Opens a session.", gives: []string{jsonType}, done: http.StatusCreated, has: "session",
 	},
