@@ -5,6 +5,8 @@ import (
 	"net/http"
 	"sync"
 	"time"
+
+	"review-front/changed"
 )
 
 // Table has all campaigns of a journal. What records say counts as soon as they have their place; what edits do to
@@ -182,7 +184,7 @@ func (t *Table) judgeAnswers(c *Campaign, r *Record, ask Asker) error {
 		now = append(now, one)
 	}
 	if Digest(cells, now) == r.Digest {
-		return c.judgeRevoked(r, now)
+		return c.judgeSigned(r, now)
 	}
 	told := refuse(http.StatusConflict, "another answer", "an answer isn't the one that was seen")
 	t.mutex.Lock()
@@ -197,9 +199,12 @@ func (t *Table) judgeAnswers(c *Campaign, r *Record, ask Asker) error {
 	return told
 }
 
-// judgeRevoked sees that what is to be revoked is there.
-func (c *Campaign) judgeRevoked(r *Record, now []*Answer) error {
+// judgeSigned sees that what is signed is of the scope, and what is to be revoked is there.
+func (c *Campaign) judgeSigned(r *Record, now []*Answer) error {
 	for at, number := range r.Items {
+		if decision, _ := changed.ReadDecision(now[at].decision()); !c.covers(decision) {
+			return refuse(http.StatusUnprocessableEntity, "nothing to sign", "item %d is out of the scope by now", number)
+		}
 		if r.Do == Revoke && now[at].decision() != "Permit" {
 			return refuse(http.StatusUnprocessableEntity, "nothing to revoke", "item %d is no Permit", number)
 		}

@@ -134,6 +134,22 @@ type askedAct struct {
 	To     string   `json:"to"`
 }
 
+// record is the act as a record.
+func (a askedAct) record(do, campaign string) *campaigns.Record {
+	r := &campaigns.Record{Do: do, Campaign: campaign, Items: a.Items}
+	switch do {
+	case campaigns.Revoke:
+		r.Digest, r.Why = a.Digest, a.Why
+	case campaigns.Keep:
+		r.Digest = a.Digest
+	case campaigns.Pass:
+		r.To = a.To
+	case campaigns.Close:
+		r.Items = nil
+	}
+	return r
+}
+
 // acting answers an act.
 func (s *Server) acting(do string) func(*answered, *http.Request, map[string]string) {
 	return func(w *answered, r *http.Request, keys map[string]string) {
@@ -151,9 +167,7 @@ func (s *Server) acting(do string) func(*answered, *http.Request, map[string]str
 		if !s.mayCampaign(w, r, do, keys["campaign"]) {
 			return
 		}
-		record := &campaigns.Record{
-			Do: do, Campaign: keys["campaign"], Items: asked.Items, Digest: asked.Digest, Why: asked.Why, To: asked.To,
-		}
+		record := asked.record(do, keys["campaign"])
 		if do != campaigns.Close && !s.signs(w, r, record) {
 			return
 		}
