@@ -63,7 +63,8 @@ type signsFor struct {
 func (s *signsFor) act(f *front, names []string) {
 	name := names[s.random.Intn(len(names))]
 	if s.random.Intn(4) > 0 || len(s.held[name].Groups) == 0 {
-		status, body := f.tries("rita", http.MethodGet, "/campaigns/"+name+"/items?count=1000", "")
+		wanted := "count=1000&state=open&state=fell&state=kept&state=revoke"
+		status, body := f.tries("rita", http.MethodGet, "/campaigns/"+name+"/items?"+wanted, "")
 		var told groupsOf
 		if status != http.StatusOK || json.Unmarshal([]byte(body), &told) != nil || len(told.Groups) == 0 {
 			return

@@ -1,0 +1,75 @@
+package main
+
+import (
+	"fmt"
+	"math/rand"
+	"net/http"
+	"strings"
+	"sync"
+	"testing"
+)
+
+// TestLogCampaigns has somebody sign at both fronts of one stream while others edit at both, and kills one of them: both
+// take the same acts, and tell the same sign-offs, which are those of a model.
+func TestLogCampaigns(t *testing.T) {
+	servers := natsServers(t, 1)
+	file := reviewing(t)
+	fronts := replicas(t, servers, 2, "--access", file)
+	fronts[0].as(t, "boss", http.MethodPost, "/lines", strings.Join(clinic(t), "\n")+"\n")
+	random := rand.New(rand.NewSource(int64(number("FRONT_SEED", 4))))
+	s := &signsFor{random: random, made: map[uint64]string{}, counts: map[int]int{}, held: map[string]groupsOf{}}
+	for i, name := range []string{"c0", "c1"} {
+		more := ""
+		if i == 1 {
+			more = `,"on":"decision","after":"c0"`
+		}
+		if got := fronts[i].as(t, "boss", http.MethodPost, "/campaigns", opening(name, "rita", more)); got.status != 200 {
+			t.Fatal(got)
+		}
+	}
+	edits, acts := number("FRONT_CAMPAIGN_EDITS", 60), number("FRONT_CAMPAIGN_ACTS", 60)
+	var all sync.WaitGroup
+	for at := range fronts {
+		all.Add(1)
+		go func(f *front, editor *rand.Rand) {
+			defer all.Done()
+			for i := 0; i < edits/2; i++ {
+				f.tries("editor", http.MethodPost, "/lines", changingEdit(editor))
+			}
+		}(fronts[at], rand.New(rand.NewSource(int64(at))))
+	}
+	for i := 0; i < acts; i++ {
+		if i == acts/2 {
+			fronts[1].kill()
+			fronts[1] = replica(t, fronts[1].folder, logOf(servers), "--access", file)
+			fronts[1].await()
+		}
+		s.act(fronts[i%2], []string{"c0", "c1"})
+	}
+	all.Wait()
+	eventually(t, "both have all", func() bool {
+		one, other := fronts[0].as(t, "auditor", http.MethodGet, "/head", ""), fronts[1].as(t, "auditor", http.MethodGet, "/head", "")
+		return one.status == 200 && chainIn(one.body) == chainIn(other.body)
+	})
+	for _, f := range fronts {
+		m := newReviewed(t)
+		m.follow(f.folder)
+		m.same(f)
+		for serial, begins := range s.made {
+			if !strings.HasPrefix(m.records[serial], begins) {
+				t.Errorf("serial %d was answered as %s, and is %q", serial, begins, m.records[serial])
+			}
+		}
+		t.Logf("%d edits, %d acts: %v", m.own, len(m.records), s.counts)
+	}
+	if s.counts[http.StatusOK] == 0 {
+		t.Errorf("acts were answered %v", s.counts)
+	}
+}
+
+// chainIn is the value of the chain in a head.
+func chainIn(head string) string {
+	_, chain, _ := strings.Cut(head, `"chain":"`)
+	chain, _, _ = strings.Cut(chain, `"`)
+	return fmt.Sprint(chain)
+}
