@@ -3,6 +3,7 @@ package main
 import (
 	"encoding/json"
 	"net/http"
+	"sort"
 	"strings"
 	"testing"
 )
@@ -34,10 +35,17 @@ var samples = map[string][2]string{
 	"/healthz":                              {"/healthz", `{"status":"ok"}`},
 	"/readyz":                               {"/readyz", `{"status":"ready"}`},
 	"/metrics":                              {"/metrics", `# HELP `},
+	"/campaigns":                            {"/campaigns", `{"campaigns":[{"campaign":{"name":"q4",`},
+	"/campaigns/{campaign}":                 {"/campaigns/q4", `{"campaign":{"name":"q4",`},
+	"/campaigns/{campaign}/items":           {"/campaigns/q4/items?count=3", `{"campaign":"q4","groups":[{"person":`},
+	"/campaigns/{campaign}/tasks":           {"/campaigns/q4/tasks", `{"more":false,"serial":70,"tasks":[]}`},
+	"/campaigns/{campaign}/evidence":        {"/campaigns/q4/evidence", `{"evidence":1,"campaign":"q4","serial":70,`},
 }
 
 // listening has the paths that are read and asked by tests of their own.
-var listening = map[string]bool{"/notices": true, "/sessions/{session}/notices": true}
+var listening = map[string]bool{
+	"/notices": true, "/sessions/{session}/notices": true, "/campaigns/{campaign}/events": true,
+}
 
 // TestPaths asks each path that the front lists once, of the clinic.
 func TestPaths(t *testing.T) {
@@ -48,10 +56,16 @@ func TestPaths(t *testing.T) {
 		t.Fatal(err)
 	}
 	count := 0
+	sort.SliceStable(listed.Paths, func(i, j int) bool { // those of a campaign last, which takes a serial
+		return !strings.Contains(listed.Paths[i], "/campaigns") && strings.Contains(listed.Paths[j], "/campaigns")
+	})
 	for _, one := range listed.Paths {
 		method, path, _ := strings.Cut(one, " ")
 		if method != http.MethodGet || listening[path] {
 			continue
+		}
+		if strings.Contains(path, "/campaigns") {
+			f.post("/campaigns", opening("q4", "rita", ""))
 		}
 		sample, there := samples[path]
 		if !there {
