@@ -188,6 +188,11 @@ func (s *Server) signs(w *answered, r *http.Request, record *campaigns.Record) b
 		problem{Title: "nobody is known", Status: http.StatusForbidden, Detail: "who signs is known by --access"}.send(w)
 		return false
 	}
+	if name, nobody := s.who(r); nobody != nil || s.Signed == nil && name != visitIn(r.Context()).last().Name {
+		problem{Title: "nobody is known", Status: http.StatusForbidden,
+			Detail: "a field says who signs, and whoever sends it shows no certificate"}.send(w)
+		return false
+	}
 	if len(record.Items) > mostItems {
 		bad("an act is of at most 10,000 items").send(w)
 		return false
