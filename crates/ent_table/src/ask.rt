@@ -26,7 +26,8 @@ impl<E: Evaluates> Review<E> {
         ensures rest { self.new ≡ record self.old { evaluations = raised self.old.evaluations 1 } }
     {
         let alloc = self.parts.alloc;
-        self.ask_shared(request)?.get().copy(alloc)
+        let answer = self.ask_shared(request)?;
+        answer.get().copy(alloc)
     }
 
     /// The same, as one of its owners: who only reads the answer makes no copy of it.

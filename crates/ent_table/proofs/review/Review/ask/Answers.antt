@@ -8,4 +8,4 @@ pub returns-clause-answer : goal.returns-clause-answer
 returns-clause-answer g c =
     let a : Answer = answer_in c.args.self.now.state c.args.request.now in
     IfOk-weaker c.copy.result (λ (x : Answer). x ≡ c.get.result.now) (λ (x : Answer). x ≡ a)
-    (λ x e. e ∙ c.get.ensures ∙ c.in_ok-ask_shared.ensures.answer) c.copy.ensures
+    (λ x e. e ∙ c.get.ensures ∙ c.in_ok-answer.ensures.answer) c.copy.ensures
