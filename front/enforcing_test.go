@@ -195,7 +195,7 @@ func clientShown(language, file string) func(*testing.T, string) {
 		known := fmt.Sprintf(`{"name":"ward","roles":["ask","read","audit"],"token_sha256":"%x"}`, hash)
 		f := begin(t, journal, "--access", accessFile(t, known))
 		writtenFor(t, folder, file, block, shownAddress, f.address)
-		clients := filepath.Join(ownFolder(t), "..", "clients")
+		clients, want := filepath.Join(ownFolder(t), "..", "clients"), clientPrints(t, enforcing(t))
 		words := []string{file}
 		switch language {
 		case "go":
@@ -208,12 +208,26 @@ func clientShown(language, file string) func(*testing.T, string) {
 				t.Fatal(err)
 			}
 		}
-		run := exec.Command(language, words...)
-		run.Dir = folder
-		run.Env = append(os.Environ(), "GO111MODULE=on", "GOFLAGS=", "PYTHONDONTWRITEBYTECODE=1",
-			"PYTHONPATH="+filepath.Join(clients, "python"))
-		if told, err := run.CombinedOutput(); err != nil || strings.TrimSpace(string(told)) != clientPrints(t, enforcing(t)) {
+		// On a busy machine the front may take longer than a client waits.
+		told, err := "", error(nil)
+		for try := 0; try < mostTries && (err != nil || told != want); try++ {
+			told, err = printed(folder, clients, language, words)
+		}
+		if err != nil || told != want {
 			t.Errorf("it prints %s, %v", told, err)
 		}
 	}
+}
+
+// mostTries is how often a client's program is run until it prints what it has to.
+const mostTries = 5
+
+// printed is what a client's program prints, in a folder.
+func printed(folder, clients, language string, words []string) (string, error) {
+	run := exec.Command(language, words...)
+	run.Dir = folder
+	run.Env = append(os.Environ(), "GO111MODULE=on", "GOFLAGS=", "PYTHONDONTWRITEBYTECODE=1",
+		"PYTHONPATH="+filepath.Join(clients, "python"))
+	told, err := run.CombinedOutput()
+	return strings.TrimSpace(string(told)), err
 }

@@ -53,7 +53,7 @@ func newShell(t testing.TB) *shell {
 	if err := os.WriteFile(filepath.Join(s.folder, "front", "out", "review-front"), []byte(script), 0o700); err != nil {
 		t.Fatal(err)
 	}
-	s.front = begin(t, filepath.Join(s.folder, "clinic"))
+	s.front = begin(t, filepath.Join(s.folder, "clinic"), "--patience", "10m") // also on a busy machine
 	s.front.accept(clinic(t)...)
 	s.front.accept(`{"do":"person.add","name":"ivan"}`)
 	return s
