@@ -160,3 +160,30 @@ func TestSourceDatabase(t *testing.T) {
 		t.Errorf("it ends with %d: %s", status, faults.String())
 	}
 }
+
+// TestSourceNotified tells how long a NOTIFY takes to the table of many people: 50,000 with FRONT_PEOPLE.
+func TestSourceNotified(t *testing.T) {
+	count := number("FRONT_PEOPLE", 1000)
+	d := newDatabase(t)
+	d.do(t, `create table people (login text, dept text, teams text[], since date, seen timestamptz, cleared bool, level int)`)
+	d.do(t, fmt.Sprintf(`insert into people select 'p' || n, 'd' || n %% 50, array['a', 'b'], '2020-01-01', '2026-01-01', true, n
+		from generate_series(1, %d) n`, count))
+	s := newSourced(t, begin(t, t.TempDir(), "--people", "65536", "--cells", "1000000", "--try-time", "5m"))
+	s.write("db.json", d.source("select * from people"))
+	ctx, stop := context.WithCancel(context.Background())
+	ended := make(chan int, 1)
+	go func() {
+		ended <- source.Run(ctx, []string{"run", "--every", "1h", "--front", "http://" + s.f.address, s.folder}, io.Discard, io.Discard)
+	}()
+	rows := func(name string) string { return s.f.must("/attributes?category=AccessSubject&entity=" + name) }
+	eventually(t, "all are there", func() bool { return strings.Contains(s.f.must("/state"), fmt.Sprintf(`"people":%d,`, count)) })
+	time.Sleep(time.Duration(count/1000) * 100 * time.Millisecond) // what the first round still reads isn't counted
+	for n := 1; n <= 3; n++ {
+		began := time.Now()
+		d.do(t, fmt.Sprintf("update people set dept = 'moved' where login = 'p%d'; notify people", n))
+		eventually(t, "the table has it", func() bool { return strings.Contains(rows(fmt.Sprint("p", n)), "moved") })
+		t.Logf("of %d people a NOTIFY is in the table after %v", count, time.Since(began))
+	}
+	stop()
+	<-ended
+}

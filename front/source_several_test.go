@@ -40,9 +40,26 @@ func TestSourceSeveral(t *testing.T) {
 	if told := s.f.must("/attributes?category=AccessSubject&entity=ann"); told != `{"attributes":[]}` {
 		t.Errorf("behind her end ann has %s", told)
 	}
+	// Somebody drops a name by hand: it comes again, or its rows go too.
+	s.write("b.csv", "n,a\nbob,y\neva,z\n")
+	s.does("b: 1 added, 1 set, 0 dropped", "run")
+	s.f.accept(`{"do":"person.drop","name":"eva"}`)
+	s.does("b: 1 added, 0 set, 0 dropped", "run")
+	s.f.accept(`{"do":"person.drop","name":"eva"}`)
+	for n := 0; n < 30; n++ {
+		s.f.accept(fmt.Sprintf(`{"do":"person.add","name":"other%d"}`, n)) // of so many all rows are read
+	}
+	s.write("b.csv", "n,a\nbob,y\n")
+	s.does("b: 0 added, 0 set, 0 dropped, 1 left to others", "run")
+	if told := s.f.must("/attributes?category=AccessSubject&entity=eva"); told != `{"attributes":[]}` {
+		t.Errorf("behind her end eva has %s", told)
+	}
+	for n := 0; n < 30; n++ {
+		s.f.accept(fmt.Sprintf(`{"do":"person.drop","name":"other%d"}`, n))
+	}
 	// A source that can't be read keeps its names, whatever the others say, and they are brought all the same.
 	s.write("b.csv", "n,a\nbob,y\nann,z\n")
-	s.does("b: 1 added, 1 set, 0 dropped", "run")
+	s.does("b: 1 added, 0 set, 0 dropped", "run")
 	s.write("b.csv", "n,a\nbob")
 	s.write("a.csv", "n,a\ndan,x\n")
 	if status, out, faults := s.run("run", "--at-most", "100%"); status != 1 || !strings.Contains(faults, "b.csv:2") ||
@@ -84,7 +101,7 @@ func TestSourceBetween(t *testing.T) {
 	s.write("a.json", namedSource("a", "dept", ""))
 	text := strings.Builder{}
 	text.WriteString("n,a\n")
-	for i := 0; i < 2000; i++ {
+	for i := 0; i < 1000; i++ {
 		fmt.Fprintf(&text, "p%d,d%d\n", i, i%7)
 	}
 	s.write("a.csv", text.String())
@@ -95,8 +112,8 @@ func TestSourceBetween(t *testing.T) {
 		for i := 0; !stop.Load(); i++ {
 			time.Sleep(20 * time.Millisecond)
 			s.f.lines(fmt.Sprintf(`{"do":"day.set","day":"2026-01-%02d"}`, 1+i%28),
-				fmt.Sprintf(`{"do":"person.drop","name":"p%d"}`, i%2000),
-				fmt.Sprintf(`{"do":"person.add","name":"p%d"}`, (7*i)%2000))
+				fmt.Sprintf(`{"do":"person.drop","name":"p%d"}`, i%1000),
+				fmt.Sprintf(`{"do":"person.add","name":"p%d"}`, (7*i)%1000))
 		}
 	}()
 	status, out, faults := s.run("run")
@@ -107,7 +124,7 @@ func TestSourceBetween(t *testing.T) {
 	}
 	s.does("", "run")
 	s.fails(0, "", "run")
-	if told := s.f.must("/state"); !strings.Contains(told, `"people":2000,`) || !strings.Contains(told, `"rows":4000,`) {
+	if told := s.f.must("/state"); !strings.Contains(told, `"people":1000,`) || !strings.Contains(told, `"rows":2000,`) {
 		t.Errorf("there are %s", told)
 	}
 }

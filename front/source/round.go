@@ -120,11 +120,13 @@ func (r *round) look(ctx context.Context) (*seen, error) {
 		return nil, err
 	}
 	if r.known != nil && r.known.Serial == s.state.Serial {
-		s.state.Rows = r.known.Rows
+		s.state.Rows, s.state.Whole = r.known.Rows, r.known.Whole
 	}
 	r.known = nil
-	if err := s.front.ReadRows(ctx, s.state, s.unknown()); err != nil {
-		return nil, err
+	if !s.state.Whole {
+		if err := s.front.ReadRows(ctx, s.state, s.unknown()); err != nil {
+			return nil, err
+		}
 	}
 	r.known = s.state
 	s.plans = differ.Compare(s.given, s.state, nil)

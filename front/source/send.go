@@ -38,7 +38,6 @@ func (r *round) succeeded(s *seen) {
 // each are looked at anew. Where nobody did it is known behind them what the front has.
 func (r *round) send(ctx context.Context, s *seen) error {
 	serial, alone := s.state.Serial, true
-	var changed []served.Entity
 	for _, body := range differ.Bodies(s.plans) {
 		r.known = nil
 		front, err := r.front(body.Plan.Given.Source)
@@ -56,18 +55,12 @@ func (r *round) send(ctx context.Context, s *seen) error {
 			r.counts.refuse(body.Plan.Given.Source, refused)
 			return fmt.Errorf("%s: %w", body.Plan.Given.Source.Name, err)
 		}
-		for _, change := range body.Changes {
-			changed = append(changed, change.Entity)
-		}
+		body.Tell(s.state)
 	}
-	if len(changed) == 0 || !alone || r.options.every == 0 {
-		return nil
+	if alone {
+		s.state.Serial = serial
+		r.known = s.state
 	}
-	if err := s.front.ReadRows(ctx, s.state, changed); err != nil {
-		return err
-	}
-	s.state.Serial = serial
-	r.known = s.state
 	return nil
 }
 

@@ -1,5 +1,7 @@
 package differ
 
+import "review-front/source/served"
+
 // What a body that is made whole may have. Its bytes are those of a line, less the newlines.
 const (
 	mostEdits = 1024
@@ -19,6 +21,17 @@ func (b Body) Edits() [][]byte {
 		lines = append(lines, change.Edits...)
 	}
 	return lines
+}
+
+// Tell has a state know what the body made.
+func (b Body) Tell(state *served.State) {
+	for _, change := range b.Changes {
+		for _, row := range change.Rows {
+			state.Set(change.Entity, served.Row{
+				Attribute: row.Attribute, Type: row.Type, Issuer: row.Issuer, Module: row.Module, Values: row.Values,
+			})
+		}
+	}
 }
 
 // Bodies are those of all plans in their order: what goes, before what comes may need its room; then rows; and names that

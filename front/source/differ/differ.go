@@ -40,8 +40,9 @@ type Change struct {
 
 // Row is a row that is set, with no values where it is taken away.
 type Row struct {
-	Attribute, Type string
+	Attribute, Type string // the URI of its type
 	Issuer          *string
+	Module          int
 	Values, Before  []string
 }
 
@@ -97,6 +98,10 @@ func entities(given []*Given, state *served.State, only map[served.Entity]bool) 
 					all[served.Entity{List: list, Name: name}] = true
 				}
 			}
+		}
+		// Somebody may have dropped a name whose rows stand.
+		for entity := range state.Rows {
+			all[entity] = true
 		}
 	}
 	sorted := make([]served.Entity, 0, len(all))
@@ -200,7 +205,7 @@ func (p *Plan) one(state *served.State, entity served.Entity, stays bool) *Chang
 		p.Leaving[entity.List]++
 	}
 	change.Rows = differing(p.Given.Source, kind, wanted, rows)
-	change.Edits = edits(p.Given.Source, *change)
+	change.Edits = edits(*change)
 	return change
 }
 
@@ -240,13 +245,14 @@ func differingOne(s *form.Source, attribute, kind string, values []string, there
 	var changed []Row
 	var before []string
 	missing := len(values) > 0
+	kind = form.TypeURI(kind)
 	for _, row := range there {
 		if row.Attribute != attribute || row.Module != s.Module || !sameIssuer(s, row.Issuer) {
 			continue
 		}
 		switch {
-		case kind == "" || row.Type != form.TypeURI(kind) || len(values) == 0:
-			changed = append(changed, Row{attribute, row.Type, row.Issuer, nil, row.Values})
+		case row.Type != kind || len(values) == 0:
+			changed = append(changed, Row{attribute, row.Type, row.Issuer, row.Module, nil, row.Values})
 		case same(row.Values, values):
 			missing = false
 		default:
@@ -254,7 +260,7 @@ func differingOne(s *form.Source, attribute, kind string, values []string, there
 		}
 	}
 	if missing {
-		changed = append(changed, Row{attribute, kind, issuerOf(s), values, before})
+		changed = append(changed, Row{attribute, kind, issuerOf(s), s.Module, values, before})
 	}
 	return changed
 }
@@ -286,12 +292,12 @@ func same(one, other []string) bool {
 var commands = map[string]string{"people": "person", "actions": "action", "resources": "resource"}
 
 // edits are the lines of the rows of a change.
-func edits(s *form.Source, change Change) [][]byte {
+func edits(change Change) [][]byte {
 	var lines [][]byte
 	for _, row := range change.Rows {
 		lines = append(lines, line(set{
-			Do: "attr.set", Module: s.Module, Category: served.Categories[change.Entity.List], Entity: change.Entity.Name,
-			Attribute: row.Attribute, Type: row.Type, Issuer: row.Issuer, Values: written(row),
+			Do: "attr.set", Module: row.Module, Category: served.Categories[change.Entity.List], Entity: change.Entity.Name,
+			Attribute: row.Attribute, Type: form.TypeWord(row.Type), Issuer: row.Issuer, Values: written(row),
 		}))
 	}
 	return lines
@@ -323,7 +329,7 @@ type set struct {
 func written(row Row) []json.RawMessage {
 	values := make([]json.RawMessage, len(row.Values))
 	for i, value := range row.Values {
-		if row.Type == "boolean" || row.Type == "integer" {
+		if row.Type == form.TypeURI("boolean") || row.Type == form.TypeURI("integer") {
 			values[i] = json.RawMessage(value)
 		} else {
 			values[i] = line(value)

@@ -20,6 +20,9 @@ const xsd = "http://www.w3.org/2001/XMLSchema#"
 // TypeURI is the URI of a type, by its last word.
 func TypeURI(word string) string { return types[word] }
 
+// TypeWord is the last word of a type, by its URI.
+func TypeWord(uri string) string { return strings.TrimPrefix(uri, xsd) }
+
 // Forms are how days and moments may be written, by type, as Go's library reads them. Two are no layout: seconds since
 // 1970, and what a directory writes, as 20260131090000Z.
 var Forms = map[string]map[string][]string{

@@ -58,7 +58,7 @@ func headOf(name string, head []string, kind *form.Kind) error {
 	for _, field := range head {
 		seen[field]++
 	}
-	for field := range kind.Fields() {
+	for _, field := range inOrder(kind.Fields()) {
 		if seen[field] != 1 {
 			return fmt.Errorf("%s:1: %q stands %d times in the head %q", name, field, seen[field], head)
 		}

@@ -74,7 +74,7 @@ func takeRows(rows *sql.Rows, to *reading) error {
 		places[i] = &values[i]
 		seen[column.Name()]++
 	}
-	for field := range to.kind.Fields() {
+	for _, field := range inOrder(to.kind.Fields()) {
 		if seen[field] != 1 {
 			return fmt.Errorf("%q is the name of %d of its columns", field, seen[field])
 		}

@@ -183,6 +183,16 @@ func valuesOf(written []string, of form.Attribute) ([]string, int, error) {
 	return values, bytes, nil
 }
 
+// inOrder are fields in the order of their bytes.
+func inOrder(fields map[string]bool) []string {
+	all := make([]string, 0, len(fields))
+	for field := range fields {
+		all = append(all, field)
+	}
+	sort.Strings(all)
+	return all
+}
+
 // Ordered are values in the order of their bytes, each once: where they come from has no order that stays.
 func Ordered(values []string) []string {
 	sort.Strings(values)

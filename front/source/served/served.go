@@ -26,6 +26,7 @@ type Front struct {
 	name     string
 	client   *http.Client
 	patience time.Duration
+	undumped bool // who asks may have no dump
 }
 
 // Options says how a front is asked.

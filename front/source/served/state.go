@@ -3,7 +3,9 @@ package served
 import (
 	"context"
 	"encoding/json"
+	"errors"
 	"fmt"
+	"net/http"
 	"sync"
 )
 
@@ -27,6 +29,7 @@ type State struct {
 	Limits  map[string]Limit
 	Names   map[string]map[string]bool
 	Rows    map[Entity][]Row // of those that were asked for
+	Whole   bool             // they are those of all entities, listed or not
 }
 
 // Entity is a name of a list.
@@ -102,8 +105,25 @@ func (f *Front) State(ctx context.Context) (*State, error) {
 	return state, nil
 }
 
-// ReadRows asks for the rows of entities, and puts them into the state.
+// few is how many entities are asked for one by one, each of which takes the program as long as all rows do.
+const few = 20
+
+// ReadRows asks for the rows of entities, and puts them into the state: of many by a dump, if it may be had.
 func (f *Front) ReadRows(ctx context.Context, state *State, entities []Entity) error {
+	if len(entities) <= few || f.undumped {
+		return f.readEach(ctx, state, entities)
+	}
+	err := f.readAll(ctx, state)
+	var told *Problem
+	if errors.As(err, &told) && told.Status == http.StatusForbidden {
+		f.undumped = true
+		return f.readEach(ctx, state, entities)
+	}
+	return err
+}
+
+// readEach asks for the rows of each.
+func (f *Front) readEach(ctx context.Context, state *State, entities []Entity) error {
 	ctx, stop := context.WithCancel(ctx)
 	defer stop()
 	parts := make(chan []Entity)
