@@ -18,6 +18,7 @@ type options struct {
 	program          string
 	attributeModules int
 	policyModules    int
+	moduleNames      string
 	limits           limits.Limits
 	journal          string
 	stream           jetstream.Options
@@ -128,6 +129,8 @@ func parse(words []string, to io.Writer) (options, int, bool) {
 func (o *options) name(set *flag.FlagSet) {
 	set.StringVar(&o.program, "program", "", "the `file` of the program review")
 	set.IntVar(&o.attributeModules, "attribute-modules", 2, "how many modules of attributes the program has")
+	set.StringVar(&o.moduleNames, "module-names", "", "the `names` of the modules of attributes, in their order and with "+
+		"commas between, which /attributes and /explain tell too")
 	set.IntVar(&o.policyModules, "policy-modules", 2, "how many modules of policies the program has")
 	o.limits.Name(set.IntVar)
 	set.StringVar(&o.journal, "journal", "", "the `folder` of journals and snapshots, which is made if it isn't there")
@@ -237,6 +240,8 @@ func (o options) wrong(rest []string) string {
 		return "--by-header-from needs --by-header and --clients"
 	case o.attributeModules < 1 || o.attributeModules > 4 || o.policyModules < 1 || o.policyModules > 4:
 		return "there are 1 to 4 modules of each sort"
+	case len(o.modules()) > o.attributeModules || wrongNames(o.modules()):
+		return "--module-names has a name for each module of attributes at most, none of them empty or twice"
 	case o.limits.Wrong() != "":
 		return o.limits.Wrong()
 	case o.queue < 1 || o.connections < 1 || o.each < 0:
@@ -280,4 +285,24 @@ func (o options) wrongLog() string {
 		return "--stream-replicas is from 1 to 5"
 	}
 	return ""
+}
+
+// modules are the names of the modules of attributes.
+func (o options) modules() []string {
+	if o.moduleNames == "" {
+		return nil
+	}
+	return strings.Split(o.moduleNames, ",")
+}
+
+// wrongNames says whether a name is empty, or stands twice.
+func wrongNames(names []string) bool {
+	seen := map[string]bool{"": true}
+	for _, name := range names {
+		if seen[name] {
+			return true
+		}
+		seen[name] = true
+	}
+	return false
 }

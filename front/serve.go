@@ -95,7 +95,7 @@ func serve(ctx context.Context, again <-chan os.Signal, o options, log *logs.Log
 		DryTime: o.dryTime, Access: who.gate, Rights: who.rights, Signed: secrets.signed(),
 		Oldest: o.oldest,
 	})
-	site.Head = signed.Now
+	site.Head, site.ModuleNames = signed.Now, o.modules()
 	k.Edited = site.Edited
 	go secrets.follow(ctx, again, site, log)
 	defer site.TellRefused(true)

@@ -55,6 +55,15 @@ func (s *Server) past(w *answered, r *http.Request, q question, l []byte) {
 		problemFor(err).send(w)
 		return
 	}
+	if s.namesModules(q.do) {
+		replies[0] = s.withModules(r, q.do, replies[0], func(l []byte) keeper.Reply {
+			told, err := s.Keeper.At(r.Context(), serial, l)
+			if err != nil {
+				return keeper.Reply{Err: err}
+			}
+			return told[0]
+		})
+	}
 	sendReply(w, replies[0])
 }
 

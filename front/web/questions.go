@@ -80,12 +80,12 @@ func (s *Server) asking(q question) func(*answered, *http.Request, map[string]st
 		if !s.mayAll(w, r, l) {
 			return
 		}
-		s.relay(w, r, l)
+		s.relay(w, r, q.do, l)
 	}
 }
 
 // relay asks a line and answers with its reply.
-func (s *Server) relay(w *answered, r *http.Request, l []byte) {
+func (s *Server) relay(w *answered, r *http.Request, do string, l []byte) {
 	if len(l) > line.Limit {
 		refuse(w, []byte(line.TooLong))
 		return
@@ -93,7 +93,11 @@ func (s *Server) relay(w *answered, r *http.Request, l []byte) {
 	if !s.stands(w, r) {
 		return
 	}
-	sendReply(w, s.Keeper.Report(r.Context(), l))
+	reply := s.Keeper.Report(r.Context(), l)
+	if s.namesModules(do) {
+		reply = s.withModules(r, do, reply, func(l []byte) keeper.Reply { return s.Keeper.Report(r.Context(), l) })
+	}
+	sendReply(w, reply)
 }
 
 // sendReply answers with a reply of the program, or with why it has none or refuses.

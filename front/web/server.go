@@ -41,6 +41,8 @@ type Options struct {
 	Rights      *rights.Judge    // who may send which line, beside his roles; nil: his roles alone count
 	DryTime     time.Duration    // how long it may take to tell what lines would change
 	Beat        time.Duration    // how often a listener hears something; 0: as Beat says
+	// ModuleNames are the names of the modules of attributes, in their order; none: modules are told by number alone.
+	ModuleNames []string
 	// RefusedEvery is how often it is logged what was refused; 0: each minute.
 	RefusedEvery time.Duration
 	// Oldest is how old a sign-off may be that a campaign takes over which doesn't say it, as 365d; nothing: as old as it is.
