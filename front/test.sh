@@ -27,6 +27,10 @@ if ! strace -o /dev/null true 2>/dev/null; then
 fi
 command -v nats-server >/dev/null && [ -d /usr/share/gocode/src/github.com/nats-io/nats.go ] ||
     echo "front/test.sh: there is no nats-server, or no client of it: tests of a log are passed over"
+[ -x /usr/sbin/slapd ] && [ -d /usr/share/gocode/src/github.com/go-ldap/ldap/v3 ] ||
+    echo "front/test.sh: there is no slapd, or no client of LDAP: tests of directories are passed over"
+ls /usr/lib/postgresql/*/bin/postgres >/dev/null 2>&1 && [ -d /usr/share/gocode/src/github.com/lib/pq ] ||
+    echo "front/test.sh: there is no postgresql, or no client of it: tests of databases are passed over"
 for proxy in nginx caddy haproxy; do
     [ -x "/usr/sbin/$proxy" ] || [ -x "/usr/bin/$proxy" ] || echo "front/test.sh: there is no $proxy: its test is passed over"
 done
@@ -38,7 +42,8 @@ if [ "${2:-}" = all ]; then
     FRONT_KILLS=200 FRONT_STOPS=30 FRONT_SESSIONS=1 FRONT_TABLES=200 FRONT_SERVERS=9 FRONT_REPLICAS=8 FRONT_ALL=1
     FRONT_LINES=200000 FRONT_LISTENERS=500 FRONT_RETURNS=100 FRONT_OPENED=100000 FRONT_KEYED=120
     export FRONT_KILLS FRONT_STOPS FRONT_SESSIONS FRONT_TABLES FRONT_SERVERS FRONT_REPLICAS FRONT_ALL
-    export FRONT_LINES FRONT_LISTENERS FRONT_RETURNS FRONT_OPENED FRONT_KEYED
+    FRONT_CHANGES=10000 FRONT_ENTRIES=5000
+    export FRONT_LINES FRONT_LISTENERS FRONT_RETURNS FRONT_OPENED FRONT_KEYED FRONT_CHANGES FRONT_ENTRIES
 fi
 tested() { REVIEW_PROGRAM=$program ./build.sh go test -race -count=1 -timeout 60m "$@"; }
 mkdir -p out

@@ -22,7 +22,8 @@ Description: policy decisions of XACML 3.0, and a table of them kept live
  A decision point for OASIS XACML 3.0 core with a review table above it: for each
  listed person, action and resource the decision and the rules that decided it,
  right after every edit. The program is proved (PROVED says of what); a front
- serves it over HTTP and keeps what is edited, and tools bring policies over.
+ serves it over HTTP and keeps what is edited, review-source brings people and
+ things from directories, databases and files, and tools bring policies over.
 """
 
 
@@ -43,7 +44,7 @@ def package(root, version, out, epoch):
     debian.mkdir()
     size = sum(path.lstat().st_size for path in root.rglob('*') if path.is_file()) // 1024
     (debian / 'control').write_text(CONTROL.format(version=version, size=size))
-    (debian / 'conffiles').write_text('/etc/default/review\n')
+    (debian / 'conffiles').write_text('/etc/default/review\n/etc/default/review-source\n')
     for name in ('postinst', 'prerm', 'postrm'):
         contents.copied(contents.HERE / name, debian / name, 0o755)
     for path in [root, debian, *debian.iterdir()]:

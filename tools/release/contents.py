@@ -66,7 +66,7 @@ def proved(passed, program):
         'Each crate with the tree of its folder in that commit:',
         *(f'  {path.name} {output("git", "rev-parse", f"HEAD:crates/{path.name}").strip()}' for path in crates),
         '',
-        'The front, review-front, and the tools are tested, and not proved.',
+        'The front, review-front, review-source and the tools are tested, and not proved.',
     ]
     return '\n'.join(lines) + '\n'
 
@@ -75,6 +75,7 @@ def packages_of_go():
     """The packages of Debian that the front was built of, with their versions."""
     names = ['golang-go', 'golang-github-prometheus-client-golang-dev', 'golang-golang-x-net-dev']
     names += ['golang-github-google-renameio-dev', 'golang-github-nats-io-go-nats-dev']
+    names += ['golang-github-go-ldap-ldap-dev', 'golang-github-go-asn1-ber-asn1-ber-dev', 'golang-github-lib-pq-dev']
     listed = subprocess.run(
         ['dpkg-query', '-W', '-f', '${db:Status-Abbrev} ${Package} ${Version}\n', *names],
         capture_output=True,
@@ -105,6 +106,7 @@ def bill(version, epoch, passed, files):
     words = re.sub(r'(?m)^#.*$', '', (ROOT / 'crates.txt').read_text()).replace(':', ' ').split()
     parts = [package('review', version, 'the proved program')]
     parts += [package('review-front', version, 'the front, not proved')]
+    parts += [package('review-source', version, 'what brings people and things to the front, not proved')]
     parts += [package(name, passed['prover'], 'a crate of the kit') for name in sorted(set(words) - own)]
     parts += [package(name, number, 'a package of Debian, in the front') for name, number in packages_of_go()]
     inside = [
@@ -151,7 +153,7 @@ def written(to, text, mode=0o644):
 def programs(root, version, epoch, built):
     """The programs, what calls them, and what they say of themselves."""
     date = date_of(epoch).strftime('%Y-%m-%d')
-    of = {'review': helped.of_review, 'review-front': helped.of_front}
+    of = {'review': helped.of_review, 'review-front': helped.of_front, 'review-source': helped.of_source}
     for name, told_of in of.items():
         place = root / 'usr/lib/review' / name
         copied(built[name], place, 0o755)
@@ -181,13 +183,17 @@ def pages(root):
 
 def laid_out(root, version, epoch, passed):
     """All that is in a package, below that folder."""
-    built = {'review': ROOT / 'crates/review/out/review', 'review-front': ROOT / 'front/out/review-front'}
+    built = {'review': ROOT / 'crates/review/out/review'}
+    built |= {name: ROOT / 'front/out' / name for name in ('review-front', 'review-source')}
     if digest(built['review']) != passed['program']:
         raise Fault('crates/review/out/review is another program than the gate left')
     programs(root, version, epoch, built)
     pages(root)
-    copied(HERE / 'review.service', root / 'lib/systemd/system/review.service')
+    for name in ('review.service', 'review-source.service', 'review-source.timer'):
+        copied(HERE / name, root / 'lib/systemd/system' / name)
     copied(HERE / 'default', root / 'etc/default/review')
+    copied(HERE / 'default-source', root / 'etc/default/review-source')
+    (root / 'etc/review/sources').mkdir(parents=True)
     written(root / 'usr/share/doc/review/PROVED', proved(passed, built['review']))
     files = sorted(path for path in root.rglob('*') if path.is_file() and not path.is_symlink())
     sums = [(str(path.relative_to(root)), {kind: digest(path, kind) for kind in KINDS}) for path in files]

@@ -34,12 +34,17 @@ def of_review(program):
     return [whole] + [Told(['review', word], said(program, [word, '--help'])) for word in whole.commands]
 
 
-def of_front(program):
+def of_front(program, name='review-front'):
     """The front, whose other commands its usage names."""
-    whole = Told(['review-front'], said(program, ['--help']))
-    whole.commands = re.findall(r'(?m)^ +review-front ([a-z]\w*)', whole.text)
+    whole = Told([name], said(program, ['--help']))
+    whole.commands = re.findall(rf'(?m)^(?:Usage:)? +{name} ([a-z]\w*)', whole.text)
     whole.options = [option if option.startswith('--') else '-' + option for option in whole.options]
     return [whole]
+
+
+def of_source(program):
+    """What brings sources to the front, as the front tells its own."""
+    return of_front(program, 'review-source')
 
 
 def escaped(line):

@@ -19,7 +19,7 @@ say "installed: an older version"
 dpkg -i "$2" >/tmp/dpkg.log 2>&1 || { cat /tmp/dpkg.log; fail "dpkg -i"; }
 id review; stat -c '%U %a %n' /var/lib/review
 if command -v systemd-analyze >/dev/null; then
-    say "the unit"; systemd-analyze verify /lib/systemd/system/review.service
+    say "the units"; systemd-analyze verify /lib/systemd/system/review.service /lib/systemd/system/review-source.timer
 fi
 say "the clinic over the installed program"
 cd $docs/examples/clinic
@@ -41,6 +41,12 @@ told=$(sh -c "$(grep '^    curl ' $docs/README.md)")
 echo "$told"
 [ "$told" = "$counts" ] || fail "other counts"
 /usr/share/review/tools/leave.py --front http://127.0.0.1:8080 gus
+say "people of a file, as the page of sources says"
+(
+    mkdir /tmp/sources && cd /tmp/sources
+    sed -n '/^### CSV/,/^### JSON/s/^    //p' $docs/docs/SOURCES.md >block && sh -eu block | tail -n 1
+)
+curl -sf http://127.0.0.1:8080/can/ann >/dev/null || fail "ann isn't listed"
 before=$(ask '{"do":"dump"}' | sha256sum)
 ended
 say "upgraded, with the journal that stands"
@@ -50,7 +56,7 @@ front
 [ "$(ask '{"do":"dump"}' | sha256sum)" = "$before" ] || fail "another state behind the upgrade"
 ended
 say "manual pages, completions, sums"
-for page in review review-serve review-check review-test review-compare review-front; do
+for page in review review-serve review-check review-test review-compare review-front review-source; do
     [ -e /usr/share/man/man1/$page.1 ] || fail "no manual page of $page"
 done
 if command -v man >/dev/null; then man -l --warnings /usr/share/man/man1/review-serve.1 | head -n 4; fi
@@ -70,4 +76,4 @@ dpkg -r review >/tmp/dpkg.log 2>&1 || { cat /tmp/dpkg.log; fail "dpkg -r"; }
 [ ! -e /usr/bin/review ] || fail "the program is still there"
 say "purged"
 dpkg -P review >/tmp/dpkg.log 2>&1 || { cat /tmp/dpkg.log; fail "dpkg -P"; }
-[ ! -d /var/lib/review ] && ! id review 2>/dev/null || fail "something is left"
+[ ! -d /var/lib/review ] && [ ! -d /etc/review ] && ! id review 2>/dev/null && ! id review-source 2>/dev/null || fail "something is left"
