@@ -3,6 +3,7 @@ package main
 import (
 	"bufio"
 	"bytes"
+	"context"
 	"encoding/json"
 	"fmt"
 	"io"
@@ -20,18 +21,23 @@ import (
 	"time"
 
 	"review-front/folder"
+	"review-front/source"
 )
 
-// asFront says that this test program is to be the front, asFake that it is to stand before the program.
+// asFront says that this test program is to be the front, asFake that it is to stand before the program, asSource that it
+// is to be review-source.
 const (
-	asFront = "REVIEW_FRONT_AS_FRONT"
-	asFake  = "REVIEW_FRONT_AS_FAKE"
+	asFront  = "REVIEW_FRONT_AS_FRONT"
+	asFake   = "REVIEW_FRONT_AS_FAKE"
+	asSource = "REVIEW_FRONT_AS_SOURCE"
 )
 
 func TestMain(m *testing.M) {
 	switch {
 	case os.Getenv(asFake) != "":
 		os.Exit(fake(os.Getenv(asFake), os.Args[1:]))
+	case os.Getenv(asSource) != "":
+		os.Exit(source.Run(context.Background(), os.Args[1:], os.Stdout, os.Stderr))
 	case os.Getenv(asFront) != "":
 		os.Unsetenv(asFront)
 		os.Exit(run(os.Args[1:]))

@@ -21,6 +21,10 @@ cd "$aside/front"
 # of a folder, the time of a start, what listeners take, askers, edits that are made behind a serial or whole, requests
 # that are translated, AuthZEN, Kubernetes, kept decisions, who may what, a log of several fronts, what edits changed,
 # earlier states, the chain, and what proxies ask.
+# that are translated, AuthZEN, kept decisions, who may what, a log of several fronts, what edits changed, earlier states,
+# the chain, and what proxies ask.
+# that are translated, AuthZEN, Kubernetes, kept decisions, who may what, a log of several fronts, what edits changed, earlier states,
+# the chain, and sources.
 grep -e "${2:-}" >"$aside/rows" <<'ROWS'
 folder/writing.go . TestOrder s/^\t\terr = f\.sync(f\.current)$/\t\terr = nil/
 folder/writing.go . TestOrder s/^\t\terr = file\.Sync()$/\t\terr = nil/
@@ -226,6 +230,24 @@ check/outcome.go check TestOutcome s/twice \&\& !reflect/false \&\& twice \&\& !
 check/mapping.go check TestFaults s/^\t\t\tif known\[name\] {$/\t\t\tif false {/
 check/subject.go . TestCheckCertificates s/ExtKeyUsageClientAuth/ExtKeyUsageAny/
 web/check.go . TestCheck s/^\tw\.Header()\.Set(reasonHeader.*$//
+source/differ/differ.go . TestSourceSeveral s/ \&\& drops >= 0 \&\& len(marks) == 0$/ \&\& drops >= 0/
+source/differ/differ.go . TestSourceSeveral s/^\t\t\tall\[entity\] = true$/\t\t\t_ = entity/
+source/differ/differ.go . TestSourceSeveral s/^\t\t\tdropped\.Edits = append(dropped\.Edits, change\.Edits\.\.\.)$/\t\t\tdropped.Edits = change.Edits/
+source/differ/bodies.go . TestSourceSeveral s/\[\]What{Set, Added}/[]What{Added, Set}/
+source/send.go . TestSourceBetween s/^\t\t\talone = !served\.EditedBetween(err)$/\t\t\tif served.EditedBetween(err) { err = r.sendAgain(ctx, s, body.Changes) }/
+source/served/send.go . TestSourceBetween s/^\t\t"If-Match": .*$//
+source/served/state.go . TestSourceWho s/told\.Status == http\.StatusForbidden {/false {/
+source/records/output.go . TestSourceWrong s/len(content) > 0 \&\& content\[len(content)-1\] != /false \&\& content[0] != /
+source/records/output.go . TestSourceCommand s/^\tif !strings\.HasSuffix(whole, .*{$/\tif false {/
+source/records/ldap.go . TestSourceReferral s/if len(found\.Referrals) > 0 {/if false {/
+source/records/ldap.go source/records TestKept s/ \&\& now\.Sub(at) > settled {/ {/
+source/records/postgres.go . TestSourceDatabase s/ReadOnly: true/ReadOnly: false/
+source/form/form.go . TestSourceForms s/^\t\t\t\tif other := owners\[key\]; other != nil {$/\t\t\t\tif other := owners[key]; false {/
+source/round.go . TestSourceLimits s/uint64(after) > most {/false {/
+source/round.go . TestSourceAtMost s/len(plan\.Given\.Entities\[list\]) == 0 \&\& !most\.given {/false {/
+source/round.go . TestSourceUntold s/^\tcase errors\.Is(err, errUntold):$/\tcase false:/
+source/round.go . TestSourceAtMost s/r\.options\.atMost\.exceeds(lost, .*:$/false:/
+web/modules.go . TestModuleNames s/if first < 0 || one\.Module < first {/if first < 0 || one.Module > first {/
 ROWS
 tests=$(awk '{ print "^" $3 "$" }' "$aside/rows" | sort -u | paste -sd '|')
 ./build.sh go test -count=1 -run "$tests" ./... >"$aside/said" 2>&1 || { cat "$aside/said"; exit 1; }

@@ -287,3 +287,13 @@ func TestSourceDies(t *testing.T) {
 	<-d.ended
 	s.fails(1, "refused", "run", "--at-most", "100%")
 }
+
+// TestSourceReferral reads a directory of which a part is elsewhere: nothing of it is taken.
+func TestSourceReferral(t *testing.T) {
+	d := newDirectory(t, member(1)+group("g", "uid=p1")+"dn: ou=other,"+suffix+"\nobjectClass: referral\n"+
+		"objectClass: extensibleObject\nou: other\nref: ldap://elsewhere.example/ou=other,"+suffix+"\n\n")
+	s := newSourced(t, begin(t, t.TempDir()))
+	s.write("password", "secret\n")
+	s.write("ldap.json", d.source(""))
+	s.fails(1, "it refers to ldap://elsewhere.example/", "run")
+}

@@ -59,6 +59,16 @@ func (s *sourced) fails(status int, want string, words ...string) {
 	}
 }
 
+// namesLast sees that a name was added behind so many rows.
+func (s *sourced) namesLast(name string, rows int) {
+	s.t.Helper()
+	told := s.f.must("/edits?count=1000&entity=" + name)
+	before, _, added := strings.Cut(told, `"kind":"person.add"`)
+	if !added || strings.Count(before, `"kind":"attr.set"`) != rows {
+		s.t.Errorf("%s isn't added behind %d rows: %s", name, rows, told)
+	}
+}
+
 const hrSource = `{"source": "hr", "module": 1, "people": {"csv": {"file": "people.csv"}, "name": "login", "attributes": {
 	"department": "dept", "teams": {"from": "teams", "list": "|"}, "cleared": {"from": "cleared", "type": "boolean"},
 	"hired": {"from": "hired", "type": "date", "form": "DD.MM.YYYY"}}}}`
@@ -77,6 +87,7 @@ func TestSource(t *testing.T) {
 	}
 	s.does("hr: 2 added, 0 set, 0 dropped\n", "run")
 	s.fails(0, "", "run")
+	s.namesLast("ann", 5)
 	want := `{"attribute":"teams","datatype":"http://www.w3.org/2001/XMLSchema#string","issuer":null,"module":1,"values":["a","b"]}`
 	if told := s.f.must("/attributes?category=AccessSubject&entity=ann"); !strings.Contains(told, want) ||
 		!strings.Contains(told, `#date","issuer":null,"module":1,"values":["2020-02-01"]`) {
