@@ -24,8 +24,8 @@ import (
 	"review-front/source"
 )
 
-// asFront says that this test program is to be the front, asFake that it is to stand before the program, asSource that it
-// is to be review-source.
+// asFront says that this test program is to be the front, asFake that it is to stand before the program, asSource that
+// it is to be review-source.
 const (
 	asFront  = "REVIEW_FRONT_AS_FRONT"
 	asFake   = "REVIEW_FRONT_AS_FAKE"

@@ -16,9 +16,12 @@ func TestModuleNames(t *testing.T) {
 	f.accept(`{"do":"person.add","name":"ann"}`, `{"do":"resource.add","name":"disk"}`,
 		set("0", "AccessSubject", "ann", "cleared", "boolean", "[true]"),
 		set("1", "AccessSubject", "ann", "cleared", "boolean", "[false]"),
-		set("1", "AccessSubject", "ann", "teams", "string", `["a<b","it"]`), set("2", "Resource", "disk", "teams", "string", `["it"]`))
+		set("1", "AccessSubject", "ann", "teams", "string", `["a<b","it"]`),
+		set("2", "Resource", "disk", "teams", "string", `["it"]`))
 	rows := f.must("/attributes?category=AccessSubject&entity=ann")
-	for _, want := range []string{`"module":0,"module_name":"hr","values":[true]`, `"module":1,"module_name":"it","values":["a<b","it"]`} {
+	for _, want := range []string{
+		`"module":0,"module_name":"hr","values":[true]`, `"module":1,"module_name":"it","values":["a<b","it"]`,
+	} {
 		if !strings.Contains(rows, want) {
 			t.Errorf("there is no %s in %s", want, rows)
 		}

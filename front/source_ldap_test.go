@@ -137,14 +137,16 @@ func (d *directory) source(more string) string {
 		d.address, suffix, suffix, suffix, more)
 }
 
-// TestSourceDirectory reads a directory whose entries change and leave: entries, groups within groups, a circle of them.
+// TestSourceDirectory reads a directory whose entries change and leave: entries, groups within groups, a circle of
+// them.
 func TestSourceDirectory(t *testing.T) {
 	count := number("FRONT_ENTRIES", 1200)
 	text := strings.Builder{}
 	for n := 0; n < count; n++ {
 		text.WriteString(member(n))
 	}
-	text.WriteString(group("all", "uid=p1", "CN=Night") + group("night", "uid= P2", "cn=round") + group("round", "cn=all", "uid=p3"))
+	text.WriteString(group("all", "uid=p1", "CN=Night") + group("night", "uid= P2", "cn=round") +
+		group("round", "cn=all", "uid=p3"))
 	d := newDirectory(t, text.String())
 	s := newSourced(t, begin(t, t.TempDir(), "--people", "6000", "--try-time", "1m"))
 	s.write("password", "secret\n")
@@ -162,7 +164,8 @@ func TestSourceDirectory(t *testing.T) {
 	ended := make(chan int, 1)
 	var faults bytes.Buffer
 	go func() {
-		ended <- source.Run(ctx, []string{"run", "--every", "100ms", "--front", "http://" + s.f.address, s.folder}, io.Discard, &faults)
+		words := []string{"run", "--every", "100ms", "--front", "http://" + s.f.address, s.folder}
+		ended <- source.Run(ctx, words, io.Discard, &faults)
 	}()
 	defer func() {
 		stop()
@@ -211,7 +214,8 @@ func TestSourceDirectory(t *testing.T) {
 	s.does("ldap: 0 added, 0 set, 0 dropped", "run") // a new process, which reads all, finds the same
 }
 
-// TestSourceStartTLS reads a directory over TLS, and not one whose certificate isn't signed so, nor with a wrong password.
+// TestSourceStartTLS reads a directory over TLS, and not one whose certificate isn't signed so, nor with a wrong
+// password.
 func TestSourceStartTLS(t *testing.T) {
 	d := newDirectory(t, member(1)+member(2)+group("g", "uid=p1"))
 	s := newSourced(t, begin(t, t.TempDir()))

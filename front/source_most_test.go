@@ -31,7 +31,8 @@ func TestSourceAtMost(t *testing.T) {
 	s.does("0 Permits gained, 0 lost, of 0", "plan", "--at-most", "5%") // nobody is listed yet whose Permits they would be
 	s.does("12 added", "run", "--at-most", "5%")
 	people("12345678")
-	s.does("p0 loses use disk\np0 loses use tape\np9 loses use disk\np9 loses use tape\n0 Permits gained, 4 lost, of 20", "plan")
+	s.does("p0 loses use disk\np0 loses use tape\np9 loses use disk\np9 loses use tape\n"+
+		"0 Permits gained, 4 lost, of 20", "plan")
 	s.fails(4, "4 of 20 Permits would be lost, more than 19%: nothing was changed", "run", "--at-most", "19%")
 	s.fails(4, "4 of 20 Permits", "plan", "--at-most", "19%")
 	s.does("0 added, 2 set", "run", "--at-most", "20%")
@@ -58,14 +59,15 @@ func TestSourceUntold(t *testing.T) {
 	s.does("1 set", "run", "--at-most", "5%", "--untold")
 }
 
-// TestSourceWho brings sources by tokens: each edit is written down under the source's name, and who may not edit changes
-// nothing.
+// TestSourceWho brings sources by tokens: each edit is written down under the source's name, and who may not edit
+// changes nothing.
 func TestSourceWho(t *testing.T) {
 	access := func(name, token, roles string) string {
 		return fmt.Sprintf(`{"name":%q,"token_sha256":"%x","roles":[%s]}`+"\n", name, sha256.Sum256([]byte(token)), roles)
 	}
 	s := &sourced{t: t, folder: t.TempDir()}
-	s.write("access", access("hr", "first", `"read","edit"`)+access("it", "second", `"read"`)+access("root", "third", `"read","audit"`))
+	s.write("access", access("hr", "first", `"read","edit"`)+access("it", "second", `"read"`)+
+		access("root", "third", `"read","audit"`))
 	s.f = launch(t, t.TempDir(), "--access", s.folder+"/access")
 	eventually(t, "the front listens", func() bool { return strings.Contains(s.f.log(), "the state stands") })
 	s.f.address = addressOf.FindStringSubmatch(s.f.log())[1]
@@ -129,8 +131,8 @@ func TestSourceEvery(t *testing.T) {
 	ended := make(chan int, 1)
 	var faults bytes.Buffer
 	go func() {
-		words := []string{"run", "--front", "http://" + s.f.address, "--every", "50ms", "--metrics", address, "--at-most", "50%"}
-		ended <- source.Run(ctx, append(words, s.folder), io.Discard, &faults)
+		words := []string{"run", "--front", "http://" + s.f.address, "--every", "50ms", "--metrics", address}
+		ended <- source.Run(ctx, append(words, "--at-most", "50%", s.folder), io.Discard, &faults)
 	}()
 	metrics := func() string {
 		answer, err := http.Get("http://" + address + "/metrics")

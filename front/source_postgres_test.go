@@ -108,7 +108,8 @@ func (d *database) source(query string) string {
 // TestSourceDatabase asks a database, again as soon as it says that something changed.
 func TestSourceDatabase(t *testing.T) {
 	d := newDatabase(t)
-	d.do(t, `create table people (login text, dept text, teams text[], since date, seen timestamptz, cleared bool, level int)`)
+	d.do(t, `create table people (login text, dept text, teams text[], since date, seen timestamptz, cleared bool,
+		level int)`)
 	d.do(t, `insert into people values ('ann', 'it', '{b,a,NULL,"x,y"}', '2020-02-01', '2026-01-31 10:00:00.5+01', true, 7),
 		('bob', null, '{}', null, null, false, -1)`)
 	s := newSourced(t, begin(t, t.TempDir()))
@@ -116,7 +117,9 @@ func TestSourceDatabase(t *testing.T) {
 	s.does("db: 2 added", "run")
 	s.does("db: 0 added, 0 set, 0 dropped", "run")
 	rows := func(name string) string { return s.f.must("/attributes?category=AccessSubject&entity=" + name) }
-	for _, want := range []string{`["a","b","x,y"]`, `["2020-02-01"]`, `["2026-01-31T09:00:00"]`, `[true]`, `[7]`, `["it"]`} {
+	for _, want := range []string{
+		`["a","b","x,y"]`, `["2020-02-01"]`, `["2026-01-31T09:00:00"]`, `[true]`, `[7]`, `["it"]`,
+	} {
 		if told := rows("ann"); !strings.Contains(told, want) {
 			t.Errorf("ann has no %s, but %s", want, told)
 		}
@@ -126,7 +129,8 @@ func TestSourceDatabase(t *testing.T) {
 		"select *, 1/(level+1) from people order by level desc": "division by zero",
 		"delete from people returning *":                        "read-only",
 		"select * from people union all select * from people":   "stands at row",
-		"select 'p' || n as login, null as dept, null as teams, null as since, null as seen, null as cleared, 1/(5000-n) as level from generate_series(1, 6000) n": "division by zero",
+		"select 'p' || n as login, null as dept, null as teams, null as since, null as seen, null as cleared, " +
+			"1/(5000-n) as level from generate_series(1, 6000) n": "division by zero",
 	} {
 		s.write("db.json", d.source(query))
 		s.fails(1, want, "run", "--at-most", "100%")
@@ -136,7 +140,8 @@ func TestSourceDatabase(t *testing.T) {
 	ended := make(chan int, 1)
 	var faults bytes.Buffer
 	go func() {
-		ended <- source.Run(ctx, []string{"run", "--every", "1h", "--front", "http://" + s.f.address, s.folder}, io.Discard, &faults)
+		words := []string{"run", "--every", "1h", "--front", "http://" + s.f.address, s.folder}
+		ended <- source.Run(ctx, words, io.Discard, &faults)
 	}()
 	listens := `select count(*) from pg_stat_activity where query like 'LISTEN%'`
 	eventually(t, "it listens", func() bool {
@@ -165,18 +170,22 @@ func TestSourceDatabase(t *testing.T) {
 func TestSourceNotified(t *testing.T) {
 	count := number("FRONT_PEOPLE", 1000)
 	d := newDatabase(t)
-	d.do(t, `create table people (login text, dept text, teams text[], since date, seen timestamptz, cleared bool, level int)`)
-	d.do(t, fmt.Sprintf(`insert into people select 'p' || n, 'd' || n %% 50, array['a', 'b'], '2020-01-01', '2026-01-01', true, n
-		from generate_series(1, %d) n`, count))
+	d.do(t, `create table people (login text, dept text, teams text[], since date, seen timestamptz, cleared bool,
+		level int)`)
+	d.do(t, fmt.Sprintf(`insert into people select 'p' || n, 'd' || n %% 50, array['a', 'b'], '2020-01-01', '2026-01-01',
+		true, n from generate_series(1, %d) n`, count))
 	s := newSourced(t, begin(t, t.TempDir(), "--people", "65536", "--cells", "1000000", "--try-time", "5m"))
 	s.write("db.json", d.source("select * from people"))
 	ctx, stop := context.WithCancel(context.Background())
 	ended := make(chan int, 1)
 	go func() {
-		ended <- source.Run(ctx, []string{"run", "--every", "1h", "--front", "http://" + s.f.address, s.folder}, io.Discard, io.Discard)
+		words := []string{"run", "--every", "1h", "--front", "http://" + s.f.address, s.folder}
+		ended <- source.Run(ctx, words, io.Discard, io.Discard)
 	}()
 	rows := func(name string) string { return s.f.must("/attributes?category=AccessSubject&entity=" + name) }
-	eventually(t, "all are there", func() bool { return strings.Contains(s.f.must("/state"), fmt.Sprintf(`"people":%d,`, count)) })
+	eventually(t, "all are there", func() bool {
+		return strings.Contains(s.f.must("/state"), fmt.Sprintf(`"people":%d,`, count))
+	})
 	time.Sleep(time.Duration(count/1000) * 100 * time.Millisecond) // what the first round still reads isn't counted
 	for n := 1; n <= 3; n++ {
 		began := time.Now()

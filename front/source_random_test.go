@@ -46,7 +46,8 @@ func (c *company) change() {
 		c.people[fmt.Sprintf("p%d", c.hired)] = c.people[name]
 		delete(c.people, name)
 	case n < 9:
-		c.people[someone()] = [3]string{team(), fmt.Sprint(c.random.Intn(2) == 0), fmt.Sprintf("20%02d-03-01", c.random.Intn(99))}
+		since := fmt.Sprintf("20%02d-03-01", c.random.Intn(99))
+		c.people[someone()] = [3]string{team(), fmt.Sprint(c.random.Intn(2) == 0), since}
 	default:
 		if name := fmt.Sprintf("t%d", c.random.Intn(8)); c.random.Intn(4) == 0 {
 			delete(c.things, name)
@@ -84,10 +85,10 @@ const companySource = `{"source":"company","module":1,
 var teamPolicy = []string{
 	`{"do":"action.add","name":"use"}`,
 	`{"do":"policy.add","document":{"Policy":{"PolicyId":"p","Version":"1","RuleCombiningAlgId":` +
-		`"urn:oasis:names:tc:xacml:3.0:rule-combining-algorithm:deny-unless-permit","Rule":[{"RuleId":"team","Effect":"Permit",` +
-		`"Condition":{"Apply":{"FunctionId":"urn:oasis:names:tc:xacml:1.0:function:and","Arguments":[` +
-		`{"Apply":{"FunctionId":"urn:oasis:names:tc:xacml:1.0:function:boolean-is-in","Arguments":[{"AttributeValue":{"Value":true}},` +
-		`{"AttributeDesignator":{"Category":"urn:oasis:names:tc:xacml:1.0:subject-category:access-subject",` +
+		`"urn:oasis:names:tc:xacml:3.0:rule-combining-algorithm:deny-unless-permit","Rule":[` +
+		`{"RuleId":"team","Effect":"Permit","Condition":{"Apply":{"FunctionId":"urn:oasis:names:tc:xacml:1.0:function:and","Arguments":[` +
+		`{"Apply":{"FunctionId":"urn:oasis:names:tc:xacml:1.0:function:boolean-is-in","Arguments":[` +
+		`{"AttributeValue":{"Value":true}},{"AttributeDesignator":{"Category":"urn:oasis:names:tc:xacml:1.0:subject-category:access-subject",` +
 		`"AttributeId":"cleared","DataType":"boolean"}}]}},` +
 		`{"Apply":{"FunctionId":"urn:oasis:names:tc:xacml:1.0:function:string-at-least-one-member-of","Arguments":[` +
 		`{"AttributeDesignator":{"Category":"urn:oasis:names:tc:xacml:1.0:subject-category:access-subject",` +
@@ -97,8 +98,8 @@ var teamPolicy = []string{
 	`{"do":"root.set","reference":{"PolicyIdReference":{"Id":"p"}}}`,
 }
 
-// TestSourceRandom changes a source at random while it is brought again and again, and kills the front in between: in the
-// end the state is that of a service which was told the source afresh.
+// TestSourceRandom changes a source at random while it is brought again and again, and kills the front in between: in
+// the end the state is that of a service which was told the source afresh.
 func TestSourceRandom(t *testing.T) {
 	changes := number("FRONT_CHANGES", 400)
 	folder := t.TempDir()

@@ -14,8 +14,8 @@ func namedSource(source, attribute, more string) string {
 		source, source, attribute, more)
 }
 
-// TestSourceSeveral has three sources share a module. A name goes with the last of those that list it, and takes the rows
-// of all with it; one that gives rows alone lists nobody.
+// TestSourceSeveral has three sources share a module. A name goes with the last of those that list it, and takes the
+// rows of all with it; one that gives rows alone lists nobody.
 func TestSourceSeveral(t *testing.T) {
 	s := newSourced(t, begin(t, t.TempDir()))
 	s.write("a.json", namedSource("a", "dept", ""))

@@ -88,12 +88,14 @@ func TestSource(t *testing.T) {
 	s.does("hr: 2 added, 0 set, 0 dropped\n", "run")
 	s.fails(0, "", "run")
 	s.namesLast("ann", 5)
-	want := `{"attribute":"teams","datatype":"http://www.w3.org/2001/XMLSchema#string","issuer":null,"module":1,"values":["a","b"]}`
+	want := `"attribute":"teams","datatype":"http://www.w3.org/2001/XMLSchema#string","issuer":null,"module":1,` +
+		`"values":["a","b"]`
 	if told := s.f.must("/attributes?category=AccessSubject&entity=ann"); !strings.Contains(told, want) ||
 		!strings.Contains(told, `#date","issuer":null,"module":1,"values":["2020-02-01"]`) {
 		t.Errorf("ann has %s", told)
 	}
-	s.f.accept(`{"do":"attr.set","module":0,"category":"AccessSubject","entity":"bob","attribute":"desk","type":"string","values":["b"]}`)
+	s.f.accept(`{"do":"attr.set","category":"AccessSubject","entity":"bob","attribute":"desk","type":"string",` +
+		`"values":["b"]}`)
 	s.write("people.csv", hrHead+"ann,it,a,01.02.2020,yes\n")
 	s.does("hr: 0 added, 1 set, 1 dropped\n  dropped person bob\n", "plan")
 	s.does("hr: 0 added, 1 set, 1 dropped\n", "run")

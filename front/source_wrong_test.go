@@ -53,7 +53,8 @@ func TestSourceWrong(t *testing.T) {
 	}
 }
 
-// TestSourceCommand reads what commands write, as JSON lines: of one that fails nothing is taken, nor of half an output.
+// TestSourceCommand reads what commands write, as JSON lines: of one that fails nothing is taken, nor of half an
+// output.
 func TestSourceCommand(t *testing.T) {
 	s := newSourced(t, begin(t, t.TempDir()))
 	s.write("it.json", `{"source": "it", "resources": {"lines": {"command": ["sh", "-c", ". ./say"], "last": "END"},
@@ -78,6 +79,8 @@ func TestSourceCommand(t *testing.T) {
 	s.write("told", whole+`{"id":"b","size":1,"kind":"k","seen":null,"tags":["x","a","x"],"other":{}}`+"\nEND\n")
 	s.write("say", "cat told; echo no more >&2; exit 3\n")
 	s.fails(1, "ends with exit status 3: no more", "run")
+	s.write("say", "cat told; sleep 1000 | cat\n") // what it began ends with it
+	s.fails(1, "deadline exceeded", "run", "--timeout", "1s")
 	s.write("say", "cat told\n")
 	s.does("it: 2 added", "run")
 	told := s.f.must("/attributes?category=Resource&entity=disk") + s.f.must("/attributes?category=Resource&entity=b")

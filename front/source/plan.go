@@ -42,8 +42,7 @@ func (r *round) tell(change differ.Change) {
 
 // tellDecisions tells who would gain and lose what.
 func (r *round) tellDecisions(ctx context.Context, s *seen, edits [][]byte) error {
-	var told tries = dry{s.front}
-	difference, err := told.Try(ctx, edits)
+	difference, err := triedBy(s.front).Try(ctx, edits)
 	if errors.Is(err, errUntold) {
 		fmt.Fprintln(r.to, err)
 		return nil

@@ -166,12 +166,14 @@ func (s *seen) fits() error {
 			after += plan.Count(list, differ.Added) - plan.Count(list, differ.Dropped)
 		}
 		if most := s.state.Limits[list].Most; uint64(after) > most {
-			return fmt.Errorf("there would be %d %s, and the front takes %d: start it with --%s %d", after, list, most, list, after)
+			return fmt.Errorf("there would be %d %s, and the front takes %d: start it with --%s %d",
+				after, list, most, list, after)
 		}
 		cells *= uint64(after)
 	}
 	if most := s.state.Limits["cells"].Most; cells > most {
-		return fmt.Errorf("the table would have %d cells, and the front takes %d: start it with --cells %d", cells, most, cells)
+		return fmt.Errorf("the table would have %d cells, and the front takes %d: start it with --cells %d",
+			cells, most, cells)
 	}
 	return nil
 }
@@ -218,8 +220,7 @@ func (r *round) allowedToLose(ctx context.Context, s *seen) error {
 	if len(edits) == 0 {
 		return nil
 	}
-	var told tries = dry{s.front}
-	difference, err := told.Try(ctx, edits)
+	difference, err := triedBy(s.front).Try(ctx, edits)
 	switch lost := difference.Lost(); {
 	case errors.Is(err, errUntold) && r.options.untold:
 		r.fault(err)

@@ -46,17 +46,21 @@ type options struct {
 // name gives each option its words and what it is without them.
 func (o *options) name(set *flag.FlagSet) {
 	o.atMost = share{per: 100}
-	set.StringVar(&o.front, "front", "http://127.0.0.1:8080", "the `address` of the front, or unix: and the file of a socket")
+	set.StringVar(&o.front, "front", "http://127.0.0.1:8080",
+		"the `address` of the front, or unix: and the file of a socket")
 	set.StringVar(&o.authority, "authority", "", "a `file` with certificates that sign that of the front")
-	set.StringVar(&o.byHeader, "by-header", "", "the `field` of a head in which the front is told the source's name, as its "+
-		"option of this name has it")
-	set.Var(&o.atMost, "at-most", "how many in a hundred, as `5%`, a source may drop of its names, and of all Permits may be "+
-		"lost; what would be more changes nothing, and ends with status 4")
-	set.BoolVar(&o.untold, "untold", false, "with --at-most, goes on where it can't be told how many Permits would be lost")
+	set.StringVar(&o.byHeader, "by-header", "", "the `field` of a head in which the front is told the source's name, "+
+		"as its option of this name has it")
+	set.Var(&o.atMost, "at-most", "how many in a hundred, as `5%`, a source may drop of its names, and of all Permits "+
+		"may be lost; what would be more changes nothing, and ends with status 4")
+	set.BoolVar(&o.untold, "untold", false,
+		"with --at-most, goes on where it can't be told how many Permits would be lost")
 	set.DurationVar(&o.every, "every", 0, "does it again, each time after so `long`; 0: once")
 	set.StringVar(&o.metrics, "metrics", "", "with --every, an `address` at which /metrics is answered")
-	set.DurationVar(&o.patience, "patience", time.Minute, "how `long` the front is asked again that can't be reached, or is busy")
-	set.DurationVar(&o.timeout, "timeout", 5*time.Minute, "how `long` a source may take to be read, and the front to answer")
+	set.DurationVar(&o.patience, "patience", time.Minute,
+		"how `long` the front is asked again that can't be reached, or is busy")
+	set.DurationVar(&o.timeout, "timeout", 5*time.Minute,
+		"how `long` a source may take to be read, and the front to answer")
 }
 
 // parse reads the words behind the command. Where there is nothing to do it says so, and gives the exit status.

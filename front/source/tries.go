@@ -13,8 +13,10 @@ type tries interface {
 	Try(ctx context.Context, edits [][]byte) (served.Difference, error)
 }
 
-// dry has the front compare two whole tables (dry=1): of edits that fit into one body. It is the one place that has to
-// change where a front tells it at less cost.
+// triedBy is what tells it of a front: the one place that has to change where a front tells it at less cost.
+func triedBy(front *served.Front) tries { return dry{front} }
+
+// dry has the front compare two whole tables (dry=1): of edits that fit into one body.
 type dry struct{ front *served.Front }
 
 // mostDry is how long a body may be that is compared.

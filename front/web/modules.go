@@ -17,8 +17,8 @@ func (s *Server) namesModules(do string) bool {
 // raw is an object of JSON whose values stay as they are.
 type raw map[string]json.RawMessage
 
-// withModules is the reply to a question with the names of the modules that it tells, or that values come from. `ask` asks of
-// the same state.
+// withModules is the reply to a question with the names of the modules that it tells, or that values come from. `ask`
+// asks of the same state.
 func (s *Server) withModules(r *http.Request, do string, reply keeper.Reply, ask func([]byte) keeper.Reply) keeper.Reply {
 	if reply.Err != nil || reply.Rest != nil {
 		return reply
@@ -67,8 +67,8 @@ type row struct {
 	Values              []json.RawMessage
 }
 
-// nameFacts names the module of each fact about an attribute of which there are values, for who may ask for these: it is
-// the first that has some. Where the module has others by now an edit came between, and none is named.
+// nameFacts names the module of each fact about an attribute of which there are values, for who may ask for these: it
+// is the first that has some. Where the module has others by now an edit came between, and none is named.
 func (s *Server) nameFacts(r *http.Request, facts []raw, ask func([]byte) keeper.Reply) {
 	rows := map[string][]row{}
 	for _, fact := range facts {

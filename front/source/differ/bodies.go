@@ -34,8 +34,8 @@ func (b Body) Tell(state *served.State) {
 	}
 }
 
-// Bodies are those of all plans in their order: what goes, before what comes may need its room; then rows; and names that
-// are added at the end, which have all of their rows then.
+// Bodies are those of all plans in their order: what goes, before what comes may need its room; then rows; and names
+// that are added at the end, which have all of their rows then.
 func Bodies(plans []*Plan) []Body {
 	var bodies []Body
 	for _, plan := range plans {

@@ -1,5 +1,5 @@
-// Package form reads the files that say where a company keeps its people and things, and how a record becomes a name and
-// rows.
+// Package form reads the files that say where a company keeps its people and things, and how a record becomes a name
+// and rows.
 package form
 
 import (
@@ -53,6 +53,7 @@ type Kind struct {
 	ListedOnly bool                 `json:"listed_only"`
 	Attributes map[string]Attribute `json:"attributes"`
 	Gone       []string             `json:"gone"`
+	owned      []string
 }
 
 // CSV is a file of records with a head, or what a command writes.
@@ -189,12 +190,14 @@ func (s *Source) Beside(path string) string {
 
 // Owned are the attributes of a kind, those that it had once too.
 func (k *Kind) Owned() []string {
-	owned := append([]string(nil), k.Gone...)
-	for name := range k.Attributes {
-		owned = append(owned, name)
+	if k.owned == nil {
+		k.owned = append([]string{}, k.Gone...)
+		for name := range k.Attributes {
+			k.owned = append(k.owned, name)
+		}
+		sort.Strings(k.owned)
 	}
-	sort.Strings(owned)
-	return owned
+	return k.owned
 }
 
 // Read reads files, and those of folders that end with .json, and sees that they go together.

@@ -25,7 +25,9 @@ func TestKept(t *testing.T) {
 
 // TestNormal takes spellings of one name as one.
 func TestNormal(t *testing.T) {
-	for _, one := range []string{"UID=Ann, DC=clinic,dc=Example", "uid=ann,dc=clinic,dc=example", `uid=\61nn,dc=clinic,dc=example`} {
+	for _, one := range []string{
+		"UID=Ann, DC=clinic,dc=Example", "uid=ann,dc=clinic,dc=example", `uid=\61nn,dc=clinic,dc=example`,
+	} {
 		if got := normal(one); got != "uid=ann,dc=clinic,dc=example" {
 			t.Errorf("%s is %s", one, got)
 		}

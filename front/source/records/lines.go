@@ -33,7 +33,8 @@ func readLines(ctx context.Context, s *form.Source, from *form.Lines, to *readin
 	return nil
 }
 
-// fieldsOf are those fields of an object that are looked at: texts, numbers, truths, and lists of them. Null is no value.
+// fieldsOf are those fields of an object that are looked at: texts, numbers, truths, and lists of them. Null is no
+// value.
 func fieldsOf(line []byte, wanted map[string]bool) (Fields, error) {
 	from := json.NewDecoder(bytes.NewReader(line))
 	from.UseNumber()

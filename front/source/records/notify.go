@@ -16,8 +16,8 @@ const (
 	latest  = time.Minute
 )
 
-// Listen calls whenever a database says by NOTIFY that something changed, and when it is reached again, since it may have
-// said so before. Faults are told besides. It goes on until it is stopped.
+// Listen calls whenever a database says by NOTIFY that something changed, and when it is reached again, since it may
+// have said so before. Faults are told besides. It goes on until it is stopped.
 func Listen(s *form.Source, from *form.Postgres, heard func(), fault func(error)) (stop func(), err error) {
 	words, err := connectionOf(s, from)
 	if err != nil {

@@ -9,6 +9,7 @@ import (
 	"os/exec"
 	"path/filepath"
 	"strings"
+	"syscall"
 	"unicode/utf8"
 
 	"review-front/source/form"
@@ -17,8 +18,8 @@ import (
 // mark is what some programs write before a text in UTF-8.
 var mark = []byte("\xef\xbb\xbf")
 
-// read reads a file, or what a command writes, whole: what broke off isn't taken. It gives the name by which places in it
-// are told.
+// read reads a file, or what a command writes, whole: what broke off isn't taken. It gives the name by which places in
+// it are told.
 func read(ctx context.Context, s *form.Source, from form.Output) ([]byte, string, error) {
 	var content []byte
 	var err error
@@ -37,7 +38,8 @@ func read(ctx context.Context, s *form.Source, from form.Output) ([]byte, string
 		return nil, name, fmt.Errorf("%s:%d: %w", name, at, errNoUTF8)
 	}
 	if len(content) > 0 && content[len(content)-1] != '\n' {
-		return nil, name, fmt.Errorf("%s:%d: the last line has no end: half a file isn't taken", name, 1+bytes.Count(content, newline))
+		return nil, name, fmt.Errorf("%s:%d: the last line has no end: half a file isn't taken",
+			name, 1+bytes.Count(content, newline))
 	}
 	if from.Last == "" {
 		return content, name, nil
@@ -84,18 +86,32 @@ func still(path string) ([]byte, error) {
 	return content, nil
 }
 
-// outputOf is what a command writes, if it succeeds. It runs in the folder of the source's file.
+// outputOf is what a command writes, if it succeeds. It runs in the folder of the source's file, and ends in its time
+// with all that it began.
 func outputOf(ctx context.Context, s *form.Source, words []string) ([]byte, error) {
-	command := exec.CommandContext(ctx, words[0], words[1:]...)
+	command := exec.Command(words[0], words[1:]...)
 	command.Dir = filepath.Dir(s.Path)
-	var faults bytes.Buffer
-	command.Stderr = &faults
-	content, err := command.Output()
+	command.SysProcAttr = &syscall.SysProcAttr{Setpgid: true}
+	var content, faults bytes.Buffer
+	command.Stdout, command.Stderr = &content, &faults
+	err := command.Start()
+	if err == nil {
+		done := make(chan struct{})
+		go func() {
+			select {
+			case <-ctx.Done():
+				_ = syscall.Kill(-command.Process.Pid, syscall.SIGKILL)
+			case <-done:
+			}
+		}()
+		err = command.Wait()
+		close(done)
+	}
 	if ctx.Err() != nil {
 		err = ctx.Err()
 	}
 	if err == nil {
-		return content, nil
+		return content.Bytes(), nil
 	}
 	said := strings.TrimSpace(faults.String())
 	if len(said) > 1000 {

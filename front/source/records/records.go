@@ -1,5 +1,5 @@
-// Package records reads what a company keeps: records of a file, of a command's output, of a directory or a database, and
-// makes names and rows of them. All is read and checked before anything of it is used.
+// Package records reads what a company keeps: records of a file, of a command's output, of a directory or a database,
+// and makes names and rows of them. All is read and checked before anything of it is used.
 package records
 
 import (
@@ -34,7 +34,8 @@ type Entity struct {
 	Values map[string][]string
 }
 
-// Read reads all entities of a kind, by their names, or says why there are none. `kept` is what an earlier reading left.
+// Read reads all entities of a kind, by their names, or says why there are none. `kept` is what an earlier reading
+// left.
 func Read(ctx context.Context, s *form.Source, kind *form.Kind, kept *Kept) (map[string]*Entity, error) {
 	all := &reading{kind: kind, entities: map[string]*Entity{}, seen: map[string]bool{}}
 	var err error
@@ -146,20 +147,20 @@ func (r *reading) entity(fields Fields) (*Entity, error) {
 }
 
 // valuesOf are the values of a field as those of an attribute, in order and each once, with how long they are.
-func valuesOf(written []string, of form.Attribute) ([]string, int, error) {
+func valuesOf(texts []string, of form.Attribute) ([]string, int, error) {
 	if of.List != "" {
 		var parts []string
-		for _, one := range written {
+		for _, one := range texts {
 			parts = append(parts, strings.Split(one, of.List)...)
 		}
 		for i, part := range parts {
 			parts[i] = strings.TrimSpace(part)
 		}
-		written = parts
+		texts = parts
 	}
 	var values []string
 	bytes := 0
-	for _, one := range written {
+	for _, one := range texts {
 		if one == "" {
 			continue
 		}
@@ -171,7 +172,7 @@ func valuesOf(written []string, of form.Attribute) ([]string, int, error) {
 			return nil, 0, err
 		}
 		values = append(values, value)
-		bytes += 6*len(value) + 3
+		bytes += written(value)
 	}
 	values = Ordered(values)
 	switch {
@@ -181,6 +182,17 @@ func valuesOf(written []string, of form.Attribute) ([]string, int, error) {
 		return nil, 0, errors.New("its values are longer than a line may be")
 	}
 	return values, bytes, nil
+}
+
+// written is how many bytes a value has at most as JSON, with a comma.
+func written(value string) int {
+	bytes := len(value) + 3
+	for _, sign := range value {
+		if sign < ' ' || sign == '"' || sign == '\\' || sign == '\u2028' || sign == '\u2029' {
+			bytes += 5
+		}
+	}
+	return bytes
 }
 
 // inOrder are fields in the order of their bytes.

@@ -68,7 +68,8 @@ func (s *State) add(line []byte) error {
 func (s *State) Set(entity Entity, row Row) {
 	var rows []Row
 	for _, one := range s.Rows[entity] {
-		if one.Attribute != row.Attribute || one.Type != row.Type || one.Module != row.Module || !alike(one.Issuer, row.Issuer) {
+		if one.Attribute != row.Attribute || one.Type != row.Type || one.Module != row.Module ||
+			!alike(one.Issuer, row.Issuer) {
 			rows = append(rows, one)
 		}
 	}

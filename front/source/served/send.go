@@ -10,8 +10,8 @@ import (
 	"strconv"
 )
 
-// Send has edits be made all together behind a serial, and gives the serial behind them. It is sent again, with its key,
-// until it is known what became of it.
+// Send has edits be made all together behind a serial, and gives the serial behind them. It is sent again, with its
+// key, until it is known what became of it.
 func (f *Front) Send(ctx context.Context, edits [][]byte, serial uint64) (uint64, error) {
 	body := append(bytes.Join(edits, []byte("\n")), '\n')
 	sum := sha256.Sum256(append([]byte(strconv.FormatUint(serial, 10)+"\n"), body...))
