@@ -35,6 +35,8 @@ func (c *company) change() {
 		return all[c.random.Intn(len(all))]
 	}
 	switch n := c.random.Intn(10); {
+	case len(c.people) > 150:
+		delete(c.people, someone())
 	case n < 3 || len(c.people) < 20:
 		c.hired++
 		c.people[fmt.Sprintf("p%d", c.hired)] = [3]string{team(), fmt.Sprint(c.random.Intn(2) == 0), "2020-01-01"}
@@ -120,7 +122,7 @@ func TestSourceRandom(t *testing.T) {
 			words := []string{"run", "--front", address, "--at-most", "100%", "--patience", "0s", s.folder}
 			ended <- source.Run(ctx, words, io.Discard, io.Discard)
 		}()
-		if 5*done > (kills+1)*changes {
+		if done > (kills+1)*(80+changes/100) {
 			kills++
 			time.Sleep(time.Duration(c.random.Intn(40)) * time.Millisecond)
 			s.f.kill()
