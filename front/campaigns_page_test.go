@@ -1,6 +1,7 @@
 package main
 
 import (
+	"context"
 	"fmt"
 	"os"
 	"os/exec"
@@ -50,7 +51,7 @@ func alike(l string) string { return aSum.ReplaceAllString(aTime.ReplaceAllStrin
 
 // isSaid says whether a line is as a page has it, which may leave out its end.
 func isSaid(said, page string) bool {
-	begins, cut := strings.TrimSuffix(page, ".."), strings.HasSuffix(page, "..")
+	begins, cut := strings.TrimSuffix(page, " .."), strings.HasSuffix(page, " ..")
 	if cut {
 		said, begins = alike(said), alike(begins)
 		return strings.HasPrefix(said, begins)
@@ -95,6 +96,9 @@ func TestCampaignsPage(t *testing.T) {
 func runPage(t *testing.T, commands []pageCommand) [][]string {
 	t.Helper()
 	here, err := os.Getwd()
+	if err == nil {
+		here, err = filepath.EvalSymlinks(here) // builds come here by a link
+	}
 	if err != nil {
 		t.Fatal(err)
 	}
@@ -124,9 +128,7 @@ func runPage(t *testing.T, commands []pageCommand) [][]string {
 		script += words.Replace(command.words) + "\necho; echo '" + mark + "'\n"
 	}
 	script += "kill %1; wait\n"
-	shell := exec.Command("bash", "-c", script)
-	shell.Dir = folder
-	out, err := shell.CombinedOutput()
+	out, err := shelled(t, folder, script)
 	parts := strings.Split(string(out), mark+"\n")
 	if len(parts) != len(commands)+1 {
 		t.Fatalf("%d commands say %d parts: %v\n%s", len(commands), len(parts)-1, err, out)
@@ -172,4 +174,25 @@ func filled(page string, said [][]string) string {
 		}
 	}
 	return strings.Join(lines, "\n")
+}
+
+// shelled runs a script in a folder, and gives what it said.
+func shelled(t *testing.T, folder, script string) ([]byte, error) {
+	t.Helper()
+	path := filepath.Join(t.TempDir(), "said")
+	said, err := os.Create(path) // no pipe, which what it started might hold
+	if err != nil {
+		t.Fatal(err)
+	}
+	defer said.Close()
+	ctx, cancel := context.WithTimeout(context.Background(), patient)
+	defer cancel()
+	shell := exec.CommandContext(ctx, "bash", "-c", script)
+	shell.Dir, shell.Stdout, shell.Stderr = folder, said, said
+	failed := shell.Run()
+	out, err := os.ReadFile(path)
+	if err != nil {
+		t.Fatal(err)
+	}
+	return out, failed
 }

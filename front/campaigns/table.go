@@ -91,6 +91,12 @@ func (t *Table) Judge(r *Record, ask Asker) (*Items, error) {
 	return nil, t.judgeAnswers(c, r, ask)
 }
 
+// May says why a record wouldn't be taken now, but for what answers are.
+func (t *Table) May(r *Record) error {
+	_, err := t.allows(r)
+	return err
+}
+
 // allows says whether a record is taken, but for what answers are.
 func (t *Table) allows(r *Record) (*Campaign, error) {
 	t.mutex.Lock()

@@ -7,6 +7,7 @@ import (
 	"errors"
 	"net/http"
 	"strings"
+	"time"
 
 	"review-front/access"
 	"review-front/campaigns"
@@ -171,7 +172,11 @@ func (s *Server) acting(do string) func(*answered, *http.Request, map[string]str
 		if do != campaigns.Close && !s.signs(w, r, record) {
 			return
 		}
-		if record.Signs() {
+		if record.Signs() { // who may not sign isn't told what an answer is
+			if err := s.Keeper.Campaigns.May(record); err != nil {
+				problemFor(err).send(w)
+				return
+			}
 			if err := s.see(r.Context(), record, asked.Serial); err != nil {
 				problemFor(err).send(w)
 				return
@@ -201,7 +206,7 @@ func (s *Server) signs(w *answered, r *http.Request, record *campaigns.Record) b
 		problem{Title: "nobody", Status: http.StatusUnprocessableEntity, Detail: "nobody is known as " + record.To}.send(w)
 		return false
 	}
-	record.Person = who.Person
+	record.Person, record.By, record.Time = who.Person, who.Name, time.Now()
 	return true
 }
 
