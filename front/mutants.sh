@@ -11,6 +11,7 @@ export REVIEW_PROGRAM FRONT_PATIENCE FRONT_EDITS
 aside=$(mktemp -d)
 trap 'rm -rf "$aside"' EXIT
 for folder in bench clients crates docs examples tools; do ln -s "$here/../$folder" "$aside/$folder"; done
+for folder in crates docs examples tools; do ln -s "$here/../$folder" "$aside/$folder"; done
 mkdir "$aside/front"
 (cd "$here" && tar cf - --exclude=./out .) | tar xf - -C "$aside/front"
 cd "$aside/front"

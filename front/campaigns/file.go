@@ -7,9 +7,6 @@ import (
 	"fmt"
 )
 
-// FileName begins the names of files of items, which can be made again from the journal.
-const FileName = "campaign-"
-
 // Marshal writes items, with a checksum before them.
 func (i *Items) Marshal() ([]byte, error) {
 	var to bytes.Buffer

@@ -220,6 +220,9 @@ func (p *plan) write(s *survey, to string) error {
 	if err := p.edits(s, f); err != nil {
 		return err
 	}
+	if err := f.copyCampaigns(s.path, p.Ends); err != nil {
+		return err
+	}
 	if p.base == nil {
 		return nil
 	}

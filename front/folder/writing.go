@@ -34,7 +34,7 @@ func (f *Folder) Rotate() error {
 // is it the present one: before that, edits go on into the other.
 func (f *Folder) begin() error {
 	head := f.head
-	if f.current != nil {
+	if f.current != nil && f.last+1 != f.began { // one without an edit is made anew, and isn't before itself
 		f.before = f.part()
 	}
 	head.Kind, head.After, head.Before = "journal", f.last, f.before

@@ -133,15 +133,12 @@ func (s *serving) acted(next *settled) []byte {
 	return append(strconv.AppendUint(append(told, `,"serial":`...), r.serial, 10), '}')
 }
 
-// itemsName is the file of the items of a campaign.
-func itemsName(serial uint64) string { return fmt.Sprintf("%s%020d", campaigns.FileName, serial) }
-
 // keepItems writes the items of a campaign. Where that can't be done a start finds them anew.
 func (k *Keeper) keepItems(items *campaigns.Items) {
 	content, err := items.Marshal()
 	if err == nil {
 		var file *os.File
-		if file, err = k.Folder.Replace(itemsName(items.Serial), content); err == nil {
+		if file, err = k.Folder.Replace(folder.Campaign(items.Serial), content); err == nil {
 			err = file.Close()
 		}
 	}
@@ -150,8 +147,9 @@ func (k *Keeper) keepItems(items *campaigns.Items) {
 	}
 }
 
-// resumeCampaigns reads the campaigns of the journal.
+// resumeCampaigns reads the campaigns of the journal. One whose items can't be had any more is passed over.
 func (k *Keeper) resumeCampaigns(ctx context.Context) error {
+	lost := map[string]bool{}
 	return k.Folder.EachCampaign(func(entry folder.Entry) error {
 		record, err := campaigns.Read(entry.Line)
 		if err != nil {
@@ -160,9 +158,14 @@ func (k *Keeper) resumeCampaigns(ctx context.Context) error {
 		record.Serial, record.Time, record.By = entry.Serial, entry.Time, entry.By
 		var items *campaigns.Items
 		if record.Do == campaigns.Open {
-			if items, err = k.itemsOf(ctx, record); err != nil {
-				return fmt.Errorf("the items of the campaign %s, of serial %d: %w", record.Campaign, entry.Serial, err)
+			if items, err = k.itemsOf(ctx, record); err != nil && ctx.Err() == nil {
+				k.Log.Error("the items of a campaign can't be had any more, and it isn't told", "campaign", record.Campaign,
+					"serial", entry.Serial, "error", err)
 			}
+			lost[record.Campaign] = err != nil
+		}
+		if ctx.Err() != nil || lost[record.Campaign] {
+			return ctx.Err()
 		}
 		return k.Campaigns.Apply(record, items)
 	})
@@ -170,7 +173,7 @@ func (k *Keeper) resumeCampaigns(ctx context.Context) error {
 
 // itemsOf are the items of a campaign: those of its file, or what a program of then answers.
 func (k *Keeper) itemsOf(ctx context.Context, record *campaigns.Record) (*campaigns.Items, error) {
-	content, err := os.ReadFile(k.Folder.Path(itemsName(record.Serial)))
+	content, err := os.ReadFile(k.Folder.Path(folder.Campaign(record.Serial)))
 	if err == nil {
 		var items *campaigns.Items
 		if items, err = campaigns.Unmarshal(content, record.Serial); err == nil {
