@@ -99,7 +99,7 @@ func TestCampaignsModel(t *testing.T) {
 	m, random := newReviewed(t), rand.New(rand.NewSource(int64(number("FRONT_SEED", 3))))
 	s := &signsFor{random: random, made: map[uint64]string{}, counts: map[int]int{}, held: map[string]groupsOf{}}
 	edits, acts := number("FRONT_CAMPAIGN_EDITS", 240), number("FRONT_CAMPAIGN_ACTS", 160)
-	const phases = 8
+	phases := number("FRONT_CAMPAIGN_PHASES", 8)
 	var names []string
 	for phase := 0; phase < phases; phase++ {
 		if next := openingOf(phase); next != "" {

@@ -134,17 +134,52 @@ func TestCampaign(t *testing.T) {
 	if got := f.progress(t, "boss", "q4").States; got["kept"] != count || got["open"] != 92-count {
 		t.Fatalf("%v", got)
 	}
-	role := `{"do":"attr.set","category":"AccessSubject","entity":"hana","attribute":"role","type":"string","values":[%q]}`
-	before := f.as(t, "boss", http.MethodGet, "/attributes?category=AccessSubject&entity=hana", "")
-	if got := f.as(t, "editor", http.MethodPost, "/lines", fmt.Sprintf(role, "nobody")); got.status != 200 {
+	edit := func(known, role string) answer {
+		t.Helper()
+		return f.as(t, "editor", http.MethodPost, "/commands/attr.set", strings.Replace(setRole("hana", role),
+			`"do":"attr.set",`, "", 1), "If-Match", known)
+	}
+	// What a campaign has behind the last edit isn't counted, and other edits are.
+	if got := edit("69", "nobody"); got.status != 200 {
+		t.Fatal(got)
+	}
+	if got := edit("69", "doctor"); got.status != http.StatusPreconditionFailed {
 		t.Fatal(got)
 	}
 	if got := f.as(t, "rita", http.MethodPost, "/campaigns/q4/keep", actOn(at, told, "")); got.status != 409 ||
-		!strings.Contains(got.body, `"changed":[{"item":`) {
+		!strings.Contains(got.body, `"changed":[{"item":`) || !strings.Contains(got.body, `"by":"editor"`) {
 		t.Fatal(got)
 	}
 	fell := f.progress(t, "boss", "q4")
 	if len(fell.Fell) != 1 || fell.Fell[0].By != "editor" || fell.Fell[0].Items != count {
-		t.Fatalf("%+v\n%v", fell, before)
+		t.Fatalf("%+v", fell)
+	}
+}
+
+// TestCampaignBeside signs and edits while an asker answers and each edit is tried on a spare program: neither is told
+// what isn't an edit, and neither has to be made anew.
+func TestCampaignBeside(t *testing.T) {
+	access := reviewing(t, entry("gateway", "ask"))
+	f, told := campaignsOpened(t, access, "", "--askers", "1", "--try-time", "60s")
+	for i := range told.Groups {
+		if got := f.as(t, "rita", http.MethodPost, "/campaigns/q4/keep", actOn(i, told, "")); got.status != 200 {
+			t.Fatal(got)
+		}
+		edited := f.as(t, "editor", http.MethodPost, "/commands/day.set", fmt.Sprintf(`{"day":"2026-01-%02d"}`, i+1))
+		if serial, ok := accepted(edited.body); !ok || serial != uint64(72+2*i) {
+			t.Fatalf("an edit is answered %+v", edited)
+		}
+		got := f.as(t, "gateway", http.MethodPost, "/authorize", requestOf("ada", "read", "rota"), "Content-Type",
+			"application/xacml+json", "Review-At-Least", edited.body[strings.LastIndex(edited.body, ":")+1:len(edited.body)-1])
+		if got.status != 200 || !strings.Contains(got.body, `"Decision":"Permit"`) {
+			t.Fatalf("a request is answered %+v", got)
+		}
+		told = f.items(t, "rita", "q4", "")
+		if i == 8 {
+			break
+		}
+	}
+	if log := f.log(); strings.Count(log, "a spare program has the state") > 1 || strings.Count(log, "an asker has its state") > 1 {
+		t.Errorf("programs are made anew: %s", log)
 	}
 }

@@ -185,6 +185,64 @@ func TestOldest(t *testing.T) {
 	}
 }
 
+// TestJudged has acts judged by what the program answers at their place: over other answers, over those that aren't of
+// the scope any more, without a reason, and behind the end.
+func TestJudged(t *testing.T) {
+	table, now := NewTable(), time.Date(2026, 11, 30, 12, 0, 0, 0, time.UTC)
+	d, err := Define([]byte(`{"name":"a","scope":{"people":{"names":["cy"]}},"reviewers":[{"name":"z"}],"ends":"2026-11-30"}`))
+	if err != nil {
+		t.Fatal(err)
+	}
+	program := clinicOf(t)
+	opened := &Record{Do: Open, Campaign: "a", Definition: d, Time: now, Serial: 5}
+	items, err := table.Judge(opened, program)
+	if err == nil {
+		err = table.Apply(opened, items)
+	}
+	if err != nil {
+		t.Fatal(err)
+	}
+	table.Reached(5)
+	answer := func(rule, decision string) {
+		cell := items.Cell(0)
+		program.lines[string(cell.Question())] = `{"cell":` + aCell("cy", "read", "plan", decision, rule) + `}`
+	}
+	for _, one := range []struct {
+		do, rule, decision, why string
+		at                      time.Time
+		title                   string
+	}{
+		{Keep, "r", "Permit", "", now, ""},
+		{Revoke, "r", "Permit", "no need", now, ""},
+		{Keep, "other", "Permit", "", now, "another answer"},
+		{Keep, "r", "Deny", "", now, "another answer"},
+		{Revoke, "r", "Permit", "", now, "no why"},
+		{Keep, "r", "Permit", "", now.AddDate(0, 0, 1), "ended"},
+	} {
+		seen := []*Answer{items.Answers[0]}
+		r := &Record{Do: one.do, Campaign: "a", Items: []uint32{0}, By: "z", Time: one.at, Why: one.why,
+			Digest: Digest([]Cell{items.Cell(0)}, seen)}
+		r.See(seen)
+		answer(one.rule, one.decision)
+		_, err := table.Judge(r, program)
+		refused, _ := err.(*Refused)
+		if one.title == "" && err != nil || one.title != "" && (refused == nil || refused.Title != one.title) {
+			t.Errorf("%+v is answered %v", one, err)
+		}
+	}
+	answer("r", "Deny") // what was seen is so, and is none of what is to be signed
+	gone, err := ReadAnswer([]byte(program.lines[string(items.Cell(0).Question())]))
+	if err != nil {
+		t.Fatal(err)
+	}
+	r := &Record{Do: Keep, Campaign: "a", Items: []uint32{0}, By: "z", Time: now}
+	r.Digest = Digest([]Cell{items.Cell(0)}, []*Answer{gone})
+	r.See([]*Answer{gone})
+	if _, err := table.Judge(r, program); err == nil || !strings.Contains(err.Error(), "nothing to sign") {
+		t.Errorf("what is out of the scope is signed: %v", err)
+	}
+}
+
 // BenchmarkList lists a hundred groups of 1,000, of a hundred items each.
 func BenchmarkList(b *testing.B) {
 	s := &said{t: b, lines: map[string]string{}}
