@@ -23,7 +23,7 @@ cd "$aside/front"
 # that are translated, AuthZEN, Kubernetes, kept decisions, who may what, a log of several fronts, what edits changed,
 # earlier states, the chain, and what proxies ask.
 # that are translated, AuthZEN, kept decisions, who may what, a log of several fronts, what edits changed, earlier states,
-# the chain, and what proxies ask.
+# the chain, what proxies ask, and campaigns.
 # that are translated, AuthZEN, Kubernetes, kept decisions, who may what, a log of several fronts, what edits changed, earlier states,
 # the chain, and sources.
 grep -e "${2:-}" >"$aside/rows" <<'ROWS'
@@ -249,6 +249,29 @@ source/round.go . TestSourceAtMost s/len(plan\.Given\.Entities\[list\]) == 0 \&\
 source/round.go . TestSourceUntold s/^\tcase errors\.Is(err, errUntold):$/\tcase false:/
 source/round.go . TestSourceAtMost s/r\.options\.atMost\.exceeds(lost, .*:$/false:/
 web/modules.go . TestModuleNames s/if first < 0 || one\.Module < first {/if first < 0 || one.Module > first {/
+campaigns/table.go campaigns TestJudged s/if Digest(cells, now) == r\.Digest {/if true {/
+campaigns/table.go campaigns TestJudged s/; !c\.covers(decision) {/; !c.covers(decision) \&\& false {/
+campaigns/definition.go campaigns TestJudged s/^\treturn d\.Ends != "" .*$/\treturn false/
+campaigns/stand.go campaigns TestOldest s/^\tcase bounded && .*:$/\tcase false:/
+campaigns/items.go campaigns TestScope s/if m\.Self || who\[0\] != .* {$/if true {/
+campaigns/file.go campaigns TestScope s/ || sha256\.Sum256(content.* {$/ {/
+campaigns/table.go . TestCampaignOthers s/; who != r\.By && (r\.Person == "" || who != r\.Person) {/; false \&\& who == "" {/
+campaigns/table.go . TestCampaignOthers s/ && (person == r\.By || person == r\.Person) {/ \&\& person == r.By {/
+web/campaigns.go . TestCampaignOthers s/; nobody != nil || s\.Signed == nil && name != .* {$/; nobody != nil \&\& name == "" {/
+web/campaigns.go . TestCampaignOthers s/if one != who\.Name && one != who\.Person {/if false {/
+web/campaigns.go . TestCampaignsPage s/if err := s\.Keeper\.Campaigns\.May(record); err != nil {/if err := error(nil); err != nil {/
+campaigns/stand.go . TestCampaignsModel s/(c\.On == OnAnswer || before != after)/(before != after)/
+campaigns/list.go . TestCampaignsModel s/^\treturn i\.seen == i\.answer$/\treturn true/
+keeper/run.go . TestCampaignDisk s/^\tk\.Campaigns\.Cut(k\.Folder\.Last())$//
+folder/writing.go . TestCampaignKept s/if f\.format < campaignFrom && haveCampaign(entries) {/if false {/
+folder/writing.go . TestCampaignKept s/ && f\.last+1 != f\.began {/ {/
+keeper/edits.go . TestCampaign s/edit := k\.lastEdit\.Load()/edit := k.serial.Load()/
+keeper/edits.go . TestCampaignBeside s/table\.Changes == spare\.Changes/table.Changes == spare.Changes+1/
+keeper/asker.go . TestCampaignBeside s/line\.IsName(entry\.Line) && !entry\.IsCampaign() {/line.IsName(entry.Line) {/
+campaigns/verify.go . TestEvidence s/if Digest(cells, answers) != r\.Digest {/if false {/
+campaigns/verify.go . TestEvidence s/if (kept || due) == ended {/if (kept || due) == ended \&\& false {/
+campaigns/verify.go . TestEvidence s/ || there\.by != e\.By || / || /
+evidence.go . TestEvidence s/^\t\tif there && folder\.Chain(chain) != head\.Chain {/\t\tif false \&\& folder.Chain(chain) != head.Chain {/
 ROWS
 tests=$(awk '{ print "^" $3 "$" }' "$aside/rows" | sort -u | paste -sd '|')
 ./build.sh go test -count=1 -run "$tests" ./... >"$aside/said" 2>&1 || { cat "$aside/said"; exit 1; }
