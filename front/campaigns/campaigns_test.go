@@ -8,6 +8,8 @@ import (
 	"strings"
 	"testing"
 	"time"
+
+	"review-front/changed"
 )
 
 // said answers questions from what a test says, each by the line that asks it.
@@ -182,6 +184,49 @@ func TestOldest(t *testing.T) {
 	if err != nil || len(page.Groups) != 1 || page.Groups[0].Items[0].Signed.From != "a" ||
 		page.Groups[0].Items[0].Signed.Serial != 12 {
 		t.Errorf("%+v %v", page, err)
+	}
+}
+
+// TestUnknown has an edit come of which nobody knows what it changed, and edits of which nothing is kept: each ends all
+// sign-offs of before, and tells why.
+func TestUnknown(t *testing.T) {
+	table, now := NewTable(), time.Date(2026, 11, 30, 12, 0, 0, 0, time.UTC)
+	d, err := Define([]byte(`{"name":"a","scope":{},"reviewers":[{"name":"z"}]}`))
+	if err != nil {
+		t.Fatal(err)
+	}
+	opened := &Record{Do: Open, Campaign: "a", Definition: d, Time: now, Serial: 10}
+	items, err := table.Judge(opened, clinicOf(t))
+	if err == nil {
+		err = table.Apply(opened, items)
+	}
+	if err != nil {
+		t.Fatal(err)
+	}
+	table.Reached(10)
+	for i, end := range []func(){
+		func() {
+			if err := table.Edited(&changed.Edit{Serial: 12, Count: 3, By: "ed"}); err != nil {
+				t.Fatal(err)
+			}
+			table.Reached(12)
+		},
+		func() { table.Unknown(14); table.Reached(14) },
+	} {
+		signAs(t, table, "a", 0, uint64(11+2*i), now)
+		end()
+		got, err := table.Progress("a")
+		if err != nil || got.States["fell"] != 2 || got.States["kept"] != 0 || got.Fell[0].Items != 2 ||
+			!got.Fell[0].Unknown || got.Fell[0].Serial != uint64(12+2*i) {
+			t.Errorf("%+v %v", got, err)
+		}
+	}
+	if _, err := table.Progress("b"); err == nil || strings.Contains(err.Error(), "behind serial") {
+		t.Error(err)
+	}
+	table.Begins(9)
+	if _, err := table.Progress("b"); err == nil || !strings.Contains(err.Error(), "behind serial 9") {
+		t.Error(err)
 	}
 }
 

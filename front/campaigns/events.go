@@ -69,7 +69,7 @@ func (t *Table) Events(name string, since uint64) ([]Event, <-chan struct{}, err
 	defer t.mutex.Unlock()
 	c := t.named[name]
 	if c == nil {
-		return nil, nil, unknown(name)
+		return nil, nil, t.unknown(name)
 	}
 	first := len(c.events)
 	for first > 0 && c.events[first-1].Serial > since {

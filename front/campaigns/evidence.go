@@ -80,7 +80,7 @@ func (t *Table) Evidence(name string) (*Evidence, error) {
 	defer t.mutex.Unlock()
 	c := t.named[name]
 	if c == nil || !c.begun {
-		return nil, unknown(name)
+		return nil, t.unknown(name)
 	}
 	e := &Evidence{Head: EvidenceHead{
 		Evidence: EvidenceKind, Campaign: name, Serial: c.Serial, Since: c.Serial - 1, Until: t.upTo,

@@ -92,7 +92,7 @@ func (t *Table) List(name string, q Query) (*Page, error) {
 	defer t.mutex.Unlock()
 	c := t.named[name]
 	if c == nil || !c.begun {
-		return nil, unknown(name)
+		return nil, t.unknown(name)
 	}
 	page := &Page{Campaign: name, Groups: []Group{}, Serial: t.upTo}
 	groups := c.groups(q)
@@ -248,7 +248,7 @@ func (t *Table) Cells(name string, numbers []uint32) ([]Cell, error) {
 	defer t.mutex.Unlock()
 	c := t.named[name]
 	if c == nil {
-		return nil, unknown(name)
+		return nil, t.unknown(name)
 	}
 	for _, number := range numbers {
 		if int(number) >= len(c.items.Cells) {
@@ -266,7 +266,7 @@ func (t *Table) Differ(name string, numbers []uint32, now []*Answer, since uint6
 	defer t.mutex.Unlock()
 	c := t.named[name]
 	if c == nil || !c.begun {
-		return unknown(name)
+		return t.unknown(name)
 	}
 	told := refuse(409, "another answer", "an answer isn't the one that was seen")
 	all := func(is func(*item) bool) {

@@ -42,7 +42,7 @@ func (t *Table) Progress(name string) (*Progress, error) {
 	defer t.mutex.Unlock()
 	c := t.named[name]
 	if c == nil || !c.begun {
-		return nil, unknown(name)
+		return nil, t.unknown(name)
 	}
 	return c.progress(t.upTo), nil
 }

@@ -18,7 +18,9 @@ type Table struct {
 	due   []*Record // records that have their place, and whose turn among edits hasn't come
 	last  uint64    // the serial of the last record
 	upTo  uint64    // the serial up to which it is known which sign-offs stand
-	moved chan struct{}
+	// begins is the serial behind which the journals begin.
+	begins uint64
+	moved  chan struct{}
 }
 
 // Campaign is one of them.
@@ -72,9 +74,20 @@ func refuse(status int, title, detail string, about ...any) *Refused {
 	return &Refused{Status: status, Title: title, Detail: fmt.Sprintf(detail, about...)}
 }
 
-// unknown says that there is no such campaign.
-func unknown(name string) *Refused {
+// unknown says that there is no such campaign, or none that is known here.
+func (t *Table) unknown(name string) *Refused {
+	if t.begins > 0 {
+		return refuse(http.StatusNotFound, "no such campaign", "there is no campaign %q behind serial %d, where the journals "+
+			"of this front begin", name, t.begins)
+	}
 	return refuse(http.StatusNotFound, "no such campaign", "there is no campaign %q", name)
+}
+
+// Begins says behind which serial the journals begin: of campaigns of before nothing is known.
+func (t *Table) Begins(serial uint64) {
+	t.mutex.Lock()
+	defer t.mutex.Unlock()
+	t.begins = serial
 }
 
 // Judge says whether a record is taken at its place, where the program answers by `ask`. What it gives of a campaign
@@ -103,7 +116,7 @@ func (t *Table) allows(r *Record) (*Campaign, error) {
 	defer t.mutex.Unlock()
 	c := t.named[r.Campaign]
 	if c == nil {
-		return nil, unknown(r.Campaign)
+		return nil, t.unknown(r.Campaign)
 	}
 	switch {
 	case c.closed != nil || c.endedAt(r.Time) && r.Do != Close:
@@ -129,7 +142,7 @@ func (t *Table) mayOpen(r *Record) error {
 	case t.named[d.Name] != nil:
 		return refuse(http.StatusConflict, "already there", "there is a campaign %s", d.Name)
 	case d.After != "" && t.named[d.After] == nil:
-		return unknown(d.After)
+		return t.unknown(d.After)
 	case d.endedAt(r.Time):
 		return refuse(http.StatusUnprocessableEntity, "ended", "%s is over", d.Ends)
 	}

@@ -150,6 +150,11 @@ func (k *Keeper) keepItems(items *campaigns.Items) {
 // resumeCampaigns reads the campaigns of the journal. One whose items can't be had any more is passed over.
 func (k *Keeper) resumeCampaigns(ctx context.Context) error {
 	lost := map[string]bool{}
+	begins, err := k.Folder.Begins()
+	if err != nil {
+		return err
+	}
+	k.Campaigns.Begins(begins)
 	return k.Folder.EachCampaign(func(entry folder.Entry) error {
 		record, err := campaigns.Read(entry.Line)
 		if err != nil {
