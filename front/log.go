@@ -71,6 +71,11 @@ func (o otherFront) Keys(ctx context.Context) (io.ReadCloser, error) {
 	return o.fetch(ctx, "/snapshot/keys")
 }
 
+// Campaigns is what it knows of campaigns.
+func (o otherFront) Campaigns(ctx context.Context) (io.ReadCloser, error) {
+	return o.fetch(ctx, "/snapshot/campaigns")
+}
+
 // fetch asks another front for a file.
 func (o otherFront) fetch(ctx context.Context, path string) (io.ReadCloser, error) {
 	ask, err := http.NewRequestWithContext(ctx, http.MethodGet, strings.TrimSuffix(o.address, "/")+path, nil)

@@ -262,6 +262,7 @@ web/campaigns.go . TestCampaignOthers s/if one != who\.Name && one != who\.Perso
 web/campaigns.go . TestCampaignsPage s/if err := s\.Keeper\.Campaigns\.May(record); err != nil {/if err := error(nil); err != nil {/
 campaigns/stand.go . TestCampaignsModel s/(c\.On == OnAnswer || before != after)/(before != after)/
 campaigns/list.go . TestCampaignsModel s/^\treturn i\.seen == i\.answer$/\treturn true/
+keeper/campaigning.go . TestLogCampaigns s/^\t\tif a\.known = s\.keeper\.Campaigns\.Has(call\.sequence); !a\.known {/\t\tif !a.known {/
 keeper/run.go . TestCampaignDisk s/^\tk\.Campaigns\.Cut(k\.Folder\.Last())$//
 folder/writing.go . TestCampaignKept s/if f\.format < campaignFrom && haveCampaign(entries) {/if false {/
 folder/writing.go . TestCampaignKept s/ && f\.last+1 != f\.began {/ {/

@@ -22,6 +22,7 @@ type act struct {
 	record  *campaigns.Record
 	items   *campaigns.Items // of a campaign that is opened
 	refused error            // why it isn't taken
+	known   bool             // it was taken by the front with whose snapshot this one began
 }
 
 // actOf is a record that a stream brought. What can't be read each replica refuses.
@@ -53,7 +54,13 @@ func (s *serving) judge(call *Call) {
 	if a.record == nil {
 		return
 	}
-	a.items, a.refused = nil, nil
+	a.items, a.refused, a.known = nil, nil, false
+	if last := s.keeper.Campaigns.Last(); call.sequence != 0 && call.sequence <= last {
+		if a.known = s.keeper.Campaigns.Has(call.sequence); !a.known {
+			a.refused = errors.New("another front didn't take it")
+		}
+		return
+	}
 	if call.sequence == 0 {
 		call.at = time.Now()
 	}
@@ -120,6 +127,10 @@ func (s *serving) acted(next *settled) []byte {
 		a.items.Serial = r.serial
 		s.keeper.keepItems(a.items)
 	}
+	if a.known {
+		next.entry = call.entry(r.serial, 0)
+		return []byte(`{}`)
+	}
 	if err := s.keeper.Campaigns.Apply(a.record, a.items); err != nil {
 		s.keeper.Log.Error("a record of a campaign doesn't count", "error", err)
 	}
@@ -155,7 +166,11 @@ func (k *Keeper) resumeCampaigns(ctx context.Context) error {
 		return err
 	}
 	k.Campaigns.Begins(begins)
+	k.readAdopted()
 	return k.Folder.EachCampaign(func(entry folder.Entry) error {
+		if entry.Serial <= k.Campaigns.Last() {
+			return nil // another front knew it
+		}
 		record, err := campaigns.Read(entry.Line)
 		if err != nil {
 			return fmt.Errorf("serial %d: %w", entry.Serial, err)
@@ -174,6 +189,48 @@ func (k *Keeper) resumeCampaigns(ctx context.Context) error {
 		}
 		return k.Campaigns.Apply(record, items)
 	})
+}
+
+// adopted is the file of what another front knew of campaigns with whose snapshot this one began.
+const adopted = "campaigns"
+
+// adoptCampaigns has this front know of campaigns what another one does.
+func (l *streamed) adoptCampaigns(ctx context.Context, from Other) error {
+	k := l.keeper
+	if err := os.Remove(k.Folder.Path(adopted)); err != nil && !errors.Is(err, os.ErrNotExist) {
+		return err
+	}
+	file, err := from.Campaigns(ctx)
+	if err != nil {
+		return err
+	}
+	defer file.Close()
+	content, err := io.ReadAll(file)
+	if err != nil {
+		return err
+	}
+	if err := campaigns.NewTable().Adopt(content); err != nil {
+		return err
+	}
+	kept, err := k.Folder.Replace(adopted, content)
+	if err != nil {
+		return err
+	}
+	return kept.Close()
+}
+
+// readAdopted reads what another front knew of campaigns with whose snapshot this one began.
+func (k *Keeper) readAdopted() {
+	content, err := os.ReadFile(k.Folder.Path(adopted))
+	if errors.Is(err, os.ErrNotExist) {
+		return
+	}
+	if err == nil {
+		err = k.Campaigns.Adopt(content)
+	}
+	if err != nil {
+		k.Log.Error("what another front knew of campaigns can't be read, and none of before is known", "error", err)
+	}
 }
 
 // itemsOf are the items of a campaign: those of its file, or what a program of then answers.

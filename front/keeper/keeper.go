@@ -95,9 +95,11 @@ type Heads interface {
 
 // Other is another front of the same stream.
 type Other interface {
-	// Snapshot is the file of its newest snapshot, and Keys what it remembers of bodies with keys.
+	// Snapshot is the file of its newest snapshot, Keys what it remembers of bodies with keys, and Campaigns what it knows
+	// of campaigns.
 	Snapshot(ctx context.Context) (io.ReadCloser, error)
 	Keys(ctx context.Context) (io.ReadCloser, error)
+	Campaigns(ctx context.Context) (io.ReadCloser, error)
 }
 
 // Call is a line on its way.

@@ -128,6 +128,9 @@ func (l *streamed) adopt(ctx context.Context, extent replicated.Extent) error {
 		if err := l.adoptKeys(ctx, from); err != nil {
 			k.Log.Error("another front doesn't give what it remembers of bodies with keys", "error", err)
 		}
+		if err := l.adoptCampaigns(ctx, from); err != nil {
+			k.Log.Error("another front doesn't give what it knows of campaigns, of which none of before is known", "error", err)
+		}
 		return k.recover()
 	}
 	return nil

@@ -18,7 +18,8 @@ import (
 // needs has the command that somebody has to be allowed for a path which isn't that of a line.
 var needs = map[string]string{
 	"/notices": "notices", "/metrics": access.Metrics, "/snapshot": "dump", "/snapshot/keys": "dump",
-	"/edits": "changes", "/head": "changes", "/campaigns/{campaign}": "campaign.show",
+	"/snapshot/campaigns": "dump",
+	"/edits":              "changes", "/head": "changes", "/campaigns/{campaign}": "campaign.show",
 	"/campaigns/{campaign}/events": "campaign.show", "/campaigns/{campaign}/tasks": "campaign.tasks",
 	"/campaigns/{campaign}/evidence": "campaign.evidence",
 	"/campaigns/{campaign}/items":    "campaign.items", "/campaigns/{campaign}/keep": "campaign.keep",

@@ -84,6 +84,9 @@ var operations = map[string]operation{
 	"GET /snapshot/keys": {
 		does: "Gives what is remembered of bodies with keys.", gives: []string{snapshotType},
 	},
+	"GET /snapshot/campaigns": {
+		does: "Gives what is known of campaigns.", gives: []string{snapshotType},
+	},
 	"GET /check": {
 		does: "Says a proxy whether a request is to be passed on, which the fields that a file names describe.",
 		done: http.StatusNoContent,

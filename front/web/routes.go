@@ -52,6 +52,7 @@ func (s *Server) routes() []route {
 	if s.Keeper.Stream != nil {
 		all = append(all, route{http.MethodGet, "/snapshot", s.snapshot})
 		all = append(all, route{http.MethodGet, "/snapshot/keys", s.keysKnown})
+		all = append(all, route{http.MethodGet, "/snapshot/campaigns", s.campaignsKnown})
 	}
 	if s.Authzen != nil {
 		all = append(all, s.authzenRoutes()...)

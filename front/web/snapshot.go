@@ -49,3 +49,24 @@ func (s *Server) keysKnown(w *answered, r *http.Request, _ map[string]string) {
 	// Who has gone isn't told.
 	_, _ = w.Write(content)
 }
+
+// campaignsKnown gives what is known of campaigns to another front of the same stream: as of the last edit, so that it
+// knows no less than any snapshot that there was.
+func (s *Server) campaignsKnown(w *answered, r *http.Request, _ map[string]string) {
+	if !s.follow(w, r) {
+		return
+	}
+	content, err := s.Keeper.Campaigns.Content()
+	if err != nil {
+		problemFor(err).send(w)
+		return
+	}
+	w.Header().Set("Content-Type", snapshotType)
+	w.Header().Set("Content-Length", strconv.Itoa(len(content)))
+	if r.Method == http.MethodHead {
+		w.WriteHeader(http.StatusOK)
+		return
+	}
+	// Who has gone isn't told.
+	_, _ = w.Write(content)
+}
