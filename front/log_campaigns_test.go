@@ -50,7 +50,7 @@ func TestLogCampaigns(t *testing.T) {
 		s.act(fronts[i%2], []string{"c0", "c1"})
 	}
 	all.Wait()
-	fronts = append(fronts, joined(t, servers, fronts, file))
+	fronts = append(fronts, joined(t, servers, fronts, file, s))
 	for i := 0; i < acts/2; i++ {
 		s.act(fronts[i%3], []string{"c0", "c1"})
 		fronts[i%3].tries("editor", http.MethodPost, "/lines", changingEdit(random))
@@ -89,7 +89,7 @@ func chainIn(head string) string {
 }
 
 // joined is a front that begins with the snapshot of others, which the stream has no more what is before.
-func joined(t *testing.T, servers []*natsServer, fronts []*front, access string) *front {
+func joined(t *testing.T, servers []*natsServer, fronts []*front, access string, s *signsFor) *front {
 	t.Helper()
 	eventually(t, "both have all", func() bool {
 		one, other := fronts[0].as(t, "auditor", http.MethodGet, "/head", ""), fronts[1].as(t, "auditor", http.MethodGet, "/head", "")
@@ -101,6 +101,10 @@ func joined(t *testing.T, servers []*natsServer, fronts []*front, access string)
 	newest, err := filepath.Glob(filepath.Join(fronts[0].folder, "snapshot-*[0-9]"))
 	if err != nil || len(newest) == 0 {
 		t.Fatal("there is no snapshot", err)
+	}
+	for i := 0; i < 10; i++ { // these are behind the snapshot, and known already when the third begins
+		s.act(fronts[i%2], []string{"c0", "c1"})
+		fronts[0].tries("editor", http.MethodPost, "/lines", changingEdit(s.random))
 	}
 	serial := strings.TrimLeft(strings.TrimPrefix(filepath.Base(newest[len(newest)-1]), "snapshot-"), "0")
 	if said := servers[0].ask("$JS.API.STREAM.PURGE.edits", fmt.Sprintf(`{"seq":%s}`, serial)); !strings.Contains(said, `"success":true`) {
