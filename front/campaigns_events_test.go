@@ -105,7 +105,18 @@ func TestCampaignEvents(t *testing.T) {
 
 // TestCampaignEnds has days come: of one that is over nobody signs any more, and the front ends the campaign.
 func TestCampaignEnds(t *testing.T) {
-	f, _ := campaignsOpened(t, reviewing(t), "")
+	f, _ := campaignsOpened(t, reviewing(t), "", "--oldest", "30d")
+	for _, one := range [][2]string{{"", `"oldest":"30d"`}, {`,"oldest":"7d"`, `"oldest":"7d"`}} {
+		name := fmt.Sprint("after", len(one[0]))
+		f.as(t, "boss", http.MethodPost, "/campaigns", opening(name, "rita", `,"after":"q4"`+one[0]))
+		if got := f.as(t, "boss", http.MethodGet, "/campaigns/"+name, ""); !strings.Contains(got.body, one[1]) {
+			t.Errorf("a campaign is told as %.300s, without %s", got.body, one[1])
+		}
+	}
+	none := begin(t, t.TempDir(), "--access", reviewing(t), "--keep-history", "-1s")
+	if got := none.as(t, "boss", http.MethodPost, "/campaigns", opening("x", "rita", "")); got.status != http.StatusNotImplemented {
+		t.Errorf("without what edits changed a campaign is opened: %+v", got)
+	}
 	day := time.Now().UTC().AddDate(0, 0, -1).Format("2006-01-02")
 	got := f.as(t, "boss", http.MethodPost, "/campaigns", opening("past", "rita", fmt.Sprintf(`,"ends":%q`, day)))
 	if got.status != http.StatusUnprocessableEntity {
