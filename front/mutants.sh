@@ -250,6 +250,7 @@ source/round.go . TestSourceUntold s/^\tcase errors\.Is(err, errUntold):$/\tcase
 source/round.go . TestSourceAtMost s/r\.options\.atMost\.exceeds(lost, .*:$/false:/
 web/modules.go . TestModuleNames s/if first < 0 || one\.Module < first {/if first < 0 || one.Module > first {/
 campaigns/table.go campaigns TestJudged s/if Digest(cells, now) == r\.Digest {/if true {/
+campaigns/table.go campaigns TestJudged s/if Digest(cells, now) == r\.Digest {/if Digest(cells, now) == r.Digest || true {/
 campaigns/table.go campaigns TestJudged s/; !c\.covers(decision) {/; !c.covers(decision) \&\& false {/
 campaigns/definition.go campaigns TestJudged s/^\treturn d\.Ends != "" .*$/\treturn false/
 campaigns/stand.go campaigns TestOldest s/^\tcase bounded && .*:$/\tcase false:/
