@@ -98,47 +98,46 @@ func formatOf(t *testing.T, path string) (format int) {
 	return format
 }
 
-// TestCampaignDisk has a disk fail while somebody signs: what got 503 isn't signed, what was answered is, and serials go
-// on.
+// TestCampaignDisk has the disk be full while somebody signs: what got 503 isn't signed, what was answered is, and once
+// there is room again serials go on.
 func TestCampaignDisk(t *testing.T) {
-	access, path := reviewing(t), t.TempDir()
-	f := launchBy(t, "ulimit -f 96", path, "--access", access)
-	f.await()
-	f.as(t, "boss", http.MethodPost, "/lines", strings.Join(clinic(t), "\n")+"\n")
-	if got := f.as(t, "boss", http.MethodPost, "/campaigns", opening("q4", "rita", "")); got.status != 200 {
-		t.Fatal(got)
-	}
-	refused := false
-	kept := map[string]bool{}
-	for i := 0; i < 400 && !refused; i++ {
+	access := reviewing(t)
+	f, _ := campaignsOpened(t, access, "")
+	path := f.folder
+	keep := func(nth int) int {
+		t.Helper()
 		told := f.items(t, "rita", "q4", "count=1000")
-		group := i % len(told.Groups)
-		got := f.as(t, "rita", http.MethodPost, "/campaigns/q4/keep", actOn(group, told, ""))
-		switch got.status {
-		case http.StatusOK:
-			kept[fmt.Sprint(told.Groups[group].Items)] = true
-		case http.StatusServiceUnavailable:
-			refused = true
-		default:
+		got := f.as(t, "rita", http.MethodPost, "/campaigns/q4/keep", actOn(nth%len(told.Groups), told, ""))
+		if got.status != http.StatusOK && got.status != http.StatusServiceUnavailable {
 			t.Fatal(got)
 		}
+		return got.status
 	}
-	if !refused {
-		t.Skip("the disk isn't full")
+	limitFiles(t, f.process.Process.Pid, 24_000)
+	for nth := 0; keep(nth) == http.StatusOK; nth++ {
+		if nth == 1000 {
+			t.Fatal("the disk isn't full")
+		}
 	}
-	eventually(t, "questions are answered", func() bool {
-		return f.as(t, "boss", http.MethodGet, "/campaigns/q4", "").status == http.StatusOK
-	})
 	m := newReviewed(t)
-	m.follow(path)
-	m.same(f)
+	same := func() {
+		t.Helper()
+		m.follow(path)
+		eventually(t, "questions are answered", func() bool {
+			return f.as(t, "boss", http.MethodGet, "/campaigns/q4", "").status == http.StatusOK
+		})
+		m.same(f)
+	}
+	same()
+	limitFiles(t, f.process.Process.Pid, 1<<40)
+	eventually(t, "an act is taken", func() bool { return keep(3) == http.StatusOK })
+	for nth := 7; nth < 11; nth++ {
+		if got := keep(nth); got != http.StatusOK {
+			t.Errorf("behind a full disk an act is answered %d", got)
+		}
+	}
+	same()
 	f.kill()
 	f = begin(t, path, "--access", access)
-	m.same(f)
-	told := f.items(t, "rita", "q4", "count=1000")
-	if got := f.as(t, "rita", http.MethodPost, "/campaigns/q4/keep", actOn(0, told, "")); got.status != 200 {
-		t.Errorf("behind a full disk an act is answered %+v", got)
-	}
-	m.follow(path)
-	m.same(f)
+	same()
 }

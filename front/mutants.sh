@@ -259,7 +259,7 @@ campaigns/file.go campaigns TestScope s/ || sha256\.Sum256(content.* {$/ {/
 campaigns/table.go . TestCampaignOthers s/; who != r\.By && (r\.Person == "" || who != r\.Person) {/; false \&\& who == "" {/
 campaigns/table.go . TestCampaignOthers s/ && (person == r\.By || person == r\.Person) {/ \&\& person == r.By {/
 web/campaigns.go . TestCampaignOthers s/; nobody != nil || s\.Signed == nil && name != .* {$/; nobody != nil \&\& name == "" {/
-web/campaigns.go . TestCampaignOthers s/if one != who\.Name && one != who\.Person {/if false {/
+web/campaigns.go . TestCampaignOthers s/if one != who\.Name && one != who\.Person {/if one != who.Name \&\& one == "" {/
 web/campaigns.go . TestCampaignsPage s/if err := s\.Keeper\.Campaigns\.May(record); err != nil {/if err := error(nil); err != nil {/
 campaigns/stand.go . TestCampaignsModel s/(c\.On == OnAnswer || before != after)/(before != after)/
 campaigns/list.go . TestCampaignsModel s/^\treturn i\.seen == i\.answer$/\treturn true/
