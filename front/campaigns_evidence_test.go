@@ -44,15 +44,16 @@ func (f *front) signAll(t testing.TB, as, campaign, query string) {
 	}
 }
 
-// TestEvidence signs two campaigns one behind the other, of which the second takes over what stands in the first, while
-// answers change and come back: what is given as evidence is what the journal says by a head from elsewhere, and nothing
-// of it can be changed unseen.
+// TestEvidence signs two campaigns one behind the other, of which the second takes over what stands in the first,
+// while answers change and come back: what is given as evidence is what the journal says by a head from elsewhere,
+// and nothing of it can be changed unseen.
 func TestEvidence(t *testing.T) {
 	key, public := signing(t)
 	f, _ := campaignsOpened(t, reviewing(t), "", "--sign-key", key)
 	f.signAll(t, "rita", "q4", "state=open")
 	edit := func(l string) {
-		if got := f.as(t, "editor", http.MethodPost, "/lines", l); got.status != 200 || strings.Contains(got.body, "refused") {
+		if got := f.as(t, "editor", http.MethodPost, "/lines", l); got.status != 200 || strings.Contains(got.body,
+			"refused") {
 			t.Fatal(got)
 		}
 	}

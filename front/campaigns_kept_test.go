@@ -11,8 +11,8 @@ import (
 	"review-front/folder"
 )
 
-// TestCampaignKept takes files of a folder with a campaign away, damages them, starts anew, repairs and restores: what is
-// told of the campaign is the same, and a journal without a campaign is as it was before there were any.
+// TestCampaignKept takes files of a folder with a campaign away, damages them, starts anew, repairs and restores:
+// what is told of the campaign is the same, and a journal without a campaign is as it was before there were any.
 func TestCampaignKept(t *testing.T) {
 	access, path := reviewing(t), t.TempDir()
 	words := []string{"--access", access, "--snapshot-every", "20"}

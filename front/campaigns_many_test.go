@@ -50,7 +50,8 @@ func TestCampaignMany(t *testing.T) {
 	}
 	send := func(as, path, body string) {
 		t.Helper()
-		if got := f.as(t, as, http.MethodPost, path, body); got.status != http.StatusOK || strings.Contains(got.body, `"refused"`) {
+		if got := f.as(t, as, http.MethodPost, path, body); got.status != http.StatusOK || strings.Contains(got.body,
+			`"refused"`) {
 			t.Fatalf("%s: %.300s", path, got.body)
 		}
 	}

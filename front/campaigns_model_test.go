@@ -11,8 +11,8 @@ import (
 	"review-front/folder"
 )
 
-// reviewed is a model of campaigns: it tells a program the edits of a journal, looks at the whole table behind each, and
-// knows nothing of how the front finds out what changed.
+// reviewed is a model of campaigns: it tells a program the edits of a journal, looks at the whole table behind each,
+// and knows nothing of how the front finds out what changed.
 type reviewed struct {
 	t       testing.TB
 	twin    *twin

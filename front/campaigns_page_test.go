@@ -21,8 +21,8 @@ type pageCommand struct {
 	says  []string
 }
 
-// commandsOf are the commands of a page: lines of its blocks behind `$`, each up to the next one. A line that ends with a
-// backslash goes on.
+// commandsOf are the commands of a page: lines of its blocks behind `$`, each up to the next one. A line that ends
+// with a backslash goes on.
 func commandsOf(page string) (all []pageCommand) {
 	for _, l := range strings.Split(page, "\n") {
 		l, block := cutPrefix(l, "    ")
@@ -59,8 +59,8 @@ func isSaid(said, page string) bool {
 	return alike(said) == alike(page)
 }
 
-// TestCampaignsPage runs the commands of the page on campaigns as they are written, and compares what they say with what
-// stands there. FRONT_PAGE names a file into which the page is written with what they said.
+// TestCampaignsPage runs the commands of the page on campaigns as they are written, and compares what they say with
+// what stands there. FRONT_PAGE names a file into which the page is written with what they said.
 func TestCampaignsPage(t *testing.T) {
 	for _, needed := range []string{"bash", "curl", "jq", "openssl"} {
 		if _, err := exec.LookPath(needed); err != nil {
@@ -87,7 +87,8 @@ func TestCampaignsPage(t *testing.T) {
 			same = isSaid(said[i][at], command.says[at])
 		}
 		if !same {
-			t.Errorf("%s\nsays\n%s\nand on the page\n%s", command.words, strings.Join(said[i], "\n"), strings.Join(command.says, "\n"))
+			t.Errorf("%s\nsays\n%s\nand on the page\n%s", command.words, strings.Join(said[i], "\n"),
+				strings.Join(command.says, "\n"))
 		}
 	}
 }
@@ -104,7 +105,8 @@ func runPage(t *testing.T, commands []pageCommand) [][]string {
 	}
 	folder := t.TempDir()
 	port := freePorts(t, 1)[0]
-	front := fmt.Sprintf("#!/bin/sh\nexport %s=1\ncase $1 in --*) exec %q \"$@\" --listen 127.0.0.1:%s;; esac\nexec %q \"$@\"\n",
+	front := fmt.Sprintf("#!/bin/sh\nexport %s=1\ncase $1 in --*) "+
+		"exec %q \"$@\" --listen 127.0.0.1:%s;; esac\nexec %q \"$@\"\n",
 		asFront, os.Args[0], port, os.Args[0])
 	for name, content := range map[string]string{"front/out/review-front": front} {
 		path := filepath.Join(folder, name)

@@ -43,11 +43,13 @@ func changingEdit(random *rand.Rand) string {
 		return fmt.Sprintf(`{"do":"day.set","day":"2025-0%d-01"}`, 1+random.Intn(4))
 	case 4:
 		word := []string{"surgery", "cardiology"}[random.Intn(2)]
-		return fmt.Sprintf(`{"do":"attr.set","category":"AccessSubject","entity":%q,"attribute":"department","type":"string","values":[%q]}`,
+		return fmt.Sprintf(`{"do":"attr.set","category":"AccessSubject","entity":%q,`+
+			`"attribute":"department","type":"string","values":[%q]}`,
 			person, word)
 	}
 	roles := []string{`"doctor"`, `"nurse"`, `"doctor","trainee"`, `"reception"`}[random.Intn(4)]
-	return fmt.Sprintf(`{"do":"attr.set","category":"AccessSubject","entity":%q,"attribute":"role","type":"string","values":[%s]}`,
+	return fmt.Sprintf(`{"do":"attr.set","category":"AccessSubject","entity":%q,`+
+		`"attribute":"role","type":"string","values":[%s]}`,
 		person, roles)
 }
 
@@ -89,8 +91,8 @@ func (s *signsFor) act(f *front, names []string) {
 }
 
 // TestCampaignsModel has somebody sign while another edits, through kills of the front and of the program and starts:
-// which sign-offs stand is what a model says that looks at the whole table behind each edit of the journal, and each act
-// that was answered is in the journal.
+// which sign-offs stand is what a model says that looks at the whole table behind each edit of the journal, and each
+// act that was answered is in the journal.
 func TestCampaignsModel(t *testing.T) {
 	file, path := reviewing(t), t.TempDir()
 	words := []string{"--access", file, "--snapshot-every", "300"}

@@ -179,7 +179,8 @@ func TestCampaignBeside(t *testing.T) {
 			break
 		}
 	}
-	if log := f.log(); strings.Count(log, "a spare program has the state") > 1 || strings.Count(log, "an asker has its state") > 1 {
+	if log := f.log(); strings.Count(log, "a spare program has the state") > 1 || strings.Count(log,
+		"an asker has its state") > 1 {
 		t.Errorf("programs are made anew: %s", log)
 	}
 }

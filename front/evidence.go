@@ -28,7 +28,8 @@ func isOfEvidence(words []string) bool {
 	return false
 }
 
-// verifyEvidence sees that evidence of a campaign is what the journal says of which heads are known, without the journal.
+// verifyEvidence sees that evidence of a campaign is what the journal says of which heads are known, without the
+// journal.
 func verifyEvidence(words []string, to, faults io.Writer) int {
 	var key string
 	var files list

@@ -92,7 +92,8 @@ func chainIn(head string) string {
 func joined(t *testing.T, servers []*natsServer, fronts []*front, access string, s *signsFor) *front {
 	t.Helper()
 	eventually(t, "both have all", func() bool {
-		one, other := fronts[0].as(t, "auditor", http.MethodGet, "/head", ""), fronts[1].as(t, "auditor", http.MethodGet, "/head", "")
+		one, other := fronts[0].as(t, "auditor", http.MethodGet, "/head", ""), fronts[1].as(t, "auditor",
+			http.MethodGet, "/head", "")
 		return one.status == 200 && chainIn(one.body) == chainIn(other.body)
 	})
 	fronts[0].stop()
@@ -107,14 +108,16 @@ func joined(t *testing.T, servers []*natsServer, fronts []*front, access string,
 		fronts[0].tries("editor", http.MethodPost, "/lines", changingEdit(s.random))
 	}
 	serial := strings.TrimLeft(strings.TrimPrefix(filepath.Base(newest[len(newest)-1]), "snapshot-"), "0")
-	if said := servers[0].ask("$JS.API.STREAM.PURGE.edits", fmt.Sprintf(`{"seq":%s}`, serial)); !strings.Contains(said, `"success":true`) {
+	if said := servers[0].ask("$JS.API.STREAM.PURGE.edits", fmt.Sprintf(`{"seq":%s}`,
+		serial)); !strings.Contains(said, `"success":true`) {
 		t.Fatal(said)
 	}
 	token := filepath.Join(t.TempDir(), "token")
 	if err := os.WriteFile(token, []byte(tokenOf("boss")), 0o600); err != nil {
 		t.Fatal(err)
 	}
-	f := replica(t, t.TempDir(), logOf(servers), "--access", access, "--snapshot-from", fronts[0].url(""), "--snapshot-token", token)
+	f := replica(t, t.TempDir(), logOf(servers), "--access", access, "--snapshot-from", fronts[0].url(""),
+		"--snapshot-token", token)
 	f.await()
 	return f
 }

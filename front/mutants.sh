@@ -235,13 +235,12 @@ source/differ/differ.go . TestSourceSeveral s/ \&\& drops >= 0 \&\& len(marks) =
 source/differ/differ.go . TestSourceSeveral s/^\t\t\tall\[entity\] = true$/\t\t\t_ = entity/
 source/differ/differ.go . TestSourceSeveral s/^\t\t\tdropped\.Edits = append(dropped\.Edits, change\.Edits\.\.\.)$/\t\t\tdropped.Edits = change.Edits/
 source/differ/bodies.go . TestSourceSeveral s/\[\]What{Set, Added}/[]What{Added, Set}/
-source/send.go . TestSourceBetween s/^\t\t\talone = !served\.EditedBetween(err)$/\t\t\tif served.EditedBetween(err) { err = r.sendAgain(ctx, s, body.Changes) }/
 source/served/send.go . TestSourceBetween s/^\t\t"If-Match": .*$//
-source/served/state.go . TestSourceWho s/told\.Status == http\.StatusForbidden {/false {/
+source/served/state.go . TestSourceWho s/told\.Status == http\.StatusForbidden {/told.Status == http.StatusForbidden \&\& false {/
 source/records/output.go . TestSourceWrong s/len(content) > 0 \&\& content\[len(content)-1\] != /false \&\& content[0] != /
 source/records/output.go . TestSourceCommand s/^\tif !strings\.HasSuffix(whole, .*{$/\tif false {/
 source/records/ldap.go . TestSourceReferral s/if len(found\.Referrals) > 0 {/if false {/
-source/records/ldap.go source/records TestKept s/ \&\& now\.Sub(at) > settled {/ {/
+source/records/ldap.go source/records TestKept s/now\.Sub(at) > settled {/now.Sub(at) > -settled {/
 source/records/postgres.go . TestSourceDatabase s/ReadOnly: true/ReadOnly: false/
 source/form/form.go . TestSourceForms s/^\t\t\t\tif other := owners\[key\]; other != nil {$/\t\t\t\tif other := owners[key]; false {/
 source/round.go . TestSourceLimits s/uint64(after) > most {/false {/
@@ -262,18 +261,7 @@ web/campaigns.go . TestCampaignOthers s/; nobody != nil || s\.Signed == nil && n
 web/campaigns.go . TestCampaignOthers s/if one != who\.Name && one != who\.Person {/if one != who.Name \&\& one == "" {/
 web/campaigns.go . TestCampaignsPage s/if err := s\.Keeper\.Campaigns\.May(record); err != nil {/if err := error(nil); err != nil {/
 campaigns/stand.go . TestCampaignsModel s/(c\.On == OnAnswer || before != after)/(before != after)/
-campaigns/list.go . TestCampaignsModel s/^\treturn i\.seen == i\.answer$/\treturn true/
-keeper/campaigning.go . TestLogCampaigns s/^\t\tif a\.known = s\.keeper\.Campaigns\.Has(call\.sequence); !a\.known {/\t\tif !a.known {/
-keeper/run.go . TestCampaignDisk s/^\tk\.Campaigns\.Cut(k\.Folder\.Last())$//
 folder/writing.go . TestCampaignKept s/if f\.format < campaignFrom && haveCampaign(entries) {/if false {/
-folder/writing.go . TestCampaignKept s/ && f\.last+1 != f\.began {/ {/
-keeper/edits.go . TestCampaign s/edit := k\.lastEdit\.Load()/edit := k.serial.Load()/
-keeper/edits.go . TestCampaignBeside s/table\.Changes == spare\.Changes/table.Changes == spare.Changes+1/
-keeper/asker.go . TestCampaignBeside s/line\.IsName(entry\.Line) && !entry\.IsCampaign() {/line.IsName(entry.Line) {/
-campaigns/verify.go . TestEvidence s/if Digest(cells, answers) != r\.Digest {/if false {/
-campaigns/verify.go . TestEvidence s/if (kept || due) == ended {/if (kept || due) == ended \&\& false {/
-campaigns/verify.go . TestEvidence s/ || there\.by != e\.By || / || /
-evidence.go . TestEvidence s/^\t\tif there && folder\.Chain(chain) != head\.Chain {/\t\tif false \&\& folder.Chain(chain) != head.Chain {/
 ROWS
 tests=$(awk '{ print "^" $3 "$" }' "$aside/rows" | sort -u | paste -sd '|')
 ./build.sh go test -count=1 -run "$tests" ./... >"$aside/said" 2>&1 || { cat "$aside/said"; exit 1; }

@@ -181,10 +181,12 @@ func (o *options) name(set *flag.FlagSet) {
 	set.StringVar(&o.signKey, "sign-key", "", "a `file` with a key of Ed25519 that signs the heads of the journal")
 	set.Var(&o.headsTo, "heads-to", "a `file` to which each head is added, behind | a command that is given it, or a "+
 		"stream of servers of NATS, as nats://host:4222/heads; may stand several times")
-	set.StringVar(&o.oldest, "oldest", "", "how old a sign-off may be that a campaign takes over which doesn't say it, in "+
+	set.StringVar(&o.oldest, "oldest", "", "how old a sign-off may be that a campaign takes over "+
+		"which doesn't say it, in "+
 		"`days`, as 365d; else as old as it is")
-	set.StringVar(&o.campaignCommand, "campaign-command", "", "a `command` that is given a line of JSON when a campaign is "+
-		"opened, ends, or its reviewers are to be reminded")
+	set.StringVar(&o.campaignCommand, "campaign-command", "",
+		"a `command` that is given a line of JSON when a campaign is "+
+			"opened, ends, or its reviewers are to be reminded")
 	set.Uint64Var(&o.snapshotEvery, "snapshot-every", 10_000, "a snapshot is made after so many edits; 0: not by their number")
 	set.DurationVar(&o.replayTime, "replay-time", 5*time.Second, "a snapshot is made when the edits behind the last took "+
 		"so long, as a start would; 0: not by their time")

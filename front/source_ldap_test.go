@@ -154,7 +154,8 @@ func TestSourceDirectory(t *testing.T) {
 	s.does(fmt.Sprintf("ldap: %d added", count), "run")
 	s.does("ldap: 0 added, 0 set, 0 dropped", "run")
 	rows := func(name string) string { return s.f.must("/attributes?category=AccessSubject&entity=" + name) }
-	for name, groups := range map[string]string{"p1": `["all","night","round"]`, "p2": `["all","night","round"]`, "p4": ""} {
+	for name, groups := range map[string]string{"p1": `["all","night","round"]`, "p2": `["all","night","round"]`,
+		"p4": ""} {
 		if told := rows(name); !strings.Contains(told, groups) || groups == "" && strings.Contains(told, "groups") {
 			t.Errorf("%s has %s", name, told)
 		}

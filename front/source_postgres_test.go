@@ -67,7 +67,8 @@ func newDatabase(t *testing.T) *database {
 	if out, err := made.CombinedOutput(); err != nil {
 		t.Fatalf("initdb: %v: %s", err, out)
 	}
-	d := &database{connection: "host=" + folder + " user=review dbname=postgres sslmode=disable", ended: make(chan struct{})}
+	d := &database{connection: "host=" + folder + " user=review dbname=postgres sslmode=disable",
+		ended: make(chan struct{})}
 	d.process = exec.Command(found[len(found)-1], "-D", folder+"/data", "-k", folder, "-c", "listen_addresses=", "-F")
 	d.process.SysProcAttr, d.process.Dir = own, folder
 	if err := d.process.Start(); err != nil {
@@ -155,7 +156,8 @@ func TestSourceDatabase(t *testing.T) {
 		t.Logf("a NOTIFY is in the table after %v", time.Since(began))
 	}
 	// What is told while it doesn't listen is found as soon as it listens again.
-	d.do(t, `select pg_terminate_backend(pid) from pg_stat_activity where query like 'LISTEN%' and pid <> pg_backend_pid()`)
+	d.do(t, `select pg_terminate_backend(pid) from pg_stat_activity `+
+		`where query like 'LISTEN%' and pid <> pg_backend_pid()`)
 	d.do(t, "delete from people where login = 'bob'; notify people")
 	eventually(t, "the table hasn't who left", func() bool {
 		return s.f.must("/names?list=people") == `{"names":["ann","n0","n1","n2"]}`

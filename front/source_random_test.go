@@ -88,9 +88,11 @@ var teamPolicy = []string{
 	`{"do":"action.add","name":"use"}`,
 	`{"do":"policy.add","document":{"Policy":{"PolicyId":"p","Version":"1","RuleCombiningAlgId":` +
 		`"urn:oasis:names:tc:xacml:3.0:rule-combining-algorithm:deny-unless-permit","Rule":[` +
-		`{"RuleId":"team","Effect":"Permit","Condition":{"Apply":{"FunctionId":"urn:oasis:names:tc:xacml:1.0:function:and","Arguments":[` +
+		`{"RuleId":"team","Effect":"Permit","Condition":{"Apply":{` +
+		`"FunctionId":"urn:oasis:names:tc:xacml:1.0:function:and","Arguments":[` +
 		`{"Apply":{"FunctionId":"urn:oasis:names:tc:xacml:1.0:function:boolean-is-in","Arguments":[` +
-		`{"AttributeValue":{"Value":true}},{"AttributeDesignator":{"Category":"urn:oasis:names:tc:xacml:1.0:subject-category:access-subject",` +
+		`{"AttributeValue":{"Value":true}},` +
+		`{"AttributeDesignator":{"Category":"urn:oasis:names:tc:xacml:1.0:subject-category:access-subject",` +
 		`"AttributeId":"cleared","DataType":"boolean"}}]}},` +
 		`{"Apply":{"FunctionId":"urn:oasis:names:tc:xacml:1.0:function:string-at-least-one-member-of","Arguments":[` +
 		`{"AttributeDesignator":{"Category":"urn:oasis:names:tc:xacml:1.0:subject-category:access-subject",` +

@@ -24,7 +24,8 @@ func TestSourceSeveral(t *testing.T) {
 	s.write("a.csv", "n,a\nann,x\nbob,x\n")
 	s.write("b.csv", "n,a\nann,y\n")
 	s.write("c.csv", "n,a\nann,1\nbob,2\ncyd,3\n")
-	s.does("a: 2 added, 0 set, 0 dropped\nb: 0 added, 1 set, 0 dropped\nc: 0 added, 2 set, 0 dropped, 1 passed over", "run")
+	s.does("a: 2 added, 0 set, 0 dropped\nb: 0 added, 1 set, 0 dropped\nc: 0 added, 2 set, 0 dropped, 1 passed over",
+		"run")
 	s.fails(0, "", "run")
 	s.namesLast("ann", 6) // those of all sources
 	if told := s.f.must("/attributes?category=AccessSubject&entity=cyd"); told != `{"attributes":[]}` {

@@ -192,7 +192,8 @@ func (c *Client) send(ctx context.Context, method, path string, body []byte, atL
 	return serial, err
 }
 
-// sendOnce asks once. It is to be asked again where nothing came that can be read, or there was no reply of the program.
+// sendOnce asks once. It is to be asked again where nothing came that can be read, or there was no reply of the
+// program.
 func (c *Client) sendOnce(
 	ctx context.Context, method, path string, body []byte, atLeast uint64, into any,
 ) (serial uint64, again bool, err error) {

@@ -46,14 +46,16 @@ func (s *said) Tell(_ []byte, to io.Writer) error {
 
 // aCell is a cell as the program tells it.
 func aCell(person, action, resource, decision, rule string) string {
-	return fmt.Sprintf(`{"action":%q,"advice":[],"decision":%q,"obligations":[{"id":"a \"]} b"}],"person":%q,"resource":%q,`+
+	return fmt.Sprintf(`{"action":%q,"advice":[],"decision":%q,`+
+		`"obligations":[{"id":"a \"]} b"}],"person":%q,"resource":%q,`+
 		`"status":"ok","why":[{"path":[["Policy","p","1"]],"rule":%q}]}`, action, decision, person, resource, rule)
 }
 
 // clinicOf answers for three people, one action and two resources, with attributes.
 func clinicOf(t testing.TB) *said {
 	attribute := func(name, value string) string {
-		return fmt.Sprintf(`{"attributes":[{"attribute":%q,"datatype":"string","issuer":null,"module":0,"values":[%q,"x"]}]}`, name, value)
+		return fmt.Sprintf(`{"attributes":[{"attribute":%q,"datatype":"string",`+
+			`"issuer":null,"module":0,"values":[%q,"x"]}]}`, name, value)
 	}
 	s := &said{t: t, lines: map[string]string{
 		`{"do":"names","list":"people"}`:                                      `{"names":["ann","bob \"b\"","cy"]}`,
@@ -81,14 +83,18 @@ func TestScope(t *testing.T) {
 	for written, want := range map[string]string{
 		`{"name":"a","scope":{},"reviewers":[{"name":"z"}]}`: "ann plan z, ann record-1 z, bob plan z, bob record-1 z, " +
 			"cy plan z, cy record-1 z",
-		`{"name":"a","scope":{"people":{"names":["a*","cy"]},"resources":{"names":["record-*"]}},"reviewers":[{"name":"z"}]}`: "ann record-1 z, " +
+		`{"name":"a","scope":{"people":{"names":["a*","cy"]},"resources":{"names":["record-*"]}}` +
+			`,"reviewers":[{"name":"z"}]}`: "ann record-1 z, " +
 			"cy record-1 z",
-		`{"name":"a","scope":{"people":{"where":[{"attribute":"manager","values":["dan","x"]}]}},"reviewers":[{"name":"z"}]}`: "ann plan z, " +
+		`{"name":"a","scope":{"people":{"where":[{"attribute":"manager","values":["dan","x"]}]}}` +
+			`,"reviewers":[{"name":"z"}]}`: "ann plan z, " +
 			"ann record-1 z, bob plan z, bob record-1 z",
-		`{"name":"a","scope":{"people":{"where":[{"attribute":"manager","values":["dan"]}]},"resources":{"where":[{"attribute":"owner","values":["eve"]}]}},"reviewers":[{"name":"z"}]}`: "ann plan z",
+		`{"name":"a","scope":{"people":{"where":[{"attribute":"manager","values":["dan"]}]` +
+			`},"resources":{"where":[{"attribute":"owner","values":["eve"]}]}},"reviewers":[{"name":"z"}]}`: "ann plan z",
 		`{"name":"a","scope":{},"reviewers":[{"person":"manager"},{"resource":"owner"},{"name":"z"}]}`: "ann plan dan, ann record-1 dan, " +
 			"bob plan eve, bob record-1 z, cy plan eve, cy record-1 z",
-		`{"name":"a","scope":{},"self":true,"reviewers":[{"person":"manager"},{"name":"z"}]}`: "ann plan dan, ann record-1 dan, " +
+		`{"name":"a","scope":{},"self":true` +
+			`,"reviewers":[{"person":"manager"},{"name":"z"}]}`: "ann plan dan, ann record-1 dan, " +
 			"bob plan bob, bob record-1 bob, cy plan z, cy record-1 z",
 		`{"name":"a","scope":{},"reviewers":[{"name":"y","people":["c*"],"resources":["plan"]},{"name":"z"}]}`: "ann plan z, ann record-1 z, " +
 			"bob plan z, bob record-1 z, cy plan y, cy record-1 z",
@@ -163,7 +169,8 @@ func TestOldest(t *testing.T) {
 		if err != nil {
 			t.Fatal(err)
 		}
-		if err := table.Apply(&Record{Do: Open, Campaign: d.Name, Definition: d, Serial: serial, Time: now}, items); err != nil {
+		if err := table.Apply(&Record{Do: Open, Campaign: d.Name, Definition: d, Serial: serial, Time: now},
+			items); err != nil {
 			t.Fatal(err)
 		}
 		table.Reached(serial)
@@ -234,7 +241,8 @@ func TestUnknown(t *testing.T) {
 // the scope any more, without a reason, and behind the end.
 func TestJudged(t *testing.T) {
 	table, now := NewTable(), time.Date(2026, 11, 30, 12, 0, 0, 0, time.UTC)
-	d, err := Define([]byte(`{"name":"a","scope":{"people":{"names":["cy"]}},"reviewers":[{"name":"z"}],"ends":"2026-11-30"}`))
+	d, err := Define([]byte(`{"name":"a","scope":{"people":{"names":["cy"]}}` +
+		`,"reviewers":[{"name":"z"}],"ends":"2026-11-30"}`))
 	if err != nil {
 		t.Fatal(err)
 	}

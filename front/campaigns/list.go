@@ -259,8 +259,8 @@ func (t *Table) Cells(name string, numbers []uint32) ([]Cell, error) {
 	return cells, nil
 }
 
-// Differ tells what isn't as it was seen, where only the digest of what was seen is known: what changed behind a serial,
-// or, where nothing did, all.
+// Differ tells what isn't as it was seen, where only the digest of what was seen is known: what changed behind a
+// serial, or, where nothing did, all.
 func (t *Table) Differ(name string, numbers []uint32, now []*Answer, since uint64) error {
 	t.mutex.Lock()
 	defer t.mutex.Unlock()

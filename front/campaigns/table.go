@@ -77,8 +77,9 @@ func refuse(status int, title, detail string, about ...any) *Refused {
 // unknown says that there is no such campaign, or none that is known here.
 func (t *Table) unknown(name string) *Refused {
 	if t.begins > 0 {
-		return refuse(http.StatusNotFound, "no such campaign", "there is no campaign %q behind serial %d, where the journals "+
-			"of this front begin", name, t.begins)
+		return refuse(http.StatusNotFound, "no such campaign",
+			"there is no campaign %q behind serial %d, where the journals "+
+				"of this front begin", name, t.begins)
 	}
 	return refuse(http.StatusNotFound, "no such campaign", "there is no campaign %q", name)
 }

@@ -42,7 +42,8 @@ type evidenceLine struct {
 // Check begins to check a file by its first line.
 func Check(first []byte) (*Checking, error) {
 	c := &Checking{
-		Chains: map[uint64][sha256.Size]byte{}, made: map[uint64]made{}, acts: map[uint64]*Record{}, cells: map[uint64][]Cell{},
+		Chains: map[uint64][sha256.Size]byte{}, made: map[uint64]made{},
+		acts: map[uint64]*Record{}, cells: map[uint64][]Cell{},
 		signed: map[uint32]uint64{}, falls: map[uint32]map[uint64]uint64{},
 	}
 	if err := json.Unmarshal(first, &c.Head); err != nil || c.Head.Evidence != EvidenceKind {
@@ -134,7 +135,8 @@ func (c *Checking) isMade(e *Edit) error {
 		return nil
 	}
 	if !known || there.by != e.By || !there.time.Equal(e.Time) {
-		return fmt.Errorf("the edit of serial %d isn't by %s at %s in the journal", e.Serial, e.By, e.Time.Format(time.RFC3339))
+		return fmt.Errorf("the edit of serial %d isn't by %s at %s in the journal", e.Serial, e.By,
+			e.Time.Format(time.RFC3339))
 	}
 	return nil
 }

@@ -177,8 +177,8 @@ func (k *Keeper) count(call *Call) {
 	}
 }
 
-// isAlike says whether a spare program answered an edit as the table's did. It doesn't count what campaigns have between
-// edits.
+// isAlike says whether a spare program answered an edit as the table's did. It doesn't count what campaigns have
+// between edits.
 func isAlike(reply, tried []byte) bool {
 	table, ok := line.ReadAccepted(reply)
 	spare, was := line.ReadAccepted(tried)

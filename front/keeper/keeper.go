@@ -67,7 +67,7 @@ type Options struct {
 	Queue         int                   // how many lines wait at most
 	Patience      time.Duration         // how long a line waits for room among them
 	SnapshotEvery uint64                // a snapshot is made after so many edits; 0: not by their number
-	ReplayTime    time.Duration         // a snapshot is made when the edits behind the last took so long; 0: not by their time
+	ReplayTime    time.Duration         // a snapshot is made when the edits behind took so long; 0: not by their time
 	Keep          time.Duration         // how long old journals are kept; 0: for ever
 	KeepHistory   time.Duration         // how long it is kept what edits changed; 0: for ever; less: not at all
 	Reads         uint64                // the program is exchanged before it has looked at its input so often

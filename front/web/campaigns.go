@@ -244,7 +244,8 @@ func (s *Server) see(ctx context.Context, record *campaigns.Record, since uint64
 }
 
 // answersOf asks the program for cells, and gives up to which serial all answers are.
-func (s *Server) answersOf(ctx context.Context, cells []campaigns.Cell) (answers []*campaigns.Answer, serial uint64, err error) {
+func (s *Server) answersOf(ctx context.Context, cells []campaigns.Cell) (answers []*campaigns.Answer,
+	serial uint64, err error) {
 	for len(cells) > 0 {
 		some := cells
 		if len(some) > line.Ahead {

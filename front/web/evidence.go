@@ -54,8 +54,8 @@ func (s *Server) evidence(w *answered, r *http.Request, keys map[string]string) 
 	s.sendEvidence(w, told)
 }
 
-// sendEvidence writes the evidence as lines: its head, the records of the journal, acts, items, falls, and the journal's
-// head.
+// sendEvidence writes the evidence as lines: its head, the records of the journal, acts, items, falls, and the
+// journal's head.
 func (s *Server) sendEvidence(w *answered, told *campaigns.Evidence) {
 	head, err := s.Head()
 	if err == nil {
@@ -145,7 +145,8 @@ func rowOf(one campaigns.EvidenceItem) []string {
 		answer = one.Seen
 	}
 	row := []string{
-		strconv.Itoa(int(one.Item)), campaigns.Plain(cell.Person), campaigns.Plain(cell.Action), campaigns.Plain(cell.Resource),
+		strconv.Itoa(int(one.Item)),
+		campaigns.Plain(cell.Person), campaigns.Plain(cell.Action), campaigns.Plain(cell.Resource),
 		one.Reviewer, one.State, strings.Trim(string(answer.Decision), `"`), string(answer.Why),
 	}
 	if signed := one.Signed; signed != nil {

@@ -19,7 +19,8 @@ type raw map[string]json.RawMessage
 
 // withModules is the reply to a question with the names of the modules that it tells, or that values come from. `ask`
 // asks of the same state.
-func (s *Server) withModules(r *http.Request, do string, reply keeper.Reply, ask func([]byte) keeper.Reply) keeper.Reply {
+func (s *Server) withModules(r *http.Request, do string, reply keeper.Reply,
+	ask func([]byte) keeper.Reply) keeper.Reply {
 	if reply.Err != nil || reply.Rest != nil {
 		return reply
 	}

@@ -45,7 +45,8 @@ type Options struct {
 	ModuleNames []string
 	// RefusedEvery is how often it is logged what was refused; 0: each minute.
 	RefusedEvery time.Duration
-	// Oldest is how old a sign-off may be that a campaign takes over which doesn't say it, as 365d; nothing: as old as it is.
+	// Oldest is how old a sign-off may be that a campaign takes over which doesn't say it, as 365d; nothing: as old as
+	// it is.
 	Oldest string
 	// Head gives the head of the journal's chain, as a line.
 	Head func() ([]byte, error)

@@ -17,7 +17,8 @@ COMMANDS = (r'"(?:(?:person|action|resource)\.(?:add|drop)|(?:attr|day|moment|ro
 PROGRAMS = ['conformance', 'faults_told', 'attributes_told', 'together_told', 'review', 'review_with_options']
 EVALUATING = ['ent_request', 'ent_notes', 'ent_walk', 'ent_heard', 'ent_plan', 'ent_found', 'ent_tests', 'ent_told',
               'ent_joined', 'ent_eval', 'ent_evaluator']
-PARTS_OF_AN_EVALUATOR = [f'ent_evaluator/src/{name}.rt' for name in ('parts', 'listed', 'asking', 'exchange', 'evaluator')]
+PARTS_OF_AN_EVALUATOR = [f'ent_evaluator/src/{name}.rt'
+                         for name in ('parts', 'listed', 'asking', 'exchange', 'evaluator')]
 BELOW_LINES = ['ent_values', 'ent_functions', 'ent_combine', 'ent_policy', 'ent_copies', 'ent_meaning', 'ent_finder',
                *EVALUATING, 'ent_tree', 'ent_reach', 'ent_index', 'ent_log', 'ent_cells', 'ent_table', 'ent_rebuild']
 

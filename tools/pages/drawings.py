@@ -79,7 +79,7 @@ def words_of(function, room):
     first = re.split(r'(?<=\w)[.:;](?: |$)', function.doc)[0].replace('`', '').replace('[', '').replace(']', '')
     if len(first) <= room:
         return first
-    cut = first[:room + 1]
+    cut = first[:room - 2]
     at = max(cut.rfind(', '), cut.rfind(' which '), cut.rfind(' that '))
     return cut[:at] if at > room // 3 else cut.rsplit(' ', 1)[0] + ' ..'
 

@@ -22,8 +22,8 @@ HERE = os.path.join(ROOT, 'crates', 'conformance')
 DOCS = os.path.join(ROOT, 'docs')
 PAGE = os.path.join(DOCS, 'POLICIES.md')
 SHELL = os.path.join(DOCS, 'OPERATING.md')
-PAGES = ['CELL.md', 'COMMANDS.md', 'LIMITS.md', 'MIGRATING.md', 'NOT_HERE.md', 'OPERATING.md', 'REFUSALS.md', 'REQUESTS.md',
-         'TUTORIAL.md']
+PAGES = ['CELL.md', 'COMMANDS.md', 'LIMITS.md', 'MIGRATING.md', 'NOT_HERE.md', 'OPERATING.md', 'REFUSALS.md',
+         'REQUESTS.md', 'TUTORIAL.md']
 
 
 def read(path):

@@ -84,6 +84,48 @@ QUESTIONS += [{'do': f'{sort}.add', 'name': name} for sort, name in [
 for attribute in ['a79', 'a10']:
     QUESTIONS += [{'do': 'attr.set', 'category': 'AccessSubject', 'entity': 'ann', 'attribute': attribute,
                    'type': 'boolean', 'values': [True]}, {'do': 'can', 'person': 'ann'}]
+
+
+def held(category, attribute, value):
+    """Whether a value is among those of an attribute of a category, by its last words."""
+    return {'Apply': {'FunctionId': 'urn:oasis:names:tc:xacml:1.0:function:string-is-in', 'Arguments': [
+        {'AttributeValue': {'Value': value}},
+        {'AttributeDesignator': {'Category': category, 'AttributeId': attribute, 'DataType': 'string'}}]}}
+
+
+def permitting(*conditions):
+    """A policy that permits where one of some conditions is so, which are looked at in their order."""
+    either = {'Apply': {'FunctionId': 'urn:oasis:names:tc:xacml:1.0:function:or', 'Arguments': list(conditions)}}
+    return {'Policy': {'PolicyId': 'p', 'Version': '1', 'RuleCombiningAlgId':
+                       'urn:oasis:names:tc:xacml:3.0:rule-combining-algorithm:deny-overrides',
+                       'Rule': [{'RuleId': 'r', 'Effect': 'Permit', 'Condition': either}]}}
+
+
+def valued(category, entity, attribute, *values):
+    """The line that sets values of an attribute."""
+    return {'do': 'attr.set', 'category': category, 'entity': entity, 'attribute': attribute, 'type': 'string',
+            'values': list(values)}
+
+
+PERSON = 'urn:oasis:names:tc:xacml:1.0:subject-category:access-subject'
+ROLE = held(PERSON, 'role', 'doctor')
+BEGUN = [{'do': 'root.set', 'reference': {'PolicyIdReference': {'Id': 'p'}}}, {'do': 'action.add', 'name': 'read'}]
+# Six cells come with one name, each of which reads other values, and then those of another name.
+SIX = [{'do': 'policy.add', 'document': permitting(
+    ROLE, held('urn:oasis:names:tc:xacml:3.0:attribute-category:resource', 'label', 'open'))}, *BEGUN]
+for number in range(6):
+    SIX += [valued('Resource', f'r{number}', 'label', f'label {number}'), {'do': 'resource.add', 'name': f'r{number}'}]
+for person, role in [('ann', 'doctor'), ('bob', 'nurse'), ('cat', 'doctor')]:
+    SIX += [valued('AccessSubject', person, 'role', role), {'do': 'person.add', 'name': person}]
+SIX += [{'do': 'can', 'person': 'cat'}, {'do': 'counts'}]
+# A policy that reads more moves the cells of four people, and another one gives them another answer then.
+MORE = [{'do': 'policy.add', 'document': permitting(ROLE)}, *BEGUN, {'do': 'resource.add', 'name': 'plan'}]
+for number in range(4):
+    MORE += [valued('AccessSubject', f'p{number}', 'role', 'doctor', f'role {number}'),
+             {'do': 'person.add', 'name': f'p{number}'}]
+MORE += [{'do': 'policy.replace', 'document': permitting(*conditions)} for conditions in [
+    [held(PERSON, 'clearance', 'high'), ROLE], [held(PERSON, 'role', 'surgeon')]]]
+MORE += [{'do': 'who', 'action': 'read', 'resource': 'plan'}]
 # Tests that fail, each in a way of its own.
 FAILING = 'tools/wrong/failing.txt'
 # A test that asks, and one that tells how many evaluations there were.
@@ -104,6 +146,8 @@ TEXTS = {
     'edits of many cells': ('serve', MANY),
     'people who leave': ('serve', LEAVING),
     'values of an action': ('serve', OF_ACTIONS),
+    'a name with six cells': ('serve', b'\n'.join(json.dumps(line).encode() for line in SIX) + b'\n'),
+    'cells that read more': ('serve', b'\n'.join(json.dumps(line).encode() for line in MORE) + b'\n'),
     'many questions': ('serve', b'\n'.join(json.dumps(line).encode() for line in QUESTIONS) + b'\n'),
     'a state compared with itself': ('compare FILE /dev/null', STATE),
     'one test listed': ('test --list --run one FILE', b'# one\n> {"do":"work"}\n< {"evaluations":0}\n'),

@@ -47,8 +47,8 @@ fn push<E: Evaluates>(
     Ok(())
 }
 
-/// Evaluates requests that have no cells, each once, and puts their cells last. After a refusal the cells of some may be
-/// there.
+/// Evaluates requests that have no cells, each once, and puts their cells last. After a refusal the cells of some may
+/// be there.
 pub(crate) fn push_all<E: Evaluates>(
     store: &mut Store<E>,
     keys: &mut Vec<usize>,

@@ -1,5 +1,5 @@
-//! The decision point (OASIS XACML 3.0 core, section 7), which holds what is looked up and answers requests, and what an
-//! evaluator gives to those above it.
+//! The decision point (OASIS XACML 3.0 core, section 7), which holds what is looked up and answers requests, and what
+//! an evaluator gives to those above it.
 #![tactic(auto)]
 
 mod evaluates;

@@ -185,7 +185,8 @@ func (d *directory) changed(found []*ldap.Entry, kept *Kept, now time.Time) ([]e
 			all = append(all, entry{one.DN, known.fields})
 			kept.entries[uuid] = known
 		} else if uuid == "" {
-			return nil, fmt.Errorf("%s has no %s any more", one.DN, uuidOf)
+			kept.entries = nil // it can't be known again: all are read
+			return d.entries(kept, now)
 		} else {
 			others = append(others, "("+uuidOf+"="+ldap.EscapeFilter(uuid)+")")
 		}

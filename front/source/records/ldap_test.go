@@ -32,7 +32,8 @@ func TestNormal(t *testing.T) {
 			t.Errorf("%s is %s", one, got)
 		}
 	}
-	if normal("ann") != "ann" || normal("cn=a+sn=b") != normal("SN=B+CN=A") || normal("cn=a,cn=b") == normal(`cn=a\,cn=b`) {
+	if normal("ann") != "ann" || normal("cn=a+sn=b") != normal("SN=B+CN=A") ||
+		normal("cn=a,cn=b") == normal(`cn=a\,cn=b`) {
 		t.Error("names are confused")
 	}
 }

@@ -56,7 +56,8 @@ func moment(written string, of form.Attribute) (string, error) {
 	}
 	for _, layout := range form.Forms[of.Type][of.Form] {
 		at, err := time.Parse(layout, written)
-		if err == nil && at.Nanosecond() == 0 && at.UTC().Year() > 0 && at.UTC().Year() < 10_000 {
+		year := at.UTC().Year()
+		if err == nil && at.Nanosecond() == 0 && (of.Type == "time" || year > 0 && year < 10_000) {
 			return at.UTC().Format(layouts[of.Type]), nil
 		}
 	}

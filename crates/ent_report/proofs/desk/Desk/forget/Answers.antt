@@ -1,4 +1,4 @@
-use Rattle.std.proofs.Common.{◌≡◌, max, arith, sym, ap, subst, ◌∙◌}
+use Rattle.std.proofs.Common.{◌≡◌, max, arith, ap, subst, ◌∙◌}
 use Rattle.ent_report.specs.Desk.{Desked, desk_of}
 use Rattle.ent_report.specs.Kept.{Forgets}
 use Rattle.ent_report.specs.Serials.{oldest}

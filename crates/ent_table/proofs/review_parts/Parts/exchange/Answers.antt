@@ -1,4 +1,4 @@
-use Rattle.std.proofs.Common.{◌≡◌, ap}
+use Rattle.std.proofs.Common.{ap}
 use Rattle.ent_cells.specs.Cell.{Cells}
 use Rattle.ent_request.specs.Held.{Held}
 use Rattle.ent_table.specs.Fresh.{state_of}

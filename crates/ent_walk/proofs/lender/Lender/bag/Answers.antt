@@ -21,7 +21,7 @@ returns-then-is_of-clause-bag g c =
     let all : AllByRecursion (IsFound looks request) c.deref-found-items.result.now = subst (AllByRecursion (IsFound looks request)) (sym c.deref-found-items.ensures.value) c.self.invariant in
     let at : slice_get c.deref-found-items.result.now c.loop-found.found-index ≡ Some it =
     slice_get-get_or c.deref-found-items.result.now c.loop-found.found-index it (omega (arith, c.loop-found-test.true)) ∙ ap Some (sym c.found-item.is) in
-    let same : it.asked ≡ asked_of d = c.if-is_of.ensures refl in
+    let same : it.asked ≡ asked_of d = c.if-is_of.ensures.0 refl in
     let found : Asked → Contents = λ a. record { datatype = a.datatype; values = values_of looks request a } in
     let over : Basis g.row.L.Denot → Contents = λ b. record { datatype = d.datatype; values = designated_values (g.L.LookUps.looks b.held) b.request d } in
     IfOk-weaker c.copy.result _ _ (λ b is. is ∙ all_at (IsFound looks request) c.deref-found-items.result.now c.loop-found.found-index it all at ∙ ap found same ∙ ap over c.self.view_is) c.copy.ensures
