@@ -7,7 +7,7 @@ SORTS = [EQUATION, BUT, OPEN]
 BUT_WORDS = {'IsReported', 'IsNoticed', 'IsNoticedIn', 'Reads', 'Edits', 'Gives'}
 WHOLE_WORDS = {'MatchOption', 'MatchResult', 'HasSeen', 'HasTaken', 'HasGathered'}
 # Records of equations, of a result and of what it leaves, by the crate that has the word.
-RECORDS = {('ent_walk', 'Comes'), ('ent_plan', 'Comes'), ('ent_walk', 'Adds')}
+RECORDS = {('ent_walk', 'Comes'), ('memo_plan', 'Comes'), ('ent_walk', 'Adds')}
 # Fields of values behind which stands the value itself.
 SAME = ('now', 'items', 'entry', 'entries', 'value')
 

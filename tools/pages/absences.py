@@ -15,12 +15,12 @@ PAGE = ROOT / 'docs' / 'ARCHITECTURE.md'
 COMMANDS = (r'"(?:(?:person|action|resource)\.(?:add|drop)|(?:attr|day|moment|root)\.set'
             r'|policy\.(?:add|replace|withdraw))')
 PROGRAMS = ['conformance', 'faults_told', 'attributes_told', 'together_told', 'review', 'review_with_options']
-EVALUATING = ['ent_request', 'ent_notes', 'ent_walk', 'ent_heard', 'ent_plan', 'ent_found', 'ent_tests', 'ent_told',
-              'ent_joined', 'ent_eval', 'ent_evaluator']
+EVALUATING = ['ent_request', 'ent_trace', 'ent_walk', 'memo_heard', 'memo_plan', 'memo_bags', 'memo_tests', 'memo_answers',
+              'memo_replay', 'ent_eval', 'ent_evaluator']
 PARTS_OF_AN_EVALUATOR = [f'ent_evaluator/src/{name}.rt'
                          for name in ('parts', 'listed', 'asking', 'exchange', 'evaluator')]
-BELOW_LINES = ['ent_values', 'ent_functions', 'ent_combine', 'ent_policy', 'ent_copies', 'ent_meaning', 'ent_finder',
-               *EVALUATING, 'ent_tree', 'ent_reach', 'ent_index', 'ent_log', 'ent_cells', 'ent_table', 'ent_rebuild']
+BELOW_LINES = ['ent_values', 'ent_functions', 'ent_combine', 'ent_policy', 'ent_clone', 'lint_meaning', 'ent_finder',
+               *EVALUATING, 'memo_trie', 'lint_reach', 'ent_index', 'ent_log', 'ent_cells', 'ent_table', 'law_rebuild']
 
 
 def lines_of_crates():
@@ -87,13 +87,13 @@ def json_between():
 
 
 def in_sessions_files():
-    yield from stands_on('ent_sessions', ['ent_values'])
-    json = [library for library in LINES['ent_sessions'] if library in ('serde_json', 'json')]
-    yield from (f'the line of ent_sessions names {library}' for library in json)
+    yield from stands_on('script_files', ['ent_values'])
+    json = [library for library in LINES['script_files'] if library in ('serde_json', 'json')]
+    yield from (f'the line of script_files names {library}' for library in json)
 
 
 def places_in_the_service():
-    words = ['ent_meaning', 'ent_places', 'ent_faults', 'ent_declared', 'ent_together']
+    words = ['lint_meaning', 'lint_places', 'lint_messages', 'lint_declared', 'lint_links']
     told = ['faults_told', 'attributes_told', 'together_told']
     yield from named(words, but=words + ['ent_program'] + told + TRIALS)
 
@@ -117,7 +117,7 @@ def evaluations():
 
 def remembering():
     yield from named(['ent_evaluator'], but=['ent_program'] + TRIALS)
-    memory = ['ent_found', 'ent_tests', 'ent_told', 'ent_joined', 'ent_plan', 'ent_heard', 'ent_tree']
+    memory = ['memo_bags', 'memo_tests', 'memo_answers', 'memo_replay', 'memo_plan', 'memo_heard', 'memo_trie']
     yield from named(memory, but=memory + ['ent_evaluator'])
 
 
@@ -128,7 +128,7 @@ def unchecked_documents():
 
 
 def boxed_modules():
-    makers = ['ent_program/src/running.rt', 'ent_together/src/root.rt']
+    makers = ['ent_program/src/running.rt', 'lint_links/src/root.rt']
     yield from found(r'\bBox::new\b', but=makers + TRIALS)
     yield from found(r'\bdyn\b', but=makers + ['ent_finder/'] + TRIALS)
 
@@ -152,7 +152,7 @@ def memory_at_commit():
 
 
 def unseen():
-    known = ['ent_finder/src/hints.rt', 'ent_notes/src/paths.rt', 'ent_notes/src/notes.rt', 'ent_joined/src/state.rt']
+    known = ['ent_finder/src/hints.rt', 'ent_trace/src/paths.rt', 'ent_trace/src/notes.rt', 'memo_replay/src/state.rt']
     units = [where(path) for path in files() if re.search(r'ghost Value = \{ Unit\b', code(path))]
     yield from (f'{place} has a model that says nothing' for place in units if place not in known)
     yield from found(r'\bCell(?:<|::)', but=['ent_finder/src/hints.rt'])
@@ -163,7 +163,7 @@ def unseen():
 # Calls that are asked for by name, or stay for now, and that no part of the program makes.
 UNCALLED = ['ent_polform write_document', 'ent_profile write_given', 'ent_profile write_response',
             'ent_index Index::cells_of', 'ent_program check_from',
-            'ent_split merge_who', 'ent_split merge_by_rule', 'ent_split sum_counts', 'ent_split sum_changes']
+            'law_split merge_who', 'law_split merge_by_rule', 'law_split sum_counts', 'law_split sum_changes']
 
 
 def given_out(crate):
@@ -220,7 +220,7 @@ def unsafe():
 def libraries():
     yield from named(['jiff', 'jiff_core'], but=['ent_values'])
     yield from named(['slab'], but=['ent_index', 'ent_cells'])
-    yield from named(['indexmap'], but=['ent_table', 'ent_request', 'ent_notes', 'ent_found', 'ent_joined'])
+    yield from named(['indexmap'], but=['ent_table', 'ent_request', 'ent_trace', 'memo_bags', 'memo_replay'])
 
 
 CHECKS = {
@@ -229,9 +229,9 @@ CHECKS = {
     'places of faults in the service': places_in_the_service,
     'any other crate, and memory, in `ent_combine`': around_combining,
     'commands below `ent_dump` and `ent_line`':
-        lambda: found(COMMANDS, but=['ent_dump/', 'ent_line/', 'ent_together/src/state.rt',
-                                     'ent_declared/src/claim.rt', 'ent_declared/src/listed.rt',
-                                     'ent_declared/src/setting.rt', 'attributes_told/'] + TRIALS),
+        lambda: found(COMMANDS, but=['ent_dump/', 'ent_line/', 'lint_links/src/state.rt',
+                                     'lint_declared/src/claim.rt', 'lint_declared/src/listed.rt',
+                                     'lint_declared/src/setting.rt', 'attributes_told/'] + TRIALS),
     'sessions and marks in a review': lambda: found(r'(?i)session', BELOW_LINES, ('src', 'specs')),
     'the table in the log and in the index': table_in_the_log,
     'finders and modules in the evaluator':

@@ -1,7 +1,7 @@
 #!/usr/bin/env python3
 """Writes JSON Schemas (2020-12) of what people write: documents, requests, lines, and what tests expect. Editors
 complete and mark by them as one types. They are made of the tables that the reader itself goes by: which keys a part
-has (ent_places), which it must have (ent_faults), which functions, algorithms and types there are (ent_functions,
+has (lint_places), which it must have (lint_messages), which functions, algorithms and types there are (ent_functions,
 ent_combine, ent_values), and which keys a command has (ent_line).
 
     schemas.py             writes tools/schemas/
@@ -59,7 +59,7 @@ def key_value(text):
 
 def parts():
     """Of each part that is an object its keys with their parts, and of each that is a list the part of a member."""
-    text = source('ent_places', 'part')
+    text = source('lint_places', 'part')
     named = {name: key_value(rows) for name, rows in parted(r'const (\w+): [^=]+= &\[(.*?)\];', text, 'part.rt')}
     objects, lists = {}, {}
     rows, items = text.split('pub fn rows', 1)[1].split('pub fn item', 1)
@@ -73,13 +73,13 @@ def parts():
 
 def described():
     """What each part is for, as editors show it."""
-    enum = source('ent_places', 'part').split('pub enum Part {', 1)[1].split('\n}', 1)[0]
+    enum = source('lint_places', 'part').split('pub enum Part {', 1)[1].split('\n}', 1)[0]
     return {name: told for told, name in parted(r'/// ([^\n]+)\.\n    (\w+),', enum, 'Part')}
 
 
 def required():
     """Of each part the keys that it must have."""
-    text = source('ent_faults', 'form').split('fn required_keys', 1)[1].split('\n}', 1)[0]
+    text = source('lint_messages', 'form').split('fn required_keys', 1)[1].split('\n}', 1)[0]
     keys = {}
     for names, listed in parted(r'(Part::[\w:| ]+?) => &\[(.*?)\]', text, 'required_keys'):
         for name in re.findall(r'Part::(\w+)', names):

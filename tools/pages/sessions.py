@@ -5,7 +5,7 @@
     sessions.py --check     says whether they are up to date
 
 stdin holds the files crates/conformance/sessions/SUBJECT.txt as they stand, one behind the other, and behind them the
-sessions of the pages; CONTRIBUTING.md says what form they have, and `ent_sessions` reads it. stdout says how many there
+sessions of the pages; CONTRIBUTING.md says what form they have, and `script_files` reads it. stdout says how many there
 are, and that all of them pass.
 
 PAGES have sessions in their blocks of the kind `session`. One more, policies_page, is made from docs/POLICIES.md: each

@@ -6,8 +6,8 @@ from .functions import CYCLE, HEAD, IMPL, body_at
 
 # Crates whose bodies stand within their functions, one at a time, until each of them was seen beside its function.
 WITHIN = {
-    *('ent_eval', 'ent_cells', 'ent_table', 'ent_dump', 'ent_report', 'ent_split', 'ent_line', 'ent_program', 'ent_held'),
-    *('ent_profile', 'ent_polform', 'ent_places', 'ent_faults', 'ent_declared', 'ent_together'),
+    *('ent_eval', 'ent_cells', 'ent_table', 'ent_dump', 'ent_report', 'law_split', 'ent_line', 'ent_program', 'ent_telling'),
+    *('ent_profile', 'ent_polform', 'lint_places', 'lint_messages', 'lint_declared', 'lint_links'),
 }
 
 

@@ -4,10 +4,10 @@
 
 ghost use Rattle.std.specs.Prelude.{◌≡◌, ◌⊎◌};
 
-use ent_declared::{Attribute, Listed, faulty_lines, read_attributes, undeclared};
 use ent_json::{JsonTree, read_json};
 use ent_values::Items;
 use json::{Scratch, Value};
+use lint_declared::{Attribute, Listed, faulty_lines, read_attributes, undeclared};
 use std::alloc::{AllocError, Global};
 use std::io;
 use std::io::{BufRead, BufReader, BufWriter, Write};

@@ -24,8 +24,8 @@ use Rattle.ent_table.specs.State.{State}
 use Rattle.ent_table.specs.declared.edit.Edit.{Edit}
 use Rattle.ent_table.specs.declared.edit.Edit.TheVariants.{AddName}
 use Rattle.ent_table.specs.declared.edit.List.{List as Which}
-use Rattle.ent_rebuild.specs.Rebuilding.{all_documents, all_names, all_rows, document_edit, environment_edits, module_edits, name_edits, rebuilding, root_edits}
-use Rattle.ent_rebuild.specs.Rebuilding.{row_edit, source_edits}
+use Rattle.law_rebuild.specs.Rebuilding.{all_documents, all_names, all_rows, document_edit, environment_edits, module_edits, name_edits, rebuilding, root_edits}
+use Rattle.law_rebuild.specs.Rebuilding.{row_edit, source_edits}
 use Rattle.ent_dump.specs.Dumped.{dump_data, format_data}
 use Rattle.ent_dump.specs.Edits.{edit_data, edit_line, row_data}
 use Rattle.ent_dump.specs.proofs_only.Walk.{filled_edits, held_edits, line_tokens, slot_edits}

@@ -4,7 +4,7 @@ use Rattle.serde_json.specs.Data as json
 use Rattle.serde_json.specs.Data.{Data}
 use Rattle.serde_json.specs.Written.{compact_text}
 use Rattle.ent_table.specs.State.{State}
-use Rattle.ent_rebuild.specs.Rebuilding.{rebuilding}
+use Rattle.law_rebuild.specs.Rebuilding.{rebuilding}
 use Rattle.ent_dump.specs.Edits.{edit_data}
 use Rattle.ent_dump.specs.Reply.{reply_data}
 

@@ -4,12 +4,12 @@ use Rattle.std.specs.Prelude.{if◌then◌else◌}
 use Rattle.std.specs.List.{list_any}
 use Rattle.std.specs.Option.{option_or}
 use Rattle.ent_request.specs.declared.cause.Cause.{Cause}
-use Rattle.ent_notes.specs.declared.causes.Causes.{Causes}
+use Rattle.ent_trace.specs.declared.causes.Causes.{Causes}
 use Rattle.ent_request.specs.declared.question.Question.{Question}
 use Rattle.ent_request.specs.Causes.{are_any, same_cause, told_once}
 use Rattle.ent_request.specs.Note.{Note, asks, causes_in, fails, first_cause, passed, questions_in}
-use Rattle.ent_notes.specs.proofs_only.Noted.{Notes, asked_once, noting, with_asked, with_failure, with_note, with_question}
-use Rattle.ent_notes.specs.proofs_only.Met.{Met, with_failing, with_passed}
+use Rattle.ent_trace.specs.proofs_only.Noted.{Notes, asked_once, noting, with_asked, with_failure, with_note, with_question}
+use Rattle.ent_trace.specs.proofs_only.Met.{Met, with_failing, with_passed}
 
 -- the questions are those that were noted, each once
 pub told_questions : (n : Notes) (questions : List Question) (ns : List Note) → n.questions ≡ Some questions → (noting n ns).questions ≡ Some (asked_once questions (questions_in ns))

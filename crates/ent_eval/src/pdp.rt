@@ -5,15 +5,15 @@ ghost use Rattle.std.specs.Borrow.{sem};
 ghost use Rattle.ent_walk.specs.Answer.{answer, answer_part, causes_told, recorded};
 ghost use Rattle.ent_eval.specs.Lending.{LendsAttributes, LendsPolicies};
 ghost use Rattle.ent_eval.specs.LooksOf.{looks_of};
-ghost use Rattle.ent_notes.specs.proofs_only.Noted.{noting};
+ghost use Rattle.ent_trace.specs.proofs_only.Noted.{noting};
 ghost use Rattle.ent_request.specs.Questions.{BeginsWith};
 ghost use Rattle.ent_eval.specs.Point.{point_of};
 ghost use Rattle.ent_eval.specs.Evaluated.{IsEvaluated};
 
 use ent_finder::{AttrKey, AttributeFinder, Attributes, Policies, PolicyFinder};
-use ent_notes::{Notebook, Notes};
 use ent_policy::{Document, Reference};
 use ent_request::{Answer, Cause, Environment, LookUps, Questions, Reads, Request};
+use ent_trace::{Notebook, Notes};
 use ent_values::{Bag, Date, DateTime, Items, Shared, Time, Value};
 use ent_walk::Walk;
 use std::alloc::{AllocError, Global};

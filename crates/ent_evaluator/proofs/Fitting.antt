@@ -5,30 +5,30 @@ use Rattle.std.specs.List.{AllByRecursion}
 use Rattle.ent_values.specs.Bags.{Contents}
 use Rattle.ent_evaluator.specs.declared.case.Case.{Case}
 use Rattle.ent_evaluator.specs.declared.cases.Cases.{Cases}
-use Rattle.ent_found.specs.declared.findings.Findings.{Findings}
+use Rattle.memo_bags.specs.declared.findings.Findings.{Findings}
 use Rattle.ent_evaluator.specs.declared.front.Front.{Front}
 use Rattle.ent_evaluator.specs.declared.memory.Memory.{Memory}
 use Rattle.ent_eval.specs.declared.pdp.ListedEvaluation.{ListedEvaluation}
 use Rattle.ent_request.specs.declared.question.Question.{Question}
 use Rattle.ent_request.specs.declared.question.Question.TheVariants as question
 use Rattle.ent_request.specs.declared.request.Request.{Request}
-use Rattle.ent_found.specs.declared.scene.Scene.{Scene}
+use Rattle.memo_bags.specs.declared.scene.Scene.{Scene}
 use Rattle.ent_walk.specs.Answer.{answer, asked, causes, has_cause, recorded}
 use Rattle.ent_walk.specs.Law.{FindsSame}
 use Rattle.ent_request.specs.Listed.{listed}
 use Rattle.ent_request.specs.Looks.{Looks}
 use Rattle.ent_request.specs.Causes.{are_any}
 use Rattle.ent_evaluator.specs.Held.{HaveSameDocuments}
-use Rattle.ent_found.specs.Findings.{AreFindings, IsFinding}
-use Rattle.ent_found.specs.Found.{IsAttribute}
+use Rattle.memo_bags.specs.Findings.{AreFindings, IsFinding}
+use Rattle.memo_bags.specs.Found.{IsAttribute}
 use Rattle.ent_evaluator.specs.Memory.{Fits, Gives, HasCase, IsCase, IsKnown, IsShelf, Remembers, cases_in}
 use Rattle.ent_request.specs.Questions.{AreNumbers, asked_once, at_numbers, keys_at}
-use Rattle.ent_found.specs.proofs_only.Ready.{Begins, TellsAttributes, request_of}
+use Rattle.memo_bags.specs.proofs_only.Ready.{Begins, TellsAttributes, request_of}
 use Rattle.ent_evaluator.specs.proofs_only.Remembered.{NoneFits}
 use Rattle.ent_walk.proofs.AnswersRest.{findings-rest}
 use Rattle.ent_request.proofs.Lists.{all_append, from_recursion}
-use Rattle.ent_found.proofs.AskedOnce.{all_asked}
-use Rattle.ent_found.proofs.Growing.{all_map, starts_itself}
+use Rattle.memo_bags.proofs.AskedOnce.{all_asked}
+use Rattle.memo_bags.proofs.Growing.{all_map, starts_itself}
 use Rattle.ent_walk.proofs.Recorded.{recorded_by}
 use Rattle.ent_request.proofs.Numbering.{all_at}
 use Rattle.ent_evaluator.proofs.Remembering.{shelves_more}

@@ -16,10 +16,10 @@ use Rattle.ent_evaluator.specs.Held.{HaveSameDocuments}
 use Rattle.ent_evaluator.specs.Memory.{AreShelves, Fits, IsCase, IsShelf, Remembers}
 use Rattle.ent_evaluator.specs.Tests.{AreTests}
 use Rattle.ent_request.specs.Questions.{BeginsWith}
-use Rattle.ent_found.specs.proofs_only.Ready.{Begins}
+use Rattle.memo_bags.specs.proofs_only.Ready.{Begins}
 use Rattle.ent_evaluator.specs.proofs_only.Remembered.{NoneFits}
-use Rattle.ent_found.proofs.Growing.{all_map, starts_itself, starts_then}
-use Rattle.ent_found.proofs.Learning.{about_more, all_back, all_more, are_more, numbers_more, rows_more}
+use Rattle.memo_bags.proofs.Growing.{all_map, starts_itself, starts_then}
+use Rattle.memo_bags.proofs.Learning.{about_more, all_back, all_more, are_more, numbers_more, rows_more}
 use Rattle.ent_evaluator.proofs.TestsKept.{tests_more}
 
 -- ---- growth

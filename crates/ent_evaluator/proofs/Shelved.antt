@@ -5,7 +5,7 @@ use Rattle.std.specs.Bool.{OnFalse}
 use Rattle.std.specs.List.{AllByRecursion}
 use Rattle.std.proofs.lemmas.List.{length-append}
 use Rattle.std.proofs.lemmas.Option.{slice_get_within}
-use Rattle.ent_tree.specs.Tree.{Ends, Leads, LeadsAsBefore, key_at, leaf_at}
+use Rattle.memo_trie.specs.Tree.{Ends, Leads, LeadsAsBefore, key_at, leaf_at}
 use Rattle.ent_values.specs.Bags.{Contents}
 use Rattle.ent_evaluator.specs.declared.case.Case.{Case}
 use Rattle.ent_evaluator.specs.declared.cases.Cases.{Cases}
@@ -15,12 +15,12 @@ use Rattle.ent_request.specs.declared.request.Request.{Request}
 use Rattle.ent_evaluator.specs.declared.shelf.Shelf.{Shelf}
 use Rattle.ent_request.specs.Looks.{Looks}
 use Rattle.ent_evaluator.specs.Memory.{Fits, Gives, HasCaseIn, IsCase, IsIndex, IsShelf, cases_in, most_cases}
-use Rattle.ent_found.specs.Ways.{AsksAbout, FindsWay, Nodes, Way, way_of}
-use Rattle.ent_found.specs.proofs_only.Ready.{Begins}
+use Rattle.memo_bags.specs.Ways.{AsksAbout, FindsWay, Nodes, Way, way_of}
+use Rattle.memo_bags.specs.proofs_only.Ready.{Begins}
 use Rattle.ent_evaluator.specs.proofs_only.Remembered.{HasPut, NoneFits}
 use Rattle.ent_request.proofs.Lists.{all_append}
-use Rattle.ent_found.proofs.Growing.{all_by_place, at_end, get_fewer, get_more, some_same, starts_itself}
-use Rattle.ent_found.proofs.Learning.{finds_way, way_finds}
+use Rattle.memo_bags.proofs.Growing.{all_by_place, at_end, get_fewer, get_more, some_same, starts_itself}
+use Rattle.memo_bags.proofs.Learning.{finds_way, way_finds}
 use Rattle.ent_evaluator.proofs.Remembering.{none_more}
 
 -- ---- what is found on a shelf

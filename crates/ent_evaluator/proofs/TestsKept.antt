@@ -11,24 +11,24 @@ use Rattle.ent_request.specs.declared.answer.Answer.{Answer}
 use Rattle.ent_request.specs.declared.question.Question.{Question}
 use Rattle.ent_request.specs.declared.request.Request.{Request}
 use Rattle.ent_walk.specs.Answer.{answer as answer_of, answer_part, asked}
-use Rattle.ent_heard.specs.Heard.{Came, Heard, came, heard}
-use Rattle.ent_found.specs.proofs_only.Ready.{Begins}
-use Rattle.ent_found.proofs.Growing.{all_by_place, all_map, some_same, starts_itself}
+use Rattle.memo_heard.specs.Heard.{Came, Heard, came, heard}
+use Rattle.memo_bags.specs.proofs_only.Ready.{Begins}
+use Rattle.memo_bags.proofs.Growing.{all_by_place, all_map, some_same, starts_itself}
 use Rattle.ent_request.proofs.Numbering.{all_at}
-use Rattle.ent_plan.specs.Plan.{IsPlan, ItemFits, constant, goes_on, is_test, skip_of}
-use Rattle.ent_plan.specs.declared.task.Entry.{Entry}
-use Rattle.ent_plan.specs.declared.task.Item.{Item}
-use Rattle.ent_plan.specs.declared.task.Item.TheVariants as item
-use Rattle.ent_told.specs.Known.{AreTestsOf, TellsIn}
-use Rattle.ent_told.specs.Told.{HasWay, IsPut, IsTold, Signs, comes_of, heard_case}
-use Rattle.ent_told.specs.declared.tests.Tests.{Tests as Learnt}
-use Rattle.ent_told.specs.declared.told.Told.{Told}
-use Rattle.ent_joined.specs.Joined.{IsJoined}
-use Rattle.ent_joined.specs.declared.joined.Joined.{Joined}
-use Rattle.ent_plan.proofs.AtEnd.{any_once}
-use Rattle.ent_plan.proofs.Ways.{way_still}
-use Rattle.ent_told.proofs.ByWays.{answers_told, cases_told, stay_told}
-use Rattle.ent_told.proofs.Kept.{tells_grow, tells_once, tests_at, tests_grow}
+use Rattle.memo_plan.specs.Plan.{IsPlan, ItemFits, constant, goes_on, is_test, skip_of}
+use Rattle.memo_plan.specs.declared.task.Entry.{Entry}
+use Rattle.memo_plan.specs.declared.task.Item.{Item}
+use Rattle.memo_plan.specs.declared.task.Item.TheVariants as item
+use Rattle.memo_answers.specs.Known.{AreTestsOf, TellsIn}
+use Rattle.memo_answers.specs.Told.{HasWay, IsPut, IsTold, Signs, comes_of, heard_case}
+use Rattle.memo_answers.specs.declared.tests.Tests.{Tests as Learnt}
+use Rattle.memo_answers.specs.declared.told.Told.{Told}
+use Rattle.memo_replay.specs.Joined.{IsJoined}
+use Rattle.memo_replay.specs.declared.joined.Joined.{Joined}
+use Rattle.memo_plan.proofs.AtEnd.{any_once}
+use Rattle.memo_plan.proofs.Ways.{way_still}
+use Rattle.memo_answers.proofs.ByWays.{answers_told, cases_told, stay_told}
+use Rattle.memo_answers.proofs.Kept.{tells_grow, tells_once, tests_at, tests_grow}
 use Rattle.ent_evaluator.specs.Held.{HaveSameDocuments}
 use Rattle.ent_evaluator.specs.Tests.{AreTests, AreTold, HasPlan, IsSigned, Stands}
 use Rattle.ent_eval.specs.declared.pdp.ListedEvaluation.{ListedEvaluation}

@@ -3,7 +3,7 @@ use Rattle.std.specs.Prelude.{◌≡◌, ℕ, List}
 use Rattle.ent_finder.specs.declared.row.AttrKey.{AttrKey}
 use Rattle.ent_policy.specs.declared.key.Reference.{Reference}
 use Rattle.ent_request.specs.Looks.{Looks}
-use Rattle.ent_found.specs.Found.{HaveSameOthers}
+use Rattle.memo_bags.specs.Found.{HaveSameOthers}
 
 -- the root, the documents and what is known of the time are the same
 pub record HaveSameDocuments (s t : Looks) : Type 0 where

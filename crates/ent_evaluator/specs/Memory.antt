@@ -15,10 +15,10 @@ use Rattle.ent_walk.specs.Answer.{answer, asked, has_cause}
 use Rattle.ent_request.specs.Listed.{listed}
 use Rattle.ent_request.specs.Looks.{Looks}
 use Rattle.ent_request.specs.Questions.{AreNumbers, asked_once, at_numbers}
-use Rattle.ent_found.specs.Found.{FindsBag}
-use Rattle.ent_found.specs.Findings.{AreFindings, IsFinding}
-use Rattle.ent_found.specs.Ways.{AsksAbout, Way, way_of}
-use Rattle.ent_tree.specs.Tree.{Leads}
+use Rattle.memo_bags.specs.Found.{FindsBag}
+use Rattle.memo_bags.specs.Findings.{AreFindings, IsFinding}
+use Rattle.memo_bags.specs.Ways.{AsksAbout, Way, way_of}
+use Rattle.memo_trie.specs.Tree.{Leads}
 
 -- so many cases stand on a shelf at most
 abbrev pub most_cases : ℕ

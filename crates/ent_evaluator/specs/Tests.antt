@@ -5,9 +5,9 @@ use Rattle.ent_values.specs.Bags.{Contents}
 use Rattle.ent_request.specs.Looks.{Looks}
 use Rattle.ent_request.specs.declared.question.Question.{Question}
 use Rattle.ent_request.specs.declared.request.Request.{Request}
-use Rattle.ent_plan.specs.Plan.{Fits, IsPlan}
-use Rattle.ent_told.specs.Known.{AreTestsOf, TellsIn}
-use Rattle.ent_told.specs.Told.{IsTold, Signs, comes_of}
+use Rattle.memo_plan.specs.Plan.{Fits, IsPlan}
+use Rattle.memo_answers.specs.Known.{AreTestsOf, TellsIn}
+use Rattle.memo_answers.specs.Told.{IsTold, Signs, comes_of}
 use Rattle.ent_evaluator.specs.declared.plan.Plan.{Plan}
 use Rattle.ent_evaluator.specs.declared.tests.Tests.{Tests}
 

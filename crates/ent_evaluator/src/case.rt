@@ -1,8 +1,8 @@
 //! Cases: what was found for listed requests, and which answer it gave.
 
-use ent_found::Finding;
 use ent_request::Answer;
 use ent_values::{Items, Shared};
+use memo_bags::Finding;
 
 /// An answer, the numbers of the questions that were asked for it, what those among them found that are about the names
 /// of the request, and whether a part of the evaluation failed by itself. Over the same look-ups all others find the

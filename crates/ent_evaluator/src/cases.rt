@@ -6,16 +6,16 @@ ghost use Rattle.std.specs.Bool.{OnFalse};
 ghost use Rattle.ent_values.specs.Bags.{Contents};
 ghost use Rattle.ent_request.specs.Looks.{Looks};
 ghost use Rattle.ent_evaluator.specs.Memory.{AreShelves, Gives, HasCaseIn, cases_in, most_cases};
-ghost use Rattle.ent_found.specs.proofs_only.Ready.{AreReady, KeepsReady};
+ghost use Rattle.memo_bags.specs.proofs_only.Ready.{AreReady, KeepsReady};
 ghost use Rattle.ent_evaluator.specs.proofs_only.Remembered.{HasPut, KeepsShelves, NoneFits};
-ghost use Rattle.ent_found.specs.proofs_only.Ready.{in_scene, request_of};
+ghost use Rattle.memo_bags.specs.proofs_only.Ready.{in_scene, request_of};
 ghost use Rattle.ent_request.specs.declared.question.Question.{Question};
 
 use crate::case::Case;
 use crate::shelf::Shelf;
 use ent_eval::ListedEvaluation;
-use ent_found::{Findings, Scene};
 use ent_request::LookUps;
+use memo_bags::{Findings, Scene};
 use std::alloc::{AllocError, Global};
 use std::mem;
 

@@ -8,8 +8,8 @@ ghost use Rattle.ent_evaluator.specs.Held.{DifferAtMost, HaveSameValues};
 ghost use Rattle.ent_evaluator.specs.Memory.{Gives, HasCase, Remembers, cases_in};
 ghost use Rattle.ent_evaluator.specs.Tests.{HasPlan, IsSigned};
 ghost use Rattle.ent_evaluator.specs.proofs_only.Remembered.{AreNamed, IsEvaluated, NoneFits};
-ghost use Rattle.ent_found.specs.proofs_only.Ready.{in_scene, request_of};
-ghost use Rattle.ent_joined.specs.Joined.{IsJoined};
+ghost use Rattle.memo_bags.specs.proofs_only.Ready.{in_scene, request_of};
+ghost use Rattle.memo_replay.specs.Joined.{IsJoined};
 ghost use Rattle.ent_request.specs.declared.question.Question.{Question};
 ghost use Rattle.ent_request.specs.declared.request.Request.{Request};
 
@@ -18,10 +18,10 @@ use crate::cases::Cases;
 use crate::front::Front;
 use crate::tests::Tests;
 use ent_eval::{ListedEvaluation, Names};
-use ent_found::{Findings, Scene, findings_of};
-use ent_joined::Joined;
 use ent_request::{LookUps, Questions};
 use ent_values::{Shared, Text};
+use memo_bags::{Findings, Scene, findings_of};
+use memo_replay::Joined;
 use std::alloc::{AllocError, Global};
 
 /// Beyond so many values in bags all is forgotten at the next edit of values, or the next question beside the table.

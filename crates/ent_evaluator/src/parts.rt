@@ -6,7 +6,7 @@ ghost use Rattle.ent_evaluator.specs.Known.{Knows};
 use crate::memory::Memory;
 use ent_eval::{Names, Pdp, Questions};
 use ent_finder::{Attributes, Policies};
-use ent_found::Scene;
+use memo_bags::Scene;
 use std::alloc::Global;
 
 /// A decision point, the questions that were asked of it for listed requests, by number, and what is remembered of

@@ -2,12 +2,12 @@
 
 ghost use Rattle.std.specs.Prelude.{◌≡◌, IfOk, IfSome, IsTrue, Some, option_copied};
 ghost use Rattle.ent_evaluator.specs.Tests.{IsPlanOf, Stands};
-ghost use Rattle.ent_plan.specs.Plan.{Fits, ItemFits};
+ghost use Rattle.memo_plan.specs.Plan.{Fits, ItemFits};
 
-use ent_plan::{Entry, Item, plan_of};
 use ent_policy::{Document, Reference, Tree};
 use ent_request::{LookUps, same_reference};
 use ent_values::{Date, DateTime, Items, Time};
+use memo_plan::{Entry, Item, plan_of};
 use std::alloc::{AllocError, Global};
 
 /// The tests of what a root leads to, with what they rest on besides values: the root, what is known of the time, and

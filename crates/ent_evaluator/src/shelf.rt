@@ -4,18 +4,18 @@ ghost use Rattle.std.specs.Prelude.{◌≡◌, ◌<◌, [], IfNone, IfOk, IfSome
 ghost use Rattle.std.specs.Prelude.{length, slice_get};
 ghost use Rattle.ent_evaluator.specs.Memory.{Gives, HasCaseIn, IsShelf};
 ghost use Rattle.ent_evaluator.specs.Memory.{IsIndex};
-ghost use Rattle.ent_found.specs.proofs_only.Led.{AreAbout};
+ghost use Rattle.memo_bags.specs.proofs_only.Led.{AreAbout};
 ghost use Rattle.ent_evaluator.specs.proofs_only.Remembered.{IsPut};
-ghost use Rattle.ent_found.specs.proofs_only.Ready.{AreReady, KeepsReady, in_scene, request_of};
+ghost use Rattle.memo_bags.specs.proofs_only.Ready.{AreReady, KeepsReady, in_scene, request_of};
 ghost use Rattle.ent_evaluator.specs.proofs_only.Remembered.{NoneFits};
 ghost use Rattle.ent_evaluator.specs.declared.case.Case.{Case};
 ghost use Rattle.ent_request.specs.declared.question.Question.{Question};
 
 use crate::case::Case;
 use ent_eval::ListedEvaluation;
-use ent_found::{About, Findings, Scene, make_way, seek};
 use ent_request::LookUps;
-use ent_tree::Tree;
+use memo_bags::{About, Findings, Scene, make_way, seek};
+use memo_trie::Tree;
 use std::alloc::{AllocError, Global};
 
 /// Cases, each of which stands at the end of the way of what was found for it.

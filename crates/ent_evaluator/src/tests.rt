@@ -7,19 +7,19 @@ ghost use Rattle.ent_request.specs.Looks.{Looks};
 ghost use Rattle.ent_request.specs.Questions.{BeginsWith};
 ghost use Rattle.ent_request.specs.declared.question.Question.{Question};
 ghost use Rattle.ent_request.specs.declared.request.Request.{Request};
-ghost use Rattle.ent_found.specs.proofs_only.Ready.{Begins, in_scene, request_of};
-ghost use Rattle.ent_joined.specs.Joined.{IsJoined};
+ghost use Rattle.memo_bags.specs.proofs_only.Ready.{Begins, in_scene, request_of};
+ghost use Rattle.memo_replay.specs.Joined.{IsJoined};
 ghost use Rattle.ent_evaluator.specs.Tests.{AreTests, HasPlan, IsSigned};
 ghost use Rattle.ent_evaluator.specs.proofs_only.Remembered.{AreNamed, HasTests, IsEvaluated};
 
 use crate::plan::Plan;
 use crate::worth::Worth;
 use ent_eval::{ListedEvaluation, Names};
-use ent_found::{Findings, Scene};
-use ent_joined::{Joined, Pad, join};
 use ent_request::{LookUps, Questions};
-use ent_told::{Told, ToldCases, way_of};
 use ent_values::Items;
+use memo_answers::{Told, ToldCases, way_of};
+use memo_bags::{Findings, Scene};
+use memo_replay::{Joined, Pad, join};
 use std::alloc::{AllocError, Global};
 
 /// So many places all trees of tests have, about.
@@ -31,7 +31,7 @@ const MOST_PLACES: usize = 262_144;
 pub(crate) struct Tests {
     pub(crate) plan: Option<Plan>,
     pub(crate) is_compared: bool,
-    pub(crate) learnt: ent_told::Tests,
+    pub(crate) learnt: memo_answers::Tests,
     pub(crate) cases: ToldCases,
     pub(crate) way: Vec<u32>,
     pub(crate) pad: Pad,
@@ -46,7 +46,7 @@ impl Tests {
         Tests {
             plan: None,
             is_compared: false,
-            learnt: ent_told::Tests::new(alloc),
+            learnt: memo_answers::Tests::new(alloc),
             cases: ToldCases::new(alloc),
             way: Vec::new(alloc),
             pad: Pad::new(alloc),
@@ -128,7 +128,7 @@ impl Tests {
                 Ok(false)
             }
             Some(plan) => {
-                let learnt = ent_told::Tests::of(alloc, plan.entries.as_slice())?;
+                let learnt = memo_answers::Tests::of(alloc, plan.entries.as_slice())?;
                 self.learnt = learnt;
                 self.is_compared = true;
                 self.plan = Some(plan);
@@ -257,7 +257,7 @@ impl Tests {
         ensures cases { self.new.cases ≡ [] }
     {
         self.plan = None;
-        self.learnt = ent_told::Tests::new(alloc);
+        self.learnt = memo_answers::Tests::new(alloc);
         self.cases = ToldCases::new(alloc);
     }
 }

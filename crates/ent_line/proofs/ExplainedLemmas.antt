@@ -13,8 +13,8 @@ use Rattle.ent_request.specs.declared.answer.Answer.{Answer}
 use Rattle.ent_request.specs.declared.cause.Cause.{Cause}
 use Rattle.ent_request.specs.declared.key.ReadKey.{ReadKey}
 use Rattle.ent_request.specs.declared.request.Request.{Request}
-use Rattle.ent_held.specs.Causes.{causes_data, untold}
-use Rattle.ent_held.specs.Facts.{facts_data}
+use Rattle.ent_telling.specs.Causes.{causes_data, untold}
+use Rattle.ent_telling.specs.Facts.{facts_data}
 use Rattle.ent_json.specs.Text.{tokens_of}
 use Rattle.ent_table.specs.Ask.{answer_in}
 use Rattle.ent_table.specs.Names.{Triple, is_listed}

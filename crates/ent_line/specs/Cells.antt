@@ -8,7 +8,7 @@ use Rattle.ent_combine.specs.declared.outcome.Outcome.{Outcome}
 use Rattle.ent_combine.specs.declared.outcome.Outcome.TheVariants as outcome
 use Rattle.ent_request.specs.declared.answer.Answer.{Answer}
 use Rattle.ent_request.specs.declared.answer.WhyEntry.{WhyEntry}
-use Rattle.ent_held.specs.Paths.{path_data, rule_data, status_text}
+use Rattle.ent_telling.specs.Paths.{path_data, rule_data, status_text}
 use Rattle.ent_profile.specs.Response.{given_written}
 use Rattle.ent_table.specs.Names.{Triple}
 

@@ -17,9 +17,9 @@ use Rattle.ent_table.specs.declared.edit.Edit.{Edit}
 use Rattle.ent_table.specs.declared.edit.EditFault.{EditFault}
 use Rattle.ent_table.specs.declared.edit.List.{List as Which}
 use Rattle.ent_dump.specs.Dumped.{dump_data}
-use Rattle.ent_held.specs.Attributes.{attributes_data}
-use Rattle.ent_held.specs.Documents.{documents_data}
-use Rattle.ent_held.specs.Facts.{facts}
+use Rattle.ent_telling.specs.Attributes.{attributes_data}
+use Rattle.ent_telling.specs.Documents.{documents_data}
+use Rattle.ent_telling.specs.Facts.{facts}
 use Rattle.ent_report.specs.Notices.{notices}
 use Rattle.ent_report.specs.Reports as report
 use Rattle.ent_report.specs.World.{World, marked, marked_table}

@@ -8,9 +8,9 @@ use Rattle.ent_request.specs.declared.cause.Cause.{Cause}
 use Rattle.ent_request.specs.declared.request.Request.{Request}
 use Rattle.ent_request.specs.Held.{Held, looks_in}
 use Rattle.ent_request.specs.Listed.{listed}
-use Rattle.ent_held.specs.Causes.{causes_data, untold}
-use Rattle.ent_held.specs.Facts.{facts}
-use Rattle.ent_held.specs.Paths.{status_text}
+use Rattle.ent_telling.specs.Causes.{causes_data, untold}
+use Rattle.ent_telling.specs.Facts.{facts}
+use Rattle.ent_telling.specs.Paths.{status_text}
 use Rattle.ent_profile.specs.Response.{given_written}
 use Rattle.ent_table.specs.Names.{Triple}
 use Rattle.ent_line.specs.Cells.{decision_text, entry_data, list_data, reply_data}

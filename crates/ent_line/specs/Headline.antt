@@ -12,7 +12,7 @@
 -- What each line is answered stands in `Commands`, once: `respond` of a line, `run` of a change or a mark, `told` of a
 -- question. This page says what is so of all of them, and of runs of lines. The last words on the page, `Headline`, are
 -- what the call `serve_review`, which the program makes, ensures of the bytes that are read and written. What `dump`
--- tells brings a new service to the same state: that is a law of `ent_restart` (Restart), over the runs of this page.
+-- tells brings a new service to the same state: that is a law of `law_restart` (Restart), over the runs of this page.
 use Rattle.std.specs.Prelude.{◌≡◌, ℕ, ◌<◌, List, length, fold, Some, Result, Err}
 use Rattle.serde_json.specs.Data.{Data}
 use Rattle.ent_table.specs.Doubles.{HasNoDoubles}

@@ -6,17 +6,17 @@ ghost use Rattle.ent_json.specs.Text.{tokens_of};
 ghost use Rattle.ent_profile.specs.Response.{given_written, response};
 ghost use Rattle.ent_table.specs.Left.{cells_left};
 ghost use Rattle.ent_table.specs.Names.{triple_of};
-ghost use Rattle.ent_held.specs.Paths.{status_text};
+ghost use Rattle.ent_telling.specs.Paths.{status_text};
 ghost use Rattle.ent_line.specs.Cells.{cell_data, entry_data, list_data, reply_data};
 ghost use Rattle.ent_line.specs.Cells.{cell_reply, decision_text, table_reply};
 ghost use Rattle.ent_line.specs.proofs_only.Writing.{Adds, Spells, Writes, WritesEach};
 
 use ent_combine::{IndKind, Outcome};
 use ent_eval::{Answer, Evaluates, Given, Request, Status, WhyEntry};
-use ent_held::{status_text, write_path, write_rule};
 use ent_json::JsonText;
 use ent_profile::{write_given_text, write_response_text};
 use ent_table::Cells;
+use ent_telling::{status_text, write_path, write_rule};
 use std::alloc::{AllocError, Global};
 
 /// The word of a decision.

@@ -3,8 +3,8 @@
 ghost use Rattle.std.specs.Prelude.{[], ◌∷◌, ◌++◌, codes, decimal};
 ghost use Rattle.json.specs.Token as token;
 ghost use Rattle.ent_eval.specs.LooksOf.{held_by};
-ghost use Rattle.ent_held.specs.Causes.{causes_data, untold};
-ghost use Rattle.ent_held.specs.Facts.{facts_data};
+ghost use Rattle.ent_telling.specs.Causes.{causes_data, untold};
+ghost use Rattle.ent_telling.specs.Facts.{facts_data};
 ghost use Rattle.ent_json.specs.Text.{tokens_of};
 ghost use Rattle.ent_table.specs.Names.{triple_of};
 ghost use Rattle.ent_line.specs.Asked as asked;
@@ -20,9 +20,9 @@ use crate::reply::Reply;
 use crate::service::Service;
 use ent_eval::{Answer, Cause, Evaluates, Explained, Pdp, Reads, Request};
 use ent_finder::{Attributes, Policies};
-use ent_held::{untold, write_causes, write_facts};
 use ent_json::{JsonText, JsonTree, write_count};
 use ent_profile::{RequestFault, read_request, write_given_text};
+use ent_telling::{untold, write_causes, write_facts};
 use std::alloc::{AllocError, Global};
 
 /// Writes the answer to a request as a cell has it, without names.

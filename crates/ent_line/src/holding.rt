@@ -8,12 +8,12 @@ use crate::refusal::Refusal;
 use crate::reply::Reply;
 use crate::service::Service;
 use ent_eval::Evaluates;
-use ent_held::{attributes_text, documents_text};
+use ent_telling::{attributes_text, documents_text};
 use std::alloc::AllocError;
 
 impl<E: Evaluates> Service<E> {
     /// `attributes`.
-    #[tactic(auto, unfolding(crate::specs::Commands::attributes_told, ent_held::specs::Attributes::attributes_text))]
+    #[tactic(auto, unfolding(crate::specs::Commands::attributes_told, ent_telling::specs::Attributes::attributes_text))]
     pub(crate) fn attributes(
         &self,
         category: Option<&str>,
@@ -31,7 +31,7 @@ impl<E: Evaluates> Service<E> {
     }
 
     /// `documents`.
-    #[tactic(auto, unfolding(crate::specs::Commands::documents_told, ent_held::specs::Documents::documents_text))]
+    #[tactic(auto, unfolding(crate::specs::Commands::documents_told, ent_telling::specs::Documents::documents_text))]
     pub(crate) fn documents(&self, id: Option<&str>) -> Result<Reply, AllocError>
         ensures { Tells (λ w. documents_told w.state (option_copied id.entry)) self.now result }
     {

@@ -5,8 +5,8 @@ use Rattle.std.specs.Io.KnownBytes.{Appends}
 use Rattle.std.proofs.KnownBytes.{Appends-trans}
 use Rattle.std.proofs.lemmas.List.{drop_more, map_push, take_more}
 use Rattle.std.proofs.lemmas.List.Concat.{flat_map-append}
-use Rattle.ent_sessions.specs.declared.session.Expected.{Expected}
-use Rattle.ent_sessions.specs.declared.session.Step.{Step}
+use Rattle.script_files.specs.declared.session.Expected.{Expected}
+use Rattle.script_files.specs.declared.session.Step.{Step}
 use Rattle.ent_program.specs.Comparing.{behind, differences, each, is_newline, places_told, told_at, told_of_one}
 
 -- a front of what is told of the replies was written, and what is left is told of these steps and replies

@@ -5,10 +5,10 @@ use Rattle.std.specs.List.{after_first, before_first}
 use Rattle.std.specs.Io.KnownBytes.{Appends}
 use Rattle.std.proofs.KnownBytes.{Appends-trans}
 use Rattle.serde_json.specs.Data.{Data}
-use Rattle.ent_sessions.specs.declared.session.Step.{Step}
-use Rattle.ent_compare.specs.Gains.{has}
-use Rattle.ent_compare.specs.declared.gains.Way.TheVariants.{Gained, Lost}
-use Rattle.ent_compare.specs.Changes.{difference_of, is_nothing}
+use Rattle.script_files.specs.declared.session.Step.{Step}
+use Rattle.script_compare.specs.Gains.{has}
+use Rattle.script_compare.specs.declared.gains.Way.TheVariants.{Gained, Lost}
+use Rattle.script_compare.specs.Changes.{difference_of, is_nothing}
 use Rattle.ent_line.specs.declared.fault.ServeFault.{ServeFault}
 use Rattle.ent_line.specs.declared.fault.ServeFault.TheVariants as fault
 use Rattle.ent_program.specs.Comparing.{are_sure, behind, differences, is_newline, is_sure, is_wanting, meets, pass, told_of_one}

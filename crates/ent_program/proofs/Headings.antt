@@ -5,10 +5,10 @@ use Rattle.std.specs.Io.KnownBytes.{Appends}
 use Rattle.std.proofs.KnownBytes.{Appends-trans}
 use Rattle.std.proofs.lemmas.List.Concat.{flat_map-append}
 use Rattle.std.proofs.lemmas.List.{length-append}
-use Rattle.ent_sessions.specs.Sessions.{sessions_of}
-use Rattle.ent_sessions.specs.declared.fault.Mistake.{Mistake}
-use Rattle.ent_sessions.specs.declared.fault.SessionFault.TheVariants as unread
-use Rattle.ent_sessions.specs.declared.session.Session.{Session}
+use Rattle.script_files.specs.Sessions.{sessions_of}
+use Rattle.script_files.specs.declared.fault.Mistake.{Mistake}
+use Rattle.script_files.specs.declared.fault.SessionFault.TheVariants as unread
+use Rattle.script_files.specs.declared.session.Session.{Session}
 use Rattle.ent_program.specs.Listing.{AreListed, ListsAll, ListsSpelled, heading_told}
 use Rattle.ent_program.specs.Testing.{chosen, is_chosen, misplaced_line}
 use Rattle.ent_program.specs.declared.testing.Plan.{Plan}

@@ -9,8 +9,8 @@ use Rattle.std.proofs.lemmas.List.{drop_more, get_or_append_left, length-append,
 use Rattle.std.proofs.lemmas.List.Concat.{flat_map-append}
 use Rattle.std.proofs.lemmas.List.Elements.{All-append, All-cons, All-get_or, All-head, All-nil, All-tail, filter_passes}
 use Rattle.std.proofs.lemmas.List.Sums.{position_or_len_is}
-use Rattle.ent_sessions.specs.declared.session.Session.{Session}
-use Rattle.ent_sessions.specs.declared.session.Step.{Step}
+use Rattle.script_files.specs.declared.session.Session.{Session}
+use Rattle.script_files.specs.declared.session.Step.{Step}
 use Rattle.ent_line.specs.Asking.{QuestionsLeaveAll, most, only_asks, recounted}
 use Rattle.ent_line.specs.Headline.{IsHeadline}
 use Rattle.ent_line.specs.Lines.{IsOneLine, NoNewline, Splits, ended}

@@ -1,8 +1,8 @@
 -- A line more for a part more.
 use Rattle.std.proofs.Common.{◌≡◌, ℕ, ◌+◌, ◌<◌, List, [], ◌∷◌, ◌++◌, length, get_or, take}
 use Rattle.std.proofs.lemmas.List.{take_more}
-use Rattle.ent_faults.specs.Told.{IsPlaced}
-use Rattle.ent_meaning.specs.declared.warning.Warning.{Warning}
+use Rattle.lint_messages.specs.Told.{IsPlaced}
+use Rattle.lint_meaning.specs.declared.warning.Warning.{Warning}
 use Rattle.ent_program.specs.Meant.{AreToldOf}
 
 told_more : (ws : List Warning) (lines : List (List ℕ)) (w : Warning) (l : List ℕ) → AreToldOf ws lines → IsPlaced w.pointer l → AreToldOf (ws ++ w ∷ []) (lines ++ l ∷ [])

@@ -6,9 +6,9 @@ use Rattle.std.proofs.KnownBytes.{Appends-nil, Appends-trans}
 use Rattle.std.proofs.lemmas.List.Elements.{All-push, filter-append}
 use Rattle.std.proofs.lemmas.List.{map_push, take_more}
 use Rattle.std.proofs.lemmas.List.Concat.{flat_map-append}
-use Rattle.ent_sessions.specs.declared.session.Session.{Session}
-use Rattle.ent_sessions.specs.declared.session.Step.{Step}
-use Rattle.ent_junit.specs.declared.result.Case.{Case}
+use Rattle.script_files.specs.declared.session.Session.{Session}
+use Rattle.script_files.specs.declared.session.Step.{Step}
+use Rattle.script_junit.specs.declared.result.Case.{Case}
 use Rattle.ent_line.specs.Lines.{ended}
 use Rattle.ent_line.specs.declared.fault.ServeFault.{ServeFault}
 use Rattle.ent_line.specs.declared.fault.ServeFault.TheVariants as fault

@@ -9,7 +9,7 @@ use Rattle.ent_policy.specs.Versions.{version_text}
 use Rattle.ent_policy.specs.declared.document.Tree.{Tree}
 use Rattle.ent_policy.specs.declared.fault.DocFault.{DocFault}
 use Rattle.ent_polform.specs.Form.{document_of}
-use Rattle.ent_faults.specs.Told.{IsExplained}
+use Rattle.lint_messages.specs.Told.{IsExplained}
 use Rattle.ent_line.specs.Lines.{line_limit}
 use Rattle.ent_line.specs.Step.{data_of}
 use Rattle.ent_line.specs.declared.fault.ServeFault.{ServeFault}

@@ -1,13 +1,13 @@
 -- Replies beside those that a file of tests expects.
 use Rattle.std.specs.Prelude.{ℕ, ◌==◌, ◌&&◌, ◌||◌, Bool, true, false, not, List, [], ◌∷◌, ◌++◌, Option, Some, None, bytes_eq, codes, decimal, if◌then◌else◌}
 use Rattle.std.specs.List.{after_first, before_first, flat_map}
-use Rattle.ent_matching.specs.Matching.{is_part, is_same}
-use Rattle.ent_matching.specs.Places.{places_in}
-use Rattle.ent_sessions.specs.Cut.{begins}
-use Rattle.ent_sessions.specs.declared.session.Comparison.{Comparison}
-use Rattle.ent_sessions.specs.declared.session.Comparison.TheVariants.{Bytes, Data, Part}
-use Rattle.ent_sessions.specs.declared.session.Expected.{Expected}
-use Rattle.ent_sessions.specs.declared.session.Step.{Step}
+use Rattle.script_matching.specs.Matching.{is_part, is_same}
+use Rattle.script_matching.specs.Places.{places_in}
+use Rattle.script_files.specs.Cut.{begins}
+use Rattle.script_files.specs.declared.session.Comparison.{Comparison}
+use Rattle.script_files.specs.declared.session.Comparison.TheVariants.{Bytes, Data, Part}
+use Rattle.script_files.specs.declared.session.Expected.{Expected}
+use Rattle.script_files.specs.declared.session.Step.{Step}
 
 -- what a refusal begins with
 abbrev pub refusal : List ℕ

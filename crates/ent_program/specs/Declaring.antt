@@ -1,13 +1,13 @@
 -- What is said of a document where attributes are declared, and of the file that declares them.
 use Rattle.std.specs.Prelude.{ℕ, List, length, nat_lt, if◌then◌else◌, Option, Some, None, IfSome, Result, Ok, Err, string_bytes, option_map}
 use Rattle.serde_json.specs.Data.{Data}
-use Rattle.ent_places.specs.Places.{Spot, whole}
-use Rattle.ent_declared.specs.Attributes.{attributes_of}
-use Rattle.ent_declared.specs.Saying.{IsToldAt}
-use Rattle.ent_declared.specs.Undeclared.{Finds}
-use Rattle.ent_declared.specs.declared.attribute.Attribute.{Attribute}
-use Rattle.ent_declared.specs.declared.fault.AttributesFault.{AttributesFault}
-use Rattle.ent_declared.specs.declared.designator.Undeclared.{Undeclared}
+use Rattle.lint_places.specs.Places.{Spot, whole}
+use Rattle.lint_declared.specs.Attributes.{attributes_of}
+use Rattle.lint_declared.specs.Saying.{IsToldAt}
+use Rattle.lint_declared.specs.Undeclared.{Finds}
+use Rattle.lint_declared.specs.declared.attribute.Attribute.{Attribute}
+use Rattle.lint_declared.specs.declared.fault.AttributesFault.{AttributesFault}
+use Rattle.lint_declared.specs.declared.designator.Undeclared.{Undeclared}
 use Rattle.ent_line.specs.Lines.{line_limit}
 use Rattle.ent_line.specs.Step.{data_of}
 use Rattle.ent_program.specs.declared.checking.Judged.{Judged}

@@ -6,11 +6,11 @@ use Rattle.serde_json.specs.Data.{Data}
 use Rattle.serde_json.specs.Written.{compact_text, has_float}
 use Rattle.ent_json.specs.Line.{data_of}
 use Rattle.ent_json.specs.Objects.{text_at}
-use Rattle.ent_compare.specs.Changes.{difference_of, is_nothing}
-use Rattle.ent_compare.specs.Gains.{has, markdown_text}
-use Rattle.ent_compare.specs.Shown.{shown_text}
-use Rattle.ent_compare.specs.declared.gains.Way.TheVariants.{Gained, Lost}
-use Rattle.ent_sessions.specs.declared.session.Step.{Step}
+use Rattle.script_compare.specs.Changes.{difference_of, is_nothing}
+use Rattle.script_compare.specs.Gains.{has, markdown_text}
+use Rattle.script_compare.specs.Shown.{shown_text}
+use Rattle.script_compare.specs.declared.gains.Way.TheVariants.{Gained, Lost}
+use Rattle.script_files.specs.declared.session.Step.{Step}
 use Rattle.ent_line.specs.declared.fault.ServeFault.{ServeFault}
 use Rattle.ent_line.specs.declared.fault.ServeFault.TheVariants as fault
 use Rattle.ent_program.specs.Comparing.{are_sure, behind, differences, is_newline, is_wanting, pass}

@@ -2,10 +2,10 @@
 use Rattle.std.specs.Prelude.{◌≡◌, ◌≢◌, ℕ, List, [], ◌∷◌, length, Option, Result, Ok, Err, codes}
 use Rattle.std.specs.Io.KnownBytes.{Appends}
 use Rattle.std.specs.List.{flat_map}
-use Rattle.ent_sessions.specs.Sessions.{sessions_of}
-use Rattle.ent_sessions.specs.declared.fault.SessionFault.{SessionFault}
-use Rattle.ent_sessions.specs.declared.fault.SessionFault.TheVariants as unread
-use Rattle.ent_sessions.specs.declared.session.Session.{Session}
+use Rattle.script_files.specs.Sessions.{sessions_of}
+use Rattle.script_files.specs.declared.fault.SessionFault.{SessionFault}
+use Rattle.script_files.specs.declared.fault.SessionFault.TheVariants as unread
+use Rattle.script_files.specs.declared.session.Session.{Session}
 use Rattle.ent_line.specs.declared.fault.ServeFault.{ServeFault}
 use Rattle.ent_line.specs.declared.fault.ServeFault.TheVariants as fault
 use Rattle.ent_program.specs.Comparing.{told_at}

@@ -1,7 +1,7 @@
 -- What is said of the parts of a document that may not be meant.
 use Rattle.std.specs.Prelude.{ℕ, List, [], ◌∷◌}
-use Rattle.ent_faults.specs.Told.{IsPlaced}
-use Rattle.ent_meaning.specs.declared.warning.Warning.{Warning}
+use Rattle.lint_messages.specs.Told.{IsPlaced}
+use Rattle.lint_meaning.specs.declared.warning.Warning.{Warning}
 
 -- a line for each part, which begins with its place
 abbrev pub AreToldOf : List Warning → List (List ℕ) → Type 0

@@ -5,7 +5,7 @@ use Rattle.ent_finder.specs.Rows.{Source}
 use Rattle.ent_request.specs.Uris as uris
 use Rattle.ent_table.specs.declared.limits.Limits.{Limits}
 use Rattle.ent_table.specs.State.{State}
-use Rattle.ent_rebuild.specs.Rebuilding.{new_state}
+use Rattle.law_rebuild.specs.Rebuilding.{new_state}
 use Rattle.ent_report.specs.World.{World, unmarked}
 
 -- a number from 1 to a greatest one
@@ -25,7 +25,7 @@ abbrev pub no_rows : Source
 no_rows = record { categories = categories; rows = empty }
 
 -- that many modules without rows, that many without documents, no root, nothing known of the time, no names, and those limits:
--- the state in which nothing was ever held, of which the law `new_services_are_empty` of ent_restart speaks
+-- the state in which nothing was ever held, of which the law `new_services_are_empty` of law_restart speaks
 abbrev pub state_at_start : Limits → ℕ → ℕ → State
 state_at_start limits attributes policies = new_state policies attributes categories limits
 

@@ -4,16 +4,16 @@ use Rattle.std.specs.Borrow.{Bor}
 use Rattle.std.specs.Io.KnownBytes.{Appends}
 use Rattle.std.specs.List.{All, filter, flat_map, list_any}
 use Rattle.std.specs.Option.{is_some}
-use Rattle.ent_sessions.specs.Sessions.{sessions_of}
-use Rattle.ent_sessions.specs.declared.fault.Mistake.{Mistake}
-use Rattle.ent_sessions.specs.declared.fault.Mistake.TheVariants as mistake
-use Rattle.ent_sessions.specs.declared.fault.SessionFault.{SessionFault}
-use Rattle.ent_sessions.specs.declared.fault.SessionFault.TheVariants as unread
-use Rattle.ent_sessions.specs.declared.session.Session.{Session}
-use Rattle.ent_sessions.specs.declared.session.Step.{Step}
-use Rattle.ent_junit.specs.Junit.{errors, failed}
-use Rattle.ent_junit.specs.declared.result.Case.{Case}
-use Rattle.ent_junit.specs.declared.result.Suite.{Suite}
+use Rattle.script_files.specs.Sessions.{sessions_of}
+use Rattle.script_files.specs.declared.fault.Mistake.{Mistake}
+use Rattle.script_files.specs.declared.fault.Mistake.TheVariants as mistake
+use Rattle.script_files.specs.declared.fault.SessionFault.{SessionFault}
+use Rattle.script_files.specs.declared.fault.SessionFault.TheVariants as unread
+use Rattle.script_files.specs.declared.session.Session.{Session}
+use Rattle.script_files.specs.declared.session.Step.{Step}
+use Rattle.script_junit.specs.Junit.{errors, failed}
+use Rattle.script_junit.specs.declared.result.Case.{Case}
+use Rattle.script_junit.specs.declared.result.Suite.{Suite}
 use Rattle.ent_line.specs.Headline.{Headline}
 use Rattle.ent_line.specs.Lines.{ended}
 use Rattle.ent_line.specs.Step.{Counted, at_start}

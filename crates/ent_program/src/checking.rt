@@ -10,7 +10,6 @@ ghost use Rattle.ent_program.specs.Checking.{Checks, IsToldOf, Judges, is_fine, 
 ghost use Rattle.ent_program.specs.Checking.{document_in, refusal_line, verdict_in, verdict_of};
 ghost use Rattle.ent_program.specs.declared.checking.Verdict.TheVariants.{Passed, Refused};
 
-use ent_faults::explain;
 use ent_json::read_json;
 use ent_line::{LINE_LIMIT, Refusal, ServeFault, send_all};
 use ent_polform::read_document;
@@ -18,6 +17,7 @@ use ent_policy::{CheckFault, DocFault, Document, Kind};
 use ent_values::Text;
 use itoa::Buffer;
 use json::Scratch;
+use lint_messages::explain;
 use std::alloc::{AllocError, Global};
 use std::io;
 use std::io::{ErrorKind, Read, Write};

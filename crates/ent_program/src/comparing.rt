@@ -10,9 +10,9 @@ ghost use Rattle.ent_program.specs.Comparing.{expected_word, is_as, is_newline, 
 ghost use Rattle.ent_program.specs.Comparing.{pass, places_of, places_told, told_at, told_of_one, wanted};
 
 use ent_line::{ServeFault, send_all};
-use ent_matching::{is_part, is_same, places};
-use ent_sessions::{Comparison, Expected, Step};
 use itoa::Buffer;
+use script_files::{Comparison, Expected, Step};
+use script_matching::{is_part, is_same, places};
 use std::alloc::{AllocError, Global};
 use std::io::Write;
 

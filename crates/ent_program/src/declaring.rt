@@ -2,19 +2,19 @@
 
 ghost use Rattle.std.specs.Prelude.{◌≡◌, IfOk, IfSome, Some, option_map, string_bytes, true};
 ghost use Rattle.ent_line.specs.Step.{data_of};
-ghost use Rattle.ent_places.specs.Places.{whole};
+ghost use Rattle.lint_places.specs.Places.{whole};
 ghost use Rattle.ent_program.specs.Checking.{Judges, is_passed, verdict_in, verdict_of};
 ghost use Rattle.ent_program.specs.Declaring.{AsksDeclared, TellsUndeclared, declared_of, seen};
 
 use crate::checking::{FILE_LIMIT, Judged, is_passed, judge, write_verdict};
-use ent_declared::{
-    Attribute, AttributeFault, AttributesFault, DECLARED_KEYS, read_attributes, undeclared,
-};
-use ent_faults::{explain_text, line_and_column};
 use ent_json::read_json;
 use ent_line::ServeFault;
 use ent_values::Items;
 use json::{Scratch, Value};
+use lint_declared::{
+    Attribute, AttributeFault, AttributesFault, DECLARED_KEYS, read_attributes, undeclared,
+};
+use lint_messages::{explain_text, line_and_column};
 use std::alloc::{AllocError, Global};
 use std::io::Write;
 

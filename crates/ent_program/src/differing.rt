@@ -10,12 +10,12 @@ ghost use Rattle.ent_program.specs.Testing.{asked};
 
 use crate::comparing::{compare, is_wanting, split_reply};
 use crate::testing::{push_asked, replies_to};
-use ent_compare::{Way, difference, has, is_nothing, markdown, shown};
 use ent_json::{read_json, text_at};
 use ent_line::{ServeFault, send_all};
-use ent_sessions::Step;
 use ent_table::Limits;
 use json::Scratch;
+use script_compare::{Way, difference, has, is_nothing, markdown, shown};
+use script_files::Step;
 use serde_json::Value;
 use std::alloc::{AllocError, Global};
 use std::io::Write;
@@ -197,8 +197,8 @@ fn send_difference<W: Write>(
 ///
 /// The changes are lines that are sent behind those of the state; or, where the first of them is `format`, as in a
 /// dump, the lines of a state of their own. Each service is a new one within those limits, over two modules of each
-/// sort. What differs is one line of JSON ([`difference`](ent_compare::difference)), a table
-/// ([`shown`](ent_compare::shown)), or Markdown ([`markdown`](ent_compare::markdown)). Where a line is refused, it is
+/// sort. What differs is one line of JSON ([`difference`](script_compare::difference)), a table
+/// ([`shown`](script_compare::shown)), or Markdown ([`markdown`](script_compare::markdown)). Where a line is refused, it is
 /// told by two lines, `NAME:LINE: expected no refusal` and `NAME:LINE: replied REPLY`, and nothing is compared. Faults:
 /// the writer's, which may have taken a front of what is written, and want of memory.
 ///

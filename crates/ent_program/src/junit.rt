@@ -2,13 +2,13 @@
 
 ghost use Rattle.std.specs.Prelude.{◌≢◌, IfErr, OnOk};
 ghost use Rattle.std.specs.Io.KnownBytes.{Appends};
-ghost use Rattle.ent_junit.specs.Junit.{junit_of};
+ghost use Rattle.script_junit.specs.Junit.{junit_of};
 ghost use Rattle.ent_line.specs.declared.fault.ServeFault.TheVariants.{Read};
 
 use crate::status::tell;
-use ent_junit::{Suite, junit_of};
 use ent_line::{ServeFault, send_all};
 use ent_values::Items;
+use script_junit::{Suite, junit_of};
 use std::alloc::{AllocError, Global};
 use std::fs::File;
 use std::io::Write;

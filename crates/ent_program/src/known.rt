@@ -1,8 +1,8 @@
 //! What documents and lines are compared with: attributes that are declared, and names that are listed.
 
 use crate::set_lines::lines_of;
-use ent_declared::{Attribute, Listed};
 use ent_values::Items;
+use lint_declared::{Attribute, Listed};
 use std::alloc::{AllocError, Global};
 
 /// What there is.

@@ -12,7 +12,7 @@ use crate::tally::Tally;
 use crate::testing::{Plan, is_chosen};
 use crate::untested::{NO_TEST, tell_mistake};
 use ent_line::ServeFault;
-use ent_sessions::{Session, SessionFault, read_sessions};
+use script_files::{Session, SessionFault, read_sessions};
 use std::alloc::Global;
 use std::io::Write;
 

@@ -1,13 +1,13 @@
 //! What is said of a document that can be used, but isn't what its author may think.
 
 ghost use Rattle.std.specs.Prelude.{◌≡◌, IfOk, map, string_bytes, take};
-ghost use Rattle.ent_faults.specs.Told.{IsPlaced};
-ghost use Rattle.ent_meaning.specs.Warnings.{warnings_of};
+ghost use Rattle.lint_messages.specs.Told.{IsPlaced};
+ghost use Rattle.lint_meaning.specs.Warnings.{warnings_of};
 ghost use Rattle.ent_program.specs.Meant.{AreToldOf};
 
-use ent_faults::{Places, placed, shortened};
-use ent_meaning::{Meaning, Warning, warnings};
 use ent_policy::{Document, Effect};
+use lint_meaning::{Meaning, Warning, warnings};
+use lint_messages::{Places, placed, shortened};
 use std::alloc::{AllocError, Global};
 
 /// The most that is said of one document.

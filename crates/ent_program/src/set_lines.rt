@@ -4,8 +4,8 @@ use crate::documents::wanting;
 use crate::known::Known;
 use crate::sentences::line_sentence;
 use crate::sources::{Shown, Source};
-use ent_declared::{FaultyLine, faulty_lines};
 use ent_line::{ServeFault, command_words};
+use lint_declared::{FaultyLine, faulty_lines};
 use std::alloc::{AllocError, Global};
 
 /// So many lines are told at most.

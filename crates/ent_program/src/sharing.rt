@@ -11,9 +11,9 @@ ghost use Rattle.ent_program.specs.proofs_only.Sharing.{shared_steps, shares, sh
 use crate::comparing::split_reply;
 use crate::differing::MODULES;
 use crate::testing::{Plan, few, is_chosen, push_asked, replies_to, run_by, run_one};
-use ent_junit::Case;
 use ent_line::{ServeFault, only_asks, questions_leave_all, replies_are_fresh};
-use ent_sessions::{Session, Step};
+use script_files::{Session, Step};
+use script_junit::Case;
 use std::alloc::{AllocError, Global};
 use std::io::Write;
 

@@ -5,7 +5,7 @@ use crate::sentences::state_sentence;
 use crate::sources::{Shown, Source};
 use crate::status::Unmet;
 use ent_line::LINE_LIMIT;
-use ent_together::{State, StateFault};
+use lint_links::{State, StateFault};
 
 /// The number of the first line that no service reads, as it has too many bytes.
 fn long_line(lines: &[u8]) -> Option<usize> {

@@ -4,9 +4,9 @@ ghost use Rattle.std.specs.Prelude.{◌≡◌, ◌+◌, ◌-◌, ◌^◌, min};
 ghost use Rattle.ent_line.specs.Pieces.{Sends};
 ghost use Rattle.ent_program.specs.Testing.{tally_line, tally_of};
 
-use ent_junit::{Suite, errors, failed};
 use ent_line::{ServeFault, send_all};
 use itoa::Buffer;
+use script_junit::{Suite, errors, failed};
 use std::io::Write;
 
 /// How many tests passed, and how many failed.

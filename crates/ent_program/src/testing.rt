@@ -17,11 +17,11 @@ use crate::options::Modules;
 use crate::running::serve_from;
 use crate::sharing::{AtHand, are_lines, run_next, shared_replies, split_replies};
 use crate::untested::{NO_TEST, line_on, misplaced_line, untested};
-use ent_junit::{Case, Suite};
 use ent_line::{ServeFault, send_all};
-use ent_sessions::{Session, SessionFault, Step, read_sessions};
 use ent_table::Limits;
 use ent_values::Items;
+use script_files::{Session, SessionFault, Step, read_sessions};
+use script_junit::{Case, Suite};
 use std::alloc::{AllocError, Global};
 use std::io::{ErrorKind, Read, Write};
 
@@ -340,7 +340,7 @@ fn test_bytes<'n, W: Write>(
 /// A reply that isn't as expected is written as two lines, `NAME:LINE: expected REPLY` and `NAME:LINE: replied REPLY`
 /// with the number of the line that was sent, and the mark `=` or `~` where it isn't compared byte by byte; `no
 /// refusal` is expected where the file says nothing. Below them stands `NAME:LINE: differs at PLACE: ..` for each place
-/// at which a reply that is compared as JSON isn't as expected, with both values ([`places`](ent_matching::places)).
+/// at which a reply that is compared as JSON isn't as expected, with both values ([`places`](script_matching::places)).
 /// Behind those of a session stands `NAME:LINE: failed SESSION`, with the line of its heading. None of the tests of a
 /// file runs that hasn't the form of sessions ([`read_sessions`]), and `NAME:LINE: this line can't stand here: WHY` is
 /// written; nor of one that has no session. The writer is flushed at the end. Faults: the reader's, after which nothing

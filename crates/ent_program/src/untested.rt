@@ -7,10 +7,10 @@ ghost use Rattle.ent_program.specs.Comparing.{told_at};
 ghost use Rattle.ent_program.specs.Testing.{Untested, misplaced_line, mistake_text};
 
 use crate::comparing::tell;
-use ent_junit::Suite;
 use ent_line::{ServeFault, send_all};
-use ent_sessions::Mistake;
 use ent_values::Items;
+use script_files::Mistake;
+use script_junit::Suite;
 use std::alloc::{AllocError, Global};
 use std::io::Write;
 

@@ -17,7 +17,7 @@ use Rattle.ent_policy.specs.Typing.{all_typed}
 use Rattle.ent_walk.specs.declared.evaluated.Evaluated.{Evaluated}
 use Rattle.ent_walk.specs.declared.evaluated.Evaluated.TheVariants.{Known, Indeterminate}
 use Rattle.ent_walk.specs.Expression.{application, arguments_of, decides, evaluated_of, fault_in, fault_unless, faults, is_result, result_of}
-use Rattle.ent_notes.specs.proofs_only.Noted.{Notes, noting}
+use Rattle.ent_trace.specs.proofs_only.Noted.{Notes, noting}
 use Rattle.ent_request.specs.Part.{Part, notes_of, seen_parts, values}
 use Rattle.ent_walk.specs.proofs_only.Typed.{HasType}
 use Rattle.ent_walk.proofs.Booleans.{find_behind, find_none}

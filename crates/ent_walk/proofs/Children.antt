@@ -15,7 +15,7 @@ use Rattle.ent_walk.specs.declared.gather.Gathering.{Gathering}
 use Rattle.ent_walk.specs.proofs_only.Gathered.{judged_by, HasGathered}
 use Rattle.ent_walk.specs.Judged.{decisions, judged, judgement_of, stops}
 use Rattle.ent_request.specs.Part.{Part, values, notes_of, seen_parts}
-use Rattle.ent_notes.specs.proofs_only.Noted.{Notes, noting}
+use Rattle.ent_trace.specs.proofs_only.Noted.{Notes, noting}
 use Rattle.ent_walk.proofs.Going.{IsGoing, Stops, goes_on, stops_at, values_to, values_to-next}
 
 decisions_seen : (algorithm : RuleAlg) (js : List Answer) → decisions (up_to_first (stops algorithm) js) ≡ seen algorithm (decisions js)

@@ -21,7 +21,7 @@ use Rattle.ent_walk.specs.declared.target.Targeted.{Targeted}
 use Rattle.ent_walk.specs.declared.target.Targeted.TheVariants.{Match, NoMatch, Indeterminate}
 use Rattle.ent_walk.specs.declared.walk.Walk.{Walk}
 use Rattle.ent_walk.specs.proofs_only.Comes.{Adds, Comes, Keeps}
-use Rattle.ent_notes.specs.proofs_only.Noted.{Notes, noting}
+use Rattle.ent_trace.specs.proofs_only.Noted.{Notes, noting}
 use Rattle.ent_walk.specs.Only.{choice_part, chosen, first_target_status, result_of_target, results, seen_choice, several, spoils}
 use Rattle.ent_walk.specs.proofs_only.Only.{second_match, status_of_target}
 use Rattle.ent_request.specs.Part.{Part, notes_of, values}

@@ -10,7 +10,7 @@ use Rattle.ent_request.specs.declared.answer.Status.{Status}
 use Rattle.ent_walk.specs.declared.evaluated.Evaluated.{Evaluated}
 use Rattle.ent_walk.specs.declared.evaluated.Evaluated.TheVariants.{Known, Indeterminate}
 use Rattle.ent_walk.specs.Given.{joined, together}
-use Rattle.ent_notes.specs.proofs_only.Noted.{Notes, noting}
+use Rattle.ent_trace.specs.proofs_only.Noted.{Notes, noting}
 use Rattle.ent_request.specs.Part.{Part, notes_of, seen_parts, values}
 use Rattle.ent_walk.specs.proofs_only.Typed.{HasType, is_held}
 use Rattle.ent_walk.proofs.Going.{IsGoing, goes_on, stops_at}

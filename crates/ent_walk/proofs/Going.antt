@@ -6,7 +6,7 @@ use Rattle.std.proofs.Math.Seq.{take-suc}
 use Rattle.std.proofs.lemmas.List.{append-nil, map-append}
 use Rattle.ent_combine.specs.Seen.{up_to_first}
 use Rattle.ent_request.specs.Note.{Note}
-use Rattle.ent_notes.specs.proofs_only.Noted.{Notes, noting, with_note}
+use Rattle.ent_trace.specs.proofs_only.Noted.{Notes, noting, with_note}
 use Rattle.ent_request.specs.Part.{Part, notes_of, values, seen_parts}
 use Rattle.ent_request.proofs.Lists.{at_item}
 

@@ -14,7 +14,7 @@ use Rattle.ent_request.specs.Note.{asks}
 use Rattle.ent_walk.specs.proofs_only.Comes.{Keeps, in_walk}
 use Rattle.ent_walk.specs.declared.gather.Gathering.{Gathering}
 use Rattle.ent_walk.specs.proofs_only.Gathered.{Gathers, Tells}
-use Rattle.ent_notes.specs.proofs_only.Noted.{Notes, noting, with_note}
+use Rattle.ent_trace.specs.proofs_only.Noted.{Notes, noting, with_note}
 use Rattle.ent_walk.specs.proofs_only.Opened.{IsLeft, Leaves, left_part}
 use Rattle.ent_request.specs.Part.{Part, after_look, and_then}
 use Rattle.ent_walk.proofs.Going.{noting_both}

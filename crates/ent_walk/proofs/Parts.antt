@@ -8,7 +8,7 @@ use Rattle.ent_request.specs.declared.request.Request.{Request}
 use Rattle.ent_walk.specs.declared.walk.Walk.{Walk}
 use Rattle.ent_request.specs.Looks.{Looks}
 use Rattle.ent_request.specs.Note.{Note, asks}
-use Rattle.ent_notes.specs.proofs_only.Noted.{Notes, noting}
+use Rattle.ent_trace.specs.proofs_only.Noted.{Notes, noting}
 use Rattle.ent_walk.specs.proofs_only.Opened.{IsLeft}
 use Rattle.ent_request.specs.Part.{Part, after_look}
 

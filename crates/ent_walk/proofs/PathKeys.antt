@@ -2,8 +2,8 @@
 use Rattle.std.proofs.Common.{◌≡◌, ℕ, List, [], ◌∷◌, ◌++◌, rules}
 use Rattle.std.specs.Borrow.{Bor}
 use Rattle.ent_policy.specs.declared.key.Kind.{Kind}
-use Rattle.ent_notes.specs.declared.path.Path.{Path, Below, Root, the_lemmas}
-use Rattle.ent_notes.specs.proofs_only.Path.{keys_of}
+use Rattle.ent_trace.specs.declared.path.Path.{Path, Below, Root, the_lemmas}
+use Rattle.ent_trace.specs.proofs_only.Path.{keys_of}
 
 pub keys_of_root : keys_of Root ≡ []
 keys_of_root = search (rules, the_lemmas)

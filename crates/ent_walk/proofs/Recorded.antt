@@ -12,7 +12,7 @@ use Rattle.ent_request.specs.declared.question.Question.{Question}
 use Rattle.ent_request.specs.declared.request.Request.{Request}
 use Rattle.ent_request.specs.Looks.{Looks}
 use Rattle.ent_request.specs.Questions.{asked_once, keys_at}
-use Rattle.ent_notes.proofs.KeysAsked.{asked_keys}
+use Rattle.ent_trace.proofs.KeysAsked.{asked_keys}
 use Rattle.ent_request.proofs.Lists.{from_recursion}
 
 -- what holds of the keys of a set and of those that are noted in it holds of all keys after that

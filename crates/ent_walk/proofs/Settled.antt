@@ -1,8 +1,8 @@
 -- What comes of a part in which what fails is passed over unless it is Indeterminate.
 use Rattle.std.proofs.Common.{◌≡◌, Bool, true, false, List, Result, map, refl, sym, ap, ◌∙◌}
 use Rattle.std.specs.Prelude.{OnOk, Ok, Err, if◌then◌else◌}
-use Rattle.ent_notes.proofs.Settling.{noting_passed}
-use Rattle.ent_notes.specs.proofs_only.Noted.{Notes, is_named, noting, settling}
+use Rattle.ent_trace.proofs.Settling.{noting_passed}
+use Rattle.ent_trace.specs.proofs_only.Noted.{Notes, is_named, noting, settling}
 use Rattle.ent_request.specs.Note.{Note, passed_over}
 use Rattle.ent_request.specs.Part.{Part, settled}
 use Rattle.ent_request.specs.declared.answer.Answer.{Answer}

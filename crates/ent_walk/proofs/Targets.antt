@@ -3,7 +3,7 @@ use Rattle.std.proofs.Common.{◌≡◌, ℕ, ◌+◌, ◌<◌, Bool, true, fals
 use Rattle.std.specs.Prelude.{find, if◌then◌else◌, unwrap_or}
 use Rattle.ent_walk.specs.declared.target.Targeted.{Targeted}
 use Rattle.ent_walk.specs.declared.target.Targeted.TheVariants as is
-use Rattle.ent_notes.specs.proofs_only.Noted.{Notes, noting}
+use Rattle.ent_trace.specs.proofs_only.Noted.{Notes, noting}
 use Rattle.ent_request.specs.Part.{Part}
 use Rattle.ent_walk.specs.Target.{first_indeterminate, is_indeterminate, is_match, is_no_match}
 use Rattle.ent_walk.specs.proofs_only.Target.{unless_indeterminate}

@@ -6,16 +6,16 @@ use Rattle.std.proofs.lemmas.List.{length-append}
 use Rattle.std.specs.Option.{option_or}
 use Rattle.ent_policy.specs.declared.key.DocKey.{DocKey}
 use Rattle.ent_request.specs.declared.cause.Cause.{Cause}
-use Rattle.ent_notes.specs.declared.causes.Causes.{Causes}
+use Rattle.ent_trace.specs.declared.causes.Causes.{Causes}
 use Rattle.ent_walk.specs.declared.walk.Walk.{Walk}
 use Rattle.ent_request.specs.declared.request.Request.{Request}
-use Rattle.ent_notes.specs.proofs_only.Met.{Met, with_failing, with_passed}
+use Rattle.ent_trace.specs.proofs_only.Met.{Met, with_failing, with_passed}
 use Rattle.ent_request.specs.Looks.{Looks}
 use Rattle.ent_request.specs.Note.{Note, asks, cause_of_rule, cause_within, fails, note_of_rule, note_within}
 use Rattle.ent_request.specs.Note.{passed}
 use Rattle.ent_request.specs.Part.{Part, within}
 use Rattle.ent_walk.specs.proofs_only.Comes.{Adds, Comes, Keeps, in_walk}
-use Rattle.ent_notes.specs.proofs_only.Noted.{Notes, entering, in_rule, leaving, noting, rule_in, with_failure, with_note}
+use Rattle.ent_trace.specs.proofs_only.Noted.{Notes, entering, in_rule, leaving, noting, rule_in, with_failure, with_note}
 use Rattle.ent_walk.proofs.Parts.{came_from, keeps_on}
 
 -- ---- policies and sets

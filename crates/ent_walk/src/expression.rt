@@ -16,7 +16,7 @@ ghost use Rattle.ent_walk.specs.proofs_only.Expression.{apply_part};
 ghost use Rattle.ent_walk.specs.Expression.{variable_part};
 ghost use Rattle.ent_walk.specs.declared.evaluated.Evaluated.TheVariants.{Known};
 ghost use Rattle.ent_walk.specs.proofs_only.Typed.{HasType, Tests, apply_type, type_of};
-ghost use Rattle.ent_notes.specs.proofs_only.Noted.{asked_by};
+ghost use Rattle.ent_trace.specs.proofs_only.Noted.{asked_by};
 ghost use Rattle.ent_walk.specs.proofs_only.Uncopied.{ComesOf, ComesOfOnly, HasItsType, IsTested, IsTyped};
 ghost use Rattle.ent_walk.specs.proofs_only.Uncopied.{any, equal_part, member_part, uncopied_part};
 ghost use Rattle.ent_walk.specs.proofs_only.Uncopied.{uncopied_type};

@@ -2,15 +2,15 @@
 
 ghost use Rattle.std.specs.Prelude.{◌≡◌, List, [], IfOk, OnOk};
 ghost use Rattle.ent_walk.specs.proofs_only.Gathered.{Gathers, HasGathered, Tells, judged_by, status_with};
-ghost use Rattle.ent_notes.specs.proofs_only.Path.{keys_of};
+ghost use Rattle.ent_trace.specs.proofs_only.Path.{keys_of};
 ghost use Rattle.ent_request.specs.Plain.{nothing};
 ghost use Rattle.ent_walk.specs.proofs_only.Judged.{or_nothing};
 ghost use Rattle.ent_request.specs.declared.answer.Answer.{Answer};
 
 use crate::told::Told;
 use ent_combine::{Combiner, Outcome, Progress, RuleAlg};
-use ent_notes::{Notes, Path};
 use ent_request::{Answer, Status};
+use ent_trace::{Notes, Path};
 use std::alloc::{AllocError, Global};
 
 /// The children that were seen: what they come to, the first status that isn't `Okay`, and what those of each decision

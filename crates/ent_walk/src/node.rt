@@ -8,7 +8,7 @@ ghost use Rattle.ent_walk.specs.Judged.{has_failed, is_ind, under_target};
 ghost use Rattle.ent_walk.specs.proofs_only.Judged.{or_nothing};
 ghost use Rattle.ent_walk.specs.Node.{policy_rules, rules_combined};
 ghost use Rattle.ent_walk.specs.proofs_only.Node.{in_policy, policy_after, policy_target};
-ghost use Rattle.ent_notes.specs.proofs_only.Path.{keys_of};
+ghost use Rattle.ent_trace.specs.proofs_only.Path.{keys_of};
 ghost use Rattle.ent_request.specs.Part.{settled};
 
 use crate::gather::no_children;
@@ -16,9 +16,9 @@ use crate::rule::Within;
 use crate::target::Targeted;
 use crate::walk::Walk;
 use ent_combine::{Outcome, Progress, RuleAlg, under_indeterminate_target};
-use ent_notes::Path;
 use ent_policy::{Kind, Policy, Rule};
 use ent_request::{Answer, LookUps, Status};
+use ent_trace::Path;
 use ent_values::Items;
 use std::alloc::{AllocError, Global};
 

@@ -11,14 +11,14 @@ ghost use Rattle.ent_walk.specs.proofs_only.Hops.{child_part, followed_part, ref
 ghost use Rattle.ent_walk.specs.proofs_only.Judged.{or_nothing};
 ghost use Rattle.ent_walk.specs.Node.{policy_part};
 ghost use Rattle.ent_walk.specs.proofs_only.Opened.{Leaves, is_fit_left, left_part, worth, worth_of_hop};
-ghost use Rattle.ent_notes.specs.proofs_only.Path.{keys_of};
+ghost use Rattle.ent_trace.specs.proofs_only.Path.{keys_of};
 ghost use Rattle.ent_walk.specs.proofs_only.Typed.{is_fit, set_is_fit};
 
 use crate::target::Targeted;
 use crate::walk::Walk;
-use ent_notes::Path;
 use ent_policy::{Child, Policy, PolicySet, Reference, Tree};
 use ent_request::{Answer, LookUps, Reason};
+use ent_trace::Path;
 use std::alloc::AllocError;
 
 // A child of which the target was looked at. Most don't match, and then nothing is left: so no answer is handed on for

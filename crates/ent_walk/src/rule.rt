@@ -6,7 +6,7 @@ ghost use Rattle.ent_policy.specs.Typing.{condition_is_typed, given_is_typed, ru
 ghost use Rattle.ent_walk.specs.proofs_only.Comes.{Adds, Comes, in_walk};
 ghost use Rattle.ent_walk.specs.proofs_only.Gathered.{Gathers, Tells};
 ghost use Rattle.ent_walk.specs.proofs_only.Judged.{or_nothing};
-ghost use Rattle.ent_notes.specs.proofs_only.Path.{keys_of};
+ghost use Rattle.ent_trace.specs.proofs_only.Path.{keys_of};
 ghost use Rattle.ent_walk.specs.Rule.{condition_part, decided, decision_of, in_rule, rule_part, rule_under, truth_of};
 ghost use Rattle.ent_walk.specs.proofs_only.Typed.{HasType};
 
@@ -17,9 +17,9 @@ use crate::target::Targeted;
 use crate::walk::Walk;
 use ent_combine::{Outcome, Progress};
 use ent_functions::Arg;
-use ent_notes::Path;
 use ent_policy::{Effect, Expression, Rule, VariableDefinition};
 use ent_request::{Answer, LookUps, Status, WhyEntry};
+use ent_trace::Path;
 use ent_values::{Items, Value};
 use std::alloc::AllocError;
 

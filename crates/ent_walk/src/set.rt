@@ -11,7 +11,7 @@ ghost use Rattle.ent_walk.specs.Judged.{has_failed};
 ghost use Rattle.ent_walk.specs.proofs_only.Judged.{or_nothing};
 ghost use Rattle.ent_walk.specs.Only.{chosen_part};
 ghost use Rattle.ent_walk.specs.proofs_only.Opened.{is_fit_left, left_part};
-ghost use Rattle.ent_notes.specs.proofs_only.Path.{keys_of};
+ghost use Rattle.ent_trace.specs.proofs_only.Path.{keys_of};
 ghost use Rattle.ent_request.specs.Part.{settled};
 ghost use Rattle.ent_walk.specs.proofs_only.Typed.{is_fit};
 
@@ -22,9 +22,9 @@ use crate::opened::Opened;
 use crate::target::Targeted;
 use crate::walk::Walk;
 use ent_combine::{PolicyAlg, Progress, RuleAlg};
-use ent_notes::Path;
 use ent_policy::{Child, Kind, PolicySet};
 use ent_request::{Answer, LookUps};
+use ent_trace::Path;
 use std::alloc::AllocError;
 
 impl<'a, L: LookUps> Walk<'a, L> {

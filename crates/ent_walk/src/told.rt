@@ -3,12 +3,12 @@
 ghost use Rattle.std.specs.Prelude.{◌≡◌, [], false, IfOk, OnOk};
 ghost use Rattle.ent_walk.specs.proofs_only.Gathered.{told_at, told_more};
 ghost use Rattle.ent_walk.specs.Judged.{has_default};
-ghost use Rattle.ent_notes.specs.proofs_only.Path.{keys_of};
+ghost use Rattle.ent_trace.specs.proofs_only.Path.{keys_of};
 ghost use Rattle.ent_request.specs.declared.answer.Status.TheVariants.{Okay};
 
 use ent_combine::{Outcome, RuleAlg};
-use ent_notes::{Notes, Path};
 use ent_request::{Answer, Given, Status, WhyEntry};
+use ent_trace::{Notes, Path};
 use ent_values::Items;
 use std::alloc::{AllocError, Global};
 

@@ -6,15 +6,15 @@ ghost use Rattle.ent_request.specs.Note.{failing};
 ghost use Rattle.ent_walk.specs.proofs_only.Comes.{Adds, Comes, Keeps, in_walk};
 ghost use Rattle.ent_walk.specs.proofs_only.Hops.{followed_part};
 ghost use Rattle.ent_walk.specs.Judged.{has_failed};
-ghost use Rattle.ent_notes.specs.proofs_only.Noted.{entering, in_rule, leaving, rule_in, settling};
+ghost use Rattle.ent_trace.specs.proofs_only.Noted.{entering, in_rule, leaving, rule_in, settling};
 ghost use Rattle.ent_request.specs.Part.{settled};
 ghost use Rattle.ent_request.specs.proofs_only.Reason.{what_of};
 
 use crate::lender::Lender;
 use crate::node::has_failed;
-use ent_notes::{Notes, Path};
 use ent_policy::{Kind, Reference, Version};
 use ent_request::{Answer, LookUps, Reason, Request};
+use ent_trace::{Notes, Path};
 use ent_values::Text;
 use std::alloc::{AllocError, Global};
 

@@ -1,8 +1,8 @@
 //! Reports that are put together of those of several reviews, which no part of the program makes.
 
 use ent_report::Counts;
-use ent_split::{merge_by_rule, merge_who, sum_changes, sum_counts};
 use ent_values::{Items, Text};
+use law_split::{merge_by_rule, merge_who, sum_changes, sum_counts};
 use std::alloc::{AllocError, Global};
 use std::test::Fail;
 

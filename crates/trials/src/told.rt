@@ -1,6 +1,6 @@
 //! What is told of texts that a stored document can't be, and of places in a text.
 
-use ent_faults::{Position, explain, line_and_column, one_line};
+use lint_messages::{Position, explain, line_and_column, one_line};
 use std::alloc::Global;
 use std::test::Fail;
 

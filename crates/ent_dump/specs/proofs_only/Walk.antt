@@ -8,7 +8,7 @@ use Rattle.ent_finder.specs.declared.row.RowKey.{RowKey}
 use Rattle.ent_request.specs.Held.{Held}
 use Rattle.ent_table.specs.declared.edit.Edit.{Edit}
 use Rattle.ent_table.specs.declared.edit.Edit.TheVariants.{AddPolicy, SetAttribute}
-use Rattle.ent_rebuild.specs.Rebuilding.{all_documents, all_rows, environment_edits, root_edits}
+use Rattle.law_rebuild.specs.Rebuilding.{all_documents, all_rows, environment_edits, root_edits}
 use Rattle.ent_dump.specs.Edits.{edit_line}
 
 -- the text of each edit

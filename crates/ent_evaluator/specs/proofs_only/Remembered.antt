@@ -8,8 +8,8 @@ use Rattle.ent_evaluator.specs.declared.tests.Tests.{Tests}
 use Rattle.ent_request.specs.declared.question.Question.{Question}
 use Rattle.ent_request.specs.declared.request.Request.{Request}
 pub use Rattle.ent_eval.specs.Evaluated.{IsEvaluated}
-use Rattle.ent_found.specs.Findings.{AreFindings, IsAt}
-use Rattle.ent_found.specs.declared.findings.Findings.{Findings}
+use Rattle.memo_bags.specs.Findings.{AreFindings, IsAt}
+use Rattle.memo_bags.specs.declared.findings.Findings.{Findings}
 use Rattle.ent_request.specs.Looks.{Looks}
 use Rattle.ent_evaluator.specs.Memory.{AreShelves, Fits, IsCase, cases_in}
 use Rattle.ent_evaluator.specs.Tests.{AreTests}

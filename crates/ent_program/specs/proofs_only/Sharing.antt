@@ -1,8 +1,8 @@
 -- Which tests are sent to one service, one behind the other, and what its replies are to each of them.
 use Rattle.std.specs.Prelude.{ℕ, ◌==◌, ◌-◌, ◌&&◌, Bool, not, List, [], ◌∷◌, ◌++◌, length, take, ⊤}
 use Rattle.std.specs.List.{filter, flat_map, list_all, list_any}
-use Rattle.ent_sessions.specs.declared.session.Session.{Session}
-use Rattle.ent_sessions.specs.declared.session.Step.{Step}
+use Rattle.script_files.specs.declared.session.Session.{Session}
+use Rattle.script_files.specs.declared.session.Step.{Step}
 use Rattle.ent_line.specs.Asking.{only_asks}
 use Rattle.ent_program.specs.Comparing.{behind, is_newline}
 use Rattle.ent_program.specs.Testing.{AreRepliesTo, few, is_chosen, sent_to}

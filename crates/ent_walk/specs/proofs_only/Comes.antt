@@ -7,7 +7,7 @@ use Rattle.ent_request.specs.declared.request.Request.{Request}
 use Rattle.ent_walk.specs.declared.walk.Walk.{Walk}
 use Rattle.ent_request.specs.Looks.{Looks}
 use Rattle.ent_request.specs.Note.{Note}
-use Rattle.ent_notes.specs.proofs_only.Noted.{noting, settling}
+use Rattle.ent_trace.specs.proofs_only.Noted.{noting, settling}
 use Rattle.ent_request.specs.Part.{Part, mapped}
 use Rattle.ent_request.specs.declared.answer.Answer.{Answer}
 use Rattle.ent_walk.specs.Judged.{has_failed}

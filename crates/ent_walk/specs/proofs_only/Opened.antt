@@ -11,7 +11,7 @@ use Rattle.ent_walk.specs.proofs_only.Hops.{set_after}
 use Rattle.ent_request.specs.Plain.{nothing, unresolved}
 use Rattle.ent_request.specs.Looks.{Looks}
 use Rattle.ent_walk.specs.proofs_only.Node.{policy_after}
-use Rattle.ent_notes.specs.proofs_only.Noted.{Notes, noting}
+use Rattle.ent_trace.specs.proofs_only.Noted.{Notes, noting}
 use Rattle.ent_request.specs.Part.{Part, without_look}
 use Rattle.ent_walk.specs.proofs_only.Typed.{set_is_fit}
 

@@ -31,7 +31,7 @@ use Rattle.ent_request.specs.Own.{own_values}
 use Rattle.ent_request.specs.Part.{Part, and_then, mapped}
 use Rattle.ent_request.specs.Sources.{asked_of, demanded}
 use Rattle.ent_walk.specs.proofs_only.Expression.{apply_part}
-use Rattle.ent_notes.specs.proofs_only.Noted.{asked_by}
+use Rattle.ent_trace.specs.proofs_only.Noted.{asked_by}
 use Rattle.ent_walk.specs.proofs_only.Comes.{Comes}
 use Rattle.ent_walk.specs.proofs_only.Typed.{HasType, Tests, apply_type}
 use Rattle.ent_walk.specs.Target.{is_true}

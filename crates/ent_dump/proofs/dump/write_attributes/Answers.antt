@@ -1,7 +1,7 @@
 use Rattle.std.proofs.Common.{[], ◌++◌, ◌∙◌, ap, arith, sym}
 use Rattle.std.specs.FinMap.{empty}
 use Rattle.ent_finder.specs.Rows.{filled_source}
-use Rattle.ent_rebuild.specs.Rebuilding.{source_edits}
+use Rattle.law_rebuild.specs.Rebuilding.{source_edits}
 use Rattle.ent_dump.specs.proofs_only.Walk.{line_tokens}
 use Rattle.ent_dump.proofs.Walks.{module_on, modules_all, numbered-map}
 use Rattle.ent_dump.proofs.dump.write_attributes.Goals as goal

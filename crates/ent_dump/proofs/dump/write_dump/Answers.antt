@@ -2,7 +2,7 @@ use Rattle.std.proofs.Common.{[], ◌∷◌, codes}
 use Rattle.json.specs.Token as token
 use Rattle.serde_json.specs.Written.{compact_text}
 use Rattle.ent_polform.proofs.TextLemmas.{ends}
-use Rattle.ent_rebuild.specs.Rebuilding.{rebuilding}
+use Rattle.law_rebuild.specs.Rebuilding.{rebuilding}
 use Rattle.ent_dump.specs.Dumped.{format_data}
 use Rattle.ent_dump.specs.proofs_only.Walk.{line_tokens}
 use Rattle.ent_dump.proofs.Walks.{dump_tokens}

@@ -1,7 +1,7 @@
 use Rattle.std.proofs.Common.{◌++◌, ap, ◌∙◌}
 use Rattle.ent_request.specs.Held.{Held}
 use Rattle.ent_table.specs.declared.edit.List.TheVariants as which
-use Rattle.ent_rebuild.specs.Rebuilding.{name_edits}
+use Rattle.law_rebuild.specs.Rebuilding.{name_edits}
 use Rattle.ent_dump.specs.proofs_only.Walk.{held_edits, line_tokens}
 use Rattle.ent_dump.proofs.Walks.{lines_end, rebuilding_is}
 use Rattle.ent_dump.proofs.dump.write_edits.Goals as goal

@@ -1,7 +1,7 @@
 use Rattle.std.proofs.Common.{map}
 use Rattle.ent_finder.specs.Rows.{filled_source}
 use Rattle.ent_finder.specs.Slots.{held}
-use Rattle.ent_rebuild.specs.Rebuilding.{all_documents, all_rows, environment_edits, root_edits}
+use Rattle.law_rebuild.specs.Rebuilding.{all_documents, all_rows, environment_edits, root_edits}
 use Rattle.ent_dump.proofs.Walks.{lines_end}
 use Rattle.ent_dump.proofs.dump.write_held.Goals as goal
 

@@ -1,5 +1,5 @@
 use Rattle.std.proofs.Common.{◌≡◌, ◌++◌, drop}
-use Rattle.ent_rebuild.specs.Rebuilding.{name_edits}
+use Rattle.law_rebuild.specs.Rebuilding.{name_edits}
 use Rattle.ent_dump.specs.proofs_only.Walk.{line_tokens}
 use Rattle.ent_dump.proofs.dump.write_names.Given as goal
 

@@ -1,7 +1,7 @@
 use Rattle.std.proofs.Common.{◌≡◌, ◌++◌, drop}
 use Rattle.std.specs.List.{enumerate_from, flat_map}
 use Rattle.ent_finder.specs.Slots.{held}
-use Rattle.ent_rebuild.specs.Rebuilding.{module_edits}
+use Rattle.law_rebuild.specs.Rebuilding.{module_edits}
 use Rattle.ent_dump.specs.proofs_only.Walk.{line_tokens}
 use Rattle.ent_dump.proofs.dump.write_policies.Given as goal
 

@@ -1,8 +1,8 @@
 use Rattle.std.proofs.Common.{arith, subst}
 use Rattle.std.proofs.ByRecursion.{All-more}
 use Rattle.std.proofs.lemmas.List.{take_all}
-use Rattle.ent_plan.specs.Plan.{ItemFits}
-use Rattle.ent_plan.specs.declared.task.Entry.{Entry}
+use Rattle.memo_plan.specs.Plan.{ItemFits}
+use Rattle.memo_plan.specs.declared.task.Entry.{Entry}
 use Rattle.ent_evaluator.proofs.plan.fit.Goals as goal
 
 pub loop-entry-preserved : goal.loop-entry-preserved

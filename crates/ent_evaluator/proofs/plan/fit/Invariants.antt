@@ -1,7 +1,7 @@
 use Rattle.std.proofs.Common.{take}
 use Rattle.std.specs.List.{AllByRecursion}
-use Rattle.ent_plan.specs.Plan.{ItemFits}
-use Rattle.ent_plan.specs.declared.task.Entry.{Entry}
+use Rattle.memo_plan.specs.Plan.{ItemFits}
+use Rattle.memo_plan.specs.declared.task.Entry.{Entry}
 use Rattle.ent_evaluator.proofs.plan.fit.Given as goal
 
 -- those so far do

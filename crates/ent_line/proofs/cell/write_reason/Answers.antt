@@ -4,7 +4,7 @@ use Rattle.json.specs.Print.{escape_byte, print_from}
 use Rattle.json.specs.Text.{content}
 use Rattle.json.specs.Token as token
 use Rattle.ent_json.specs.Text.{tokens_of}
-use Rattle.ent_held.specs.Paths.{status_text}
+use Rattle.ent_telling.specs.Paths.{status_text}
 use Rattle.ent_line.specs.Cells.{entry_data, list_data}
 use Rattle.ent_line.proofs.TextLemmas.{ends}
 use Rattle.ent_line.proofs.cell.write_reason.Goals as goal

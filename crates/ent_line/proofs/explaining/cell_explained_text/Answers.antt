@@ -1,6 +1,6 @@
 use Rattle.std.proofs.Common.{◌∙◌}
 use Rattle.ent_eval.specs.LooksOf.{held_by}
-use Rattle.ent_held.specs.Facts.{facts_data}
+use Rattle.ent_telling.specs.Facts.{facts_data}
 use Rattle.ent_table.specs.Names.{triple_of}
 use Rattle.ent_line.specs.Cells.{cell_data}
 use Rattle.ent_line.proofs.ExplainedLemmas.{explained_written}

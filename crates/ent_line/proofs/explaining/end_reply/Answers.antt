@@ -1,8 +1,8 @@
 use Rattle.std.proofs.Common.{[], ◌∷◌, codes, decimal}
 use Rattle.json.specs.Token as token
 use Rattle.ent_eval.specs.LooksOf.{held_by}
-use Rattle.ent_held.specs.Causes.{causes_data, untold}
-use Rattle.ent_held.specs.Facts.{facts_data}
+use Rattle.ent_telling.specs.Causes.{causes_data, untold}
+use Rattle.ent_telling.specs.Facts.{facts_data}
 use Rattle.ent_json.specs.Text.{tokens_of}
 use Rattle.ent_line.proofs.TextLemmas.{ends}
 use Rattle.ent_line.proofs.explaining.end_reply.Goals as goal

@@ -1,5 +1,5 @@
 use Rattle.std.proofs.Common.{ap}
-use Rattle.ent_sessions.proofs.Firsts.{after_first_at, after_first_nowhere, before_first_at, before_first_nowhere}
+use Rattle.script_files.proofs.Firsts.{after_first_at, after_first_nowhere, before_first_at, before_first_nowhere}
 use Rattle.ent_program.specs.Comparing.{is_newline}
 use Rattle.ent_program.proofs.comparing.split_reply.Goals as goal
 

@@ -1,7 +1,7 @@
 use Rattle.std.proofs.Common.{◌≡◌, IfOk, OnOk, ap, subst}
 use Rattle.ent_walk.specs.Answer.{answer_part}
 use Rattle.ent_eval.specs.LooksOf.{looks_of}
-use Rattle.ent_notes.specs.proofs_only.Noted.{noting}
+use Rattle.ent_trace.specs.proofs_only.Noted.{noting}
 use Rattle.ent_request.specs.Looks.{Looks}
 use Rattle.ent_eval.proofs.pdp.Pdp.answered.Goals as goal
 

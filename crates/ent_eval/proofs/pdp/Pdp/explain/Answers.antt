@@ -7,8 +7,8 @@ use Rattle.ent_request.specs.Causes.{named_first}
 use Rattle.ent_eval.specs.Point.{Point}
 use Rattle.ent_request.specs.Noted.{noted}
 use Rattle.ent_request.specs.Sources.{keys_of}
-use Rattle.ent_notes.specs.proofs_only.Noted.{asked_once}
-use Rattle.ent_notes.proofs.KeysAsked.{asked_keys}
+use Rattle.ent_trace.specs.proofs_only.Noted.{asked_once}
+use Rattle.ent_trace.proofs.KeysAsked.{asked_keys}
 use Rattle.ent_eval.proofs.AtEnd.{told_causes, told_questions}
 use Rattle.ent_eval.proofs.pdp.Pdp.explain.Goals as goal
 

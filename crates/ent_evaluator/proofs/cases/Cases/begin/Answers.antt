@@ -2,7 +2,7 @@ use Rattle.std.proofs.Common.{ap, arith, length, sym, subst, ◌∙◌}
 use Rattle.ent_evaluator.specs.Memory.{IsShelf}
 use Rattle.ent_evaluator.specs.declared.shelf.Shelf.{Shelf}
 use Rattle.ent_evaluator.specs.proofs_only.Remembered.{IsPut}
-use Rattle.ent_found.proofs.Learning.{about_all}
+use Rattle.memo_bags.proofs.Learning.{about_all}
 use Rattle.ent_evaluator.proofs.Shelved.{put_last, shelf_none, shelf_put}
 use Rattle.ent_evaluator.proofs.cases.Cases.begin.Goals as goal
 

@@ -1,7 +1,7 @@
 use Rattle.std.proofs.Common.{subst, sym}
 use Rattle.ent_evaluator.specs.Memory.{IsCase}
 use Rattle.ent_evaluator.specs.proofs_only.Remembered.{IsPut}
-use Rattle.ent_found.proofs.Learning.{about_all}
+use Rattle.memo_bags.proofs.Learning.{about_all}
 use Rattle.ent_evaluator.proofs.Shelved.{has_same, on_false, put_last, shelf_put, shelf_same}
 use Rattle.ent_evaluator.proofs.cases.Cases.put.Goals as goal
 

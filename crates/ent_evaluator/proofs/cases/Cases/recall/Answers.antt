@@ -2,9 +2,9 @@ use Rattle.std.proofs.Common.{refl, subst}
 use Rattle.std.specs.Prelude.{IfNone, IfSome}
 use Rattle.ent_evaluator.specs.Memory.{Gives, HasCaseIn}
 use Rattle.ent_evaluator.specs.proofs_only.Remembered.{NoneFits}
-use Rattle.ent_found.specs.proofs_only.Ready.{request_of}
-use Rattle.ent_found.proofs.FoundAll.{keeps_then}
-use Rattle.ent_found.proofs.Growing.{starts_itself}
+use Rattle.memo_bags.specs.proofs_only.Ready.{request_of}
+use Rattle.memo_bags.proofs.FoundAll.{keeps_then}
+use Rattle.memo_bags.proofs.Growing.{starts_itself}
 use Rattle.ent_evaluator.proofs.Remembering.{shelf_more}
 use Rattle.ent_evaluator.proofs.Shelved.{has_latest, none_older, some_older}
 use Rattle.ent_evaluator.proofs.cases.Cases.recall.Goals as goal

@@ -1,4 +1,4 @@
-use Rattle.ent_found.proofs.RowsStill.{findings_still}
+use Rattle.memo_bags.proofs.RowsStill.{findings_still}
 use Rattle.ent_evaluator.proofs.TestsKept.{tests_closed}
 use Rattle.ent_evaluator.proofs.memory.Memory.forget_documents.Goals as goal
 

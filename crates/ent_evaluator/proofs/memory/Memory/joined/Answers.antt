@@ -1,7 +1,7 @@
 use Rattle.std.proofs.Common.{subst, sym}
 use Rattle.std.specs.Prelude.{IfSome}
-use Rattle.ent_found.specs.proofs_only.Ready.{request_of}
-use Rattle.ent_joined.specs.Joined.{IsJoined}
+use Rattle.memo_bags.specs.proofs_only.Ready.{request_of}
+use Rattle.memo_replay.specs.Joined.{IsJoined}
 use Rattle.ent_evaluator.specs.Tests.{AreTests, IsSigned}
 use Rattle.ent_evaluator.proofs.Remembering.{remembers_tests}
 use Rattle.ent_evaluator.proofs.TestsKept.{signed_counted, tests_counted}

@@ -2,9 +2,9 @@ use Rattle.std.proofs.Common.{refl, sym, ap, subst, ◌∙◌}
 use Rattle.ent_evaluator.specs.declared.case.Case.{Case}
 use Rattle.ent_evaluator.specs.Memory.{IsCase, Remembers}
 use Rattle.ent_request.specs.Questions.{AreNumbers, at_numbers}
-use Rattle.ent_found.specs.proofs_only.Ready.{Begins, TellsAttributes, request_of}
+use Rattle.memo_bags.specs.proofs_only.Ready.{Begins, TellsAttributes, request_of}
 use Rattle.ent_evaluator.proofs.Fitting.{is_case, recalls}
-use Rattle.ent_found.proofs.Growing.{starts_itself, starts_then}
+use Rattle.memo_bags.proofs.Growing.{starts_itself, starts_then}
 use Rattle.ent_evaluator.proofs.memory.Memory.keep.Goals as goal
 
 pub returns-in_err-turn_to-clause-remembers : goal.returns-in_err-turn_to-clause-remembers

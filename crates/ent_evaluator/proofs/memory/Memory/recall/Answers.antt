@@ -1,10 +1,10 @@
 use Rattle.std.proofs.Common.{refl, subst}
 use Rattle.std.specs.Prelude.{IfNone}
 use Rattle.ent_evaluator.specs.Memory.{cases_in}
-use Rattle.ent_found.specs.proofs_only.Ready.{Begins, request_of}
+use Rattle.memo_bags.specs.proofs_only.Ready.{Begins, request_of}
 use Rattle.ent_evaluator.specs.proofs_only.Remembered.{NoneFits}
 use Rattle.ent_evaluator.proofs.Fitting.{recalls}
-use Rattle.ent_found.proofs.Growing.{starts_itself, starts_then}
+use Rattle.memo_bags.proofs.Growing.{starts_itself, starts_then}
 use Rattle.ent_evaluator.proofs.memory.Memory.recall.Goals as goal
 
 pub returns-in_err-turn_to-clause-remembers : goal.returns-in_err-turn_to-clause-remembers

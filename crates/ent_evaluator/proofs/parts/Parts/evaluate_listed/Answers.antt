@@ -10,7 +10,7 @@ use Rattle.ent_request.specs.Questions.{AreNumbers, asked_once, at_numbers}
 use Rattle.ent_eval.specs.declared.pdp.ListedEvaluation.{ListedEvaluation}
 use Rattle.ent_evaluator.specs.proofs_only.Remembered.{IsEvaluated}
 use Rattle.ent_evaluator.proofs.Fitting.{reads_by}
-use Rattle.ent_found.proofs.Growing.{if_ok}
+use Rattle.memo_bags.proofs.Growing.{if_ok}
 use Rattle.ent_evaluator.proofs.parts.Parts.evaluate_listed.Goals as goal
 
 pub evaluate_remembered-requires : goal.evaluate_remembered-requires

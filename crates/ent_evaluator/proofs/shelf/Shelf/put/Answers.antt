@@ -1,9 +1,9 @@
 use Rattle.std.proofs.Common.{◌≡◌, arith, length, refl, sym, subst}
 use Rattle.std.proofs.lemmas.Bool.{false≢true}
 use Rattle.std.specs.Prelude.{IfSome, IsSome}
-use Rattle.ent_tree.specs.Tree.{Ends}
-use Rattle.ent_found.specs.Ways.{way_of}
-use Rattle.ent_found.specs.proofs_only.Led.{AreAbout, IsMade}
+use Rattle.memo_trie.specs.Tree.{Ends}
+use Rattle.memo_bags.specs.Ways.{way_of}
+use Rattle.memo_bags.specs.proofs_only.Led.{AreAbout, IsMade}
 use Rattle.ent_evaluator.proofs.Shelved.{index_more, index_same}
 use Rattle.ent_evaluator.proofs.shelf.Shelf.put.Goals as goal
 

@@ -1,7 +1,7 @@
 use Rattle.std.proofs.Common.{subst}
 use Rattle.std.proofs.lemmas.Option.{slice_get_within}
-use Rattle.ent_found.specs.proofs_only.Led.{TellsEnd}
-use Rattle.ent_found.specs.proofs_only.Ready.{request_of}
+use Rattle.memo_bags.specs.proofs_only.Led.{TellsEnd}
+use Rattle.memo_bags.specs.proofs_only.Ready.{request_of}
 use Rattle.ent_evaluator.proofs.Shelved.{found_case, no_case}
 use Rattle.ent_evaluator.proofs.shelf.Shelf.recall.Goals as goal
 

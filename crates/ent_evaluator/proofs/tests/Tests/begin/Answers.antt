@@ -1,8 +1,8 @@
 use Rattle.std.proofs.Common.{refl, sym, subst}
 use Rattle.std.specs.Prelude.{IfSome}
 use Rattle.std.specs.List.{AllByRecursion}
-use Rattle.ent_told.specs.Known.{AreTestsOf, TellsIn}
-use Rattle.ent_told.specs.Told.{IsTold}
+use Rattle.memo_answers.specs.Known.{AreTestsOf, TellsIn}
+use Rattle.memo_answers.specs.Told.{IsTold}
 use Rattle.ent_evaluator.specs.Tests.{IsPlanOf}
 use Rattle.ent_evaluator.proofs.TestsKept.{tests_none, tests_now}
 use Rattle.ent_evaluator.proofs.tests.Tests.begin.Goals as goal

@@ -1,8 +1,8 @@
 use Rattle.std.proofs.Common.{subst, sym}
-use Rattle.ent_found.specs.proofs_only.Ready.{request_of}
-use Rattle.ent_heard.specs.Heard.{came}
-use Rattle.ent_told.specs.Known.{TellsIn}
-use Rattle.ent_told.specs.Told.{Signs}
+use Rattle.memo_bags.specs.proofs_only.Ready.{request_of}
+use Rattle.memo_heard.specs.Heard.{came}
+use Rattle.memo_answers.specs.Known.{TellsIn}
+use Rattle.memo_answers.specs.Told.{Signs}
 use Rattle.ent_evaluator.proofs.TestsKept.{came_signed, root_signed}
 use Rattle.ent_evaluator.proofs.tests.Tests.joined.Goals as goal
 

@@ -1,6 +1,6 @@
 use Rattle.std.proofs.Common.{refl, subst, sym, ◌∙◌}
 use Rattle.ent_request.specs.Questions.{AreNumbers}
-use Rattle.ent_told.specs.declared.told.Told.{Told}
+use Rattle.memo_answers.specs.declared.told.Told.{Told}
 use Rattle.ent_evaluator.proofs.TestsKept.{case_put, heard_as}
 use Rattle.ent_evaluator.proofs.tests.Tests.put.Goals as goal
 

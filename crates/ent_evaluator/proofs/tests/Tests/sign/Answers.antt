@@ -1,6 +1,6 @@
 use Rattle.std.proofs.Common.{refl, subst, sym}
-use Rattle.ent_plan.specs.Plan.{IsPlan}
-use Rattle.ent_told.specs.Known.{AreTestsOf}
+use Rattle.memo_plan.specs.Plan.{IsPlan}
+use Rattle.memo_answers.specs.Known.{AreTestsOf}
 use Rattle.ent_eval.specs.Names.{request_by}
 use Rattle.ent_evaluator.proofs.TestsKept.{is_signed, tests_signed, told_of}
 use Rattle.ent_evaluator.proofs.tests.Tests.sign.Goals as goal

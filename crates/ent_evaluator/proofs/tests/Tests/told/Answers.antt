@@ -1,6 +1,6 @@
 use Rattle.std.proofs.Common.{◌≡◌, refl, subst}
 use Rattle.std.specs.Prelude.{IfSome}
-use Rattle.ent_told.specs.Told.{HasWay}
+use Rattle.memo_answers.specs.Told.{HasWay}
 use Rattle.ent_evaluator.proofs.TestsKept.{evaluated_as, way_tells}
 use Rattle.ent_evaluator.proofs.tests.Tests.told.Goals as goal
 

@@ -1,7 +1,7 @@
 use Rattle.std.proofs.Common.{ap}
 use Rattle.std.proofs.lemmas.Option.{IfSome_then}
 use Rattle.std.specs.Prelude.{option_copied}
-use Rattle.ent_notes.specs.proofs_only.Noted.{asked_by}
+use Rattle.ent_trace.specs.proofs_only.Noted.{asked_by}
 use Rattle.ent_walk.proofs.Literals.{only}
 use Rattle.ent_walk.proofs.uncopied.Sole.of_only.Goals as goal
 

@@ -1,6 +1,6 @@
 use Rattle.std.proofs.Common.{refl}
 use Rattle.std.specs.Prelude.{option_copied}
-use Rattle.ent_notes.specs.proofs_only.Noted.{asked_by}
+use Rattle.ent_trace.specs.proofs_only.Noted.{asked_by}
 use Rattle.ent_policy.specs.declared.expression.Expression.TheVariants.{Designator}
 use Rattle.ent_walk.proofs.AnyBag.{any-of-part, any-of-type, are_tested}
 use Rattle.ent_walk.proofs.Literals.{equal-part, equal-type, is-in-part, is-in-type, only-part, only-type}

@@ -8,9 +8,9 @@ use Rattle.ent_walk.specs.Node.{set_key}
 use Rattle.ent_walk.specs.proofs_only.Judged.{or_nothing}
 use Rattle.ent_walk.specs.proofs_only.Hops.{child_part, children_combined, in_set, set_children, settled_child}
 use Rattle.ent_walk.specs.proofs_only.Gathered.{Gathers, Tells}
-use Rattle.ent_notes.specs.proofs_only.Noted.{noting, settling}
+use Rattle.ent_trace.specs.proofs_only.Noted.{noting, settling}
 use Rattle.ent_walk.specs.proofs_only.Opened.{IsLeft, is_fit_left, left_part, worth}
-use Rattle.ent_notes.specs.proofs_only.Path.{keys_of}
+use Rattle.ent_trace.specs.proofs_only.Path.{keys_of}
 use Rattle.ent_walk.proofs.Children.{all_children, all_notes, last_child, last_notes, next_child}
 use Rattle.ent_walk.proofs.Left.{gathers_equal, tells_equal}
 use Rattle.ent_walk.proofs.Parts.{came_behind, comes, comes_equal, comes_left, kept, keeps_on, on_ok}

@@ -4,7 +4,7 @@ use Rattle.ent_walk.specs.proofs_only.Gathered.{HasGathered}
 use Rattle.ent_walk.specs.Judged.{stops}
 use Rattle.ent_walk.specs.proofs_only.Hops.{settled_child}
 use Rattle.ent_walk.specs.proofs_only.Opened.{worth, worth_of_hop}
-use Rattle.ent_notes.specs.proofs_only.Path.{keys_of}
+use Rattle.ent_trace.specs.proofs_only.Path.{keys_of}
 use Rattle.ent_walk.proofs.Going.{IsGoing, values_to}
 use Rattle.ent_walk.proofs.walk.Walk.+child.Given as goal
 

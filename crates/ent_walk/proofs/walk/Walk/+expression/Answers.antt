@@ -6,7 +6,7 @@ use Rattle.ent_policy.specs.Variables.{definition_of}
 use Rattle.ent_walk.specs.Expression.{evaluated_of, fault_in, meaning}
 use Rattle.ent_walk.specs.proofs_only.Comes.{Comes, in_walk}
 use Rattle.ent_walk.specs.proofs_only.Expression.{apply_part}
-use Rattle.ent_notes.specs.proofs_only.Noted.{noting}
+use Rattle.ent_trace.specs.proofs_only.Noted.{noting}
 use Rattle.ent_walk.specs.proofs_only.Typed.{HasType, type_of}
 use Rattle.ent_walk.specs.proofs_only.Uncopied.{ComesOf, HasItsType}
 use Rattle.ent_walk.proofs.Arguments.{all-notes, all-value, next_argument, settled-notes, settled-type, settled-value}

@@ -2,7 +2,7 @@ use Rattle.std.proofs.Common.{refl, sym, ap, ◌∙◌, arith}
 use Rattle.ent_walk.specs.Given.{assignment_part}
 use Rattle.ent_walk.specs.proofs_only.Given.{added}
 use Rattle.ent_walk.specs.proofs_only.Given.{joined_with}
-use Rattle.ent_notes.specs.proofs_only.Noted.{noting}
+use Rattle.ent_trace.specs.proofs_only.Noted.{noting}
 use Rattle.ent_request.specs.declared.request.Request.{Request}
 use Rattle.ent_request.specs.Looks.{Looks}
 use Rattle.ent_walk.proofs.Parts.{kept, keeps_on}

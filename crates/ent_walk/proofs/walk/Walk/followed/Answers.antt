@@ -1,15 +1,15 @@
 use Rattle.std.proofs.Common.{◌≡◌, List, [], ap, rules, ◌∙◌}
 use Rattle.ent_policy.specs.declared.key.DocKey.{DocKey}
-use Rattle.ent_notes.specs.declared.path.Path.{Root}
+use Rattle.ent_trace.specs.declared.path.Path.{Root}
 use Rattle.ent_request.specs.Part.{Part}
 use Rattle.ent_request.specs.declared.answer.Answer.{Answer}
 use Rattle.ent_walk.specs.Judged.{has_failed}
 use Rattle.ent_walk.specs.proofs_only.Comes.{Comes}
 use Rattle.ent_walk.specs.proofs_only.Hops.{followed_part}
 use Rattle.ent_walk.specs.proofs_only.Judged.{or_nothing}
-use Rattle.ent_notes.specs.proofs_only.Noted.{noting}
+use Rattle.ent_trace.specs.proofs_only.Noted.{noting}
 use Rattle.ent_walk.specs.proofs_only.Opened.{left_part}
-use Rattle.ent_notes.specs.proofs_only.Path.{keys_of}
+use Rattle.ent_trace.specs.proofs_only.Path.{keys_of}
 use Rattle.ent_walk.proofs.Parts.{came_from, keeps_on}
 use Rattle.ent_walk.proofs.PathKeys.{keys_of_root}
 use Rattle.ent_walk.proofs.Settled.{came_settled}

@@ -3,7 +3,7 @@ use Rattle.ent_walk.specs.Given.{given_part}
 use Rattle.ent_walk.specs.proofs_only.Given.{added}
 use Rattle.std.specs.Prelude.{Ok}
 use Rattle.ent_walk.specs.Given.{joined}
-use Rattle.ent_notes.specs.proofs_only.Noted.{noting}
+use Rattle.ent_trace.specs.proofs_only.Noted.{noting}
 use Rattle.ent_request.specs.declared.request.Request.{Request}
 use Rattle.ent_request.specs.Looks.{Looks}
 use Rattle.ent_walk.proofs.Parts.{kept, keeps_on}

@@ -1,7 +1,7 @@
 use Rattle.std.proofs.Common.{ap, subst, sym, ◌∙◌}
 use Rattle.ent_walk.specs.proofs_only.Gathered.{Gathers, Tells}
 use Rattle.ent_walk.specs.proofs_only.Judged.{or_nothing}
-use Rattle.ent_notes.specs.proofs_only.Path.{keys_of}
+use Rattle.ent_trace.specs.proofs_only.Path.{keys_of}
 use Rattle.ent_walk.specs.Rule.{rule_under}
 use Rattle.ent_walk.specs.Target.{target_part}
 use Rattle.ent_walk.proofs.Left.{gathers_equal, left_behind, tells_equal}

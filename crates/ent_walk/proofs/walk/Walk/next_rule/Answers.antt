@@ -1,7 +1,7 @@
 use Rattle.std.proofs.Common.{subst}
 use Rattle.ent_walk.specs.proofs_only.Comes.{Adds}
 use Rattle.ent_walk.specs.proofs_only.Gathered.{Gathers, Tells}
-use Rattle.ent_notes.specs.proofs_only.Path.{keys_of}
+use Rattle.ent_trace.specs.proofs_only.Path.{keys_of}
 use Rattle.ent_walk.specs.Rule.{in_rule}
 use Rattle.ent_walk.proofs.Parts.{kept}
 use Rattle.ent_walk.proofs.Within.{adds_of_rule}

@@ -1,7 +1,7 @@
 use Rattle.ent_walk.specs.Node.{policy_key}
 use Rattle.ent_walk.specs.proofs_only.Judged.{or_nothing}
 use Rattle.ent_walk.specs.proofs_only.Node.{in_policy}
-use Rattle.ent_notes.specs.proofs_only.Path.{keys_of}
+use Rattle.ent_trace.specs.proofs_only.Path.{keys_of}
 use Rattle.ent_walk.proofs.Within.{came_within}
 use Rattle.ent_walk.proofs.walk.Walk.policy_after.Goals as goal
 

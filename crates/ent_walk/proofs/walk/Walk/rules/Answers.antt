@@ -1,11 +1,11 @@
 use Rattle.std.proofs.Common.{◌∙◌, ap, arith}
 use Rattle.std.proofs.lemmas.Result.{IfOk-weaker}
-use Rattle.ent_notes.specs.proofs_only.Path.{keys_of}
+use Rattle.ent_trace.specs.proofs_only.Path.{keys_of}
 use Rattle.ent_walk.specs.proofs_only.Judged.{or_nothing}
 use Rattle.ent_walk.specs.Node.{rules_combined}
 use Rattle.ent_walk.specs.Rule.{rule_part}
 use Rattle.ent_walk.proofs.Children.{all_children, all_notes, last_child, last_notes, next_child}
-use Rattle.ent_notes.specs.proofs_only.Noted.{noting}
+use Rattle.ent_trace.specs.proofs_only.Noted.{noting}
 use Rattle.ent_walk.proofs.Parts.{comes, kept, keeps_on, on_ok}
 use Rattle.ent_walk.proofs.walk.Walk.rules.Goals as goal
 

@@ -1,7 +1,7 @@
 use Rattle.ent_walk.specs.proofs_only.Comes.{Keeps}
 use Rattle.ent_walk.specs.proofs_only.Gathered.{HasGathered}
 use Rattle.ent_walk.specs.Judged.{stops}
-use Rattle.ent_notes.specs.proofs_only.Path.{keys_of}
+use Rattle.ent_trace.specs.proofs_only.Path.{keys_of}
 use Rattle.ent_walk.specs.Rule.{rule_part}
 use Rattle.ent_walk.proofs.Going.{IsGoing, values_to}
 use Rattle.ent_walk.proofs.walk.Walk.rules.Given as goal

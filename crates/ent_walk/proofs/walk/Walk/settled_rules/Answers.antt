@@ -1,4 +1,4 @@
-use Rattle.ent_notes.specs.proofs_only.Path.{keys_of}
+use Rattle.ent_trace.specs.proofs_only.Path.{keys_of}
 use Rattle.ent_walk.specs.Judged.{has_failed}
 use Rattle.ent_walk.specs.Node.{policy_rules}
 use Rattle.ent_walk.specs.proofs_only.Judged.{or_nothing}

@@ -1,5 +1,0 @@
-use Rattle.ent_compared.proofs.Laws as laws
-use Rattle.ent_compared.proofs.law.nothing_is_told_of_the_same.Goals as goal
-
-pub returns : goal.returns
-returns c = laws.nothing_is_told_of_the_same

@@ -1,5 +1,0 @@
-use Rattle.ent_compared.proofs.Services as services
-use Rattle.ent_compared.proofs.law.tables_are_replies.Goals as goal
-
-pub returns : goal.returns
-returns c = services.tables_are_replies

@@ -1,7 +1,0 @@
-use Rattle.std.proofs.Common.{IfSome}
-use Rattle.std.specs.List.{Contains}
-use Rattle.ent_declared.proofs.nearest.nearest.Given as goal
-
--- the nearest so far is one of them
-abbrev pub invariant-loop-attribute : goal.invariant-loop-attribute
-invariant-loop-attribute l = IfSome l.nearest (λ a. Contains l.attributes a.now)

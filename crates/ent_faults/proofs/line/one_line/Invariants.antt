@@ -1,7 +1,0 @@
-use Rattle.std.proofs.Common.{◌≡◌, string_bytes, true}
-use Rattle.ent_faults.specs.Told.{is_one_line}
-use Rattle.ent_faults.proofs.line.one_line.Given as goal
-
--- what is written so far stays on one line
-abbrev pub invariant-loop-character : goal.invariant-loop-character
-invariant-loop-character l = is_one_line (string_bytes l.line) ≡ true

@@ -1,5 +1,0 @@
-use Rattle.ent_held.proofs.Equal.{equal_facts}
-use Rattle.ent_held.proofs.law.equal_facts_give_equal_answers.Goals as goal
-
-pub returns : goal.returns
-returns c = equal_facts

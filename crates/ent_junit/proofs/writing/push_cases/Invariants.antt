@@ -1,8 +1,0 @@
-use Rattle.std.proofs.Common.{◌≡◌, ◌++◌, take}
-use Rattle.std.specs.List.{flat_map}
-use Rattle.ent_junit.specs.Junit.{case_text}
-use Rattle.ent_junit.proofs.writing.push_cases.Given as goal
-
--- the tests so far
-abbrev pub invariant-loop-case : goal.invariant-loop-case
-invariant-loop-case l = l.text.items ≡ l.fn.text.items ++ flat_map (case_text l.file) (take l.case-index l.cases)

@@ -1,7 +1,0 @@
-use Rattle.std.proofs.Common.{◌≡◌, drop}
-use Rattle.std.specs.List.{find}
-use Rattle.ent_meaning.specs.Copies.{overrules}
-use Rattle.ent_meaning.proofs.copies.first_overruling.Given as goal
-
-abbrev pub invariant-loop-rival : goal.invariant-loop-rival
-invariant-loop-rival l = find (overrules l.algorithm l.rule) (drop l.rival-index l.rivals) ≡ find (overrules l.algorithm l.rule) l.rivals

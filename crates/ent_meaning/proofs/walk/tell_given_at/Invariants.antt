@@ -1,9 +1,0 @@
-use Rattle.std.proofs.Common.{◌≡◌, ◌++◌, drop, map}
-use Rattle.ent_meaning.specs.Places.{numbered}
-use Rattle.ent_meaning.specs.Warnings.{given_expression_told}
-use Rattle.ent_meaning.proofs.walk.tell_given_at.Given as goal
-
-abbrev pub invariant-loop-number : goal.invariant-loop-number
-invariant-loop-number l =
-    l.warnings ++ numbered l.key l.number (map (given_expression_told l.effects) (drop l.number l.given)) l.pointer
-    ≡ l.fn.warnings ++ numbered l.key 0 (map (given_expression_told l.effects) l.given) l.pointer

@@ -1,6 +1,0 @@
-use Rattle.std.proofs.Common.{◌≡◌, map, take}
-use Rattle.ent_places.specs.Led.{referring}
-use Rattle.ent_places.proofs.led.rows_of.Given as goal
-
-abbrev pub invariant-loop-definition : goal.invariant-loop-definition
-invariant-loop-definition l = map (λ row. row.items) l.rows.items ≡ map (referring l.definitions) (take l.definition-index l.definitions)

@@ -1,5 +1,0 @@
-use Rattle.serde_json.specs.Data.{depth}
-use Rattle.ent_places.proofs.place.+smallest.Given as goal
-
-abbrev pub decreases-smallest : goal.decreases-smallest
-decreases-smallest g l = depth (g.J.JsonTree.content l.place.json.now)

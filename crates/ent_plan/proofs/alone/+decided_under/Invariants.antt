@@ -1,5 +1,0 @@
-use Rattle.std.proofs.Common.{length}
-use Rattle.ent_plan.proofs.alone.+decided_under.Given as goal
-
-abbrev pub decreases-decided_under : goal.decreases-decided_under
-decreases-decided_under g l = length l.keys.now

@@ -1,7 +1,0 @@
-use Rattle.std.proofs.Common.{arith, sym, ◌∙◌}
-use Rattle.ent_plan.proofs.Segments.{is_plan}
-use Rattle.ent_plan.proofs.entries.plan_of.Goals as goal
-
-pub returns-else-len-gt-MOST_ENTRIES : goal.returns-else-len-gt-MOST_ENTRIES
-returns-else-len-gt-MOST_ENTRIES g c =
-    is_plan (g.L.LookUps.looks c.args.held.now) c.in-Some.root c.in-Ok.entries (sym c.root.ensures ∙ c.in-Some.is) (omega arith) c.in-Ok.ensures

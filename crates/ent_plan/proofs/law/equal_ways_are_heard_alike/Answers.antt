@@ -1,5 +1,0 @@
-use Rattle.ent_plan.proofs.EqualWays.{equal_ways}
-use Rattle.ent_plan.proofs.law.equal_ways_are_heard_alike.Goals as goal
-
-pub returns : goal.returns
-returns c = equal_ways

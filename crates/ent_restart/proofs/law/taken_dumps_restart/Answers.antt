@@ -1,5 +1,0 @@
-use Rattle.ent_restart.proofs.Restart as restart
-use Rattle.ent_restart.proofs.law.taken_dumps_restart.Goals as goal
-
-pub returns : goal.returns
-returns c = restart.taken_dumps_restart

@@ -1,7 +1,0 @@
-use Rattle.std.proofs.Common.{◌≡◌, ◌++◌, drop}
-use Rattle.ent_sessions.specs.Sessions.{sessions_in}
-use Rattle.ent_sessions.proofs.building.sessions_in.Given as goal
-
--- the sessions so far, and those of the other lines
-abbrev pub invariant-loop-i : goal.invariant-loop-i
-invariant-loop-i l = l.sessions ++ sessions_in (drop l.i l.lines) ≡ sessions_in l.lines

@@ -1,5 +1,0 @@
-use Rattle.ent_split.proofs.Led.{new_reviews_are_a_split}
-use Rattle.ent_split.proofs.law.new_reviews_are_a_split.Goals as goal
-
-pub returns : goal.returns
-returns c = new_reviews_are_a_split

@@ -1,5 +1,0 @@
-use Rattle.ent_split.proofs.Differed.{changes_told}
-use Rattle.ent_split.proofs.law.parts_tell_the_changes.Goals as goal
-
-pub returns : goal.returns
-returns c = changes_told

@@ -1,5 +1,0 @@
-use Rattle.ent_split.proofs.Led.{splits_are_kept}
-use Rattle.ent_split.proofs.law.splits_are_kept.Goals as goal
-
-pub returns : goal.returns
-returns c = splits_are_kept

@@ -1,5 +1,0 @@
-use Rattle.ent_split.proofs.Led.{wholes_accept}
-use Rattle.ent_split.proofs.law.wholes_accept.Goals as goal
-
-pub returns : goal.returns
-returns c = wholes_accept

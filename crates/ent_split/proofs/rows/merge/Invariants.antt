@@ -1,8 +1,0 @@
-use Rattle.std.proofs.Common.{◌≡◌, take}
-use Rattle.std.specs.List.{flat_map}
-use Rattle.ent_split.specs.Merged.{merged}
-use Rattle.ent_split.proofs.rows.merge.Given as goal
-
-abbrev pub invariant-loop-person : goal.invariant-loop-person
-invariant-loop-person g l =
-    l.found.items ≡ merged g.R.Row.person (take l.person-index l.order) (flat_map (λ list. list) l.lists)

@@ -1,6 +1,0 @@
-use Rattle.std.proofs.Common.{◌≡◌, take}
-use Rattle.ent_split.specs.Merged.{summed}
-use Rattle.ent_split.proofs.sums.sum_counts.Given as goal
-
-abbrev pub invariant-loop-part : goal.invariant-loop-part
-invariant-loop-part l = l.counts ≡ summed (take l.part-index l.parts)

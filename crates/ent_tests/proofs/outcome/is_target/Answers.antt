@@ -1,7 +1,0 @@
-use Rattle.std.proofs.Common.{ap, sym, ◌∙◌}
-use Rattle.ent_heard.specs.declared.tested.Tested.TheVariants.{Target}
-use Rattle.ent_tests.proofs.Outcomes.{targeted_same}
-use Rattle.ent_tests.proofs.outcome.is_target.Goals as goal
-
-pub returns-in-Target : goal.returns-in-Target
-returns-in-Target c = λ h. ap Target (targeted_same c.args.one c.in-Target.other (sym c.eq.ensures ∙ h)) ∙ sym c.in-Target.is

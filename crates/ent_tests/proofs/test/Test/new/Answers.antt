@@ -1,5 +1,0 @@
-use Rattle.ent_tests.proofs.Telling.{test_none}
-use Rattle.ent_tests.proofs.test.Test.new.Goals as goal
-
-pub returns : goal.returns
-returns c = λ at questions bags test. test_none at questions bags test _ c.new-2.ensures

@@ -1,5 +1,0 @@
-use Rattle.ent_together.proofs.Searched.{found_none}
-use Rattle.ent_together.proofs.found.Found.new.Goals as goal
-
-pub returns : goal.returns
-returns c = λ docs. found_none docs (record { numbers = c.new.result }) c.new.ensures.empty

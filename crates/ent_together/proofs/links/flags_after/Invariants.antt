@@ -1,6 +1,0 @@
-use Rattle.std.proofs.Common.{◌≡◌, map}
-use Rattle.ent_together.specs.proofs_only.Rows.{flags_after}
-use Rattle.ent_together.proofs.links.flags_after.Given as goal
-
-abbrev pub invariant-loop : goal.invariant-loop
-invariant-loop l = l.flags.items ≡ flags_after (map (λ row. row.items) l.rows) l.counter

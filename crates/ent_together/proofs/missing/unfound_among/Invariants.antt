@@ -1,8 +1,0 @@
-use Rattle.std.proofs.Common.{◌≡◌, take}
-use Rattle.std.specs.List.{filter}
-use Rattle.ent_finder.specs.Slots.{held}
-use Rattle.ent_together.specs.Together.{finds_none}
-use Rattle.ent_together.proofs.missing.unfound_among.Given as goal
-
-abbrev pub invariant-loop-one : goal.invariant-loop-one
-invariant-loop-one l = l.all ≡ filter (finds_none (held l.docs)) (take l.one-index l.placed)

@@ -1,5 +1,0 @@
-use Rattle.std.proofs.Common.{◌≡◌, map, take}
-use Rattle.ent_together.proofs.root.keys_in.Given as goal
-
-abbrev pub invariant-loop-one : goal.invariant-loop-one
-invariant-loop-one l = l.keys.items ≡ map (λ one. one.key.now) (take l.one-index l.all)

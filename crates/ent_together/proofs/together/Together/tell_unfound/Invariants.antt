@@ -1,5 +1,0 @@
-use Rattle.std.proofs.Common.{◌≡◌, ◌+◌, length}
-use Rattle.ent_together.proofs.together.Together.tell_unfound.Given as goal
-
-abbrev pub invariant-loop-placed : goal.invariant-loop-placed
-invariant-loop-placed l = length l.lines.items ≡ length l.fn.lines.items + l.placed-index

@@ -1,6 +1,0 @@
-use Rattle.ent_told.specs.Known.{TellsIn}
-use Rattle.ent_told.proofs.ByWays.{answers_told}
-use Rattle.ent_told.proofs.law.answers_are_told.Goals as goal
-
-pub returns : goal.returns
-returns c = λ looks questions entries tests case w. answers_told looks questions entries (TellsIn questions tests) case w
